@@ -1,0 +1,2 @@
+pub mod Enc86
+pub mod Code

@@ -1,0 +1,167 @@
+// The instructions of the 8086 that the texts use (Intel 8086 Family User's Manual, "Instruction set").
+#![tactic(auto)]
+
+/// A byte register.
+#[derive(Clone, Copy, PartialEq, Eq)]
+pub enum Reg8 {
+    Al,
+    Cl,
+    Dl,
+    Bl,
+    Ah,
+    Ch,
+    Dh,
+    Bh,
+}
+
+/// A word register.
+#[derive(Clone, Copy, PartialEq, Eq)]
+pub enum Reg16 {
+    Ax,
+    Cx,
+    Dx,
+    Bx,
+    Sp,
+    Si,
+}
+
+/// A word register that PUSH and POP take: SP is none.
+#[derive(Clone, Copy, PartialEq, Eq)]
+pub enum StackReg {
+    Ax,
+    Cx,
+    Dx,
+    Bx,
+    Si,
+}
+
+/// The register that holds the address of a byte in memory: `BYTE PTR [BX]` or `BYTE PTR [SI]`.
+#[derive(Clone, Copy, PartialEq, Eq)]
+pub enum Ptr {
+    Bx,
+    Si,
+}
+
+/// A byte operand: a register, or a byte in memory.
+#[derive(Clone, Copy, PartialEq, Eq)]
+pub enum Operand8 {
+    Reg(Reg8),
+    Mem(Ptr),
+}
+
+/// A word operand: a register, or the word at a direct address, `WORD PTR .a`.
+#[derive(Clone, Copy, PartialEq, Eq)]
+pub enum Operand16 {
+    Reg(Reg16),
+    Direct(u16),
+}
+
+/// An operation of two operands on AL.
+#[derive(Clone, Copy, PartialEq, Eq)]
+pub enum AluOp {
+    Add,
+    Or,
+    Adc,
+    Sbb,
+    And,
+    Sub,
+    Xor,
+    Cmp,
+}
+
+/// INC or DEC.
+#[derive(Clone, Copy, PartialEq, Eq)]
+pub enum Count {
+    Inc,
+    Dec,
+}
+
+/// A rotation by one bit.
+#[derive(Clone, Copy, PartialEq, Eq)]
+pub enum Rotate {
+    Rol,
+    Ror,
+    Rcl,
+    Rcr,
+}
+
+/// A conditional jump.
+#[derive(Clone, Copy, PartialEq, Eq)]
+pub enum Jump {
+    Jb,
+    Jnb,
+    Jz,
+    Jnz,
+    Js,
+    Jns,
+    Jp,
+    Jnp,
+}
+
+/// An instruction. A displacement is the field's byte or word, counted from the next instruction modulo 65,536.
+#[derive(Clone, Copy, PartialEq, Eq)]
+pub enum Instr86 {
+    /// `MOV r8,r8` and `MOV r8,BYTE PTR [p]`
+    MovReg8(Reg8, Operand8),
+    /// `MOV BYTE PTR [p],r8`
+    MovMem8(Ptr, Reg8),
+    /// `MOV AL,BYTE PTR .a`
+    MovAlDirect(u16),
+    /// `MOV BYTE PTR .a,AL`
+    MovDirectAl(u16),
+    /// `MOV r8,n`
+    MovNum8(Reg8, u8),
+    /// `MOV r16,w`
+    MovNum16(Reg16, u16),
+    /// `MOV BYTE PTR [p],n`
+    MovMemNum(Ptr, u8),
+    /// `MOV r16,r16` and `MOV r16,WORD PTR .a`
+    MovReg16(Reg16, Operand16),
+    /// `MOV WORD PTR .a,r16`
+    MovDirect16(u16, Reg16),
+    /// `MOV AX,DS`
+    MovAxDs,
+    /// `MOV SS,AX`
+    MovSsAx,
+    /// `ADD AL,r8` and the like, and with `BYTE PTR [p]`
+    Alu(AluOp, Operand8),
+    /// `ADD AL,n` and the like
+    AluNum(AluOp, u8),
+    /// `OR CL,CL`
+    OrClCl,
+    /// `ADD r16,r16`
+    Add16(Reg16, Reg16),
+    /// `INC` and `DEC` of a byte
+    Count8(Count, Operand8),
+    /// `INC` and `DEC` of a word register
+    Count16(Count, Reg16),
+    Push(StackReg),
+    Pop(StackReg),
+    Xchg8(Reg8, Reg8),
+    Xchg16(Reg16, Reg16),
+    /// `ROL r8,1` and the like
+    Rotate8(Rotate, Reg8),
+    /// `ROL r16,1` and the like
+    Rotate16(Rotate, Reg16),
+    /// `NOT r8`
+    Not8(Reg8),
+    Daa,
+    Sahf,
+    Lahf,
+    Cmc,
+    Stc,
+    Nop,
+    /// a conditional jump, short
+    Jcc(Jump, u8),
+    /// `JMP` near
+    JmpNear(u16),
+    /// `JMPS`, short
+    JmpShort(u8),
+    /// `JMP BX`
+    JmpBx,
+    /// `CALL` near
+    CallNear(u16),
+    Ret,
+    /// `INT 224`, the call of the system
+    Int224,
+}
