@@ -1,0 +1,4 @@
+pub mod Tried
+pub mod Table
+pub mod Shape
+pub mod Fits

@@ -1,0 +1,71 @@
+-- The call table: for each function of the BDOS its argument, its answer, and the memory that it reads and may write
+-- (CP/M 2.2 Operating System Manual, "BDOS functions"; the ranges are this project's profile of what the systems touch).
+use Rattle.std.specs.Prelude.{ℕ, ◌==◌, cond, List, [], ◌∷◌, Option, Some, None}
+
+-- where a call finds its argument
+pub data Argument : Type 0 where
+  NoArgument : Argument
+  InE : Argument
+  InDE : Argument
+
+-- what a call answers
+pub data AnswerKind : Type 0 where
+  NoAnswer : AnswerKind
+  ByteAnswer : AnswerKind
+  WordAnswer : AnswerKind
+
+-- memory that a call touches
+pub data Extent : Type 0 where
+  -- k cells from DE + i up
+  F : (i k : ℕ) → Extent
+  -- the 128 cells from the DMA address up
+  Dma : Extent
+  -- the cells from DE up to the first `$`, without it
+  Text : Extent
+  -- the cells from DE + 1 up that a line of up to mx bytes takes, with its length before it; mx is the byte at DE
+  Line : Extent
+
+-- a row of the table
+pub record Row : Type 0 where
+  pub argument : Argument
+  pub answer : AnswerKind
+  pub reads : List Extent
+  pub writes : List Extent
+
+-- the table, by the function's number
+abbrev pub call_table : List (ℕ × Row)
+call_table =
+    (0, record { argument = NoArgument; answer = NoAnswer; reads = []; writes = [] })
+    ∷ ((1, record { argument = NoArgument; answer = ByteAnswer; reads = []; writes = [] })
+    ∷ ((2, record { argument = InE; answer = NoAnswer; reads = []; writes = [] })
+    ∷ ((9, record { argument = InDE; answer = NoAnswer; reads = Text ∷ []; writes = [] })
+    ∷ ((10, record { argument = InDE; answer = NoAnswer; reads = F 0 1 ∷ []; writes = Line ∷ [] })
+    ∷ ((11, record { argument = NoArgument; answer = ByteAnswer; reads = []; writes = [] })
+    ∷ ((12, record { argument = NoArgument; answer = WordAnswer; reads = []; writes = [] })
+    ∷ ((13, record { argument = NoArgument; answer = NoAnswer; reads = []; writes = [] })
+    ∷ ((14, record { argument = InE; answer = NoAnswer; reads = []; writes = [] })
+    ∷ ((15, record { argument = InDE; answer = ByteAnswer; reads = F 0 13 ∷ []; writes = F 0 32 ∷ [] })
+    ∷ ((16, record { argument = InDE; answer = ByteAnswer; reads = F 0 32 ∷ []; writes = F 12 20 ∷ [] })
+    ∷ ((17, record { argument = InDE; answer = ByteAnswer; reads = F 0 13 ∷ []; writes = Dma ∷ [] })
+    ∷ ((18, record { argument = NoArgument; answer = ByteAnswer; reads = []; writes = Dma ∷ [] })
+    ∷ ((19, record { argument = InDE; answer = ByteAnswer; reads = F 0 12 ∷ []; writes = [] })
+    ∷ ((20, record { argument = InDE; answer = ByteAnswer; reads = F 0 33 ∷ []; writes = F 12 21 ∷ (Dma ∷ []) })
+    ∷ ((21, record { argument = InDE; answer = ByteAnswer; reads = F 0 33 ∷ (Dma ∷ []); writes = F 12 21 ∷ [] })
+    ∷ ((22, record { argument = InDE; answer = ByteAnswer; reads = F 0 13 ∷ []; writes = F 0 32 ∷ [] })
+    ∷ ((23, record { argument = InDE; answer = ByteAnswer; reads = F 0 12 ∷ (F 16 12 ∷ []); writes = [] })
+    ∷ ((25, record { argument = NoArgument; answer = ByteAnswer; reads = []; writes = [] })
+    ∷ ((26, record { argument = InDE; answer = NoAnswer; reads = []; writes = [] })
+    ∷ ((33, record { argument = InDE; answer = ByteAnswer; reads = F 0 32 ∷ (F 33 3 ∷ []); writes = F 12 21 ∷ (Dma ∷ []) })
+    ∷ ((34, record { argument = InDE; answer = ByteAnswer; reads = F 0 32 ∷ (F 33 3 ∷ (Dma ∷ [])); writes = F 12 21 ∷ [] })
+    ∷ ((35, record { argument = InDE; answer = NoAnswer; reads = F 0 12 ∷ []; writes = F 33 3 ∷ [] })
+    ∷ ((36, record { argument = InDE; answer = NoAnswer; reads = F 12 1 ∷ (F 14 1 ∷ (F 32 1 ∷ [])); writes = F 33 3 ∷ [] })
+    ∷ [])))))))))))))))))))))))
+
+-- the entry of a number
+abbrev pub entry_at : {X : Type 0} → List (ℕ × X) → ℕ → Option X
+entry_at [] n = None
+entry_at (e ∷ es) n = cond (n == e.0) (Some e.1) (entry_at es n)
+
+-- the row of a function, if the profile has it
+abbrev pub row_of : ℕ → Option Row
+row_of function = entry_at call_table function

@@ -1,0 +1,5 @@
+// System calls: what a program asks of the BDOS, what the BDOS may answer, and the page that a program starts with.
+#![tactic(auto)]
+
+pub mod blocks;
+pub mod request;
