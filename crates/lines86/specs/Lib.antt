@@ -1,0 +1,4 @@
+pub mod Written
+pub mod Layout
+pub mod Order
+pub mod Image

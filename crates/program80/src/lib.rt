@@ -1,0 +1,4 @@
+// A program of the 8080, as the assembler leaves it: its instructions, its data, and the top of its area.
+#![tactic(auto)]
+
+pub mod program;
