@@ -1,6 +1,6 @@
 -- A program: a finite map from addresses to instructions with their lines, a finite map from addresses to data cells, and
 -- the top of the program area.
-use Rattle.std.specs.Prelude.{◌≡◌, ℕ, ◌+◌, ◌<◌, ◌≤◌, ◌==◌, nat_lt, nat_le, ◌&&◌, ◌||◌, Bool, true, false, cond, List, [], ◌∷◌, map, Option, Some, None, is_some}
+use Rattle.std.specs.Prelude.{ℕ, ◌+◌, ◌==◌, nat_lt, nat_le, ◌&&◌, ◌||◌, Bool, false, cond, List, [], ◌∷◌, map, Option, Some, None, is_some}
 use Rattle.cells.specs.declared.Cell.{Cell}
 use Rattle.i80.specs.declared.Instr80.{Instr80}
 use Rattle.i80.specs.Columns.{length80}
