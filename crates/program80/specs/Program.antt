@@ -1,9 +1,9 @@
 -- A program: a finite map from addresses to instructions with their lines, a finite map from addresses to data cells, and
 -- the top of the program area.
-use Rattle.std.specs.Prelude.{ℕ, ◌+◌, ◌==◌, nat_lt, nat_le, ◌&&◌, ◌||◌, Bool, false, cond, List, [], ◌∷◌, map, Option, Some, None, is_some}
+use Rattle.std.specs.Prelude.{◌≡◌, ℕ, ◌+◌, ◌-◌, ◌<◌, ◌≤◌, ◌==◌, nat_lt, nat_le, ◌&&◌, ◌||◌, Bool, true, false, cond, List, [], ◌∷◌, map, Option, Some, None, is_some}
 use Rattle.cells.specs.declared.Cell.{Cell}
 use Rattle.i80.specs.declared.Instr80.{Instr80}
-use Rattle.i80.specs.Columns.{length80}
+use Rattle.i80.specs.Columns.{length80, is_well_formed}
 use Rattle.program80.specs.declared.program.Placed.{Placed}
 
 -- both maps are lists in ascending order of their addresses
@@ -56,3 +56,26 @@ is_covered (x ∷ xs) a = covers x a || is_covered xs a
 
 abbrev pub is_code : Program → ℕ → Bool
 is_code p a = is_covered p.instrs a
+
+-- the tops of a program area
+abbrev pub is_top : ℕ → Bool
+is_top t = (t == 0x4000) || ((t == 0x8000) || ((t == 0xC000) || (t == 0xF000)))
+
+-- instructions one after the other from a place up, each of them well formed and wholly below a limit
+abbrev pub AreLaid : ℕ → ℕ → List Placed → Type 0
+AreLaid from limit [] = Unit {0}
+AreLaid from limit (x ∷ xs) =
+    (from ≤ x.at) × (x.at + length80 x.instr ≤ limit) × (is_well_formed x.instr ≡ true) × AreLaid (x.at + length80 x.instr) limit xs
+
+-- data cells in ascending order from a place up and below a limit, none of them a cell of an instruction
+abbrev pub CellsAreLaid : List Placed → ℕ → ℕ → List (ℕ × Cell) → Type 0
+CellsAreLaid instrs from limit [] = Unit {0}
+CellsAreLaid instrs from limit (c ∷ cs) =
+    (from ≤ c.0) × (c.0 < limit) × (is_covered instrs c.0 ≡ false) × CellsAreLaid instrs (c.0 + 1) limit cs
+
+-- the layout of a program: an instruction starts at 100H, no cell belongs to two, and all are from 100H up and below T-2
+pub record IsProgram (p : Program) : Type 0 where
+  pub top : is_top p.top ≡ true
+  pub first : is_start p 0x100 ≡ true
+  pub instrs : AreLaid 0x100 (p.top - 2) p.instrs
+  pub cells : CellsAreLaid p.instrs 0x100 (p.top - 2) p.cells
