@@ -11,7 +11,12 @@ use Rattle.lines86.specs.Layout.{size_of, sizes_of, marks, offset_of, place_of, 
 pub record Image : Type 0 where
   pub code : List ℕ
   pub cells : List (ℕ × ℕ)
-  pub offset : Label → Option ℕ
+  pub labels : List (Label × ℕ)
+
+-- the offset of a label in an image
+abbrev pub offset_in : List (Label × ℕ) → Label → Option ℕ
+offset_in [] l = None
+offset_in (x ∷ xs) l = cond (same_label x.0 l) (Some x.1) (offset_in xs l)
 
 abbrev pub statements : List Line86 → List Stmt86
 statements xs = map (λ (x : Line86). x.stmt) xs
@@ -98,11 +103,20 @@ cells_from off at (JccTo j l ∷ xs) = cells_from off at xs
 cells_from off at (Call l ∷ xs) = cells_from off at xs
 cells_from off at (EndText ∷ xs) = cells_from off at xs
 
+-- each label with its offset, in statements that begin at a place
+abbrev pub labels_before : Option Label → ℕ → List (Label × ℕ) → List (Label × ℕ)
+labels_before None at rest = rest
+labels_before (Some l) at rest = (l, at) ∷ rest
+
+abbrev pub labels_from : ℕ → List Stmt86 → List (Label × ℕ)
+labels_from at [] = []
+labels_from at (x ∷ xs) = labels_before (marked x) at (labels_from (at + size_of x) xs)
+
 -- what statements assemble to
 abbrev pub image_of : List Line86 → Image
 image_of lines =
     let xs : List Stmt86 = statements lines in
-    record { code = code_of xs; cells = cells_from (place_of xs) 0 xs; offset = offset_of xs }
+    record { code = code_of xs; cells = cells_from (place_of xs) 0 xs; labels = labels_from 0 xs }
 
 -- the text assembles: each statement stands in its group, no label is defined again, each label used is defined, the code
 -- has at most 65,535 bytes, and each short jump reaches

@@ -1,0 +1,6 @@
+pub mod State
+pub mod Flags
+pub mod Effect
+pub mod Call
+pub mod Step
+pub mod Start
