@@ -1,12 +1,12 @@
 -- The image of a text: its code, its data cells, and the offset of each label.
-use Rattle.std.specs.Prelude.{◌≡◌, ℕ, ◌+◌, ◌/◌, ◌%◌, ◌<◌, ◌≤◌, nat_le, ◌&&◌, Bool, true, cond, List, [], ◌∷◌, map, Option, is_some}
+use Rattle.std.specs.Prelude.{◌≡◌, ℕ, ◌+◌, ◌/◌, ◌%◌, ◌<◌, ◌≤◌, nat_le, ◌&&◌, Bool, true, cond, List, [], ◌∷◌, map, Option, Some, None, is_some}
 use Rattle.lines86.specs.declared.line.Label.{Label}
 use Rattle.lines86.specs.declared.line.Value16.TheVariants.{Num, Offset}
 use Rattle.lines86.specs.declared.line.Stmt86.{Stmt86}
 use Rattle.lines86.specs.declared.line.Stmt86.TheVariants.{Cseg, Dseg, Org, Rb, Db, Dw, Mark, Run, MovOffset, Jmp, Jmps, Jcc as JccTo, Call, EndText}
 use Rattle.lines86.specs.declared.line.Line86.{Line86}
 use Rattle.lines86.specs.Order.{at_start, in_order}
-use Rattle.lines86.specs.Layout.{size_of, sizes_of, marks, offset_of, place_of, code_of}
+use Rattle.lines86.specs.Layout.{same_label, size_of, sizes_of, marked, marks, offset_of, place_of, code_of}
 
 pub record Image : Type 0 where
   pub code : List ℕ
