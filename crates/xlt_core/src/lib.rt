@@ -1,0 +1,2 @@
+// What a text means for its source: the same system calls in the same order.
+#![tactic(auto)]
