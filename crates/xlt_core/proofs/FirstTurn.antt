@@ -1,11 +1,10 @@
 -- One instruction of a first program, and the 8086 instructions that stand for it: linked states are led to paired ones.
-use Rattle.std.proofs.Common.{◌≡◌, ◌≢◌, ℕ, suc, ◌+◌, ◌-◌, ◌*◌, ◌/◌, ◌%◌, ◌≤◌, ◌<◌, List, [], ◌∷◌, ◌++◌, length, Option, Some, None, refl, sym, ap, ◌∙◌, subst, arith, Bool, true, false, cond, ◌==◌, ◌&&◌, not, ◌⊎◌, inl, inr}
+use Rattle.std.proofs.Common.{◌≡◌, ℕ, suc, ◌+◌, ◌≤◌, ◌<◌, List, [], ◌∷◌, ◌++◌, length, Option, Some, None, refl, sym, ap, ◌∙◌, subst, arith, Bool, true, false, cond, ◌==◌, ◌&&◌, not, ◌⊎◌, inl, inr}
 use Rattle.std.specs.Prelude.{unwrap_or, is_some, bit_or, Result, Ok}
 use Rattle.dialogue.specs.Tried.{try_then}
-use Rattle.cells.specs.declared.Place.{Place}
-use Rattle.cells.specs.declared.Place.TheVariants.{At, Exit}
+use Rattle.cells.specs.declared.Place.TheVariants.{At}
 use Rattle.cells.specs.declared.Cell.{Cell}
-use Rattle.cells.specs.declared.Cell.TheVariants.{Num, Lo, Hi, Psw, Junk}
+use Rattle.cells.specs.declared.Cell.TheVariants.{Num, Junk}
 use Rattle.cells.specs.declared.Rule.{Rule}
 use Rattle.cells.specs.declared.Rule.TheVariants.{P1}
 use Rattle.i80.specs.declared.Reg.{Reg}
@@ -23,9 +22,7 @@ use Rattle.i86.specs.declared.Instr86.{Instr86}
 use Rattle.i86.specs.declared.Instr86.TheVariants.{MovReg8, MovNum8, OrClCl, Jcc, JmpNear, CallNear, Ret, Int224}
 use Rattle.i86.specs.Enc86.{enc86}
 use Rattle.i86.specs.Code.{HasBytes, Reads}
-use Rattle.dialogue.specs.declared.blocks.Block.{Block}
 use Rattle.dialogue.specs.declared.request.Reply.{Reply}
-use Rattle.dialogue.specs.declared.request.Event.{Event}
 use Rattle.dialogue.specs.declared.request.Event.TheVariants.{Call as Asked, End as Ended}
 use Rattle.dialogue.specs.Shape.{shape_of}
 use Rattle.dialogue.specs.Fits.{fits}
@@ -33,28 +30,28 @@ use Rattle.first_source.specs.First.{IsFirst, function, argument, system, finish
 use Rattle.lines86.specs.declared.line.Label.{Label}
 use Rattle.lines86.specs.declared.line.Label.TheVariants.{At as Line, Sys, End}
 use Rattle.lines86.specs.Layout.{sizes_of, distance8, distance16, place_of, offset_of}
-use Rattle.machine.specs.Run.{Answer, Ran, Asks, Ends, Stops, Machine, Status, Going, Waiting, Over, Stopped, Run, choice_at, take_reply, settle, turn_by, turn, turns, IsNotStopped}
+use Rattle.machine.specs.Run.{Answer, Ran, Asks, Ends, Stops, Machine, Going, Waiting, Run, choice_at, take_reply, settle, turn_by, turn, turns, IsNotStopped}
 use Rattle.machine.proofs.Turns.{turns_add}
 use Rattle.machine.proofs.FollowBlocks.{BothStill}
 use Rattle.program80.specs.declared.program.Placed.{Placed}
 use Rattle.program80.specs.Program.{Program, instr_at, instr_of_placed, placed_in, is_start}
-use Rattle.step80.specs.State.{State80, Regs80, reg80, with_reg80, num_of, junk_regs}
+use Rattle.step80.specs.State.{State80, reg80, with_reg80, junk_regs}
 use Rattle.step80.specs.Memory.{is_closed}
-use Rattle.step80.specs.Call.{Return, is_just_below, put_blocks, cells_after, after_reply, return_after, place_if}
-use Rattle.step80.specs.Step.{go_to, act, act_at, step_at, step80, return_of, return_at, replied_to, replied80, machine80}
+use Rattle.step80.specs.Call.{Return, is_just_below, put_blocks, after_reply, place_if}
+use Rattle.step80.specs.Step.{act_at, step_at, return_of, return_at, replied_to, replied80, machine80}
 use Rattle.step86.specs.State.{State86, Regs86, bit_of, reg8, with8, wrap, back, put_word, word_at, push}
-use Rattle.step86.specs.Flags.{flags_by, chosen_flags}
-use Rattle.step86.specs.Effect.{effect, distance}
-use Rattle.step86.specs.Call.{Stop, NoInstruction, StackSegment, OddCall, spoiled, seen_by, ask, ask_system, call_system, chosen_regs, put_blocks as put_blocks86, after_reply as after_reply86, replied86}
-use Rattle.step86.specs.Step.{uses_stack, act as act86, act_from, act_at as act_at86, machine86}
+use Rattle.step86.specs.Flags.{flags_by}
+use Rattle.step86.specs.Effect.{distance}
+use Rattle.step86.specs.Call.{Stop, StackSegment, OddCall, spoiled, seen_by, ask, ask_system, call_system, put_blocks as put_blocks86, after_reply as after_reply86}
+use Rattle.step86.specs.Step.{act_from, act_at as act_at86, machine86}
 use Rattle.templates.specs.Template.{template, reg_of}
 use Rattle.templates.specs.Plain.{plain_statements}
 use Rattle.xlt_core.proofs.Standing.{StandAll, bytes_within}
 use Rattle.xlt_core.proofs.Words.{wrap_small, jump_lands, back_on, eq_true, pushed_back, call_keeps}
-use Rattle.xlt_core.proofs.Link.{Knows, Stands, IsLetterOrLost, Linked, regs_write}
+use Rattle.xlt_core.proofs.Link.{Stands, IsLetterOrLost, Linked, regs_write}
 use Rattle.xlt_core.proofs.Placing.{IsPlaced, found_at}
 use Rattle.xlt_core.proofs.PlainFacts.{PlainFacts}
-use Rattle.xlt_core.proofs.Letter.{IsNoStop, letter, AsksLetter, asks_letter, num_stands, letter_writes_nothing}
+use Rattle.xlt_core.proofs.Letter.{IsNoStop, letter, asks_letter, num_stands, letter_writes_nothing}
 
 -- what stands in a code is within it
 pub bytes_end : (code : List ℕ) (at : ℕ) (bs : List ℕ) → 0 < length bs → HasBytes code at bs → at + length bs ≤ length code
@@ -329,7 +326,7 @@ module _ (p : Program) (code : List ℕ) (fetch : ℕ → Option Instr86) (reads
         mem = λ a lt is_open.
             subst (λ ws. Stands off (cond (is_just_below x.state.sp a && not (is_closed p a)) Junk (put_blocks x.state.mem ws a)) (put_blocks86 (spoiled (put_word y.state.mem (back y.state.sp 2) k) (back y.state.sp 2) c) ws a)) (sym none)
             (subst (λ sp. Stands off (cond (is_just_below x.state.sp a && not (is_closed p a)) Junk (x.state.mem a)) (spoiled (put_word y.state.mem (back sp 2) k) (back sp 2) c a)) (sym l.sp_same)
-              (cell_after x.state.sp k c a x.state.mem y.state.mem l.sp_fits lt is_open (l.mem a lt is_open) (is_just_below x.state.sp a) refl));
+            (cell_after x.state.sp k c a x.state.mem y.state.mem l.sp_fits lt is_open (l.mem a lt is_open) (is_just_below x.state.sp a) refl));
         dma = l.dma;
         dialogue = ap (λ d. d ++ Asked (letter byte) ∷ []) l.dialogue;
         replies = refl;

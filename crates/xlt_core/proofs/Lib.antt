@@ -5,3 +5,5 @@ pub mod Placing
 pub mod PlainFacts
 pub mod Letter
 pub mod FirstTurn
+pub mod FirstLayout
+pub mod FirstStart

@@ -1,5 +1,5 @@
 -- Linked states of the two machines: what the one holds stands for what the other holds.
-use Rattle.std.proofs.Common.{◌≡◌, ℕ, ◌+◌, ◌-◌, ◌*◌, ◌/◌, ◌%◌, ◌≤◌, ◌<◌, List, [], ◌∷◌, ◌++◌, Option, Some, None, refl, sym, ap, ◌∙◌, subst, arith, Bool, true, false, cond}
+use Rattle.std.proofs.Common.{◌≡◌, ℕ, ◌/◌, ◌%◌, ◌<◌, Option, Some, None, Bool, false}
 use Rattle.cells.specs.declared.Place.{Place}
 use Rattle.cells.specs.declared.Place.TheVariants.{At, Exit}
 use Rattle.cells.specs.declared.Flags.{Flags}
@@ -9,8 +9,8 @@ use Rattle.cells.specs.declared.Rule.{Rule}
 use Rattle.i80.specs.declared.Reg.{Reg}
 use Rattle.i80.specs.declared.Reg.TheVariants.{A, B, C, D, E, H, L}
 use Rattle.lines86.specs.declared.line.Label.{Label}
-use Rattle.lines86.specs.declared.line.Label.TheVariants.{At as Line, Sys, End}
-use Rattle.machine.specs.Run.{Status, Going, Run}
+use Rattle.lines86.specs.declared.line.Label.TheVariants.{At as Line, End}
+use Rattle.machine.specs.Run.{Going, Run}
 use Rattle.program80.specs.Program.{Program}
 use Rattle.step80.specs.State.{State80, Regs80, reg80, with_reg80, num_of}
 use Rattle.step80.specs.Memory.{is_closed}
