@@ -1,1 +1,3 @@
 pub mod FirstProgram
+pub mod Texts
+pub mod Lines
