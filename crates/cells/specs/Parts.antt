@@ -1,5 +1,5 @@
 -- Sets of the twelve parts of the machine: the seven registers and the five flags.
-use Rattle.std.specs.Prelude.{◌≡◌, ◌<◌, ℕ, Bool, true, false, cond, ◌||◌, ◌+◌, ◌*◌, List, [], ◌∷◌}
+use Rattle.std.specs.Prelude.{◌≡◌, ◌<◌, ℕ, Bool, true, false, cond, ◌||◌, ◌+◌, List, [], ◌∷◌}
 use Rattle.cells.specs.declared.Part.{Part}
 use Rattle.cells.specs.declared.Part.TheVariants.{A, B, C, D, E, H, L, S, Z, Ac, P, Cy}
 use Rattle.cells.specs.Bits.{has_bit}
@@ -72,7 +72,7 @@ union k m =
       z = k.z || m.z;
       ac = k.ac || m.ac;
       p = k.p || m.p;
-      cy = k.cy || m.cy
+      cy = k.cy || m.cy;
     }
 
 -- the members of a list
@@ -95,7 +95,7 @@ parts_of_bits n =
       z = has_bit n 8;
       ac = has_bit n 9;
       p = has_bit n 10;
-      cy = has_bit n 11
+      cy = has_bit n 11;
     }
 
 -- a bit's value where it is set

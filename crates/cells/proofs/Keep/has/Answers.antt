@@ -1,4 +1,4 @@
-use Rattle.std.proofs.Common.{◌≡◌, ap, sym, ◌∙◌, ◌==◌}
+use Rattle.std.proofs.Common.{ap, ◌∙◌, ◌==◌}
 use Rattle.std.proofs.lemmas.Nat.Bits.{shr_and_one}
 use denote.Enum.Declared.{tag_of}
 use Rattle.cells.specs.Parts.{has}

@@ -1,4 +1,3 @@
-use Rattle.std.proofs.Common.{◌≡◌, ◌∙◌}
 use Rattle.cells.proofs.KeepBits.{join_are_parts, parts_of_join}
 use Rattle.cells.proofs.Keep.join.Goals as goal
 

@@ -1,4 +1,4 @@
-use Rattle.std.proofs.Common.{◌≡◌, ◌%◌, ◌*◌, ◌^◌}
+use Rattle.std.proofs.Common.{◌%◌, ◌*◌, ◌^◌}
 use denote.Enum.Declared.{tag_of}
 use Rattle.cells.specs.contracts.Part.{the_type}
 use Rattle.cells.proofs.KeepBits.{join_are_parts, parts_of_join, only_part}
