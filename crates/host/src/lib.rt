@@ -3,6 +3,9 @@
 
 ghost use Rattle.std.specs.Prelude.{◌≡◌, ◌<◌, ◌≤◌, [], take, length, IfOk, OnOk, OnErr};
 
+#[cfg(test)]
+mod tests;
+
 use thiserror::Error;
 
 /// Why a call of a host gave up. Every file and what was said are then as before the call.
