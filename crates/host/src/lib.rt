@@ -3,9 +3,12 @@
 
 ghost use Rattle.std.specs.Prelude.{◌≡◌, ◌<◌, ◌≤◌, [], take, length, IfOk, OnOk, OnErr};
 
+mod mem;
 #[cfg(test)]
 mod tests;
 
+pub use mem::MemHost;
+use std::alloc::AllocError;
 use thiserror::Error;
 
 /// Why a call of a host gave up. Every file and what was said are then as before the call.
@@ -17,6 +20,16 @@ pub enum HostFault {
     /// The host's own memory ran out.
     #[error("out of memory")]
     Memory,
+}
+
+impl From<AllocError> for HostFault {
+    ghost use Rattle.host.specs.declared.HostFault.TheVariants.{Memory};
+
+    ghost from_gives = { λ _ fault. fault ≡ Memory };
+
+    fn from(_error: AllocError) -> HostFault {
+        HostFault::Memory
+    }
 }
 
 /// Files by name, and a place to say bytes. A host need not tell what its files hold.
