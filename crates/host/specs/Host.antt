@@ -1,5 +1,5 @@
 -- What a host tells of the files and of what was said, its two counts of faults, and what a call may change.
-use Rattle.std.specs.Prelude.{◌≡◌, ◌≢◌, ℕ, ◌+◌, ◌-◌, ◌^◌, ◌<◌, ◌≤◌, ◌⊎◌, ◌↔◌, List, [], ◌++◌, length, take, drop, Option, Some, None}
+use Rattle.std.specs.Prelude.{◌≡◌, ◌≢◌, ℕ, ◌+◌, ◌-◌, ◌^◌, ◌<◌, ◌≤◌, ◌⊎◌, ◌↔◌, List, [], ◌++◌, length, take, drop, Option, Some, None, if◌then◌else◌, nat_lt}
 
 -- what a host tells of the file of a name: nothing, that there is no such file, or the bytes that it holds
 pub data FileTold : Type 0 where
@@ -18,6 +18,10 @@ pub record HostState : Type 0 where
 -- a count of faults is a 64-bit number, and stands still at the last of them
 abbrev pub last_count : ℕ
 last_count = 2 ^ 64 - 1
+
+-- a count of faults after one more
+abbrev pub one_more : ℕ → ℕ
+one_more count = if nat_lt count last_count then count + 1 else count
 
 -- the count rose, or stands at its last value
 abbrev pub HasRisen : ℕ → ℕ → Type 0

@@ -1,7 +1,7 @@
 -- What a `MemHost` holds, and what each of its calls does to it.
-use Rattle.std.specs.Prelude.{◌≡◌, ◌≢◌, ℕ, ◌+◌, min, if◌then◌else◌, nat_lt, List, Contains, Option, Some, None, option_map, Result, Ok, Err}
+use Rattle.std.specs.Prelude.{◌≡◌, ◌≢◌, ℕ, ◌+◌, min, List, Contains, Option, Some, None, option_map, Result, Ok, Err}
 use Rattle.std.specs.BTreeMap.{get_by_text}
-use Rattle.host.specs.Host.{FileTold, Missing, Holds, HostState, last_count}
+use Rattle.host.specs.Host.{FileTold, Missing, Holds, HostState, one_more}
 use Rattle.host.specs.declared.HostFault.{HostFault}
 use Rattle.host.specs.declared.HostFault.TheVariants.{Failed, Memory}
 use Rattle.host.specs.declared.mem.MemHost.{MemHost}
@@ -43,10 +43,6 @@ state_of host = record {
   read_faults = read_faults_of host;
   write_faults = write_faults_of host;
 }
-
--- a count after one more, which stands still at the last 64-bit number
-abbrev pub one_more : ℕ → ℕ
-one_more count = if nat_lt count last_count then count + 1 else count
 
 -- the next call, counted from 1, is among those that fail
 abbrev pub NextFails : MemHost → Type 0

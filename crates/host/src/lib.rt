@@ -4,10 +4,12 @@
 ghost use Rattle.std.specs.Prelude.{◌≡◌, ◌<◌, ◌≤◌, [], take, length, IfOk, OnOk, OnErr};
 
 mod mem;
+mod real;
 #[cfg(test)]
 mod tests;
 
 pub use mem::MemHost;
+pub use real::RealHost;
 use std::alloc::AllocError;
 use thiserror::Error;
 

@@ -1,6 +1,7 @@
 // A host in memory, for tests: it tells everything, and fails where it is told to.
 ghost use Rattle.std.specs.Prelude.{◌≡◌, ◌≢◌, ◌+◌, ◌-◌, ◌<◌, ◌≤◌, ◌↔◌, ◌⊎◌, [], ◌∷◌, ◌++◌, min, take, drop, length, IsTrue, IfOk, IfSome, OnOk, OnErr, option_copied, unwrap_or};
-ghost use Rattle.host.specs.MemHost.{file_of, said_of, fails_of, calls_of, read_faults_of, write_faults_of, state_of, one_more, NextFails, count_after, read_count_after, piece_of, CountsCall, CountsNothing, KeepsFiles, PutsFile};
+ghost use Rattle.host.specs.MemHost.{file_of, said_of, fails_of, calls_of, read_faults_of, write_faults_of, state_of, NextFails, count_after, read_count_after, piece_of, CountsCall, CountsNothing, KeepsFiles, PutsFile};
+ghost use Rattle.host.specs.Host.{one_more};
 
 use crate::{Host, HostFault};
 use std::alloc::{AllocError, Global};
