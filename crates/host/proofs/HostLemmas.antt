@@ -1,7 +1,7 @@
 -- What several calls of a host give together.
-use Rattle.std.proofs.Common.{◌≡◌, ◌≢◌, ℕ, ◌+◌, ◌<◌, ◌≤◌, ◌⊎◌, List, [], ◌++◌, length, take, drop, Option, Some, None, refl, ap, ◌∙◌, sym, append_assoc, append-nil, arith, rules}
+use Rattle.std.proofs.Common.{◌≡◌, ℕ, ◌+◌, List, [], ◌++◌, take, drop, Option, Some, None, refl, ap, ◌∙◌, sym, append_assoc, append-nil, arith}
 use Rattle.std.proofs.Math.Seq.{take-add}
-use Rattle.host.specs.Host.{FileTold, Untold, Missing, Holds, HostState, HasRisen, rewritten, appended, said_more, ReadsBytes, OnlyReads, OnlyWrites, OnlySays}
+use Rattle.host.specs.Host.{FileTold, Untold, Missing, Holds, HostState, rewritten, appended, said_more, OnlyReads, OnlyWrites, OnlySays}
 
 -- reads after reads
 pub OnlyReads-trans : {a b c : HostState} → OnlyReads a b → OnlyReads b c → OnlyReads a c
@@ -35,12 +35,6 @@ appended-rewritten Untold xs ys = refl
 appended-rewritten Missing xs ys = refl
 appended-rewritten (Holds held) xs ys = refl
 
--- bytes added to a file twice
-pub appended-appended : (t : FileTold) (xs ys : List ℕ) → appended (appended t xs) ys ≡ appended t (xs ++ ys)
-appended-appended Untold xs ys = refl
-appended-appended Missing xs ys = refl
-appended-appended (Holds held) xs ys = ap Holds (append_assoc held xs ys)
-
 -- bytes said after bytes
 pub said_more-said_more : (s : Option (List ℕ)) (xs ys : List ℕ) → said_more (said_more s xs) ys ≡ said_more s (xs ++ ys)
 said_more-said_more None xs ys = refl
@@ -59,9 +53,5 @@ rewritten-take t bytes n k = ap (rewritten t) (take-add n k bytes) ∙ sym (appe
 pub said_more-take : (s : Option (List ℕ)) (bytes : List ℕ) (n k : ℕ) → said_more s (take (n + k) bytes) ≡ said_more (said_more s (take n bytes)) (take k (drop n bytes))
 said_more-take s bytes n k = ap (said_more s) (take-add n k bytes) ∙ sym (said_more-said_more s (take n bytes) (take k (drop n bytes)))
 
--- a file that is read in pieces
-pub ReadsBytes-append : {held into : List ℕ} (at k : ℕ) → ReadsBytes held at k into → take at held ++ take k into ≡ take (at + k) held
-ReadsBytes-append {held} at k p = ap (λ xs. take at held ++ xs) p.same ∙ sym (take-add at k held)
-
 -- for `grind`: what several calls of a host give together
-pub ruleset host_steps = (OnlyReads-trans, OnlyWrites-trans, OnlySays-trans, rewritten-take, said_more-take, said_more-nil, ReadsBytes-append)
+pub ruleset pieces = (rewritten-take, said_more-take, said_more-nil)

@@ -33,6 +33,12 @@ IsFile Untold bytes = Unit {0}
 IsFile Missing bytes = ⊥
 IsFile (Holds held) bytes = held ≡ bytes
 
+-- these bytes begin the file, where the host tells it; a file that is not there counts as empty
+abbrev pub IsStartOfFile : FileTold → List ℕ → Type 0
+IsStartOfFile Untold bytes = Unit {0}
+IsStartOfFile Missing bytes = bytes ≡ []
+IsStartOfFile (Holds held) bytes = bytes ≡ take (length bytes) held
+
 -- the file with these bytes in place of what it held
 abbrev pub rewritten : FileTold → List ℕ → FileTold
 rewritten Untold bytes = Untold

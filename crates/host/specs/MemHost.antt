@@ -1,5 +1,5 @@
 -- What a `MemHost` holds, and what each of its calls does to it.
-use Rattle.std.specs.Prelude.{◌≡◌, ◌≢◌, ℕ, ◌+◌, min, List, Contains, Option, Some, None, option_map, Result, Ok, Err}
+use Rattle.std.specs.Prelude.{◌≡◌, ◌≢◌, ℕ, min, List, Contains, Option, Some, None, option_map, Result, Ok, Err}
 use Rattle.std.specs.BTreeMap.{get_by_text}
 use Rattle.host.specs.Host.{FileTold, Missing, Holds, HostState, one_more}
 use Rattle.host.specs.declared.HostFault.{HostFault}

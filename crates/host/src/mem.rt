@@ -108,8 +108,8 @@ impl MemHost {
         ensures failed { (result ≡ Err HostFault.Failed) ↔ NextFails self.old }
         ensures memory { result ≢ Err HostFault.Memory }
         ensures change { self.new ≡ record self.old {
-            calls = one_more self.old.calls;
-            write_faults = count_after result self.old.write_faults;
+          calls = one_more self.old.calls;
+          write_faults = count_after result self.old.write_faults;
         } }
     {
         if self.next_fails() {

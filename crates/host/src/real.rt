@@ -1,7 +1,8 @@
 // The host that the program runs over: files of the system and the standard output. No clause can say what these hold,
 // so what this file does with them is trusted, and tried by a test.
-ghost use Rattle.std.specs.Prelude.{◌≡◌, ◌<◌, ◌≤◌, length, Ok, IfOk, IsErr, MatchResult, is_ok, if◌then◌else◌};
+ghost use Rattle.std.specs.Prelude.{◌≡◌, ◌<◌, ◌≤◌, length, Ok, IfOk, IfErr, ◌↔◌, IsErr, IsErrAnd, MatchResult, is_ok, if◌then◌else◌};
 ghost use Rattle.host.specs.RealHost.{untold};
+ghost use Rattle.std.specs.IoError.{error_kind};
 ghost use Rattle.host.specs.Host.{one_more};
 
 use crate::{Host, HostFault};
@@ -12,7 +13,7 @@ use std::rt::Files;
 
 /// Files by their paths, and the standard output. It counts the faults that it meets.
 #[derive(Drop)]
-pub struct RealHost<R: Files + Print + Drop> {
+pub struct RealHost<R> {
     rt: R,
     read_faults: u64,
     write_faults: u64,
@@ -21,8 +22,7 @@ pub struct RealHost<R: Files + Print + Drop> {
 impl<R: Files + Print + Drop> RealHost<R> {
     /// A host that has met no fault.
     pub fn new(rt: R) -> RealHost<R>
-        ensures reads { result.read_faults ≡ 0 }
-        ensures writes { result.write_faults ≡ 0 }
+        ensures { ⟦<RealHost<R> as Host>⟧.state result ≡ untold 0 0 }
     {
         RealHost {
             rt,
@@ -35,6 +35,7 @@ impl<R: Files + Print + Drop> RealHost<R> {
 /// The answer of a call of the system, whose fault is counted.
 fn counted<T>(done: io::Result<T>, faults: &mut u64) -> Result<T, HostFault>
     ensures answer { MatchResult done (λ answer. result ≡ Ok answer) (λ _. IsErr result) }
+    ensures fault { IfErr done (λ error. (result ≡ Err HostFault.Memory) ↔ (error_kind error ≡ ErrorKind.OutOfMemory)) }
     ensures count { faults.new ≡ (if is_ok result then faults.old else one_more faults.old) }
 {
     match done {
@@ -47,7 +48,9 @@ fn counted<T>(done: io::Result<T>, faults: &mut u64) -> Result<T, HostFault>
 }
 
 /// What a fault of the system is to the caller.
-fn fault_of(error: &io::Error) -> HostFault {
+fn fault_of(error: &io::Error) -> HostFault
+    ensures memory { result ≡ HostFault.Memory ↔ (error_kind error.now ≡ ErrorKind.OutOfMemory) }
+{
     if error.kind() == ErrorKind::OutOfMemory {
         HostFault::Memory
     } else {
@@ -57,7 +60,8 @@ fn fault_of(error: &io::Error) -> HostFault {
 
 /// A write that took nothing is a fault.
 fn some_taken(taken: io::Result<usize>) -> io::Result<usize>
-    ensures { IfOk result (λ k. (0 < k) × (taken ≡ Ok k)) }
+    ensures some { IfOk result (λ k. (0 < k) × (taken ≡ Ok k)) }
+    ensures none { taken ≡ Ok 0 → IsErrAnd result (λ error. error_kind error ≡ ErrorKind.WriteZero) }
 {
     match taken {
         Ok(0) => Err(ErrorKind::WriteZero.into()),
@@ -98,10 +102,7 @@ impl<R: Files + Print + Drop> Host for RealHost<R> {
     }
 
     fn append(&mut self, name: &str, bytes: &[u8]) -> Result<usize, HostFault> {
-        counted(
-            append_file(&self.rt, name, bytes),
-            &mut self.write_faults,
-        )
+        counted(append_file(&self.rt, name, bytes), &mut self.write_faults)
     }
 
     fn say(&mut self, bytes: &[u8]) -> Result<usize, HostFault> {

@@ -1,5 +1,5 @@
-use Rattle.std.proofs.Common.{length, ◌-◌, ◌≡◌, ◌<◌, ◌≤◌, ℕ, [], take, IfOk, OnOk, OnErr, ◌+◌, ◌*◌}
-use Rattle.host.specs.Host.{OnlyWrites, Rewrites, WriteFailed}
+use Rattle.std.proofs.Common.{length, ◌-◌, ◌≤◌, take}
+use Rattle.host.specs.Host.{OnlyWrites, Rewrites}
 use Rattle.host.proofs.tests.write_all.Given as goal
 
 abbrev pub invariant-loop-done : goal.invariant-loop-done

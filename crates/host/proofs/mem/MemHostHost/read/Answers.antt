@@ -1,6 +1,5 @@
-use Rattle.std.proofs.Common.{arith, refl, rules, inl, inr, ◌≡◌, None}
+use Rattle.std.proofs.Common.{arith, refl, inl, inr}
 use Rattle.std.proofs.lemmas.Map.Text.{text_keys}
-use Rattle.host.specs.MemHost.{NextFails, file_of}
 use Rattle.host.proofs.mem.MemHostHost.read.Goals as goal
 
 -- there is no such file
