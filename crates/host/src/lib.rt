@@ -38,6 +38,7 @@ impl From<AllocError> for HostFault {
 pub trait Host {
     ghost use Rattle.host.specs.Host.{HostState, HasRisen, Missing, ReadsFile, SameFaults, IsUndisturbed, OnlyReads, OnlyWrites, OnlySays, Rewrites, Appends, Says, ReadFailed, WriteFailed};
 
+    // What the host tells, and its counts of faults.
     ghost state: { Self → HostState };
 
     /// Reads bytes of a file from the offset `at`, which is in bytes. The bytes of `into` past those read are left open.
@@ -47,8 +48,10 @@ pub trait Host {
         ensures bound { IfOk result (λ k. k ≤ length into.new) }
         ensures bytes { IfOk result (λ k. ReadsFile ((state self.old).file name.now) at k into.new) }
         ensures counted { OnOk result (SameFaults (state self.old) (state self.new)) }
-        ensures failed { result ≡ Err HostFault.Failed → ReadFailed (state self.old) (state self.new) name.now }
-        ensures missing { (state self.old).file name.now ≡ Missing → SameFaults (state self.old) (state self.new) };
+        ensures failed { result ≡ Err HostFault.Failed
+            → ReadFailed (state self.old) (state self.new) name.now }
+        ensures missing { (state self.old).file name.now ≡ Missing
+            → SameFaults (state self.old) (state self.new) };
 
     /// Makes a file empty, and makes one where there is none.
     fn begin(&mut self, name: &str) -> Result<(), HostFault>
@@ -56,7 +59,8 @@ pub trait Host {
         ensures empty { OnOk result (Rewrites (state self.old) (state self.new) name.now []) }
         ensures counted { OnOk result (SameFaults (state self.old) (state self.new)) }
         ensures fault { OnErr result (IsUndisturbed (state self.old) (state self.new)) }
-        ensures failed { result ≡ Err HostFault.Failed → WriteFailed (state self.old) (state self.new) };
+        ensures failed { result ≡ Err HostFault.Failed
+            → WriteFailed (state self.old) (state self.new) };
 
     /// Adds some of the first of the bytes at the end of a file, and answers how many.
     fn append(&mut self, name: &str, bytes: &[u8]) -> Result<usize, HostFault>
@@ -64,10 +68,12 @@ pub trait Host {
         ensures only { OnlyWrites (state self.old) (state self.new) name.now }
         ensures some { IfOk result (λ k. 0 < k) }
         ensures bound { IfOk result (λ k. k ≤ length bytes.now) }
-        ensures bytes { IfOk result (λ k. Appends (state self.old) (state self.new) name.now (take k bytes.now)) }
+        ensures bytes { IfOk result
+            (λ k. Appends (state self.old) (state self.new) name.now (take k bytes.now)) }
         ensures counted { OnOk result (SameFaults (state self.old) (state self.new)) }
         ensures fault { OnErr result (IsUndisturbed (state self.old) (state self.new)) }
-        ensures failed { result ≡ Err HostFault.Failed → WriteFailed (state self.old) (state self.new) };
+        ensures failed { result ≡ Err HostFault.Failed
+            → WriteFailed (state self.old) (state self.new) };
 
     /// Says some of the first of the bytes, and answers how many.
     fn say(&mut self, bytes: &[u8]) -> Result<usize, HostFault>
@@ -78,5 +84,6 @@ pub trait Host {
         ensures bytes { IfOk result (λ k. Says (state self.old) (state self.new) (take k bytes.now)) }
         ensures counted { OnOk result (SameFaults (state self.old) (state self.new)) }
         ensures fault { OnErr result (IsUndisturbed (state self.old) (state self.new)) }
-        ensures failed { result ≡ Err HostFault.Failed → WriteFailed (state self.old) (state self.new) };
+        ensures failed { result ≡ Err HostFault.Failed
+            → WriteFailed (state self.old) (state self.new) };
 }

@@ -1,7 +1,7 @@
 // A host in memory, for tests: it tells everything, and fails where it is told to.
 ghost use Rattle.std.specs.Prelude.{◌≡◌, ◌≢◌, ◌+◌, ◌-◌, ◌<◌, ◌≤◌, ◌↔◌, ◌⊎◌, [], ◌∷◌, ◌++◌, min, take, drop, length, IsTrue, IfOk, IfSome, OnOk, OnErr, option_copied, unwrap_or};
-ghost use Rattle.host.specs.MemHost.{file_of, said_of, fails_of, calls_of, read_faults_of, write_faults_of, state_of, NextFails, count_after, read_count_after, piece_of, CountsCall, CountsNothing, KeepsFiles, PutsFile};
 ghost use Rattle.host.specs.Host.{one_more};
+ghost use Rattle.host.specs.MemHost.{file_of, said_of, fails_of, calls_of, read_faults_of, write_faults_of, state_of, NextFails, count_after, read_count_after, piece_of, CountsCall, CountsNothing, KeepsFiles, PutsFile};
 
 use crate::{Host, HostFault};
 use std::alloc::{AllocError, Global};
@@ -28,7 +28,7 @@ fn copy_piece(held: &[u8], at: u64, into: &mut [u8]) -> usize
     ensures bytes { into.new ≡ take result (drop at held.now) ++ drop result into.old }
 {
     let rest = held.get(at as usize..).unwrap_or(&[]);
-    let count = PIECE.min(into.len().min(rest.len()));
+    let count = rest.len().min(into.len()).min(PIECE);
     into[..count].copy_from_slice(&rest[..count]);
     count
 }
@@ -121,7 +121,8 @@ impl MemHost {
 
     /// Adds bytes at the end of a file, and makes it where there is none.
     fn add(&mut self, name: &str, bytes: &[u8]) -> Result<(), AllocError>
-        ensures ok { OnOk result (PutsFile self.old self.new name.now (unwrap_or (file_of self.old name.now) [] ++ bytes.now)) }
+        ensures ok { OnOk result (PutsFile self.old self.new name.now
+            (unwrap_or (file_of self.old name.now) [] ++ bytes.now)) }
         ensures err { OnErr result (KeepsFiles self.old self.new) }
         ensures said { said_of self.new ≡ said_of self.old }
         ensures counts { CountsNothing self.old self.new }
@@ -137,15 +138,19 @@ impl Host for MemHost {
     ghost state = { state_of };
 
     fn read(&mut self, name: &str, at: u64, into: &mut [u8]) -> Result<usize, HostFault>
-        ensures failed { (result ≡ Err HostFault.Failed) ↔ (NextFails self.old ⊎ (file_of self.old name.now ≡ None)) }
+        ensures failed { (result ≡ Err HostFault.Failed)
+            ↔ (NextFails self.old ⊎ (file_of self.old name.now ≡ None)) }
         ensures memory { result ≢ Err HostFault.Memory }
-        ensures count { IfOk result (λ k. IfSome (file_of self.old name.now) (λ held. k ≡ piece_of (min (length into.old) (length held - at)))) }
-        ensures bytes { IfOk result (λ k. IfSome (file_of self.old name.now) (λ held. into.new ≡ take k (drop at held) ++ drop k into.old)) }
+        ensures count { IfOk result (λ k. IfSome (file_of self.old name.now)
+            (λ held. k ≡ piece_of (min (length into.old) (length held - at)))) }
+        ensures bytes { IfOk result (λ k. IfSome (file_of self.old name.now)
+            (λ held. into.new ≡ take k (drop at held) ++ drop k into.old)) }
         ensures unread { OnErr result (into.new ≡ into.old) }
         ensures files { KeepsFiles self.old self.new }
         ensures said { said_of self.new ≡ said_of self.old }
         ensures call { CountsCall self.old self.new }
-        ensures read_faults { read_faults_of self.new ≡ read_count_after (file_of self.old name.now) result (read_faults_of self.old) }
+        ensures read_faults { read_faults_of self.new
+            ≡ read_count_after (file_of self.old name.now) result (read_faults_of self.old) }
         ensures write_faults { write_faults_of self.new ≡ write_faults_of self.old }
     {
         let fails = self.next_fails();
@@ -176,7 +181,8 @@ impl Host for MemHost {
     fn append(&mut self, name: &str, bytes: &[u8]) -> Result<usize, HostFault>
         ensures failed { (result ≡ Err HostFault.Failed) ↔ NextFails self.old }
         ensures count { IfOk result (λ k. k ≡ piece_of (length bytes.now)) }
-        ensures ok { IfOk result (λ k. PutsFile self.old self.new name.now (unwrap_or (file_of self.old name.now) [] ++ take k bytes.now)) }
+        ensures ok { IfOk result (λ k. PutsFile self.old self.new name.now
+            (unwrap_or (file_of self.old name.now) [] ++ take k bytes.now)) }
         ensures fault { OnErr result (KeepsFiles self.old self.new) }
         ensures said { said_of self.new ≡ said_of self.old }
         ensures call { CountsCall self.old self.new }

@@ -1,9 +1,9 @@
 // The host that the program runs over: files of the system and the standard output. No clause can say what these hold,
 // so what this file does with them is trusted, and tried by a test.
 ghost use Rattle.std.specs.Prelude.{◌≡◌, ◌<◌, ◌≤◌, length, Ok, IfOk, IfErr, ◌↔◌, IsErr, IsErrAnd, MatchResult, is_ok, if◌then◌else◌};
-ghost use Rattle.host.specs.RealHost.{untold};
 ghost use Rattle.std.specs.IoError.{error_kind};
 ghost use Rattle.host.specs.Host.{one_more};
+ghost use Rattle.host.specs.RealHost.{untold};
 
 use crate::{Host, HostFault};
 use std::fs::{File, OpenOptions};
@@ -35,7 +35,8 @@ impl<R: Files + Print + Drop> RealHost<R> {
 /// The answer of a call of the system, whose fault is counted.
 fn counted<T>(done: io::Result<T>, faults: &mut u64) -> Result<T, HostFault>
     ensures answer { MatchResult done (λ answer. result ≡ Ok answer) (λ _. IsErr result) }
-    ensures fault { IfErr done (λ error. (result ≡ Err HostFault.Memory) ↔ (error_kind error ≡ ErrorKind.OutOfMemory)) }
+    ensures fault { IfErr done (λ error. (result ≡ Err HostFault.Memory)
+        ↔ (error_kind error ≡ ErrorKind.OutOfMemory)) }
     ensures count { faults.new ≡ (if is_ok result then faults.old else one_more faults.old) }
 {
     match done {
@@ -49,7 +50,7 @@ fn counted<T>(done: io::Result<T>, faults: &mut u64) -> Result<T, HostFault>
 
 /// What a fault of the system is to the caller.
 fn fault_of(error: &io::Error) -> HostFault
-    ensures memory { result ≡ HostFault.Memory ↔ (error_kind error.now ≡ ErrorKind.OutOfMemory) }
+    ensures memory { (result ≡ HostFault.Memory) ↔ (error_kind error.now ≡ ErrorKind.OutOfMemory) }
 {
     if error.kind() == ErrorKind::OutOfMemory {
         HostFault::Memory
