@@ -15,8 +15,10 @@ fn read_all<H: Host>(
     limit: usize,
 ) -> Result<Vec<u8>, HostFault>
     ensures only { OnlyReads (H.state host.old) (H.state host.new) }
-    ensures bytes { IfOk result (λ bytes. vec_len bytes ≤ limit → IsFile ((H.state host.old).file name.now) bytes.items) }
-    ensures failed { result ≡ Err HostFault.Failed → ReadFailed (H.state host.old) (H.state host.new) name.now }
+    ensures bytes { IfOk result (λ bytes. vec_len bytes ≤ limit
+        → IsFile ((H.state host.old).file name.now) bytes.items) }
+    ensures failed { result ≡ Err HostFault.Failed
+        → ReadFailed (H.state host.old) (H.state host.new) name.now }
 {
     let mut bytes = Vec::new(alloc);
     let mut piece = [0; 4096];
@@ -34,7 +36,8 @@ fn read_all<H: Host>(
 fn write_all<H: Host>(host: &mut H, name: &str, bytes: &[u8]) -> Result<(), HostFault>
     ensures only { OnlyWrites (H.state host.old) (H.state host.new) name.now }
     ensures ok { OnOk result (Rewrites (H.state host.old) (H.state host.new) name.now bytes.now) }
-    ensures failed { result ≡ Err HostFault.Failed → WriteFailed (H.state host.old) (H.state host.new) }
+    ensures failed { result ≡ Err HostFault.Failed
+        → WriteFailed (H.state host.old) (H.state host.new) }
 {
     host.begin(name)?;
     let mut done = 0;
@@ -48,7 +51,8 @@ fn write_all<H: Host>(host: &mut H, name: &str, bytes: &[u8]) -> Result<(), Host
 fn say_all<H: Host>(host: &mut H, bytes: &[u8]) -> Result<(), HostFault>
     ensures only { OnlySays (H.state host.old) (H.state host.new) }
     ensures ok { OnOk result (Says (H.state host.old) (H.state host.new) bytes.now) }
-    ensures failed { result ≡ Err HostFault.Failed → WriteFailed (H.state host.old) (H.state host.new) }
+    ensures failed { result ≡ Err HostFault.Failed
+        → WriteFailed (H.state host.old) (H.state host.new) }
 {
     let mut done = 0;
     while done < bytes.len() {
@@ -65,10 +69,15 @@ fn copy_all<H: Host>(
     to: &str,
     limit: usize,
 ) -> Result<bool, HostFault>
-    ensures copied { IfOk result (λ copied. copied ≡ true → (bytes : List ℕ) × IsFile ((H.state host.old).file from.now) bytes × Rewrites (H.state host.old) (H.state host.new) to.now bytes) }
-    ensures said { IfOk result (λ copied. copied ≡ true → Says (H.state host.old) (H.state host.new) (codes "copied")) }
+    ensures copied { IfOk result (λ copied. copied ≡ true → (bytes : List ℕ)
+        × IsFile ((H.state host.old).file from.now) bytes
+        × Rewrites (H.state host.old) (H.state host.new) to.now bytes) }
+    ensures said { IfOk result (λ copied. copied ≡ true
+        → Says (H.state host.old) (H.state host.new) (codes "copied")) }
     ensures others { OnlyFileChanged (H.state host.old) (H.state host.new) to.now }
-    ensures failed { result ≡ Err HostFault.Failed → ReadFailed (H.state host.old) (H.state host.new) from.now ⊎ WriteFailed (H.state host.old) (H.state host.new) }
+    ensures failed { result ≡ Err HostFault.Failed
+        → ReadFailed (H.state host.old) (H.state host.new) from.now
+        ⊎ WriteFailed (H.state host.old) (H.state host.new) }
 {
     let bytes = read_all(host, alloc, from, limit)?;
     if bytes.len() > limit {
