@@ -25,6 +25,10 @@ IsDecodedAt code at answer = IsTheOne (λ i. HasBytes code at (enc86 i)) answer
 abbrev pub IsPrefixFree : Type 0
 IsPrefixFree = (i j : Instr86) → IsPrefix (enc86 i) (enc86 j) → i ≡ j
 
--- a code of bytes has one reader: there is one, and any other gives the same at every place
+-- this reads the code, and whatever reads it gives the same at every place
+abbrev pub IsOnlyReader : List ℕ → (ℕ → Option Instr86) → Type 0
+IsOnlyReader code fetch = Reads code fetch × ((other : ℕ → Option Instr86) → Reads code other → (at : ℕ) → other at ≡ fetch at)
+
+-- each code of bytes has a reader, and only one
 abbrev pub HasOneReader : Type 0
-HasOneReader = (code : List ℕ) → All (λ b. b < 256) code → (fetch : ℕ → Option Instr86) × (Reads code fetch × ((other : ℕ → Option Instr86) → Reads code other → (at : ℕ) → other at ≡ fetch at))
+HasOneReader = (code : List ℕ) → All (λ b. b < 256) code → (fetch : ℕ → Option Instr86) × IsOnlyReader code fetch

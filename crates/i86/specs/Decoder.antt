@@ -93,10 +93,11 @@ abbrev pub form_of : ℕ → Option Form
 form_of first =
     cond (nat_lt (first / 8) 8) (arithmetic (first / 8) (first % 8))
     (cond (nat_lt (first / 8) 12) (on_word (first / 8) (first % 8))
-    (cond (first / 16 == 7) (option_map (λ j. Byte (ByteJcc j)) (look jumps (first % 16)))
+    (cond (first / 8 == 14) (option_map (λ j. Byte (ByteJcc j)) (look jumps (first % 16)))
+    (cond (first / 8 == 15) (option_map (λ j. Byte (ByteJcc j)) (look jumps (first % 16)))
     (cond (first / 8 == 22) (option_map (λ r. Byte (ByteMov r)) (look regs8 (first % 8)))
     (cond (first / 8 == 23) (option_map (λ r. Word (WordMov r)) (look regs16 (first % 8)))
-    (look singles first)))))
+    (look singles first))))))
 
 -- the operands that the fields mod and rm name
 abbrev pub reg8_at : ℕ → ℕ → Option Reg8
@@ -175,4 +176,4 @@ by_first (Some first) x y z = by_form (form_of first) x y z
 
 -- the instruction at a place of the code
 unfoldable pub decoded : List ℕ → ℕ → Option Instr86
-decoded code at = by_first (slice_get code at) (slice_get code (at + 1)) (slice_get code (at + 1 + 1)) (slice_get code (at + 1 + 1 + 1))
+decoded code at = by_first (slice_get code at) (slice_get code (at + 1)) (slice_get code (at + 2)) (slice_get code (at + 3))

@@ -1,16 +1,14 @@
 // From bytes to instructions: the first byte says a form, and the form says what follows it.
-ghost use Rattle.std.specs.Prelude.{◌≡◌, ℕ, ◌+◌, ◌<◌, Option, option_map, slice_get};
-ghost use Rattle.i86.specs.declared.Instr86.{Instr86};
-ghost use Rattle.i86.specs.Code.{Reads};
-ghost use Rattle.i86.specs.Decode.{IsDecoded, IsDecodedAt, HasOneReader};
-ghost use Rattle.i86.specs.Decoder.{look, regs8, regs16, stack_regs, ptrs, alu_ops, counts, rotates, jumps, arithmetic, on_word, singles, form_of, reg8_at, reg16_at, ptr_at, operand8_at, direct_at, operand16_at, or_cl_cl, with_fields, with_byte, with_word, word_from, decoded};
+ghost use Rattle.std.specs.Prelude.{◌≡◌, ◌<◌, option_map, slice_get};
+ghost use Rattle.i86.specs.Decode.{IsDecoded, IsDecodedAt, IsOnlyReader, HasOneReader};
+ghost use Rattle.i86.specs.Decoder.{look, regs8, regs16, stack_regs, ptrs, alu_ops, counts, rotates, jumps, arithmetic, on_word, singles, form_of, reg8_at, reg16_at, ptr_at, operand8_at, direct_at, operand16_at, or_cl_cl, with_fields, with_byte, with_word, word_from, by_form, decoded};
 
 use crate::encoding::length_of;
 use crate::{AluOp, Count, Instr86, Jump, Operand8, Operand16, Ptr, Reg8, Reg16, Rotate, StackReg};
 
 /// What a first byte says of the instruction.
 #[derive(Clone, Copy)]
-pub enum Form {
+enum Form {
     /// It is this one, of one byte.
     Alone(Instr86),
     /// It is this one, if this is the second byte.
@@ -25,7 +23,7 @@ pub enum Form {
 
 /// An instruction but for its last byte.
 #[derive(Clone, Copy)]
-pub enum ByteForm {
+enum ByteForm {
     MovNum8(Reg8),
     AluNum(AluOp),
     Jcc(Jump),
@@ -34,7 +32,7 @@ pub enum ByteForm {
 
 /// An instruction but for its last word.
 #[derive(Clone, Copy)]
-pub enum WordForm {
+enum WordForm {
     MovAlDirect,
     MovDirectAl,
     MovNum16(Reg16),
@@ -44,7 +42,7 @@ pub enum WordForm {
 
 /// An instruction but for what the fields mod, reg and rm say.
 #[derive(Clone, Copy)]
-pub enum FieldsForm {
+enum FieldsForm {
     MovReg8,
     MovMem8,
     MovMemNum,
@@ -71,11 +69,12 @@ pub fn decode(bytes: &[u8]) -> Option<(Instr86, u8)>
 pub fn decode_at(code: &[u8], at: u16) -> Option<(Instr86, u8)>
     ensures stands { IsDecodedAt code.now at result }
     ensures decoded { option_map (λ d. d.0) result ≡ decoded code.now at }
-    ensures reads { Reads code.now (decoded code.now) }
-    ensures every { (fetch : ℕ → Option Instr86) → Reads code.now fetch → fetch at ≡ decoded code.now at }
+    ensures reader { IsOnlyReader code.now (decoded code.now) }
 {
-    let instr = instruction_at(code, at as usize)?;
-    Some((instr, length_of(instr)))
+    match instruction_at(code, at as usize) {
+        None => None,
+        Some(instr) => Some((instr, length_of(instr))),
+    }
 }
 
 /// A law: for any code of bytes there is one reading of it, as its definition asks.
@@ -83,39 +82,48 @@ pub fn code_has_one_reader()
     ensures { HasOneReader }
 {}
 
+#[tactic(auto, unfolding(crate::specs::Decoder::decoded))]
 fn instruction_at(code: &[u8], at: usize) -> Option<Instr86>
     requires { at < 65536 }
     ensures { result ≡ decoded code.now at }
 {
-    let first = *code.get(at)?;
-    match form_of(first)? {
+    let form = form_of(byte_at(code, at)?)?;
+    let second = byte_at(code, at + 1);
+    let third = byte_at(code, at + 2);
+    let fourth = byte_at(code, at + 3);
+    by_form(form, second, third, fourth)
+}
+
+// The byte at an offset, if the code has it.
+fn byte_at(code: &[u8], at: usize) -> Option<u8>
+    ensures { result ≡ slice_get code.now at }
+{
+    code.get(at).copied()
+}
+
+// The instruction of a form, by the bytes behind the first as far as the code has them.
+fn by_form(form: Form, second: Option<u8>, third: Option<u8>, fourth: Option<u8>) -> Option<Instr86>
+    ensures { result ≡ by_form (Some form) second third fourth }
+{
+    match form {
         Form::Alone(instr) => Some(instr),
-        Form::Fixed(second, instr) => {
-            if *code.get(at + 1)? == second {
-                Some(instr)
-            } else {
-                None
-            }
-        }
-        Form::Byte(form) => Some(with_byte(form, *code.get(at + 1)?)),
-        Form::Word(form) => Some(with_word(form, word_at(code, at + 1)?)),
+        Form::Fixed(byte, instr) => { if second? == byte { Some(instr) } else { None } }
+        Form::Byte(form) => Some(with_byte(form, second?)),
+        Form::Word(form) => Some(with_word(form, word_from(second, third)?)),
         Form::Fields(form) => {
-            let fields = *code.get(at + 1)?;
-            let byte = code.get(at + 2).copied();
-            let word = word_at(code, at + 2);
-            with_fields(form, fields / 64, fields / 8 % 8, fields % 8, byte, word)
+            let fields = second?;
+            let word = word_from(third, fourth);
+            with_fields(form, fields / 64, fields / 8 % 8, fields % 8, third, word)
         }
     }
 }
 
-// A word of the code, low byte first, if it is there.
-fn word_at(code: &[u8], at: usize) -> Option<u16>
-    requires { at < 65538 }
-    ensures { result ≡ word_from (slice_get code.now at) (slice_get code.now (at + 1)) }
+// A word of two bytes, if both are there.
+fn word_from(low: Option<u8>, high: Option<u8>) -> Option<u16>
+    ensures { result ≡ word_from low high }
 {
-    let low = *code.get(at)?;
-    let high = *code.get(at + 1)?;
-    Some(256 * high as u16 + low as u16)
+    let low = low?;
+    Some(256 * high? as u16 + low as u16)
 }
 
 fn form_of(first: u8) -> Option<Form>
@@ -216,7 +224,14 @@ fn with_word(form: WordForm, word: u16) -> Instr86
 }
 
 // The instruction of a form with the fields mod, reg and rm, and the byte or the word that stands behind them.
-fn with_fields(form: FieldsForm, mode: u8, reg: u8, rm: u8, byte: Option<u8>, word: Option<u16>) -> Option<Instr86>
+fn with_fields(
+    form: FieldsForm,
+    mode: u8,
+    reg: u8,
+    rm: u8,
+    byte: Option<u8>,
+    word: Option<u16>,
+) -> Option<Instr86>
     ensures { result ≡ with_fields form mode reg rm byte word }
 {
     match form {

@@ -1,5 +1,5 @@
 // From instructions to bytes.
-ghost use Rattle.std.specs.Prelude.{◌≡◌, ℕ, ◌+◌, ◌≤◌, ◌<◌, List, [], ◌∷◌, length, take};
+ghost use Rattle.std.specs.Prelude.{◌≡◌, ℕ, ◌+◌, ◌*◌, ◌/◌, ◌%◌, ◌≤◌, ◌<◌, List, [], ◌∷◌, length, take};
 ghost use Rattle.i86.specs.Enc86.{enc86, code8, code16, code_of_ptr, code_of_alu, code_of_count, code_of_rotate, code_of_jump, reg_of_stack, with_operand, two, one, word_then};
 ghost use Rattle.i86.specs.Decode.{IsPrefixFree};
 
@@ -89,19 +89,29 @@ pub fn encode(i: Instr86) -> Code
         Instr86::MovNum16(reg, word) => Code::with_word(0xB8 + reg.code(), word),
         Instr86::MovMemNum(ptr, n) => Code::of_three(0xC6, ptr.code(), n),
         Instr86::MovReg16(reg, operand) => mov16(reg, operand),
-        Instr86::MovDirect16(address, reg) => Code::with_fields_and_word(0x89, direct_fields(reg), address),
+        Instr86::MovDirect16(address, reg) => Code::with_fields_and_word(
+            0x89,
+            direct_fields(reg),
+            address,
+        ),
         Instr86::MovAxDs => Code::of_two(0x8C, 0xD8),
         Instr86::MovSsAx => Code::of_two(0x8E, 0xD0),
         Instr86::Alu(op, operand) => Code::of_two(8 * op.code() + 2, operand_fields(0, operand)),
         Instr86::AluNum(op, n) => Code::of_two(8 * op.code() + 4, n),
         Instr86::OrClCl => Code::of_two(0x0A, 0xC9),
         Instr86::Add16(to, from) => Code::of_two(0x03, registers(to.code(), from.code())),
-        Instr86::Count8(count, operand) => Code::of_two(0xFE, operand_fields(count.code(), operand)),
+        Instr86::Count8(count, operand) => Code::of_two(
+            0xFE,
+            operand_fields(count.code(), operand),
+        ),
         Instr86::Count16(count, reg) => Code::of_one(0x40 + 8 * count.code() + reg.code()),
         Instr86::Push(reg) => Code::of_one(0x50 + reg.code()),
         Instr86::Pop(reg) => Code::of_one(0x58 + reg.code()),
         Instr86::Xchg8(first, second) => Code::of_two(0x86, registers(first.code(), second.code())),
-        Instr86::Xchg16(first, second) => Code::of_two(0x87, registers(first.code(), second.code())),
+        Instr86::Xchg16(first, second) => Code::of_two(
+            0x87,
+            registers(first.code(), second.code()),
+        ),
         Instr86::Rotate8(rotate, reg) => Code::of_two(0xD0, registers(rotate.code(), reg.code())),
         Instr86::Rotate16(rotate, reg) => Code::of_two(0xD1, registers(rotate.code(), reg.code())),
         Instr86::Not8(reg) => Code::of_two(0xF6, registers(2, reg.code())),
@@ -133,7 +143,9 @@ fn mov16(to: Reg16, from: Operand16) -> Code
 
 /// How many bytes an instruction has: 1 to 6.
 pub fn length_of(i: Instr86) -> u8
-    ensures { result ≡ length (enc86 i) }
+    ensures length { result ≡ length (enc86 i) }
+    ensures least { 1 ≤ result }
+    ensures most { result ≤ 6 }
 {
     encode(i).bytes().len() as u8
 }
@@ -284,4 +296,3 @@ fn high(word: u16) -> u8
 pub fn encodings_are_prefix_free()
     ensures { IsPrefixFree }
 {}
-
