@@ -129,13 +129,12 @@ fn word_from(low: Option<u8>, high: Option<u8>) -> Option<u16>
 fn form_of(first: u8) -> Option<Form>
     ensures { result ≡ form_of first }
 {
-    let high = first / 8;
-    match high {
-        0..=7 => arithmetic(high, first % 8),
-        8..=11 => on_word(high, first % 8),
-        14 | 15 => Some(Form::Byte(ByteForm::Jcc(jump(first % 16)?))),
-        22 => Some(Form::Byte(ByteForm::MovNum8(reg8(first % 8)?))),
-        23 => Some(Form::Word(WordForm::MovNum16(reg16(first % 8)?))),
+    match first {
+        0x00..=0x3F => arithmetic(first / 8, first % 8),
+        0x40..=0x5F => on_word(first / 8, first % 8),
+        0x70..=0x7F => Some(Form::Byte(ByteForm::Jcc(jump(first % 16)?))),
+        0xB0..=0xB7 => Some(Form::Byte(ByteForm::MovNum8(reg8(first % 8)?))),
+        0xB8..=0xBF => Some(Form::Word(WordForm::MovNum16(reg16(first % 8)?))),
         _ => single(first),
     }
 }
