@@ -14,17 +14,17 @@ put-zeros given bytes cells gap left total start holds fits place =
     let front : List ℕ = given ++ replicate gap 0 in
     let size : length front ≡ start = length-append given (replicate gap 0) ∙ ap (λ k. length given + k) (length-replicate gap 0) ∙ sym place in
     let first : cells ≡ front ++ replicate (length bytes + left) 0 =
-            holds ∙ ap (λ k. given ++ replicate k 0) fits ∙ ap (λ xs. given ++ xs) (sym (replicate-append-replicate gap (length bytes + left) 0))
-            ∙ sym (append_assoc given (replicate gap 0) (replicate (length bytes + left) 0)) in
+    holds ∙ ap (λ k. given ++ replicate k 0) fits ∙ ap (λ xs. given ++ xs) (sym (replicate-append-replicate gap (length bytes + left) 0))
+    ∙ sym (append_assoc given (replicate gap 0) (replicate (length bytes + left) 0)) in
     let second : cells ≡ (front ++ replicate (length bytes) 0) ++ replicate left 0 =
-            first ∙ ap (λ xs. front ++ xs) (sym (replicate-append-replicate (length bytes) left 0))
-            ∙ sym (append_assoc front (replicate (length bytes) 0) (replicate left 0)) in
+    first ∙ ap (λ xs. front ++ xs) (sym (replicate-append-replicate (length bytes) left 0))
+    ∙ sym (append_assoc front (replicate (length bytes) 0) (replicate left 0)) in
     let taken : take start cells ≡ front = ap (take start) first ∙ take_at front (replicate (length bytes + left) 0) start size in
     let behind : length (front ++ replicate (length bytes) 0) ≡ start + length bytes =
-            length-append front (replicate (length bytes) 0) ∙ ap (λ k. length front + k) (length-replicate (length bytes) 0)
-            ∙ ap (λ k. k + length bytes) size in
+    length-append front (replicate (length bytes) 0) ∙ ap (λ k. length front + k) (length-replicate (length bytes) 0)
+    ∙ ap (λ k. k + length bytes) size in
     let dropped : drop (start + length bytes) cells ≡ replicate left 0 =
-            ap (drop (start + length bytes)) second ∙ drop_at (front ++ replicate (length bytes) 0) (replicate left 0) (start + length bytes) behind in
+    ap (drop (start + length bytes)) second ∙ drop_at (front ++ replicate (length bytes) 0) (replicate left 0) (start + length bytes) behind in
     rw (taken, dropped, append_assoc) (sym (append_assoc4 given (replicate gap 0) bytes (replicate left 0)))
   where
     append_assoc4 : (a b c d : List ℕ) → (a ++ (b ++ c)) ++ d ≡ a ++ (b ++ (c ++ d))
@@ -42,7 +42,7 @@ length-field k part = by_parts _ _
     by_parts : (stem : List ℕ) (fill : ℕ) → length (take k (stem ++ replicate k fill)) ≡ k
     by_parts stem fill =
         length-take-le k (stem ++ replicate k fill)
-            (omega (arith, length-append stem (replicate k fill), length-replicate {A = ℕ} k fill))
+        (omega (arith, length-append stem (replicate k fill), length-replicate {A = ℕ} k fill))
 
 pub length-control_block : (word : List ℕ) → length (control_block word) ≡ 16
 length-control_block word =
@@ -93,7 +93,7 @@ length-tail_area text = by_bytes (counted text)
     by_bytes : (bytes : List ℕ) → length (take 128 (bytes ++ replicate 128 0)) ≡ 128
     by_bytes bytes =
         length-take-le 128 (bytes ++ replicate 128 0)
-            (omega (arith, length-append bytes (replicate 128 0), length-replicate {A = ℕ} 128 0))
+        (omega (arith, length-append bytes (replicate 128 0), length-replicate {A = ℕ} 128 0))
 
 pub same_page : (a b c d e f : List ℕ) → a ≡ b → c ≡ d → e ≡ f → a ++ (c ++ (replicate 4 0 ++ e)) ≡ b ++ (d ++ (replicate 4 0 ++ f))
 same_page a b c d e f p q r = cc

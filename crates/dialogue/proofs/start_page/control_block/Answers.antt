@@ -13,9 +13,9 @@ returns c =
     let word = c.args.word.now in
     let file = c.split_drive-drive.ensures.file in
     let name : c.field.result ≡ field 8 (name_of word) =
-            c.field.ensures ∙ ap (field 8) (c.split_once.ensures.before ∙ ap (before_first (is 0x2E)) file) in
+    c.field.ensures ∙ ap (field 8) (c.split_once.ensures.before ∙ ap (before_first (is 0x2E)) file) in
     let kind : c.field-2.result ≡ field 3 (type_of word) =
-            c.field-2.ensures ∙ ap (field 3) (c.split_once.ensures.after ∙ ap (after_first (is 0x2E)) file) in
+    c.field-2.ensures ∙ ap (field 3) (c.split_once.ensures.after ∙ ap (after_first (is 0x2E)) file) in
     let size = ap length name ∙ length-field 8 (name_of word) in
     let type_size = ap length kind ∙ length-field 3 (type_of word) in
     block-is c.split_drive-drive.result.0 c.field.result c.field-2.result _ _ _ _ size type_size c.zeros-block.ensures c.put.ensures c.put-2.ensures c.put-3.ensures

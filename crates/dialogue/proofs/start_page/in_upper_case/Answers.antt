@@ -6,7 +6,7 @@ use Rattle.dialogue.proofs.start_page.in_upper_case.Goals as goal
 pub loop-k-init : goal.loop-k-init
 loop-k-init c = record {
   size = ap length c.zeros-text.ensures ∙ length-replicate {A = ℕ} 126 0;
-  upper = refl
+  upper = refl;
 }
 
 pub loop-k-preserved : goal.loop-k-preserved
@@ -19,5 +19,5 @@ loop-k-preserved c =
     let upper = c.loop-k.invariant.upper in
     record {
       size = length-set c.loop-k.text c.loop-k.k c.to_ascii_uppercase.result ∙ size;
-      upper = cc
+      upper = cc;
     }

@@ -6,5 +6,5 @@ use Rattle.dialogue.proofs.start_page.in_upper_case.Given as goal
 abbrev pub invariant-loop-k : goal.invariant-loop-k
 invariant-loop-k l = record {
   size : length l.text ≡ 126;
-  upper : take l.k l.text ≡ map to_ascii_uppercase (take l.k l.tail)
+  upper : take l.k l.text ≡ map to_ascii_uppercase (take l.k l.tail);
 }
