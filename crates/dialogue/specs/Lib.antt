@@ -2,3 +2,6 @@ pub mod Tried
 pub mod Table
 pub mod Shape
 pub mod Fits
+pub mod Places
+pub mod Lawful
+pub mod StartPage

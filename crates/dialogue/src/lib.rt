@@ -2,4 +2,8 @@
 #![tactic(auto)]
 
 pub mod blocks;
+pub mod replies;
 pub mod request;
+pub mod shape;
+pub mod start_page;
+pub mod table;
