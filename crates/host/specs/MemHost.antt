@@ -3,7 +3,6 @@ use Rattle.std.specs.Prelude.{◌≡◌, ◌≢◌, ℕ, min, List, Contains, Op
 use Rattle.std.specs.BTreeMap.{get_by_text}
 use Rattle.host.specs.Host.{FileTold, Missing, Holds, HostState, one_more}
 use Rattle.host.specs.declared.HostFault.{HostFault}
-use Rattle.host.specs.declared.HostFault.TheVariants.{Failed, Memory}
 use Rattle.host.specs.declared.mem.MemHost.{MemHost}
 
 -- the bytes of the file of a name, None where there is no such file
@@ -48,11 +47,10 @@ state_of host = record {
 abbrev pub NextFails : MemHost → Type 0
 NextFails host = Contains (fails_of host) (one_more (calls_of host))
 
--- a count of faults after a call: only a Failed is counted
+-- a count of faults after a call: each fault is counted, want of memory too
 abbrev pub count_after : {T : Type 0} → Result T HostFault → ℕ → ℕ
 count_after (Ok answer) count = count
-count_after (Err Failed) count = one_more count
-count_after (Err Memory) count = count
+count_after (Err fault) count = one_more count
 
 -- the count of the reads' faults after a read: a file that is not there is not counted
 abbrev pub read_count_after : {T : Type 0} → Option (List ℕ) → Result T HostFault → ℕ → ℕ

@@ -59,8 +59,7 @@ pub trait Host {
         ensures empty { OnOk result (Rewrites (state self.old) (state self.new) name.now []) }
         ensures counted { OnOk result (SameFaults (state self.old) (state self.new)) }
         ensures fault { OnErr result (IsUndisturbed (state self.old) (state self.new)) }
-        ensures failed { result ≡ Err HostFault.Failed
-            → WriteFailed (state self.old) (state self.new) };
+        ensures failed { OnErr result (WriteFailed (state self.old) (state self.new)) };
 
     /// Adds some of the first of the bytes at the end of a file, and answers how many.
     fn append(&mut self, name: &str, bytes: &[u8]) -> Result<usize, HostFault>
@@ -72,8 +71,7 @@ pub trait Host {
             (λ k. Appends (state self.old) (state self.new) name.now (take k bytes.now)) }
         ensures counted { OnOk result (SameFaults (state self.old) (state self.new)) }
         ensures fault { OnErr result (IsUndisturbed (state self.old) (state self.new)) }
-        ensures failed { result ≡ Err HostFault.Failed
-            → WriteFailed (state self.old) (state self.new) };
+        ensures failed { OnErr result (WriteFailed (state self.old) (state self.new)) };
 
     /// Says some of the first of the bytes, and answers how many.
     fn say(&mut self, bytes: &[u8]) -> Result<usize, HostFault>
@@ -84,6 +82,5 @@ pub trait Host {
         ensures bytes { IfOk result (λ k. Says (state self.old) (state self.new) (take k bytes.now)) }
         ensures counted { OnOk result (SameFaults (state self.old) (state self.new)) }
         ensures fault { OnErr result (IsUndisturbed (state self.old) (state self.new)) }
-        ensures failed { result ≡ Err HostFault.Failed
-            → WriteFailed (state self.old) (state self.new) };
+        ensures failed { OnErr result (WriteFailed (state self.old) (state self.new)) };
 }

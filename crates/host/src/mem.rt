@@ -1,5 +1,5 @@
 // A host in memory, for tests: it tells everything, and fails where it is told to.
-ghost use Rattle.std.specs.Prelude.{◌≡◌, ◌≢◌, ◌+◌, ◌-◌, ◌<◌, ◌≤◌, ◌↔◌, ◌⊎◌, [], ◌∷◌, ◌++◌, min, take, drop, length, IsTrue, IfOk, IfSome, OnOk, OnErr, option_copied, unwrap_or};
+ghost use Rattle.std.specs.Prelude.{◌≡◌, ◌≢◌, ◌+◌, ◌-◌, ◌<◌, ◌≤◌, ◌↔◌, ◌⊎◌, [], ◌∷◌, ◌++◌, min, take, drop, length, IsTrue, IsOk, IfOk, IfSome, OnOk, OnErr, option_copied, unwrap_or};
 ghost use Rattle.host.specs.Host.{one_more};
 ghost use Rattle.host.specs.MemHost.{file_of, said_of, fails_of, calls_of, read_faults_of, write_faults_of, state_of, NextFails, count_after, read_count_after, piece_of, CountsCall, CountsNothing, KeepsFiles, PutsFile};
 
@@ -119,6 +119,21 @@ impl MemHost {
         Ok(())
     }
 
+    /// Counts a write that memory did not do for.
+    fn counted(&mut self, done: Result<(), AllocError>) -> Result<(), HostFault>
+        ensures answer { IsOk result ↔ IsOk done }
+        ensures memory { result ≢ Err HostFault.Failed }
+        ensures change { self.new ≡ record self.old {
+          write_faults = count_after result self.old.write_faults;
+        } }
+    {
+        if done.is_err() {
+            self.write_faults = self.write_faults.saturating_add(1);
+            return Err(HostFault::Memory);
+        }
+        Ok(())
+    }
+
     /// Adds bytes at the end of a file, and makes it where there is none.
     fn add(&mut self, name: &str, bytes: &[u8]) -> Result<(), AllocError>
         ensures ok { OnOk result (PutsFile self.old self.new name.now
@@ -174,8 +189,8 @@ impl Host for MemHost {
         ensures write_faults { write_faults_of self.new ≡ count_after result (write_faults_of self.old) }
     {
         self.start_write()?;
-        self.put(name, &[])?;
-        Ok(())
+        let made = self.put(name, &[]);
+        self.counted(made)
     }
 
     fn append(&mut self, name: &str, bytes: &[u8]) -> Result<usize, HostFault>
@@ -191,7 +206,8 @@ impl Host for MemHost {
     {
         self.start_write()?;
         let piece = &bytes[..PIECE.min(bytes.len())];
-        self.add(name, piece)?;
+        let added = self.add(name, piece);
+        self.counted(added)?;
         Ok(piece.len())
     }
 
@@ -207,7 +223,8 @@ impl Host for MemHost {
     {
         self.start_write()?;
         let piece = &bytes[..PIECE.min(bytes.len())];
-        self.said.extend_from_slice(piece)?;
+        let said = self.said.extend_from_slice(piece);
+        self.counted(said)?;
         Ok(piece.len())
     }
 }
