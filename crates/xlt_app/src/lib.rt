@@ -1,0 +1,2 @@
+// The program `xlt`: its words, its files, and what it says.
+#![tactic(auto)]
