@@ -1,0 +1,3 @@
+pub mod Area
+pub mod Row
+pub mod State
