@@ -237,10 +237,8 @@ pub fn defs(i: Instr80) -> Keep
         | Instr80::Sphl
         | Instr80::Pchl
         | Instr80::Push(_)
-        | Instr80::Jif(_, _)
-        | Instr80::Cif(_, _)
         | Instr80::Ret
-        | Instr80::Rif(_)
         | Instr80::Rst0 => Keep::none(),
+        Instr80::Rif(_) | Instr80::Jif(_, _) | Instr80::Cif(_, _) => Keep::none(),
     }
 }
