@@ -1,3 +1,3 @@
 pub mod Area
 pub mod Row
-pub mod State
+pub mod Draft

@@ -3,7 +3,7 @@ use Rattle.std.specs.Prelude.{◌≡◌, Bool, true, Result, Ok, Err}
 use Rattle.cells.specs.declared.Rule.{Rule}
 use Rattle.step80.specs.State.{State80}
 use Rattle.step80.specs.Memory.{Halves}
-use Rattle.tagged80.specs.declared.state.Word.{Word}
+use Rattle.tagged80.specs.declared.draft.Word.{Word}
 
 abbrev pub IsRow : {X : Type 0} → Result State80 Rule → Result X Rule → State80 → State80 → Type 0
 IsRow (Ok t) (Ok u) before after = after ≡ t

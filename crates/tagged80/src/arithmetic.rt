@@ -5,11 +5,11 @@ ghost use Rattle.machine.specs.Arithmetic.{as_bit, turned_left, turned_right, bi
 ghost use Rattle.step80.specs.Effect.{clears};
 
 use crate::area::Area;
+use crate::draft::Draft;
 use crate::numbers::{
     address_in, adjusted, byte_flags, carry_in, is_excepted, known_flag, number, outcome,
     outcome_flags,
 };
-use crate::state::State;
 use cells::{Cell, Rule};
 use i80::{Op, Pair, Reg, Src};
 
@@ -46,12 +46,12 @@ fn low_bit(value: u8) -> bool
     value % 2 == 1
 }
 
-impl State {
+impl Draft<'_> {
     ghost use Rattle.cells.specs.declared.Cell.TheVariants.{Num};
     ghost use Rattle.step80.specs.State.{with_a, with_cy};
     ghost use Rattle.step80.specs.Effect.{alu, alu_with, cleared, counted, counted_up, counted_down, inr, dcr, pair_num, add_to_pair, dad, daa, cma, cmc, rlc, rrc, ral, rar};
     ghost use Rattle.tagged80.specs.Row.{IsRow};
-    ghost use Rattle.tagged80.specs.State.{state_of};
+    ghost use Rattle.tagged80.specs.Draft.{IsFresh, state_of};
 
     // A becomes 0, whatever it held.
     fn clear_a(&mut self)
@@ -77,6 +77,7 @@ impl State {
 
     /// ADD, ADC, SUB, SBB, ANA, XRA, ORA and CMP.
     pub fn operate(&mut self, area: &Area, op: Op, from: Src) -> Result<(), Rule>
+        requires { IsFresh self.old }
         ensures { IsRow (alu area.now.program.now (state_of self.old) op from) result (state_of self.old) (state_of self.new) }
     {
         if clears_a(op, from) {
@@ -89,6 +90,7 @@ impl State {
 
     // The number that INR and DCR count; in memory its cell has to be one that can be written too.
     fn counted(&self, area: &Area, on: Src) -> Result<u8, Rule>
+        requires { IsFresh self.now }
         ensures { result ≡ counted area.now.program.now (state_of self.now) on }
     {
         match on {
@@ -122,6 +124,7 @@ impl State {
 
     /// INR.
     pub fn count_up(&mut self, area: &Area, on: Src) -> Result<(), Rule>
+        requires { IsFresh self.old }
         ensures { IsRow (inr area.now.program.now (state_of self.old) on) result (state_of self.old) (state_of self.new) }
     {
         let x = self.counted(area, on)?;
@@ -132,6 +135,7 @@ impl State {
 
     /// DCR.
     pub fn count_down(&mut self, area: &Area, on: Src) -> Result<(), Rule>
+        requires { IsFresh self.old }
         ensures { IsRow (dcr area.now.program.now (state_of self.old) on) result (state_of self.old) (state_of self.new) }
     {
         let x = self.counted(area, on)?;

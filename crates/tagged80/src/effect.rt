@@ -1,17 +1,18 @@
 // The table of the instructions (8080 Assembly Language Programming Manual, chapter 2).
 use crate::area::Area;
-use crate::state::State;
+use crate::draft::Draft;
 use cells::{Cell, Rule};
 use i80::Instr80;
 
-impl State {
+impl Draft<'_> {
     ghost use Rattle.step80.specs.Effect.{effect};
     ghost use Rattle.tagged80.specs.Row.{IsRow};
-    ghost use Rattle.tagged80.specs.State.{state_of};
+    ghost use Rattle.tagged80.specs.Draft.{IsFresh, state_of};
 
     /// What an instruction does before the place that comes next is looked at. Where a rule is broken nothing changes. A
     /// jump, call or return does nothing here.
     pub fn effect(&mut self, area: &Area, instr: Instr80) -> Result<(), Rule>
+        requires { IsFresh self.old }
         ensures { IsRow (effect area.now.program.now (state_of self.old) instr) result (state_of self.old) (state_of self.new) }
     {
         match instr {

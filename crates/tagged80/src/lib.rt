@@ -3,9 +3,9 @@
 
 pub mod area;
 pub mod arithmetic;
+pub mod draft;
 pub mod effect;
 pub mod moves;
 pub mod numbers;
 pub mod registers;
 pub mod stack;
-pub mod state;

@@ -3,19 +3,19 @@
 ghost use Rattle.std.specs.Prelude.{◌≡◌};
 
 use crate::area::Area;
+use crate::draft::{Draft, Word};
 use crate::numbers::address_in;
-use crate::state::{State, Word};
 use cells::{Cell, Place, Rule};
 use i80::{Pair, Src, Word as Immediate};
 
-impl State {
+impl Draft<'_> {
     ghost use Rattle.i80.specs.declared.Instr80.TheVariants.{Mov, Shld, Ldax, Stax};
     ghost use Rattle.i80.specs.declared.Word.TheVariants.{Code};
     ghost use Rattle.step80.specs.State.{high_of, low_of};
     ghost use Rattle.step80.specs.Memory.{address};
     ghost use Rattle.step80.specs.Effect.{source, into, effect, lxi, lda, sta, lhld, xchg, xthl, sphl};
     ghost use Rattle.tagged80.specs.Row.{IsRow};
-    ghost use Rattle.tagged80.specs.State.{state_of};
+    ghost use Rattle.tagged80.specs.Draft.{IsFresh, state_of};
 
     /// The high cell of a pair; that of SP is a number.
     pub fn high(&self, pair: Pair) -> Cell
@@ -50,6 +50,7 @@ impl State {
 
     /// The cell of a register or of M.
     pub fn source(&self, area: &Area, from: Src) -> Result<Cell, Rule>
+        requires { IsFresh self.now }
         ensures { result ≡ source area.now.program.now (state_of self.now) from }
     {
         match from {
@@ -63,6 +64,7 @@ impl State {
 
     /// A cell into a register or into M.
     pub fn put_into(&mut self, area: &Area, to: Src, cell: Cell) -> Result<(), Rule>
+        requires { IsFresh self.old }
         ensures { IsRow (into area.now.program.now (state_of self.old) to cell) result (state_of self.old) (state_of self.new) }
     {
         match to {
@@ -72,13 +74,14 @@ impl State {
             }
             Src::Mem => {
                 let at = self.at_hl()?;
-                self.write(area, at, cell)
+                self.write_cell(area, at, cell)
             }
         }
     }
 
     /// MOV.
     pub fn transfer(&mut self, area: &Area, to: Src, from: Src) -> Result<(), Rule>
+        requires { IsFresh self.old }
         ensures { IsRow (effect area.now.program.now (state_of self.old) (Mov to from)) result (state_of self.old) (state_of self.new) }
     {
         let cell = self.source(area, from)?;
@@ -113,6 +116,7 @@ impl State {
 
     /// LDA.
     pub fn load(&mut self, area: &Area, at: u16) -> Result<(), Rule>
+        requires { IsFresh self.old }
         ensures { IsRow (lda area.now.program.now (state_of self.old) at) result (state_of self.old) (state_of self.new) }
     {
         let cell = self.read(area, at)?;
@@ -122,13 +126,15 @@ impl State {
 
     /// STA.
     pub fn store(&mut self, area: &Area, at: u16) -> Result<(), Rule>
+        requires { IsFresh self.old }
         ensures { IsRow (sta area.now.program.now (state_of self.old) at) result (state_of self.old) (state_of self.new) }
     {
-        self.write(area, at, self.registers.a)
+        self.write_cell(area, at, self.registers.a)
     }
 
     /// LHLD.
     pub fn load_pair(&mut self, area: &Area, at: u16) -> Result<(), Rule>
+        requires { IsFresh self.old }
         ensures { IsRow (lhld area.now.program.now (state_of self.old) at) result (state_of self.old) (state_of self.new) }
     {
         let word = self.read_word(area, at)?;
@@ -138,6 +144,7 @@ impl State {
 
     /// SHLD.
     pub fn store_pair(&mut self, area: &Area, at: u16) -> Result<(), Rule>
+        requires { IsFresh self.old }
         ensures { IsRow (effect area.now.program.now (state_of self.old) (Shld at)) result (state_of self.old) (state_of self.new) }
     {
         let word = self.hl();
@@ -146,6 +153,7 @@ impl State {
 
     /// LDAX.
     pub fn load_at(&mut self, area: &Area, pair: Pair) -> Result<(), Rule>
+        requires { IsFresh self.old }
         ensures { IsRow (effect area.now.program.now (state_of self.old) (Ldax pair)) result (state_of self.old) (state_of self.new) }
     {
         let at = address_in(self.high(pair), self.low(pair))?;
@@ -154,6 +162,7 @@ impl State {
 
     /// STAX.
     pub fn store_at(&mut self, area: &Area, pair: Pair) -> Result<(), Rule>
+        requires { IsFresh self.old }
         ensures { IsRow (effect area.now.program.now (state_of self.old) (Stax pair)) result (state_of self.old) (state_of self.new) }
     {
         let at = address_in(self.high(pair), self.low(pair))?;
@@ -172,6 +181,7 @@ impl State {
 
     /// XTHL.
     pub fn exchange_top(&mut self, area: &Area) -> Result<(), Rule>
+        requires { IsFresh self.old }
         ensures { IsRow (xthl area.now.program.now (state_of self.old)) result (state_of self.old) (state_of self.new) }
     {
         let sp = self.sp;

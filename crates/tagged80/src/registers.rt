@@ -18,7 +18,7 @@ pub struct Registers {
 }
 
 impl Registers {
-    ghost use Rattle.tagged80.specs.State.{regs_of};
+    ghost use Rattle.tagged80.specs.Draft.{regs_of};
 
     /// Reads a register.
     pub fn get(&self, reg: Reg) -> Cell

@@ -3,7 +3,7 @@ ghost use Rattle.std.specs.Prelude.{◌≡◌};
 ghost use Rattle.step80.specs.Effect.{flags_in};
 
 use crate::area::Area;
-use crate::state::{State, Word};
+use crate::draft::{Draft, Word};
 use cells::{Cell, Flags, Rule};
 use i80::StackPair;
 
@@ -18,13 +18,14 @@ fn flags_of_cell(cell: Cell) -> Flags
     }
 }
 
-impl State {
+impl Draft<'_> {
     ghost use Rattle.step80.specs.Effect.{push, push_pair, popped, pop_pair};
     ghost use Rattle.tagged80.specs.Row.{IsRow, halves_of};
-    ghost use Rattle.tagged80.specs.State.{state_of};
+    ghost use Rattle.tagged80.specs.Draft.{IsFresh, state_of};
 
     /// Two cells onto the stack, which grows down: the high one at SP-1, the low one at SP-2.
     pub fn push(&mut self, area: &Area, word: Word) -> Result<(), Rule>
+        requires { IsFresh self.old }
         ensures { IsRow (push area.now.program.now (state_of self.old) word.high word.low) result (state_of self.old) (state_of self.new) }
     {
         let sp = self.sp.wrapping_sub(2);
@@ -35,6 +36,7 @@ impl State {
 
     /// PUSH.
     pub fn push_pair(&mut self, area: &Area, pair: StackPair) -> Result<(), Rule>
+        requires { IsFresh self.old }
         ensures { IsRow (push_pair area.now.program.now (state_of self.old) pair) result (state_of self.old) (state_of self.new) }
     {
         let word = match pair {
@@ -66,6 +68,7 @@ impl State {
 
     /// POP.
     pub fn pop_pair(&mut self, area: &Area, pair: StackPair) -> Result<(), Rule>
+        requires { IsFresh self.old }
         ensures { IsRow (pop_pair area.now.program.now (state_of self.old) pair) result (state_of self.old) (state_of self.new) }
     {
         let word = self.read_word(area, self.sp)?;

@@ -1,23 +1,10 @@
-// The state of the machine, and its memory.
+// What an instruction does, before it is known that it may.
 ghost use Rattle.std.specs.Prelude.{◌≡◌, length};
 
 use crate::area::Area;
 use crate::registers::Registers;
 use cells::{Cell, Flags, Place, Rule};
 use i80::Pair;
-
-/// What the tagged 8080 holds: the place is that of the instruction that comes next, the DMA address where the system's
-/// records of 128 bytes go.
-#[derive(Drop)]
-pub struct State {
-    pub registers: Registers,
-    pub flags: Flags,
-    pub sp: u16,
-    pub memory: Vec<Cell>,
-    pub place: Place,
-    pub dma: u16,
-    ghost full: { length memory.items ≡ 65536 },
-}
 
 /// The two cells of a word.
 #[derive(Clone, Copy)]
@@ -26,14 +13,36 @@ pub struct Word {
     pub low: Cell,
 }
 
-impl State {
+/// A write to memory that is still to be made. An instruction makes at most one, after all that it reads.
+#[derive(Clone, Copy)]
+pub enum Write {
+    Nothing,
+    Cell(u16, Cell),
+    Word(u16, Word),
+}
+
+/// The state as an instruction leaves it, if no rule is broken: what the machine holds, and what is still to be written. The
+/// place is that of the instruction that comes next, the DMA address where the system's records of 128 bytes go.
+pub struct Draft<'a> {
+    pub registers: Registers,
+    pub flags: Flags,
+    pub sp: u16,
+    pub memory: &'a [Cell],
+    pub place: Place,
+    pub dma: u16,
+    pub write: Write,
+    ghost full: { length memory.now ≡ 65536 },
+}
+
+impl Draft<'_> {
     ghost use Rattle.step80.specs.State.{with_bc, with_de, with_hl, with_num, with_a, with_flags, with_cy};
     ghost use Rattle.step80.specs.Memory.{read_at, write_at, read_word, write_word};
     ghost use Rattle.tagged80.specs.Row.{IsRow, halves_in};
-    ghost use Rattle.tagged80.specs.State.{state_of, with_cell};
+    ghost use Rattle.tagged80.specs.Draft.{IsFresh, state_of};
 
     /// Reads a cell: P2 where it is closed.
     pub fn read(&self, area: &Area, at: u16) -> Result<Cell, Rule>
+        requires { IsFresh self.now }
         ensures { result ≡ read_at area.now.program.now (state_of self.now) at }
     {
         if area.is_closed(at) {
@@ -43,24 +52,19 @@ impl State {
         }
     }
 
-    /// A cell becomes another, whatever it was.
-    pub fn put(&mut self, at: u16, cell: Cell)
-        ensures { state_of self.new ≡ with_cell (state_of self.old) at cell }
-    {
-        self.memory[at as usize] = cell;
-    }
-
     /// Writes a cell: P3 where it may not be written.
-    pub fn write(&mut self, area: &Area, at: u16, cell: Cell) -> Result<(), Rule>
+    pub fn write_cell(&mut self, area: &Area, at: u16, cell: Cell) -> Result<(), Rule>
+        requires { IsFresh self.old }
         ensures { IsRow (write_at area.now.program.now (state_of self.old) at cell) result (state_of self.old) (state_of self.new) }
     {
         area.may_write(at)?;
-        self.put(at, cell);
+        self.write = Write::Cell(at, cell);
         Ok(())
     }
 
     /// Reads a word, its low cell first: P4 at the last cell of memory.
     pub fn read_word(&self, area: &Area, at: u16) -> Result<Word, Rule>
+        requires { IsFresh self.now }
         ensures { halves_in result ≡ read_word area.now.program.now (state_of self.now) at }
     {
         if at == 0xFFFF {
@@ -73,6 +77,7 @@ impl State {
 
     /// Writes a word.
     pub fn write_word(&mut self, area: &Area, at: u16, word: Word) -> Result<(), Rule>
+        requires { IsFresh self.old }
         ensures { IsRow (write_word area.now.program.now (state_of self.old) at word.high word.low) result (state_of self.old) (state_of self.new) }
     {
         if at == 0xFFFF {
@@ -80,8 +85,7 @@ impl State {
         }
         area.may_write(at)?;
         area.may_write(at + 1)?;
-        self.put(at, word.low);
-        self.put(at + 1, word.high);
+        self.write = Write::Word(at, word);
         Ok(())
     }
 
