@@ -23,6 +23,7 @@ pub enum Write {
 
 /// The state as an instruction leaves it, if no rule is broken: what the machine holds, and what is still to be written. The
 /// place is that of the instruction that comes next, the DMA address where the system's records of 128 bytes go.
+#[derive(Drop)]
 pub struct Draft<'a> {
     pub registers: Registers,
     pub flags: Flags,
