@@ -1,0 +1,5 @@
+pub mod Area
+pub mod Draft
+pub mod Row
+pub mod Sight
+pub mod Turn
