@@ -1,6 +1,12 @@
 // The instructions of the 8086 that the texts use (Intel 8086 Family User's Manual, "Instruction set").
 #![tactic(auto)]
 
+mod decoding;
+mod encoding;
+
+pub use decoding::{code_has_one_reader, decode, decode_at};
+pub use encoding::{Code, encode, encodings_are_prefix_free, length_of};
+
 /// A byte register.
 #[derive(Clone, Copy, PartialEq, Eq)]
 pub enum Reg8 {

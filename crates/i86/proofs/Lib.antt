@@ -1,0 +1,4 @@
+pub mod Tables
+pub mod Operands
+pub mod Readers
+pub mod Prefixes
