@@ -2,3 +2,5 @@ pub mod Tried
 pub mod Table
 pub mod Shape
 pub mod Fits
+pub mod Places
+pub mod Lawful

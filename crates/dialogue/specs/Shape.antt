@@ -10,12 +10,16 @@ use Rattle.dialogue.specs.declared.request.Range.{Range}
 use Rattle.dialogue.specs.declared.request.Shape.{Shape}
 use Rattle.dialogue.specs.declared.request.Request.{Request}
 use Rattle.dialogue.specs.Tried.{try_then}
-use Rattle.dialogue.specs.Table.{Argument, NoArgument, InE, InDE, Extent, F, Dma, Text, Line, Row, row_of}
+use Rattle.dialogue.specs.Table.{Argument, NoArgument, InE, InDE, Extent, F, Dma, Text, Line, Row, row_of, padded}
 
 -- the memory that a call sees: the byte of each cell that it may read, and the cells that it may write
 pub record Seen : Type 0 where
   pub byte : ℕ → Option ℕ
   pub writable : ℕ → Bool
+
+-- the memory that a view shows
+abbrev pub seen_by : (ℕ → Option ℕ) → (ℕ → Bool) → Seen
+seen_by byte writable = record { byte = byte; writable = writable }
 
 -- the argument, from the numbers in D and E where they are known
 abbrev pub argument_of : Argument → Option ℕ → Option ℕ → Result ArgWord Rule
@@ -87,12 +91,6 @@ has_room seen de (F i k ∷ xs) = Ok (F i k ∷ xs)
 has_room seen de (Dma ∷ xs) = Ok (Dma ∷ xs)
 has_room seen de (Text ∷ xs) = Ok (Text ∷ xs)
 has_room seen de (Line ∷ xs) = cond (line_room seen de == 0) (Err P10) (Ok (Line ∷ xs))
-
--- so many places: the ranges, and None after them
-abbrev pub padded : ℕ → List Range → List (Option Range)
-padded zero rs = []
-padded (suc k) [] = None ∷ padded k []
-padded (suc k) (r ∷ rs) = Some r ∷ padded k rs
 
 -- the shape of a call of a row
 abbrev pub shape_by : ℕ → Row → Option ℕ → Option ℕ → ℕ → Seen → Result Shape Rule

@@ -1,29 +1,13 @@
 -- The call table: for each function of the BDOS its argument, its answer, and the memory that it reads and may write
 -- (CP/M 2.2 Operating System Manual, "BDOS functions"; the ranges are this project's profile of what the systems touch).
-use Rattle.std.specs.Prelude.{ℕ, ◌==◌, cond, List, [], ◌∷◌, Option, Some, None}
-
--- where a call finds its argument
-pub data Argument : Type 0 where
-  NoArgument : Argument
-  InE : Argument
-  InDE : Argument
-
--- what a call answers
-pub data AnswerKind : Type 0 where
-  NoAnswer : AnswerKind
-  ByteAnswer : AnswerKind
-  WordAnswer : AnswerKind
-
--- memory that a call touches
-pub data Extent : Type 0 where
-  -- k cells from DE + i up
-  F : (i k : ℕ) → Extent
-  -- the 128 cells from the DMA address up
-  Dma : Extent
-  -- the cells from DE up to the first `$`, without it
-  Text : Extent
-  -- the cells from DE + 1 up that a line of up to mx bytes takes, with its length before it; mx is the byte at DE
-  Line : Extent
+use Rattle.std.specs.Prelude.{ℕ, zero, suc, ◌==◌, cond, List, [], ◌∷◌, Option, Some, None}
+pub use Rattle.dialogue.specs.declared.table.Argument.{Argument}
+pub use Rattle.dialogue.specs.declared.table.Argument.TheVariants.{NoArgument, InE, InDE}
+pub use Rattle.dialogue.specs.declared.table.AnswerKind.{AnswerKind}
+pub use Rattle.dialogue.specs.declared.table.AnswerKind.TheVariants.{NoAnswer, ByteAnswer, WordAnswer}
+pub use Rattle.dialogue.specs.declared.table.Extent.{Extent}
+pub use Rattle.dialogue.specs.declared.table.Extent.TheVariants.{F, Dma, Text, Line}
+use Rattle.dialogue.specs.declared.table.Row.{Row as LaidOut}
 
 -- a row of the table
 pub record Row : Type 0 where
@@ -67,5 +51,20 @@ entry_at [] n = None
 entry_at (e ∷ es) n = cond (n == e.0) (Some e.1) (entry_at es n)
 
 -- the row of a function, if the profile has it
-abbrev pub row_of : ℕ → Option Row
+unfoldable pub row_of : ℕ → Option Row
 row_of function = entry_at call_table function
+
+-- so many places: the items, and None after them
+abbrev pub padded : {X : Type 0} → ℕ → List X → List (Option X)
+padded zero xs = []
+padded (suc k) [] = None ∷ padded k []
+padded (suc k) (x ∷ xs) = Some x ∷ padded k xs
+
+-- a row as the code has it, in arrays
+abbrev pub laid_out : Row → LaidOut
+laid_out row = record {
+  argument = row.argument;
+  answer = row.answer;
+  reads = padded 3 row.reads;
+  writes = padded 2 row.writes;
+}

@@ -2,4 +2,7 @@
 #![tactic(auto)]
 
 pub mod blocks;
+pub mod replies;
 pub mod request;
+pub mod shape;
+pub mod table;

@@ -1,0 +1,274 @@
+// What a call asks for: its shape, or the rule that it breaks; and its request.
+ghost use Rattle.std.specs.Prelude.{◌≡◌, ◌<◌, ◌≤◌, ◌+◌, ◌-◌, Some, IfSome, IfOk, IsTrue};
+ghost use Rattle.std.specs.List.{list_all};
+ghost use Rattle.dialogue.specs.Shape.{seen_by, argument_of, address_of, text_length, range_of, range_within, line_room, all_cells, shape_of, block_of, request_of};
+ghost use Rattle.dialogue.specs.Places.{passes, rule_of, has_cells, HaveCells, in_memory, place_within, places_within, room_at, shape_by_places};
+ghost use Rattle.dialogue.specs.Lawful.{IsShapeOver, IsLawful};
+
+use crate::blocks::{Block, Blocks, Bytes};
+use crate::request::{ArgWord, Range, Request, Shape, View};
+use crate::table::{Argument, Extent, Row, row_of};
+use cells::Rule;
+use std::alloc::{AllocError, Global};
+
+/// The shape of a call with `function` in C and `d` and `e` in D and E, where they are known, or the rule that it breaks:
+/// P9 the function, P10 the argument or what is read, P11 what may be written.
+pub fn shape_of<V: View>(
+    function: Option<u8>,
+    d: Option<u8>,
+    e: Option<u8>,
+    dma: u16,
+    view: &V,
+) -> Result<Shape, Rule>
+    ensures { result ≡ shape_of function d e dma (seen_by (V.byte_at view.now) (V.is_writable view.now)) }
+{
+    let Some(function) = function else {
+        return Err(Rule::P9);
+    };
+    match row_of(function) {
+        Some(row) => shape_by(function, &row, d, e, dma, view),
+        None => Err(Rule::P9),
+    }
+}
+
+/// The request of a shape that was given over the same view: a block for each range that it reads, in order.
+pub fn request_of<V: View>(alloc: Global, shape: Shape, view: &V) -> Result<Request, AllocError>
+    requires { IsShapeOver (seen_by (V.byte_at view.now) (V.is_writable view.now)) shape }
+    ensures request { IfOk result (λ r. r ≡ request_of shape (seen_by (V.byte_at view.now) (V.is_writable view.now))) }
+    ensures lawful { IfOk result (λ r. IsLawful r) }
+{
+    let mut blocks = Vec::new(alloc);
+    for range in shape.reads {
+        if let Some(range) = range {
+            blocks.push(block_of(alloc, range, view)?)?;
+        }
+    }
+    Ok(Request {
+        shape,
+        blocks: Blocks::from_vec(blocks),
+    })
+}
+
+/// The cells of a range, as a block.
+fn block_of<V: View>(alloc: Global, range: Range, view: &V) -> Result<Block, AllocError>
+    requires { range.at + range.len ≤ 0x10000 }
+    ensures { IfOk result (λ b. b ≡ block_of (seen_by (V.byte_at view.now) (V.is_writable view.now)) range) }
+{
+    let mut bytes = Vec::new(alloc);
+    for k in 0..range.len {
+        bytes.push(view.byte(range.at + k).unwrap_or(0))?;
+    }
+    Ok(Block {
+        at: range.at,
+        bytes: Bytes::from_vec(bytes),
+    })
+}
+
+/// What a call does with the cells of a range.
+#[derive(Clone, Copy)]
+enum Access {
+    Read,
+    Write,
+}
+
+impl Access {
+    /// The rule that a range breaks where this access is not had.
+    fn rule(self) -> Rule
+        ensures { result ≡ rule_of self }
+    {
+        match self {
+            Access::Read => Rule::P10,
+            Access::Write => Rule::P11,
+        }
+    }
+
+    /// Whether a view gives a cell to this access.
+    fn has<V: View>(self, view: &V, at: u16) -> bool
+        ensures { result ≡ passes self (seen_by (V.byte_at view.now) (V.is_writable view.now)) at }
+    {
+        match self {
+            Access::Read => view.byte(at).is_some(),
+            Access::Write => view.writable(at),
+        }
+    }
+}
+
+/// The shape of a call of a row.
+fn shape_by<V: View>(
+    function: u8,
+    row: &Row,
+    d: Option<u8>,
+    e: Option<u8>,
+    dma: u16,
+    view: &V,
+) -> Result<Shape, Rule>
+    requires { HaveCells row.now }
+    ensures { result ≡ shape_by_places function row.now d e dma (seen_by (V.byte_at view.now) (V.is_writable view.now)) }
+{
+    let arg = argument_of(row.argument, d, e)?;
+    let de = address_of(arg);
+    let reads = reads_within(row.reads, de, dma, view)?;
+    if !has_room(row.writes, de, view) {
+        return Err(Rule::P10);
+    }
+    let writes = writes_within(row.writes, de, dma, view)?;
+    Ok(Shape {
+        function,
+        arg,
+        reads,
+        writes,
+    })
+}
+
+/// The argument, from D and E.
+fn argument_of(argument: Argument, d: Option<u8>, e: Option<u8>) -> Result<ArgWord, Rule>
+    ensures { result ≡ argument_of argument d e }
+{
+    match (argument, d, e) {
+        (Argument::NoArgument, _, _) => Ok(ArgWord::None),
+        (Argument::InE, _, Some(e)) => Ok(ArgWord::Byte(e)),
+        (Argument::InDE, Some(d), Some(e)) => Ok(ArgWord::Word(256 * u16::from(d) + u16::from(e))),
+        _ => Err(Rule::P10),
+    }
+}
+
+/// The word in DE, from which the table counts its ranges; 0 where the argument is none.
+pub(crate) fn address_of(arg: ArgWord) -> u16
+    ensures { result ≡ address_of arg }
+{
+    match arg {
+        ArgWord::Word(word) => word,
+        ArgWord::None | ArgWord::Byte(_) => 0,
+    }
+}
+
+/// The ranges that a call reads.
+fn reads_within<V: View>(
+    extents: [Option<Extent>; 3],
+    de: u16,
+    dma: u16,
+    view: &V,
+) -> Result<[Option<Range>; 3], Rule>
+    requires { IsTrue (list_all has_cells extents) }
+    ensures { result ≡ places_within Access.Read (seen_by (V.byte_at view.now) (V.is_writable view.now)) de dma extents }
+{
+    let [first, second, third] = extents;
+    Ok([
+        place_within(Access::Read, first, de, dma, view)?,
+        place_within(Access::Read, second, de, dma, view)?,
+        place_within(Access::Read, third, de, dma, view)?,
+    ])
+}
+
+/// The ranges that a call may write.
+fn writes_within<V: View>(
+    extents: [Option<Extent>; 2],
+    de: u16,
+    dma: u16,
+    view: &V,
+) -> Result<[Option<Range>; 2], Rule>
+    requires { IsTrue (list_all has_cells extents) }
+    ensures { result ≡ places_within Access.Write (seen_by (V.byte_at view.now) (V.is_writable view.now)) de dma extents }
+{
+    let [first, second] = extents;
+    Ok([
+        place_within(Access::Write, first, de, dma, view)?,
+        place_within(Access::Write, second, de, dma, view)?,
+    ])
+}
+
+/// The range of an extent, if there is one.
+fn place_within<V: View>(
+    access: Access,
+    extent: Option<Extent>,
+    de: u16,
+    dma: u16,
+    view: &V,
+) -> Result<Option<Range>, Rule>
+    requires { IsTrue (has_cells extent) }
+    ensures { result ≡ place_within access (seen_by (V.byte_at view.now) (V.is_writable view.now)) de dma extent }
+{
+    let Some(extent) = extent else {
+        return Ok(None);
+    };
+    match range_of(extent, de, dma, view) {
+        Some(range) if all_cells(access, range, view) => Ok(Some(range)),
+        _ => Err(access.rule()),
+    }
+}
+
+/// The range of an extent, unless it passes 0FFFFH or a text has no end.
+fn range_of<V: View>(extent: Extent, de: u16, dma: u16, view: &V) -> Option<Range>
+    requires { IsTrue (has_cells (Some extent)) }
+    ensures { result ≡ in_memory (range_of (seen_by (V.byte_at view.now) (V.is_writable view.now)) de dma extent) }
+{
+    match extent {
+        Extent::F(offset, len) => range_from(de, offset, len),
+        Extent::Dma => range_from(dma, 0, 128),
+        Extent::Text => Some(Range {
+            at: de,
+            len: text_length(de, view)?,
+        }),
+        Extent::Line => range_from(de, 1, u16::from(line_room(de, view)) + 1),
+    }
+}
+
+/// The `len` cells from `base + offset` up, unless they pass 0FFFFH.
+fn range_from(base: u16, offset: u16, len: u16) -> Option<Range>
+    requires { 0 < len }
+    ensures { result ≡ in_memory (Some (record { at = base + offset; len = len })) }
+{
+    if u32::from(base) + u32::from(offset) + u32::from(len) <= 0x1_0000 {
+        Some(Range {
+            at: base + offset,
+            len,
+        })
+    } else {
+        None
+    }
+}
+
+/// The number of cells from DE up before the first `$`, if they can be read and there is one.
+fn text_length<V: View>(de: u16, view: &V) -> Option<u16>
+    ensures count { result ≡ text_length (seen_by (V.byte_at view.now) (V.is_writable view.now)) (0x10000 - de) de }
+    ensures bound { IfSome result (λ n. de + n < 0x10000) }
+{
+    for at in u32::from(de)..0x1_0000 {
+        let at = at as u16;
+        let byte = view.byte(at)?;
+        if byte == b'$' {
+            return Some(at - de);
+        }
+    }
+    None
+}
+
+/// How many bytes a line may have, by the first byte of its buffer; 0 where that cannot be read.
+fn line_room<V: View>(de: u16, view: &V) -> u8
+    ensures { result ≡ line_room (seen_by (V.byte_at view.now) (V.is_writable view.now)) de }
+{
+    view.byte(de).unwrap_or(0)
+}
+
+/// Whether a call that writes a line has room for a byte.
+fn has_room<V: View>(writes: [Option<Extent>; 2], de: u16, view: &V) -> bool
+    ensures { result ≡ room_at (seen_by (V.byte_at view.now) (V.is_writable view.now)) de writes }
+{
+    match writes[0] {
+        Some(Extent::Line) => line_room(de, view) != 0,
+        _ => true,
+    }
+}
+
+/// Whether a view gives each cell of a range.
+fn all_cells<V: View>(access: Access, range: Range, view: &V) -> bool
+    requires { range.at + range.len ≤ 0x10000 }
+    ensures { result ≡ all_cells (passes access (seen_by (V.byte_at view.now) (V.is_writable view.now))) range.len range.at }
+{
+    for k in 0..range.len {
+        if !access.has(view, range.at + k) {
+            return false;
+        }
+    }
+    true
+}

@@ -1,0 +1,137 @@
+// The call table (CP/M 2.2 Operating System Manual, "BDOS functions").
+ghost use Rattle.std.specs.Prelude.{◌≡◌, option_map, IfSome};
+ghost use Rattle.dialogue.specs.Table.{row_of, laid_out};
+ghost use Rattle.dialogue.specs.Places.{HaveCells};
+
+/// Where a call finds its argument.
+#[derive(Clone, Copy, PartialEq, Eq)]
+pub enum Argument {
+    NoArgument,
+    InE,
+    InDE,
+}
+
+/// What a call answers.
+#[derive(Clone, Copy, PartialEq, Eq)]
+pub enum AnswerKind {
+    NoAnswer,
+    ByteAnswer,
+    WordAnswer,
+}
+
+/// Memory that a call touches.
+#[derive(Clone, Copy, PartialEq, Eq)]
+pub enum Extent {
+    /// `F(offset, len)`: `len` cells from DE + `offset` up.
+    F(u16, u16),
+    /// The 128 cells from the DMA address up.
+    Dma,
+    /// The cells from DE up to the first `$`, without it.
+    Text,
+    /// The cells from DE + 1 up that a line of up to mx bytes takes, with its length before it; mx is the byte at DE.
+    Line,
+}
+
+/// A row of the table: what a function reads and may write, in order and with None after it.
+#[derive(Clone, Copy)]
+pub struct Row {
+    pub argument: Argument,
+    pub answer: AnswerKind,
+    pub reads: [Option<Extent>; 3],
+    pub writes: [Option<Extent>; 2],
+}
+
+/// The row of a function, if the profile has it.
+#[tactic(auto, unfolding(crate::specs::Table::row_of))]
+pub fn row_of(function: u8) -> Option<Row>
+    ensures row { result ≡ option_map laid_out (row_of function) }
+    ensures cells { IfSome result HaveCells }
+{
+    use AnswerKind::*;
+    use Argument::*;
+    use Extent::*;
+
+    let (argument, answer, reads, writes) = match function {
+        0 | 13 => (NoArgument, NoAnswer, [None; 3], [None; 2]),
+        1 | 11 | 25 => (NoArgument, ByteAnswer, [None; 3], [None; 2]),
+        2 | 14 => (InE, NoAnswer, [None; 3], [None; 2]),
+        9 => (InDE, NoAnswer, [Some(Text), None, None], [None; 2]),
+        10 => (
+            InDE,
+            NoAnswer,
+            [Some(F(0, 1)), None, None],
+            [Some(Line), None],
+        ),
+        12 => (NoArgument, WordAnswer, [None; 3], [None; 2]),
+        15 | 22 => (
+            InDE,
+            ByteAnswer,
+            [Some(F(0, 13)), None, None],
+            [Some(F(0, 32)), None],
+        ),
+        16 => (
+            InDE,
+            ByteAnswer,
+            [Some(F(0, 32)), None, None],
+            [Some(F(12, 20)), None],
+        ),
+        17 => (
+            InDE,
+            ByteAnswer,
+            [Some(F(0, 13)), None, None],
+            [Some(Dma), None],
+        ),
+        18 => (NoArgument, ByteAnswer, [None; 3], [Some(Dma), None]),
+        19 => (InDE, ByteAnswer, [Some(F(0, 12)), None, None], [None; 2]),
+        20 => (
+            InDE,
+            ByteAnswer,
+            [Some(F(0, 33)), None, None],
+            [Some(F(12, 21)), Some(Dma)],
+        ),
+        21 => (
+            InDE,
+            ByteAnswer,
+            [Some(F(0, 33)), Some(Dma), None],
+            [Some(F(12, 21)), None],
+        ),
+        23 => (
+            InDE,
+            ByteAnswer,
+            [Some(F(0, 12)), Some(F(16, 12)), None],
+            [None; 2],
+        ),
+        26 => (InDE, NoAnswer, [None; 3], [None; 2]),
+        33 => (
+            InDE,
+            ByteAnswer,
+            [Some(F(0, 32)), Some(F(33, 3)), None],
+            [Some(F(12, 21)), Some(Dma)],
+        ),
+        34 => (
+            InDE,
+            ByteAnswer,
+            [Some(F(0, 32)), Some(F(33, 3)), Some(Dma)],
+            [Some(F(12, 21)), None],
+        ),
+        35 => (
+            InDE,
+            NoAnswer,
+            [Some(F(0, 12)), None, None],
+            [Some(F(33, 3)), None],
+        ),
+        36 => (
+            InDE,
+            NoAnswer,
+            [Some(F(12, 1)), Some(F(14, 1)), Some(F(32, 1))],
+            [Some(F(33, 3)), None],
+        ),
+        _ => return None,
+    };
+    Some(Row {
+        argument,
+        answer,
+        reads,
+        writes,
+    })
+}
