@@ -108,12 +108,12 @@ shape_by-laid_out function row d e dma seen reads writes =
         (room_at seen (address_of arg) (padded 2 row.writes)) row.writes
         (λ xs. ranges_within seen.writable P11 seen (address_of arg) dma xs)))
 
-both : (a b : Bool) → (a && b) ≡ true → (a ≡ true) × (b ≡ true)
+pub both : (a b : Bool) → (a && b) ≡ true → (a ≡ true) × (b ≡ true)
 both true b h = (refl, h)
 both false b h = cc
 
 -- the lists of a row of the table have places in the arrays
-fits_in_places : (row : Row) → has_places row ≡ true → (length row.reads ≤ 3) × (length row.writes ≤ 2)
+pub fits_in_places : (row : Row) → has_places row ≡ true → (length row.reads ≤ 3) × (length row.writes ≤ 2)
 fits_in_places row fits =
     let each = both (nat_le (length row.reads) 3) (nat_le (length row.writes) 2) fits in
     (leb-true _ _ each.0, leb-true _ _ each.1)

@@ -34,7 +34,7 @@ IsRangeOf de dma mx Line r = (r.at ≡ de + 1) × (r.len ≡ mx + 1)
 
 -- the places have a range for each extent, in order, and None after them
 abbrev pub AreRangesOf : ℕ → ℕ → ℕ → List Extent → List (Option Range) → Type 0
-AreRangesOf de dma mx [] places = All (λ place. place ≡ None) places
+AreRangesOf de dma mx [] places = ranges places ≡ []
 AreRangesOf de dma mx (x ∷ xs) [] = ⊥
 AreRangesOf de dma mx (x ∷ xs) (None ∷ places) = ⊥
 AreRangesOf de dma mx (x ∷ xs) (Some r ∷ places) = IsRangeOf de dma mx x r × AreRangesOf de dma mx xs places

@@ -1,7 +1,7 @@
 // What a call asks for: its shape, or the rule that it breaks; and its request.
-ghost use Rattle.std.specs.Prelude.{◌≡◌, ◌<◌, ◌≤◌, ◌+◌, ◌-◌, Some, IfSome, IfOk, IsTrue};
+ghost use Rattle.std.specs.Prelude.{◌≡◌, ◌<◌, ◌≤◌, ◌+◌, ◌-◌, Some, [], ◌∷◌, ◌++◌, map, IfSome, IfOk, IsTrue};
 ghost use Rattle.std.specs.List.{list_all};
-ghost use Rattle.dialogue.specs.Shape.{seen_by, argument_of, address_of, text_length, range_of, range_within, line_room, all_cells, shape_of, block_of, request_of};
+ghost use Rattle.dialogue.specs.Shape.{seen_by, argument_of, address_of, text_length, range_of, range_within, line_room, all_cells, shape_of, ranges, block_of, request_of};
 ghost use Rattle.dialogue.specs.Places.{passes, rule_of, has_cells, HaveCells, in_memory, place_within, places_within, room_at, shape_by_places};
 ghost use Rattle.dialogue.specs.Lawful.{IsShapeOver, IsLawful};
 
@@ -38,15 +38,29 @@ pub fn request_of<V: View>(alloc: Global, shape: Shape, view: &V) -> Result<Requ
     ensures lawful { IfOk result (λ r. IsLawful r) }
 {
     let mut blocks = Vec::new(alloc);
-    for range in shape.reads {
-        if let Some(range) = range {
-            blocks.push(block_of(alloc, range, view)?)?;
-        }
+    for place in shape.reads {
+        push_block(alloc, &mut blocks, place, view)?;
     }
     Ok(Request {
         shape,
         blocks: Blocks::from_vec(blocks),
     })
+}
+
+/// Adds the block of a range, if there is one.
+fn push_block<V: View>(
+    alloc: Global,
+    blocks: &mut Vec<Block>,
+    place: Option<Range>,
+    view: &V,
+) -> Result<(), AllocError>
+    requires { IfSome place (λ r. r.at + r.len ≤ 0x10000) }
+    ensures { IfOk result (λ _. blocks.new.items ≡ blocks.old.items ++ map (block_of (seen_by (V.byte_at view.now) (V.is_writable view.now))) (ranges (place ∷ []))) }
+{
+    if let Some(range) = place {
+        blocks.push(block_of(alloc, range, view)?)?;
+    }
+    Ok(())
 }
 
 /// The cells of a range, as a block.
