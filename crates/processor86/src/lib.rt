@@ -9,3 +9,5 @@ pub mod flags;
 pub mod memory;
 pub mod processor;
 pub mod registers;
+pub mod start;
+pub mod system;

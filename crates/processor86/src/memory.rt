@@ -1,7 +1,9 @@
 // The 64K of memory.
 ghost use Rattle.std.specs.Prelude.{◌≡◌, ℕ, length};
 
-use crate::choice::join;
+use crate::choice::{choice_byte, join};
+use dialogue::blocks::Block;
+use dialogue::request::View;
 
 /// 65,536 bytes.
 #[derive(Drop)]
@@ -12,7 +14,9 @@ pub struct Memory {
 
 impl Memory {
     ghost use Rattle.processor86.specs.State.{mem_of};
+    ghost use Rattle.processor86.specs.System.{six_at};
     ghost use Rattle.step86.specs.State.{put, word_at, put_word, put_bytes};
+    ghost use Rattle.step86.specs.Call.{spoiled, put_blocks};
 
     /// The byte at an address.
     pub fn get(&self, at: u16) -> u8
@@ -52,5 +56,61 @@ impl Memory {
             self.set(place, *byte);
             place = place.wrapping_add(1);
         }
+    }
+
+    /// Writes blocks in order.
+    pub fn set_blocks(&mut self, blocks: &[Block])
+        ensures { mem_of self.new ≡ put_blocks (mem_of self.old) blocks.now }
+    {
+        for block in blocks {
+            self.set_bytes(block.at, block.bytes.as_slice());
+        }
+    }
+
+    /// The six bytes from an address up; after 0FFFFH comes 0.
+    pub fn six_at(&self, at: u16) -> [u8; 6]
+        ensures { result ≡ six_at (mem_of self.now) at }
+    {
+        [
+            self.get(at),
+            self.get(at.wrapping_add(1)),
+            self.get(at.wrapping_add(2)),
+            self.get(at.wrapping_add(3)),
+            self.get(at.wrapping_add(4)),
+            self.get(at.wrapping_add(5)),
+        ]
+    }
+
+    /// Writes bits 0 to 47 of a choice into the six bytes below a stack pointer.
+    pub fn spoil(&mut self, sp: u16, choice: u128)
+        ensures { mem_of self.new ≡ spoiled (mem_of self.old) sp choice }
+    {
+        let bytes = [
+            choice_byte(choice, 0),
+            choice_byte(choice, 8),
+            choice_byte(choice, 16),
+            choice_byte(choice, 24),
+            choice_byte(choice, 32),
+            choice_byte(choice, 40),
+        ];
+        self.set_bytes(sp.wrapping_sub(6), &bytes);
+    }
+}
+
+// The system may read and write every cell.
+impl View for Memory {
+    ghost use Rattle.std.specs.Prelude.{Some, true};
+    ghost use Rattle.processor86.specs.State.{mem_of};
+
+    ghost byte_at = { λ m a. Some (mem_of m a) };
+
+    ghost is_writable = { λ m a. true };
+
+    fn byte(&self, at: u16) -> Option<u8> {
+        Some(self.get(at))
+    }
+
+    fn writable(&self, _at: u16) -> bool {
+        true
     }
 }
