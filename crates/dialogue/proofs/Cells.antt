@@ -46,4 +46,4 @@ text_length-next seen start at b le lt h d =
     let e : 0x10000 - at ≡ suc (0x10000 - (at + 1)) = omega arith in
     shift_more start at (text_length seen (0x10000 - (at + 1)) (at + 1)) le
     ∙ sym (ap (option_map (λ m. m + (at - start)))
-        (text_length-suc seen (0x10000 - at) (0x10000 - (at + 1)) at e ∙ rw h (text_length_by-on b _ d)))
+    (text_length-suc seen (0x10000 - at) (0x10000 - (at + 1)) at e ∙ rw h (text_length_by-on b _ d)))

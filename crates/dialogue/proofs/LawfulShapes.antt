@@ -72,7 +72,7 @@ ranges_within-placed passes rule seen de dma [] rs h =
     record {
       same_length = rw none refl;
       ends = rw none (All-nil Ends);
-      are = λ k le. rw none (ranges-padded k [] (omega arith))
+      are = λ k le. rw none (ranges-padded k [] (omega arith));
     }
 ranges_within-placed passes rule seen de dma (x ∷ xs) rs h =
     let first = try_then-ok (range_within passes rule (range_of seen de dma x)) _ rs h in
@@ -84,7 +84,7 @@ ranges_within-placed passes rule seen de dma (x ∷ xs) rs h =
     subst P whole (record {
       same_length = ap suc placed.same_length;
       ends = All-cons Ends first.0 rest.0 range.1 placed.ends;
-      are = placed_cons (line_room seen de) first.0 rest.0 (range_of-is seen de dma x first.0 range.0) placed.are
+      are = placed_cons (line_room seen de) first.0 rest.0 (range_of-is seen de dma x first.0 range.0) placed.are;
     })
   where
     placed_cons : (mx : ℕ) (r : Range) (rs' : List Range) → IsRangeOf de dma mx x r →
@@ -222,19 +222,20 @@ lines seen function row de dma rs ws found reads writes room =
   where
     mx : ℕ
     mx = first_byte (map (block_of seen) rs)
+
     by_lines : (b : Bool) → has_no_line row.writes ≡ b → has_no_line row.reads ≡ true → (b || is_first_cell row.reads) ≡ true →
         Lines row function de dma (padded 3 rs) (padded 2 ws) mx
     by_lines true none plain first = record {
       reads_are = AreRangesOf-any de dma (line_room seen de) mx row.reads (padded 3 rs) plain reads;
       writes_are = AreRangesOf-any de dma (line_room seen de) mx row.writes (padded 2 ws) none writes;
-      room = λ ten. absurd (no_line_at_ten function row found ten none)
+      room = λ ten. absurd (no_line_at_ten function row found ten none);
     }
     by_lines false line plain first =
         let same : mx ≡ line_room seen de = mx_is_read seen de dma row.reads rs first reads in
         record {
           reads_are = AreRangesOf-any de dma (line_room seen de) mx row.reads (padded 3 rs) plain reads;
           writes_are = rw same writes;
-          room = λ ten none. room-is seen de function row found room ten (sym same ∙ none)
+          room = λ ten none. room-is seen de function row found room ten (sym same ∙ none);
         }
 
 -- a call over some memory, with what it reads and may write
@@ -261,7 +262,7 @@ made_by_row seen function row d e dma shape found given =
     let w = try_then-ok (ranges_within seen.writable P11 seen de dma x.0) _ shape x.2 in
     let room = cond-ok (room_at seen de (padded 2 row.writes)) row.writes x.0 P10 (sym (has_room-padded seen de 1 row.writes) ∙ x.1) in
     let writes : ranges_within seen.writable P11 seen de dma row.writes ≡ Ok w.0 =
-            ap (λ xs. ranges_within seen.writable P11 seen de dma xs) room.1 ∙ w.1 in
+    ap (λ xs. ranges_within seen.writable P11 seen de dma xs) room.1 ∙ w.1 in
     let P : Shape → Type 0 = Made seen in
     subst P (ok_same _ _ w.2) (record {
       row = row;
@@ -274,7 +275,7 @@ made_by_row seen function row d e dma shape found given =
       writes = w.0;
       writes_are = refl;
       writes_placed = ranges_within-placed seen.writable P11 seen de dma row.writes w.0 writes;
-      room = room.0
+      room = room.0;
     })
 
 pub made : (seen : Seen) (shape : Shape) → IsShapeOver seen shape → Made seen shape
@@ -283,6 +284,7 @@ made seen shape over = by_function over.function over.given
     by_row : (function : ℕ) (o : Option Row) → row_of function ≡ o → shape_in function o over.d over.e over.dma seen ≡ Ok shape → Made seen shape
     by_row function None found given = cc
     by_row function (Some row) found given = made_by_row seen function row over.d over.e over.dma shape found given
+
     by_function : (f : Option ℕ) → shape_of f over.d over.e over.dma seen ≡ Ok shape → Made seen shape
     by_function None given = cc
     by_function (Some function) given = by_row function (row_of function) refl given
@@ -310,7 +312,7 @@ made-lawful seen shape m =
     let fits = fits_in_places m.row (rows_have_places shape.function m.row m.found) in
     let de = address_of shape.arg in
     let about = lines seen shape.function m.row de m.dma m.reads m.writes m.found
-            (m.reads_placed.are 3 fits.0) (m.writes_placed.are 2 fits.1) m.room in
+    (m.reads_placed.are 3 fits.0) (m.writes_placed.are 2 fits.1) m.room in
     let reads = made-reads seen shape m in
     record {
       row = m.row;
@@ -322,5 +324,5 @@ made-lawful seen shape m =
       reads_end = made-ends seen shape m;
       writes_end = rw (made-writes seen shape m) m.writes_placed.ends;
       room = rw reads about.room;
-      blocks = range_of_block-block_of seen (ranges shape.reads)
+      blocks = range_of_block-block_of seen (ranges shape.reads);
     }

@@ -33,7 +33,7 @@ pub entry_at-passes : {X : Type 0} (test : X → Bool) (table : List (ℕ × X))
 entry_at-passes test [] n x all found = cc
 entry_at-passes test (e ∷ es) n x all found =
     entry_at-step test (n == e.0) (test e.1) (list_all (λ e. test e.1) es) e.1 x (entry_at es n) all found refl
-        (entry_at-passes test es n x)
+    (entry_at-passes test es n x)
 
 pub rows_have_places : (function : ℕ) (row : Row) → row_of function ≡ Some row → has_places row ≡ true
 unfolding row_of
@@ -56,8 +56,8 @@ places_within-padded access seen de dma (suc k) [] le = rw (places_within-padded
 places_within-padded access seen de dma zero (x ∷ xs) le = absurd (omega arith)
 places_within-padded access seen de dma (suc k) (x ∷ xs) le =
     places_within-step k (range_within (passes access seen) (rule_of access) (range_of seen de dma x))
-        (places_within access seen de dma (padded k xs)) (ranges_within (passes access seen) (rule_of access) seen de dma xs)
-        (places_within-padded access seen de dma k xs (omega arith))
+    (places_within access seen de dma (padded k xs)) (ranges_within (passes access seen) (rule_of access) seen de dma xs)
+    (places_within-padded access seen de dma k xs (omega arith))
 
 -- a line buffer's room, by the first place
 pub has_room-padded : (seen : Seen) (de k : ℕ) (xs : List Extent) →
@@ -78,7 +78,7 @@ try_then-each (Err e) f g same = refl
 
 with_writes : (function : ℕ) (arg : ArgWord) (reads : List Range) (writes : Result (List Range) Rule) →
     try_then {Y = Shape} (try_then {Y = List (Option Range)} writes (λ rs. Ok (padded 2 rs)))
-        (λ writes. Ok (record { function = function; arg = arg; reads = padded 3 reads; writes = writes }))
+    (λ writes. Ok (record { function = function; arg = arg; reads = padded 3 reads; writes = writes }))
     ≡ try_then writes (λ writes. Ok (record { function = function; arg = arg; reads = padded 3 reads; writes = padded 2 writes }))
 with_writes function arg reads (Err e) = refl
 with_writes function arg reads (Ok ws) = refl
@@ -86,11 +86,11 @@ with_writes function arg reads (Ok ws) = refl
 after_argument : (function : ℕ) (arg : ArgWord) (reads : Result (List Range) Rule) (room : Bool) (xs : List Extent)
     (writes : List Extent → Result (List Range) Rule) →
     try_then {Y = Shape} (try_then {Y = List (Option Range)} reads (λ rs. Ok (padded 3 rs))) (λ reads. cond room
-        (try_then {Y = Shape} (try_then {Y = List (Option Range)} (writes xs) (λ rs. Ok (padded 2 rs)))
-            (λ writes. Ok (record { function = function; arg = arg; reads = reads; writes = writes })))
-        (Err P10))
+    (try_then {Y = Shape} (try_then {Y = List (Option Range)} (writes xs) (λ rs. Ok (padded 2 rs)))
+    (λ writes. Ok (record { function = function; arg = arg; reads = reads; writes = writes })))
+    (Err P10))
     ≡ try_then reads (λ reads. try_then (cond room (Ok xs) (Err P10)) (λ extents. try_then (writes extents) (λ writes.
-        Ok (record { function = function; arg = arg; reads = padded 3 reads; writes = padded 2 writes }))))
+    Ok (record { function = function; arg = arg; reads = padded 3 reads; writes = padded 2 writes }))))
 after_argument function arg (Err e) room xs writes = refl
 after_argument function arg (Ok rs) false xs writes = refl
 after_argument function arg (Ok rs) true xs writes = with_writes function arg rs (writes xs)
@@ -101,12 +101,14 @@ pub shape_by-laid_out : (function : ℕ) (row : Row) (d e : Option ℕ) (dma : �
     shape_by_places function (laid_out row) d e dma seen ≡ shape_by function row d e dma seen
 shape_by-laid_out function row d e dma seen reads writes =
     try_then-each (argument_of row.argument d e) _ _ (λ arg.
-    rw (places_within-padded Read seen (address_of arg) dma 3 row.reads reads,
-        places_within-padded Write seen (address_of arg) dma 2 row.writes writes,
-        has_room-padded seen (address_of arg) 1 row.writes)
+    rw (
+      places_within-padded Read seen (address_of arg) dma 3 row.reads reads,
+      places_within-padded Write seen (address_of arg) dma 2 row.writes writes,
+      has_room-padded seen (address_of arg) 1 row.writes,
+    )
     (after_argument function arg (ranges_within (is_readable seen) P10 seen (address_of arg) dma row.reads)
-        (room_at seen (address_of arg) (padded 2 row.writes)) row.writes
-        (λ xs. ranges_within seen.writable P11 seen (address_of arg) dma xs)))
+    (room_at seen (address_of arg) (padded 2 row.writes)) row.writes
+    (λ xs. ranges_within seen.writable P11 seen (address_of arg) dma xs)))
 
 pub both : (a b : Bool) → (a && b) ≡ true → (a ≡ true) × (b ≡ true)
 both true b h = (refl, h)

@@ -40,13 +40,13 @@ AreRangesOf de dma mx (x ∷ xs) (None ∷ places) = ⊥
 AreRangesOf de dma mx (x ∷ xs) (Some r ∷ places) = IsRangeOf de dma mx x r × AreRangesOf de dma mx xs places
 
 -- the first byte of the first block: in a request of function 10 it is mx
+abbrev pub first_of : List ℕ → ℕ
+first_of [] = 0
+first_of (n ∷ ns) = n
+
 abbrev pub first_byte : List Block → ℕ
 first_byte [] = 0
 first_byte (b ∷ bs) = first_of b.bytes
-  where
-    first_of : List ℕ → ℕ
-    first_of [] = 0
-    first_of (n ∷ ns) = n
 
 -- the range of a block
 abbrev pub range_of_block : Block → Range

@@ -4,3 +4,4 @@ pub mod Shape
 pub mod Fits
 pub mod Places
 pub mod Lawful
+pub mod StartPage

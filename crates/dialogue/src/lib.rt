@@ -5,4 +5,5 @@ pub mod blocks;
 pub mod replies;
 pub mod request;
 pub mod shape;
+pub mod start_page;
 pub mod table;

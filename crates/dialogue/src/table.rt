@@ -43,6 +43,7 @@ pub struct Row {
 
 /// The row of a function, if the profile has it.
 #[tactic(auto, unfolding(crate::specs::Table::row_of))]
+#[rattlefmt::skip]
 pub fn row_of(function: u8) -> Option<Row>
     ensures row { result ≡ option_map laid_out (row_of function) }
     ensures cells { IfSome result HaveCells }
@@ -56,82 +57,22 @@ pub fn row_of(function: u8) -> Option<Row>
         1 | 11 | 25 => (NoArgument, ByteAnswer, [None; 3], [None; 2]),
         2 | 14 => (InE, NoAnswer, [None; 3], [None; 2]),
         9 => (InDE, NoAnswer, [Some(Text), None, None], [None; 2]),
-        10 => (
-            InDE,
-            NoAnswer,
-            [Some(F(0, 1)), None, None],
-            [Some(Line), None],
-        ),
+        10 => (InDE, NoAnswer, [Some(F(0, 1)), None, None], [Some(Line), None]),
         12 => (NoArgument, WordAnswer, [None; 3], [None; 2]),
-        15 | 22 => (
-            InDE,
-            ByteAnswer,
-            [Some(F(0, 13)), None, None],
-            [Some(F(0, 32)), None],
-        ),
-        16 => (
-            InDE,
-            ByteAnswer,
-            [Some(F(0, 32)), None, None],
-            [Some(F(12, 20)), None],
-        ),
-        17 => (
-            InDE,
-            ByteAnswer,
-            [Some(F(0, 13)), None, None],
-            [Some(Dma), None],
-        ),
+        15 | 22 => (InDE, ByteAnswer, [Some(F(0, 13)), None, None], [Some(F(0, 32)), None]),
+        16 => (InDE, ByteAnswer, [Some(F(0, 32)), None, None], [Some(F(12, 20)), None]),
+        17 => (InDE, ByteAnswer, [Some(F(0, 13)), None, None], [Some(Dma), None]),
         18 => (NoArgument, ByteAnswer, [None; 3], [Some(Dma), None]),
         19 => (InDE, ByteAnswer, [Some(F(0, 12)), None, None], [None; 2]),
-        20 => (
-            InDE,
-            ByteAnswer,
-            [Some(F(0, 33)), None, None],
-            [Some(F(12, 21)), Some(Dma)],
-        ),
-        21 => (
-            InDE,
-            ByteAnswer,
-            [Some(F(0, 33)), Some(Dma), None],
-            [Some(F(12, 21)), None],
-        ),
-        23 => (
-            InDE,
-            ByteAnswer,
-            [Some(F(0, 12)), Some(F(16, 12)), None],
-            [None; 2],
-        ),
+        20 => (InDE, ByteAnswer, [Some(F(0, 33)), None, None], [Some(F(12, 21)), Some(Dma)]),
+        21 => (InDE, ByteAnswer, [Some(F(0, 33)), Some(Dma), None], [Some(F(12, 21)), None]),
+        23 => (InDE, ByteAnswer, [Some(F(0, 12)), Some(F(16, 12)), None], [None; 2]),
         26 => (InDE, NoAnswer, [None; 3], [None; 2]),
-        33 => (
-            InDE,
-            ByteAnswer,
-            [Some(F(0, 32)), Some(F(33, 3)), None],
-            [Some(F(12, 21)), Some(Dma)],
-        ),
-        34 => (
-            InDE,
-            ByteAnswer,
-            [Some(F(0, 32)), Some(F(33, 3)), Some(Dma)],
-            [Some(F(12, 21)), None],
-        ),
-        35 => (
-            InDE,
-            NoAnswer,
-            [Some(F(0, 12)), None, None],
-            [Some(F(33, 3)), None],
-        ),
-        36 => (
-            InDE,
-            NoAnswer,
-            [Some(F(12, 1)), Some(F(14, 1)), Some(F(32, 1))],
-            [Some(F(33, 3)), None],
-        ),
+        33 => (InDE, ByteAnswer, [Some(F(0, 32)), Some(F(33, 3)), None], [Some(F(12, 21)), Some(Dma)]),
+        34 => (InDE, ByteAnswer, [Some(F(0, 32)), Some(F(33, 3)), Some(Dma)], [Some(F(12, 21)), None]),
+        35 => (InDE, NoAnswer, [Some(F(0, 12)), None, None], [Some(F(33, 3)), None]),
+        36 => (InDE, NoAnswer, [Some(F(12, 1)), Some(F(14, 1)), Some(F(32, 1))], [Some(F(33, 3)), None]),
         _ => return None,
     };
-    Some(Row {
-        argument,
-        answer,
-        reads,
-        writes,
-    })
+    Some(Row { argument, answer, reads, writes })
 }

@@ -17,5 +17,5 @@ returns c =
     c.is_empty.ensures
     ∙ none_left c.loop-place.left.now
     ∙ sym (ap (λ places. writes_fit (ranges places) c.loop-place.left.now)
-        (drop_of_length-le c.args.places.now {i = c.loop-place.place-index} c.loop-place-test.false))
+    (drop_of_length-le c.args.places.now {i = c.loop-place.place-index} c.loop-place-test.false))
     ∙ c.loop-place.invariant

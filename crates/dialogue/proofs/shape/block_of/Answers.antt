@@ -9,4 +9,4 @@ loop-k-preserved g c =
     let seen : Seen = seen_by (g.V.View.byte_at c.args.view.now) (g.V.View.is_writable c.args.view.now) in
     let byte : c.unwrap_or.result ≡ unwrap_or (seen.byte (c.args.range.at + c.loop-k.k)) 0 = cc in
     rw (c.in_ok-push.ensures.items, bytes_in-push seen c.args.range.len c.args.range.at c.loop-k.k c.unwrap_or.result c.loop-k.bytes.items c.loop-k-test.true byte)
-        c.loop-k.invariant
+    c.loop-k.invariant

@@ -12,7 +12,7 @@ loop-place-init g c =
     let seen : Seen = seen_by (g.V.View.byte_at c.args.view.now) (g.V.View.is_writable c.args.view.now) in
     record {
       ends = made-ends seen c.args.shape (made seen c.args.shape c.requires);
-      blocks = rw c.new-blocks.ensures.items refl
+      blocks = rw c.new-blocks.ensures.items refl;
     }
 
 pub push_block-requires : goal.push_block-requires
@@ -25,16 +25,16 @@ loop-place-preserved g c =
     record {
       ends = (Ends-drop c.args.shape.reads c.loop-place.place-index (omega arith) c.loop-place.invariant.ends).1;
       blocks =
-        map-ranges (block_of seen) _ _ _ _ _ (ranges-drop c.args.shape.reads c.loop-place.place-index (omega arith)) c.in_ok-push_block.ensures
-        ∙ c.loop-place.invariant.blocks
+          map-ranges (block_of seen) _ _ _ _ _ (ranges-drop c.args.shape.reads c.loop-place.place-index (omega arith)) c.in_ok-push_block.ensures
+          ∙ c.loop-place.invariant.blocks;
     }
 
 pub returns-clause-lawful : goal.returns-clause-lawful
 returns-clause-lawful g c =
     let seen : Seen = seen_by (g.V.View.byte_at c.args.view.now) (g.V.View.is_writable c.args.view.now) in
     let none : drop c.loop-place.place-index c.args.shape.reads ≡ [] =
-            drop_of_length-le c.args.shape.reads {i = c.loop-place.place-index} (omega arith) in
+    drop_of_length-le c.args.shape.reads {i = c.loop-place.place-index} (omega arith) in
     let whole = rw none at c.loop-place.invariant.blocks in
     let blocks : c.from_vec.result ≡ map (block_of seen) (ranges c.args.shape.reads) =
-            c.from_vec.ensures ∙ rw append-nil at whole in
+    c.from_vec.ensures ∙ rw append-nil at whole in
     rw blocks (made-lawful seen c.args.shape (made seen c.args.shape c.requires))

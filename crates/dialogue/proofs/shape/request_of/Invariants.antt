@@ -10,5 +10,5 @@ invariant-loop-place g l =
     let seen = seen_by (g.V.View.byte_at l.view) (g.V.View.is_writable l.view) in
     record {
       ends : All Ends (ranges (drop l.place-index l.shape.reads));
-      blocks : l.blocks.items ++ map (block_of seen) (ranges (drop l.place-index l.shape.reads)) ≡ map (block_of seen) (ranges l.shape.reads)
+      blocks : l.blocks.items ++ map (block_of seen) (ranges (drop l.place-index l.shape.reads)) ≡ map (block_of seen) (ranges l.shape.reads);
     }

@@ -7,5 +7,5 @@ pub returns-in-Some-row_of : goal.returns-in-Some-row_of
 returns-in-Some-row_of g c =
     let seen : Seen = seen_by (g.V.View.byte_at c.args.view.now) (g.V.View.is_writable c.args.view.now) in
     rw c.in-Some.is
-        (c.shape_by.ensures
-        ∙ shape_by-row_of c.in-Some.function c.in-Some-row_of.row c.args.d c.args.e c.args.dma seen c.in-Some-row_of.ensures.row)
+    (c.shape_by.ensures
+    ∙ shape_by-row_of c.in-Some.function c.in-Some-row_of.row c.args.d c.args.e c.args.dma seen c.in-Some-row_of.ensures.row)

@@ -8,5 +8,5 @@ pub loop-at-preserved : goal.loop-at-preserved
 loop-at-preserved g c =
     let seen : Seen = seen_by (g.V.View.byte_at c.args.view.now) (g.V.View.is_writable c.args.view.now) in
     text_length-next seen c.args.de c.loop-at.at c.in_ok-byte.byte (omega arith) c.loop-at-test.true
-        (sym c.byte.ensures ∙ c.in_ok-byte.was) (ne_eqb _ _ c.if-byte-eq36.false)
+    (sym c.byte.ensures ∙ c.in_ok-byte.was) (ne_eqb _ _ c.if-byte-eq36.false)
     ∙ c.loop-at.invariant

@@ -1,0 +1,23 @@
+use Rattle.std.proofs.Common.{ℕ, ◌∙◌, ◌≡◌, sym, ap, ◌<◌, length, refl, arith, List, [], ◌∷◌, ◌++◌}
+use Rattle.std.proofs.lemmas.List.{take_more_set, map_more, length-replicate, length-set}
+use Rattle.std.specs.Char.{to_ascii_uppercase}
+use Rattle.dialogue.proofs.start_page.in_upper_case.Goals as goal
+
+pub loop-k-init : goal.loop-k-init
+loop-k-init c = record {
+  size = ap length c.zeros-text.ensures ∙ length-replicate {A = ℕ} 126 0;
+  upper = refl;
+}
+
+pub loop-k-preserved : goal.loop-k-preserved
+loop-k-preserved c =
+    let size : length c.loop-k.text ≡ 126 = c.loop-k.invariant.size in
+    let within : c.loop-k.k < length c.loop-k.text = omega arith in
+    let write = take_more_set c.loop-k.text c.loop-k.k c.to_ascii_uppercase.result within in
+    let read = map_more to_ascii_uppercase c.args.tail.now c.loop-k.k 0 c.loop-k-test.true in
+    let byte = c.to_ascii_uppercase.ensures.value in
+    let upper = c.loop-k.invariant.upper in
+    record {
+      size = length-set c.loop-k.text c.loop-k.k c.to_ascii_uppercase.result ∙ size;
+      upper = cc;
+    }
