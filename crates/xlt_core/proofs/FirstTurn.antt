@@ -24,6 +24,7 @@ use Rattle.i86.specs.Enc86.{enc86}
 use Rattle.i86.specs.Code.{HasBytes, Reads}
 use Rattle.dialogue.specs.declared.request.Reply.{Reply}
 use Rattle.dialogue.specs.declared.request.Event.TheVariants.{Call as Asked, End as Ended}
+use Rattle.dialogue.specs.Table.{row_of}
 use Rattle.dialogue.specs.Shape.{shape_of}
 use Rattle.dialogue.specs.Fits.{fits}
 use Rattle.first_source.specs.First.{IsFirst, function, argument, system, finish}
@@ -211,6 +212,7 @@ module _ (p : Program) (code : List ℕ) (fetch : ℕ → Option Instr86) (reads
   asks_of s v d = ask s (shape_of (Some v) (Some s.regs.dh) (Some d) s.dma (seen_by s.mem))
 
   int_turn : (y : Run State86 Stop) (k n : ℕ) → y.status ≡ Going → y.state.ip ≡ k → y.state.ss ≡ y.state.ds → y.state.regs.cl ≡ 2 → y.state.regs.dl ≡ n → HasBytes code k (enc86 Int224) → turn M86 cs y ≡ settle M86 cs y (Asks (Asked (letter n)) (spoils (at y.state (k + 2)) (choice_at cs y.used)))
+  unfolding row_of
   int_turn y k n st e seg cl dl h =
       let c = choice_at cs y.used in
       let s = at y.state (k + 2) in
@@ -310,6 +312,7 @@ module _ (p : Program) (code : List ℕ) (fetch : ℕ → Option Instr86) (reads
 
   -- where the reply writes nothing, the states after a call and its return are linked
   linked_after : (x : Run State80 Rule) (y : Run State86 Stop) (l : Link x y) (byte k n : ℕ) (v : Reply) (vs : List Reply) → v.writes ≡ [] → k ≡ off (Line (l.place + 3)) → (x' : Run State80 Rule) → x' ≡ after80 (asked80 x byte) (l.place + 3) byte v vs → (y' : Run State86 Stop) → y' ≡ (let z : Run State86 Stop = after86 (asked y k n byte) byte v vs in record z { state = returned z.state; used = suc (suc (suc z.used)) }) → Link x' y'
+  unfolding row_of
   linked_after x y l byte k n v vs none at_next x' ex y' ey =
       subst (λ x'. Link x' y') (sym ex) (subst (λ y'. Link (after80 (asked80 x byte) (l.place + 3) byte v vs) y') (sym ey) (record {
         going80 = l.going80;

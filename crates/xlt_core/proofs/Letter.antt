@@ -11,6 +11,7 @@ use Rattle.dialogue.specs.declared.request.Request.{Request}
 use Rattle.dialogue.specs.declared.request.Reply.{Reply}
 use Rattle.dialogue.specs.declared.request.Event.TheVariants.{Call}
 use Rattle.dialogue.specs.Tried.{try_then}
+use Rattle.dialogue.specs.Table.{row_of}
 use Rattle.dialogue.specs.Shape.{shape_of}
 use Rattle.dialogue.specs.Fits.{writes_fit, fits}
 use Rattle.lines86.specs.declared.line.Label.{Label}
@@ -51,25 +52,30 @@ module _ (p : Program) (s : State80) (after : ℕ) where
   asks_with e = ask p s false (shape_of (Some 2) (num_of s.regs.d) e s.dma (seen_by p s false))
 
   by_byte : num_of s.regs.c ≡ Some 2 → is_start p after ≡ true → call_system p s (return_after p s after) ≡ asks_with (num_of s.regs.e) → (e : Option ℕ) → num_of s.regs.e ≡ e → IsNoStop (asks_with e) → AsksLetter p s after
+  unfolding row_of
   by_byte f n t None h ns = absurd ns
   by_byte f n t (Some b) h ns = record { byte = b; function_is = f; byte_is = h; next_is = n; asks = t ∙ ap asks_with h }
 
   by_below : num_of s.regs.c ≡ Some 2 → is_start p after ≡ true → call_system p s (return_after p s after) ≡ ask_after p s 2 (Ok back) → (b : Bool) → (is_just_below s.sp 6 || is_just_below s.sp 7) ≡ b → IsNoStop (cond b (Stops P12) (asks_with (num_of s.regs.e))) → AsksLetter p s after
+  unfolding row_of
   by_below f n t true h ns = absurd ns
   by_below f n t false h ns = by_byte f n (t ∙ ap (λ b. cond b (Stops P12) (asks_with (num_of s.regs.e))) h) (num_of s.regs.e) refl ns
 
   by_next : num_of s.regs.c ≡ Some 2 → (b : Bool) → is_start p after ≡ b → IsNoStop (call_by p s (return_if b) (Some 2)) → AsksLetter p s after
+  unfolding row_of
   by_next f false h ns = absurd ns
   by_next f true h ns =
       by_below f h (ap (call_by p s (return_after p s after)) f ∙ ap (λ b. call_by p s (return_if b) (Some 2)) h) (is_just_below s.sp 6 || is_just_below s.sp 7) refl ns
 
   by_function : IsLetterOrLost s.regs.c → (c : Option ℕ) → num_of s.regs.c ≡ c → IsNoStop (call_by p s (return_if (is_start p after)) c) → AsksLetter p s after
+  unfolding row_of
   by_function only None h ns = absurd ns
   by_function only (Some f) h ns =
       let two : f ≡ 2 = only f h in
       by_next (h ∙ ap Some two) (is_start p after) refl (subst (λ n. IsNoStop (call_by p s (return_if (is_start p after)) (Some n))) two ns)
 
   pub asks_letter : IsLetterOrLost s.regs.c → IsNoStop (call_system p s (return_after p s after)) → AsksLetter p s after
+  unfolding row_of
   asks_letter only ns = by_function only (num_of s.regs.c) refl ns
 
 -- a number in a cell is the byte that the cell stands for
@@ -87,4 +93,5 @@ no_writes true (w ∷ ws) h = absurd (cc)
 no_writes false (w ∷ ws) h = absurd (cc)
 
 pub letter_writes_nothing : (n : ℕ) (y : Reply) → fits (letter n) y ≡ true → y.writes ≡ []
+unfolding row_of
 letter_writes_nothing n y h = no_writes (y.answer == 0) y.writes h
