@@ -1,6 +1,6 @@
 -- From the work and the last line to what the program says of its status.
 use Rattle.std.proofs.Common.{◌≡◌, ◌≢◌, ℕ, ◌+◌, ◌-◌, ◌≤◌, ◌<◌, ◌⊎◌, inl, inr, ⊎_elim, List, [], ◌∷◌, length, take, Option, Some, None, refl, sym, ap, ◌∙◌, subst, arith}
-use Rattle.std.proofs.lemmas.List.{take-all}
+use Rattle.std.proofs.lemmas.List.{take_all}
 use Rattle.first_source.specs.Source.{IsSource}
 use Rattle.host.specs.Host.{HostState, FileTold, Missing, IsFile, HasRisen, last_count, OnlyFileChanged, SameFiles, SameSaid, Says, said_more, Rewrites, rewritten, SameFaults, OnlyReads, OnlySays}
 use Rattle.host.specs.Host.{ReadFailed as ReadFails, WriteFailed as WriteFails}
@@ -68,7 +68,7 @@ module _ (words : List (List ℕ)) (c : Translate) (is_words : IsTranslate words
       let text = text_of (plain w.program) in
       record {
         others = others_on only w.others;
-        file = inr (length text, subst (λ t. Rewrites old new c.output t) (sym (take-all text)) (rewrites_on only text w.written));
+        file = inr (length text, subst (λ t. Rewrites old new c.output t) (sym (take_all (length text) text (omega arith))) (rewrites_on only text w.written));
       }
 
   worked : SourcesHold → (line : List ℕ) → Works c old mid line → (status : ℕ) → IsSaid line mid new status → Outcomes words old new status

@@ -8,9 +8,9 @@ use Rattle.xlt_app.specs.Report.{source_line, words_line, read_line, write_line,
 use Rattle.xlt_app.specs.Top.{SaysLine}
 
 -- a line is said whose fault changes no status
-pub record SaysLast (line : List ℕ) (old new : HostState) : Type 0 where
+pub record SaysLast (text : List ℕ) (old new : HostState) : Type 0 where
   pub only : OnlySays old new
-  pub line : SaysLine old new line
+  pub line : SaysLine old new text
 
 -- the words are refused
 abbrev pub IsRefusedWords : HostState → HostState → ℕ → Type 0

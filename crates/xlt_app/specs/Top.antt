@@ -43,9 +43,9 @@ module _ (old new : HostState) where
 
 -- after status 0 the source was read, the text of its plain lines took the output's place, these lines have an image, and
 -- program and image make the same system calls: the headline
-pub record IsTranslated (words : List (List ℕ)) (old new : HostState) : Type 0 where
+pub record IsTranslated (ws : List (List ℕ)) (old new : HostState) : Type 0 where
   pub command : Translate
-  pub words : IsTranslate words command
+  pub words : IsTranslate ws command
   pub program : Program
   pub source : ReadsSource old new command program
   pub written : Rewrites old new command.output (text_of (plain program))
@@ -56,9 +56,9 @@ pub record IsTranslated (words : List (List ℕ)) (old new : HostState) : Type 0
   pub said : Says old new (translated_line program)
 
 -- after status 1 the source's bytes are no source
-pub record IsSourceRefused (words : List (List ℕ)) (old new : HostState) : Type 0 where
+pub record IsSourceRefused (ws : List (List ℕ)) (old new : HostState) : Type 0 where
   pub command : Translate
-  pub words : IsTranslate words command
+  pub words : IsTranslate ws command
   pub bytes : List ℕ
   pub file : IsFile (old.file command.input) bytes
   pub within : length bytes ≤ source_limit
@@ -67,24 +67,24 @@ pub record IsSourceRefused (words : List (List ℕ)) (old new : HostState) : Typ
   pub said : SaysLine old new source_line
 
 -- after status 2 the words are no command
-pub record AreWordsRefused (words : List (List ℕ)) (old new : HostState) : Type 0 where
-  pub refused : IsNoCommand words
+pub record AreWordsRefused (ws : List (List ℕ)) (old new : HostState) : Type 0 where
+  pub refused : IsNoCommand ws
   pub files : SameFiles old new
   pub reads : new.read_faults ≡ old.read_faults
   pub said : SaysLine old new words_line
 
 -- after status 3 a read of the source failed
-pub record IsReadFailed (words : List (List ℕ)) (old new : HostState) : Type 0 where
+pub record IsReadFailed (ws : List (List ℕ)) (old new : HostState) : Type 0 where
   pub command : Translate
-  pub words : IsTranslate words command
+  pub words : IsTranslate ws command
   pub failed : ReadFailed old new command.input
   pub files : SameFiles old new
   pub said : SaysLine old new (read_line command.input)
 
 -- after status 4 a write failed: of the text, and then the line says so; or of the line of status 0, and nothing follows it
-pub record IsWriteFailed (words : List (List ℕ)) (old new : HostState) : Type 0 where
+pub record IsWriteFailed (ws : List (List ℕ)) (old new : HostState) : Type 0 where
   pub command : Translate
-  pub words : IsTranslate words command
+  pub words : IsTranslate ws command
   pub program : Program
   pub source : ReadsSource old new command program
   pub failed : WriteFailed old new
@@ -92,16 +92,16 @@ pub record IsWriteFailed (words : List (List ℕ)) (old new : HostState) : Type 
   pub said : ((mid : HostState) × (mid.said ≡ old.said) × WriteFailed old mid × SaysLine mid new write_line) ⊎ ((count : ℕ) × Says old new (take count (translated_line program)) × Rewrites old new command.output (text_of (plain program)))
 
 -- after status 5 the output is as before, or a prefix of the text of a plain program took its place
-pub record IsOutOfMemory (words : List (List ℕ)) (old new : HostState) : Type 0 where
+pub record IsOutOfMemory (ws : List (List ℕ)) (old new : HostState) : Type 0 where
   pub command : Translate
-  pub words : IsTranslate words command
+  pub words : IsTranslate ws command
   pub file : SameFiles old new ⊎ ((p : Program) × ReadsSource old new command p × WritesSome old new command.output (text_of (plain p)))
   pub said : ((count : ℕ) × Says old new (take count memory_line)) ⊎ ((p : Program) × ReadsSource old new command p × (count : ℕ) × Says old new (take count (translated_line p)))
 
 -- after status 14 the source has more bytes than its limit
-pub record IsFileTooLong (words : List (List ℕ)) (old new : HostState) : Type 0 where
+pub record IsFileTooLong (ws : List (List ℕ)) (old new : HostState) : Type 0 where
   pub command : Translate
-  pub words : IsTranslate words command
+  pub words : IsTranslate ws command
   pub bytes : List ℕ
   pub file : IsFile (old.file command.input) bytes
   pub longer : source_limit < length bytes

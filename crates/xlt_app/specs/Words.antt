@@ -11,7 +11,7 @@ pub record Translate : Type 0 where
   pub output : List ℕ
 
 -- the words are this command
-pub record IsTranslate (words : List (List ℕ)) (c : Translate) : Type 0 where
-  pub words : words ≡ codes "translate" ∷ (c.input ∷ (c.output ∷ (codes "--plain" ∷ [])))
+pub record IsTranslate (ws : List (List ℕ)) (c : Translate) : Type 0 where
+  pub words : ws ≡ codes "translate" ∷ (c.input ∷ (c.output ∷ (codes "--plain" ∷ [])))
   pub input : IsName c.input
   pub output : IsName c.output

@@ -33,14 +33,14 @@ stop_of_write Failed = WriteFailed
 stop_of_write Memory = OutOfMemory
 
 -- the source was read and the text of its plain lines written; the line says how much it was
-pub record Works (c : Translate) (old new : HostState) (line : List ℕ) : Type 0 where
+pub record Works (c : Translate) (old new : HostState) (text : List ℕ) : Type 0 where
   pub program : Program
   pub source : ReadsSource old new c program
   pub written : Rewrites old new c.output (text_of (plain program))
   pub others : OnlyFileChanged old new c.output
   pub quiet : SameSaid old new
   pub faults : SameFaults old new
-  pub line : line ≡ translated_line program
+  pub line : text ≡ translated_line program
 
 -- the bytes of the source are no source
 pub record Refuses (c : Translate) (old new : HostState) : Type 0 where
