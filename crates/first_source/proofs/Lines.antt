@@ -51,7 +51,7 @@ spelled_no_lf text _ (function e) = subst HasNoLf (sym e) (λ f. cc, (λ f. cc, 
 spelled_no_lf text _ (argument number n e byte) =
     subst HasNoLf (sym (e ∙ ap (λ l. codes "MVI E," ++ l) byte.is))
     (no_lf-append (codes "MVI E,") (byte.digits ++ codes "H") (λ f. cc, (λ f. cc, (λ f. cc, (λ f. cc, (λ f. cc, (λ f. cc, tt))))))
-      (no_lf-append byte.digits (codes "H") (value_no_lf byte.digits 0 n byte.value) (λ f. cc, tt)))
+    (no_lf-append byte.digits (codes "H") (value_no_lf byte.digits 0 n byte.value) (λ f. cc, tt)))
 spelled_no_lf text _ (system e) = subst HasNoLf (sym e) (λ f. cc, (λ f. cc, (λ f. cc, (λ f. cc, (λ f. cc, (λ f. cc, tt))))))
 spelled_no_lf text _ (finish e) = subst HasNoLf (sym e) (λ f. cc, (λ f. cc, (λ f. cc, (λ f. cc, (λ f. cc, tt)))))
 

@@ -51,12 +51,18 @@ pub data SpellsLines : List ℕ → List Instr80 → Type 0 where
   none : SpellsLines [] []
   more : (text rest : List ℕ) (i : Instr80) (is : List Instr80) → Spells text i → SpellsLines rest is → SpellsLines (text ++ (codes "\n" ++ rest)) (i ∷ is)
 
--- the first line is ORG 100H and the last is END
-pub record IsSourceOf (bytes : List ℕ) (is : List Instr80) : Type 0 where
+-- the lines behind the first: the instructions', and END
+pub record IsBehindFirst (bytes : List ℕ) (is : List Instr80) : Type 0 where
   pub lines : List ℕ
   pub spelled : SpellsLines lines is
+  pub whole : bytes ≡ lines ++ codes "END\n"
+
+-- the first line is ORG 100H and the last is END
+pub record IsSourceOf (bytes : List ℕ) (is : List Instr80) : Type 0 where
+  pub behind : List ℕ
+  pub rest : IsBehindFirst behind is
   pub first : AreFirst is
-  pub whole : bytes ≡ codes "ORG 100H\n" ++ (lines ++ codes "END\n")
+  pub whole : bytes ≡ codes "ORG 100H\n" ++ behind
 
 -- a source and the program that it stands for
 pub record IsSource (bytes : List ℕ) (p : Program) : Type 0 where
