@@ -1,4 +1,4 @@
-use Rattle.std.proofs.Common.{◌≡◌, sym, Some}
+use Rattle.std.proofs.Common.{sym, Some}
 use Rattle.dialogue.proofs.tests.request.Goals as goal
 
 pub request_of-requires : goal.request_of-requires
