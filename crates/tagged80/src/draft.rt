@@ -1,5 +1,6 @@
 // What an instruction does, before it is known that it may.
-ghost use Rattle.std.specs.Prelude.{◌≡◌, length};
+ghost use Rattle.std.specs.Prelude.{◌≡◌, length, IsTrue};
+ghost use Rattle.tagged80.specs.Write.{write_fits};
 
 use crate::area::Area;
 use crate::registers::Registers;
@@ -33,6 +34,7 @@ pub struct Draft<'a> {
     pub dma: u16,
     pub write: Write,
     ghost full: { length memory.now ≡ 65536 },
+    ghost fits: { IsTrue (write_fits write) },
 }
 
 impl Draft<'_> {
