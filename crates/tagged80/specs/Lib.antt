@@ -3,3 +3,4 @@ pub mod Draft
 pub mod Row
 pub mod Sight
 pub mod Turn
+pub mod Write

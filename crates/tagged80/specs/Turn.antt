@@ -1,5 +1,5 @@
 -- What an instruction comes to, as the definition's answer.
-use Rattle.std.specs.Prelude.{◌≡◌, Bool, true, Result, Ok, Err, is_ok}
+use Rattle.std.specs.Prelude.{◌≡◌, ◌≢◌, Bool, true, Some, Result, Ok, Err, is_ok}
 use Rattle.cells.specs.declared.Rule.{Rule}
 use Rattle.dialogue.specs.declared.request.Shape.{Shape}
 use Rattle.dialogue.specs.Shape.{shape_of}
@@ -34,10 +34,11 @@ answer_of p s (Ok (Asked back)) t = ask p s back.is_popped (shape_at p s back.is
 answer_of p s (Ok Ended) t = Ends
 answer_of p s (Err r) t = Stops r
 
--- where it asks, the call has a shape, and its return is the one that is kept
+-- where it asks, the call has a shape, its return is the one that is kept, and its function is not 0
 abbrev pub IsCall : Program → State80 → Result Return Rule → Result Turn Rule → Type 0
 IsCall p s back (Ok DidRun) = Unit {0}
-IsCall p s back (Ok (Asked kept)) = (back ≡ Ok (return_of kept)) × (is_ok (shape_at p s kept.is_popped) ≡ true)
+IsCall p s back (Ok (Asked kept)) =
+    (back ≡ Ok (return_of kept)) × (is_ok (shape_at p s kept.is_popped) ≡ true) × (num_of s.regs.c ≢ Some 0)
 IsCall p s back (Ok Ended) = Unit {0}
 IsCall p s back (Err r) = Unit {0}
 

@@ -55,7 +55,8 @@ impl Draft<'_> {
 
     // A becomes 0, whatever it held.
     fn clear_a(&mut self)
-        ensures { state_of self.new ≡ cleared (state_of self.old) }
+        ensures state { state_of self.new ≡ cleared (state_of self.old) }
+        ensures memory { self.new.memory.now ≡ self.old.memory.now }
     {
         self.set_a(Cell::Num(0));
         self.set_flags(byte_flags(0, None, Some(false)));
@@ -63,7 +64,8 @@ impl Draft<'_> {
 
     /// An operation on A and a cell; CMP keeps A.
     pub fn operate_on(&mut self, op: Op, cell: Cell) -> Result<(), Rule>
-        ensures { IsRow (alu_with (state_of self.old) op cell) result (state_of self.old) (state_of self.new) }
+        ensures row { IsRow (alu_with (state_of self.old) op cell) result (state_of self.old) (state_of self.new) }
+        ensures memory { self.new.memory.now ≡ self.old.memory.now }
     {
         let x = number(self.registers.a, Rule::P5)?;
         let y = number(cell, Rule::P5)?;
@@ -78,7 +80,8 @@ impl Draft<'_> {
     /// ADD, ADC, SUB, SBB, ANA, XRA, ORA and CMP.
     pub fn operate(&mut self, area: &Area, op: Op, from: Src) -> Result<(), Rule>
         requires { IsFresh self.old }
-        ensures { IsRow (alu area.now.program.now (state_of self.old) op from) result (state_of self.old) (state_of self.new) }
+        ensures row { IsRow (alu area.now.program.now (state_of self.old) op from) result (state_of self.old) (state_of self.new) }
+        ensures memory { self.new.memory.now ≡ self.old.memory.now }
     {
         if clears_a(op, from) {
             self.clear_a();
@@ -106,7 +109,8 @@ impl Draft<'_> {
 
     // The flags of a count up; CY is kept.
     fn set_counted_up(&mut self, x: u8)
-        ensures { state_of self.new ≡ counted_up (state_of self.old) x }
+        ensures state { state_of self.new ≡ counted_up (state_of self.old) x }
+        ensures memory { self.new.memory.now ≡ self.old.memory.now }
     {
         let mut flags = outcome_flags(Op::Add, x, 1, 0);
         flags.cy = self.flags.cy;
@@ -115,7 +119,8 @@ impl Draft<'_> {
 
     // The flags of a count down; CY is kept.
     fn set_counted_down(&mut self, x: u8)
-        ensures { state_of self.new ≡ counted_down (state_of self.old) x }
+        ensures state { state_of self.new ≡ counted_down (state_of self.old) x }
+        ensures memory { self.new.memory.now ≡ self.old.memory.now }
     {
         let mut flags = outcome_flags(Op::Sub, x, 1, 0);
         flags.cy = self.flags.cy;
@@ -125,7 +130,8 @@ impl Draft<'_> {
     /// INR.
     pub fn count_up(&mut self, area: &Area, on: Src) -> Result<(), Rule>
         requires { IsFresh self.old }
-        ensures { IsRow (inr area.now.program.now (state_of self.old) on) result (state_of self.old) (state_of self.new) }
+        ensures row { IsRow (inr area.now.program.now (state_of self.old) on) result (state_of self.old) (state_of self.new) }
+        ensures memory { self.new.memory.now ≡ self.old.memory.now }
     {
         let x = self.counted(area, on)?;
         self.put_into(area, on, Cell::Num(outcome(Op::Add, x, 1, 0)))?;
@@ -136,7 +142,8 @@ impl Draft<'_> {
     /// DCR.
     pub fn count_down(&mut self, area: &Area, on: Src) -> Result<(), Rule>
         requires { IsFresh self.old }
-        ensures { IsRow (dcr area.now.program.now (state_of self.old) on) result (state_of self.old) (state_of self.new) }
+        ensures row { IsRow (dcr area.now.program.now (state_of self.old) on) result (state_of self.old) (state_of self.new) }
+        ensures memory { self.new.memory.now ≡ self.old.memory.now }
     {
         let x = self.counted(area, on)?;
         self.put_into(area, on, Cell::Num(outcome(Op::Sub, x, 1, 0)))?;
@@ -155,7 +162,8 @@ impl Draft<'_> {
 
     /// INX adds 1, DCX adds 0FFFFH. No flag changes.
     pub fn add_to_pair(&mut self, pair: Pair, number: u16) -> Result<(), Rule>
-        ensures { IsRow (add_to_pair (state_of self.old) pair number) result (state_of self.old) (state_of self.new) }
+        ensures row { IsRow (add_to_pair (state_of self.old) pair number) result (state_of self.old) (state_of self.new) }
+        ensures memory { self.new.memory.now ≡ self.old.memory.now }
     {
         let word = self.pair_number(pair)?;
         self.set_pair(pair, word.wrapping_add(number));
@@ -164,7 +172,8 @@ impl Draft<'_> {
 
     /// DAD.
     pub fn add_pair(&mut self, pair: Pair) -> Result<(), Rule>
-        ensures { IsRow (dad (state_of self.old) pair) result (state_of self.old) (state_of self.new) }
+        ensures row { IsRow (dad (state_of self.old) pair) result (state_of self.old) (state_of self.new) }
+        ensures memory { self.new.memory.now ≡ self.old.memory.now }
     {
         let x = self.pair_number(Pair::H)?;
         let y = self.pair_number(pair)?;
@@ -175,7 +184,8 @@ impl Draft<'_> {
 
     /// DAA.
     pub fn adjust(&mut self) -> Result<(), Rule>
-        ensures { IsRow (daa (state_of self.old)) result (state_of self.old) (state_of self.new) }
+        ensures row { IsRow (daa (state_of self.old)) result (state_of self.old) (state_of self.new) }
+        ensures memory { self.new.memory.now ≡ self.old.memory.now }
     {
         let x = number(self.registers.a, Rule::P5)?;
         let half = known_flag(self.flags.ac)?;
@@ -191,7 +201,8 @@ impl Draft<'_> {
 
     /// CMA.
     pub fn invert(&mut self) -> Result<(), Rule>
-        ensures { IsRow (cma (state_of self.old)) result (state_of self.old) (state_of self.new) }
+        ensures row { IsRow (cma (state_of self.old)) result (state_of self.old) (state_of self.new) }
+        ensures memory { self.new.memory.now ≡ self.old.memory.now }
     {
         let x = number(self.registers.a, Rule::P5)?;
         self.set_a(Cell::Num(255 - x));
@@ -200,7 +211,8 @@ impl Draft<'_> {
 
     /// CMC.
     pub fn invert_cy(&mut self) -> Result<(), Rule>
-        ensures { IsRow (cmc (state_of self.old)) result (state_of self.old) (state_of self.new) }
+        ensures row { IsRow (cmc (state_of self.old)) result (state_of self.old) (state_of self.new) }
+        ensures memory { self.new.memory.now ≡ self.old.memory.now }
     {
         let carry = known_flag(self.flags.cy)?;
         self.set_cy(!carry);
@@ -209,7 +221,8 @@ impl Draft<'_> {
 
     // A turned byte in A, and the bit that went out in CY.
     fn turn(&mut self, value: u8, out: bool)
-        ensures { state_of self.new ≡ with_cy (with_a (state_of self.old) (Num value)) out }
+        ensures state { state_of self.new ≡ with_cy (with_a (state_of self.old) (Num value)) out }
+        ensures memory { self.new.memory.now ≡ self.old.memory.now }
     {
         self.set_a(Cell::Num(value));
         self.set_cy(out);
@@ -217,7 +230,8 @@ impl Draft<'_> {
 
     /// RLC.
     pub fn rotate_left(&mut self) -> Result<(), Rule>
-        ensures { IsRow (rlc (state_of self.old)) result (state_of self.old) (state_of self.new) }
+        ensures row { IsRow (rlc (state_of self.old)) result (state_of self.old) (state_of self.new) }
+        ensures memory { self.new.memory.now ≡ self.old.memory.now }
     {
         let x = number(self.registers.a, Rule::P5)?;
         self.turn(left(x, high_bit(x)), high_bit(x));
@@ -226,7 +240,8 @@ impl Draft<'_> {
 
     /// RRC.
     pub fn rotate_right(&mut self) -> Result<(), Rule>
-        ensures { IsRow (rrc (state_of self.old)) result (state_of self.old) (state_of self.new) }
+        ensures row { IsRow (rrc (state_of self.old)) result (state_of self.old) (state_of self.new) }
+        ensures memory { self.new.memory.now ≡ self.old.memory.now }
     {
         let x = number(self.registers.a, Rule::P5)?;
         self.turn(right(x, low_bit(x)), low_bit(x));
@@ -235,7 +250,8 @@ impl Draft<'_> {
 
     /// RAL.
     pub fn rotate_left_through_cy(&mut self) -> Result<(), Rule>
-        ensures { IsRow (ral (state_of self.old)) result (state_of self.old) (state_of self.new) }
+        ensures row { IsRow (ral (state_of self.old)) result (state_of self.old) (state_of self.new) }
+        ensures memory { self.new.memory.now ≡ self.old.memory.now }
     {
         let x = number(self.registers.a, Rule::P5)?;
         let carry = known_flag(self.flags.cy)?;
@@ -245,7 +261,8 @@ impl Draft<'_> {
 
     /// RAR.
     pub fn rotate_right_through_cy(&mut self) -> Result<(), Rule>
-        ensures { IsRow (rar (state_of self.old)) result (state_of self.old) (state_of self.new) }
+        ensures row { IsRow (rar (state_of self.old)) result (state_of self.old) (state_of self.new) }
+        ensures memory { self.new.memory.now ≡ self.old.memory.now }
     {
         let x = number(self.registers.a, Rule::P5)?;
         let carry = known_flag(self.flags.cy)?;

@@ -1,5 +1,6 @@
 // What an instruction does, before it is known that it may.
-ghost use Rattle.std.specs.Prelude.{◌≡◌, length};
+ghost use Rattle.std.specs.Prelude.{◌≡◌, length, IsTrue};
+ghost use Rattle.tagged80.specs.Write.{write_fits};
 
 use crate::area::Area;
 use crate::registers::Registers;
@@ -33,6 +34,7 @@ pub struct Draft<'a> {
     pub dma: u16,
     pub write: Write,
     ghost full: { length memory.now ≡ 65536 },
+    ghost fits: { IsTrue (write_fits write) },
 }
 
 impl Draft<'_> {
@@ -56,7 +58,8 @@ impl Draft<'_> {
     /// Writes a cell: P3 where it may not be written.
     pub fn write_cell(&mut self, area: &Area, at: u16, cell: Cell) -> Result<(), Rule>
         requires { IsFresh self.old }
-        ensures { IsRow (write_at area.now.program.now (state_of self.old) at cell) result (state_of self.old) (state_of self.new) }
+        ensures row { IsRow (write_at area.now.program.now (state_of self.old) at cell) result (state_of self.old) (state_of self.new) }
+        ensures memory { self.new.memory.now ≡ self.old.memory.now }
     {
         area.may_write(at)?;
         self.write = Write::Cell(at, cell);
@@ -79,7 +82,8 @@ impl Draft<'_> {
     /// Writes a word.
     pub fn write_word(&mut self, area: &Area, at: u16, word: Word) -> Result<(), Rule>
         requires { IsFresh self.old }
-        ensures { IsRow (write_word area.now.program.now (state_of self.old) at word.high word.low) result (state_of self.old) (state_of self.new) }
+        ensures row { IsRow (write_word area.now.program.now (state_of self.old) at word.high word.low) result (state_of self.old) (state_of self.new) }
+        ensures memory { self.new.memory.now ≡ self.old.memory.now }
     {
         if at == 0xFFFF {
             return Err(Rule::P4);
@@ -124,27 +128,31 @@ impl Draft<'_> {
     }
 
     pub fn set_a(&mut self, cell: Cell)
-        ensures { state_of self.new ≡ with_a (state_of self.old) cell }
+        ensures state { state_of self.new ≡ with_a (state_of self.old) cell }
+        ensures memory { self.new.memory.now ≡ self.old.memory.now }
     {
         self.registers.a = cell;
     }
 
     pub fn set_bc(&mut self, word: Word)
-        ensures { state_of self.new ≡ with_bc (state_of self.old) word.high word.low }
+        ensures state { state_of self.new ≡ with_bc (state_of self.old) word.high word.low }
+        ensures memory { self.new.memory.now ≡ self.old.memory.now }
     {
         self.registers.b = word.high;
         self.registers.c = word.low;
     }
 
     pub fn set_de(&mut self, word: Word)
-        ensures { state_of self.new ≡ with_de (state_of self.old) word.high word.low }
+        ensures state { state_of self.new ≡ with_de (state_of self.old) word.high word.low }
+        ensures memory { self.new.memory.now ≡ self.old.memory.now }
     {
         self.registers.d = word.high;
         self.registers.e = word.low;
     }
 
     pub fn set_hl(&mut self, word: Word)
-        ensures { state_of self.new ≡ with_hl (state_of self.old) word.high word.low }
+        ensures state { state_of self.new ≡ with_hl (state_of self.old) word.high word.low }
+        ensures memory { self.new.memory.now ≡ self.old.memory.now }
     {
         self.registers.h = word.high;
         self.registers.l = word.low;
@@ -152,7 +160,8 @@ impl Draft<'_> {
 
     /// A number into a pair.
     pub fn set_pair(&mut self, pair: Pair, number: u16)
-        ensures { state_of self.new ≡ with_num (state_of self.old) pair number }
+        ensures state { state_of self.new ≡ with_num (state_of self.old) pair number }
+        ensures memory { self.new.memory.now ≡ self.old.memory.now }
     {
         let word = Word {
             high: Cell::Num((number / 256) as u8),
@@ -167,13 +176,15 @@ impl Draft<'_> {
     }
 
     pub fn set_flags(&mut self, flags: Flags)
-        ensures { state_of self.new ≡ with_flags (state_of self.old) flags }
+        ensures state { state_of self.new ≡ with_flags (state_of self.old) flags }
+        ensures memory { self.new.memory.now ≡ self.old.memory.now }
     {
         self.flags = flags;
     }
 
     pub fn set_cy(&mut self, cy: bool)
-        ensures { state_of self.new ≡ with_cy (state_of self.old) cy }
+        ensures state { state_of self.new ≡ with_cy (state_of self.old) cy }
+        ensures memory { self.new.memory.now ≡ self.old.memory.now }
     {
         self.flags.cy = Some(cy);
     }

@@ -1,4 +1,6 @@
 // The table of the instructions (8080 Assembly Language Programming Manual, chapter 2).
+ghost use Rattle.std.specs.Prelude.{◌≡◌};
+
 use crate::area::Area;
 use crate::draft::Draft;
 use cells::{Cell, Rule};
@@ -13,7 +15,8 @@ impl Draft<'_> {
     /// jump, call or return does nothing here.
     pub fn effect(&mut self, area: &Area, instr: Instr80) -> Result<(), Rule>
         requires { IsFresh self.old }
-        ensures { IsRow (effect area.now.program.now (state_of self.old) instr) result (state_of self.old) (state_of self.new) }
+        ensures row { IsRow (effect area.now.program.now (state_of self.old) instr) result (state_of self.old) (state_of self.new) }
+        ensures memory { self.new.memory.now ≡ self.old.memory.now }
     {
         match instr {
             Instr80::Nop => Ok(()),

@@ -41,7 +41,8 @@ impl Draft<'_> {
 
     /// Goes on to an instruction: P1 where none starts there.
     pub fn go_to(&mut self, area: &Area, at: u16) -> Result<(), Rule>
-        ensures { gone result (state_of self.new) ≡ go_to area.now.program.now (state_of self.old) at }
+        ensures state { gone result (state_of self.new) ≡ go_to area.now.program.now (state_of self.old) at }
+        ensures memory { self.new.memory.now ≡ self.old.memory.now }
     {
         if !area.is_start(at) {
             return Err(Rule::P1);
@@ -54,6 +55,7 @@ impl Draft<'_> {
     pub fn leave_to(&mut self, area: &Area, sp: u16, place: Place) -> Turn
         ensures answer { answer_of area.now.program.now (state_of self.old) (Ok result) (state_of self.new) ≡ leave_to (state_of self.old) sp place }
         ensures no_call { IsNoCall (Ok result) }
+        ensures memory { self.new.memory.now ≡ self.old.memory.now }
     {
         match place {
             Place::At(_) => {
@@ -98,6 +100,7 @@ impl Draft<'_> {
         requires { IsFresh self.old }
         ensures answer { answer_of area.now.program.now (state_of self.old) result (state_of self.new) ≡ go_back (state_of self.old) (popped_return area.now.program.now (state_of self.old)) }
         ensures no_call { IsNoCall result }
+        ensures memory { self.new.memory.now ≡ self.old.memory.now }
     {
         let back = self.popped_return(area)?;
         Ok(self.leave_to(area, back.sp, back.place))
@@ -108,6 +111,7 @@ impl Draft<'_> {
         requires { IsFresh self.old }
         ensures answer { answer_of area.now.program.now (state_of self.old) result (state_of self.new) ≡ jump area.now.program.now (state_of self.old) goal }
         ensures call { IsCall area.now.program.now (state_of self.old) (popped_return area.now.program.now (state_of self.old)) result }
+        ensures memory { self.new.memory.now ≡ self.old.memory.now }
     {
         match goal {
             Goal::At(at) => {
@@ -122,7 +126,8 @@ impl Draft<'_> {
     // CALL of an instruction: pushes the code address of the place after it, which has to be an instruction.
     fn enter(&mut self, area: &Area, at: u16, after: u16) -> Result<(), Rule>
         requires { IsFresh self.old }
-        ensures { gone result (state_of self.new) ≡ call area.now.program.now (state_of self.old) after (Goal.At at) }
+        ensures state { gone result (state_of self.new) ≡ call area.now.program.now (state_of self.old) after (Goal.At at) }
+        ensures memory { self.new.memory.now ≡ self.old.memory.now }
     {
         let place = Place::At(after);
         self.push(
@@ -143,6 +148,7 @@ impl Draft<'_> {
         requires { IsFresh self.old }
         ensures answer { answer_of area.now.program.now (state_of self.old) result (state_of self.new) ≡ call area.now.program.now (state_of self.old) after goal }
         ensures call { IsCall area.now.program.now (state_of self.old) (return_after area.now.program.now (state_of self.old) after) result }
+        ensures memory { self.new.memory.now ≡ self.old.memory.now }
     {
         match goal {
             Goal::At(at) => {
@@ -166,6 +172,7 @@ impl Draft<'_> {
         requires { IsFresh self.old }
         ensures answer { answer_of area.now.program.now (state_of self.old) result (state_of self.new) ≡ where_holds area.now.program.now (state_of self.old) after (holds self.old.flags cond) (jump area.now.program.now (state_of self.old) goal) }
         ensures call { IsCall area.now.program.now (state_of self.old) (popped_return area.now.program.now (state_of self.old)) result }
+        ensures memory { self.new.memory.now ≡ self.old.memory.now }
     {
         if self.condition(cond)? {
             return self.jump(area, goal);
@@ -179,6 +186,7 @@ impl Draft<'_> {
         requires { IsFresh self.old }
         ensures answer { answer_of area.now.program.now (state_of self.old) result (state_of self.new) ≡ where_holds area.now.program.now (state_of self.old) after (holds self.old.flags cond) (call area.now.program.now (state_of self.old) after goal) }
         ensures call { IsCall area.now.program.now (state_of self.old) (return_after area.now.program.now (state_of self.old) after) result }
+        ensures memory { self.new.memory.now ≡ self.old.memory.now }
     {
         if self.condition(cond)? {
             return self.call(area, goal, after);
@@ -192,6 +200,7 @@ impl Draft<'_> {
         requires { IsFresh self.old }
         ensures answer { answer_of area.now.program.now (state_of self.old) result (state_of self.new) ≡ where_holds area.now.program.now (state_of self.old) after (holds self.old.flags cond) (go_back (state_of self.old) (popped_return area.now.program.now (state_of self.old))) }
         ensures no_call { IsNoCall result }
+        ensures memory { self.new.memory.now ≡ self.old.memory.now }
     {
         if self.condition(cond)? {
             return self.go_back(area);

@@ -65,7 +65,8 @@ impl Draft<'_> {
     /// A cell into a register or into M.
     pub fn put_into(&mut self, area: &Area, to: Src, cell: Cell) -> Result<(), Rule>
         requires { IsFresh self.old }
-        ensures { IsRow (into area.now.program.now (state_of self.old) to cell) result (state_of self.old) (state_of self.new) }
+        ensures row { IsRow (into area.now.program.now (state_of self.old) to cell) result (state_of self.old) (state_of self.new) }
+        ensures memory { self.new.memory.now ≡ self.old.memory.now }
     {
         match to {
             Src::Reg(register) => {
@@ -82,7 +83,8 @@ impl Draft<'_> {
     /// MOV.
     pub fn transfer(&mut self, area: &Area, to: Src, from: Src) -> Result<(), Rule>
         requires { IsFresh self.old }
-        ensures { IsRow (effect area.now.program.now (state_of self.old) (Mov to from)) result (state_of self.old) (state_of self.new) }
+        ensures row { IsRow (effect area.now.program.now (state_of self.old) (Mov to from)) result (state_of self.old) (state_of self.new) }
+        ensures memory { self.new.memory.now ≡ self.old.memory.now }
     {
         let cell = self.source(area, from)?;
         self.put_into(area, to, cell)
@@ -90,7 +92,8 @@ impl Draft<'_> {
 
     // A code address into a pair; none goes to SP.
     fn set_code(&mut self, pair: Pair, at: u16)
-        ensures { state_of self.new ≡ lxi (state_of self.old) pair (Code at) }
+        ensures state { state_of self.new ≡ lxi (state_of self.old) pair (Code at) }
+        ensures memory { self.new.memory.now ≡ self.old.memory.now }
     {
         let word = Word {
             high: Cell::Hi(Place::At(at)),
@@ -106,7 +109,8 @@ impl Draft<'_> {
 
     /// LXI.
     pub fn load_immediate(&mut self, pair: Pair, word: Immediate)
-        ensures { state_of self.new ≡ lxi (state_of self.old) pair word }
+        ensures state { state_of self.new ≡ lxi (state_of self.old) pair word }
+        ensures memory { self.new.memory.now ≡ self.old.memory.now }
     {
         match word {
             Immediate::Num(number) => self.set_pair(pair, number),
@@ -117,7 +121,8 @@ impl Draft<'_> {
     /// LDA.
     pub fn load(&mut self, area: &Area, at: u16) -> Result<(), Rule>
         requires { IsFresh self.old }
-        ensures { IsRow (lda area.now.program.now (state_of self.old) at) result (state_of self.old) (state_of self.new) }
+        ensures row { IsRow (lda area.now.program.now (state_of self.old) at) result (state_of self.old) (state_of self.new) }
+        ensures memory { self.new.memory.now ≡ self.old.memory.now }
     {
         let cell = self.read(area, at)?;
         self.set_a(cell);
@@ -127,7 +132,8 @@ impl Draft<'_> {
     /// STA.
     pub fn store(&mut self, area: &Area, at: u16) -> Result<(), Rule>
         requires { IsFresh self.old }
-        ensures { IsRow (sta area.now.program.now (state_of self.old) at) result (state_of self.old) (state_of self.new) }
+        ensures row { IsRow (sta area.now.program.now (state_of self.old) at) result (state_of self.old) (state_of self.new) }
+        ensures memory { self.new.memory.now ≡ self.old.memory.now }
     {
         self.write_cell(area, at, self.registers.a)
     }
@@ -135,7 +141,8 @@ impl Draft<'_> {
     /// LHLD.
     pub fn load_pair(&mut self, area: &Area, at: u16) -> Result<(), Rule>
         requires { IsFresh self.old }
-        ensures { IsRow (lhld area.now.program.now (state_of self.old) at) result (state_of self.old) (state_of self.new) }
+        ensures row { IsRow (lhld area.now.program.now (state_of self.old) at) result (state_of self.old) (state_of self.new) }
+        ensures memory { self.new.memory.now ≡ self.old.memory.now }
     {
         let word = self.read_word(area, at)?;
         self.set_hl(word);
@@ -145,7 +152,8 @@ impl Draft<'_> {
     /// SHLD.
     pub fn store_pair(&mut self, area: &Area, at: u16) -> Result<(), Rule>
         requires { IsFresh self.old }
-        ensures { IsRow (effect area.now.program.now (state_of self.old) (Shld at)) result (state_of self.old) (state_of self.new) }
+        ensures row { IsRow (effect area.now.program.now (state_of self.old) (Shld at)) result (state_of self.old) (state_of self.new) }
+        ensures memory { self.new.memory.now ≡ self.old.memory.now }
     {
         let word = self.hl();
         self.write_word(area, at, word)
@@ -154,7 +162,8 @@ impl Draft<'_> {
     /// LDAX.
     pub fn load_at(&mut self, area: &Area, pair: Pair) -> Result<(), Rule>
         requires { IsFresh self.old }
-        ensures { IsRow (effect area.now.program.now (state_of self.old) (Ldax pair)) result (state_of self.old) (state_of self.new) }
+        ensures row { IsRow (effect area.now.program.now (state_of self.old) (Ldax pair)) result (state_of self.old) (state_of self.new) }
+        ensures memory { self.new.memory.now ≡ self.old.memory.now }
     {
         let at = address_in(self.high(pair), self.low(pair))?;
         self.load(area, at)
@@ -163,7 +172,8 @@ impl Draft<'_> {
     /// STAX.
     pub fn store_at(&mut self, area: &Area, pair: Pair) -> Result<(), Rule>
         requires { IsFresh self.old }
-        ensures { IsRow (effect area.now.program.now (state_of self.old) (Stax pair)) result (state_of self.old) (state_of self.new) }
+        ensures row { IsRow (effect area.now.program.now (state_of self.old) (Stax pair)) result (state_of self.old) (state_of self.new) }
+        ensures memory { self.new.memory.now ≡ self.old.memory.now }
     {
         let at = address_in(self.high(pair), self.low(pair))?;
         self.store(area, at)
@@ -171,7 +181,8 @@ impl Draft<'_> {
 
     /// XCHG.
     pub fn exchange(&mut self)
-        ensures { state_of self.new ≡ xchg (state_of self.old) }
+        ensures state { state_of self.new ≡ xchg (state_of self.old) }
+        ensures memory { self.new.memory.now ≡ self.old.memory.now }
     {
         let hl = self.hl();
         let de = self.de();
@@ -182,7 +193,8 @@ impl Draft<'_> {
     /// XTHL.
     pub fn exchange_top(&mut self, area: &Area) -> Result<(), Rule>
         requires { IsFresh self.old }
-        ensures { IsRow (xthl area.now.program.now (state_of self.old)) result (state_of self.old) (state_of self.new) }
+        ensures row { IsRow (xthl area.now.program.now (state_of self.old)) result (state_of self.old) (state_of self.new) }
+        ensures memory { self.new.memory.now ≡ self.old.memory.now }
     {
         let sp = self.sp;
         let word = self.read_word(area, sp)?;
@@ -194,7 +206,8 @@ impl Draft<'_> {
 
     /// SPHL.
     pub fn set_sp(&mut self) -> Result<(), Rule>
-        ensures { IsRow (sphl (state_of self.old)) result (state_of self.old) (state_of self.new) }
+        ensures row { IsRow (sphl (state_of self.old)) result (state_of self.old) (state_of self.new) }
+        ensures memory { self.new.memory.now ≡ self.old.memory.now }
     {
         let at = self.at_hl()?;
         self.sp = at;

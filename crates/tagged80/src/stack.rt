@@ -26,7 +26,8 @@ impl Draft<'_> {
     /// Two cells onto the stack, which grows down: the high one at SP-1, the low one at SP-2.
     pub fn push(&mut self, area: &Area, word: Word) -> Result<(), Rule>
         requires { IsFresh self.old }
-        ensures { IsRow (push area.now.program.now (state_of self.old) word.high word.low) result (state_of self.old) (state_of self.new) }
+        ensures row { IsRow (push area.now.program.now (state_of self.old) word.high word.low) result (state_of self.old) (state_of self.new) }
+        ensures memory { self.new.memory.now ≡ self.old.memory.now }
     {
         let sp = self.sp.wrapping_sub(2);
         self.write_word(area, sp, word)?;
@@ -37,7 +38,8 @@ impl Draft<'_> {
     /// PUSH.
     pub fn push_pair(&mut self, area: &Area, pair: StackPair) -> Result<(), Rule>
         requires { IsFresh self.old }
-        ensures { IsRow (push_pair area.now.program.now (state_of self.old) pair) result (state_of self.old) (state_of self.new) }
+        ensures row { IsRow (push_pair area.now.program.now (state_of self.old) pair) result (state_of self.old) (state_of self.new) }
+        ensures memory { self.new.memory.now ≡ self.old.memory.now }
     {
         let word = match pair {
             StackPair::B => self.bc(),
@@ -53,7 +55,8 @@ impl Draft<'_> {
 
     // A popped word into its pair.
     fn take_popped(&mut self, pair: StackPair, word: Word)
-        ensures { state_of self.new ≡ popped (state_of self.old) pair (halves_of word) }
+        ensures state { state_of self.new ≡ popped (state_of self.old) pair (halves_of word) }
+        ensures memory { self.new.memory.now ≡ self.old.memory.now }
     {
         match pair {
             StackPair::B => self.set_bc(word),
@@ -69,7 +72,8 @@ impl Draft<'_> {
     /// POP.
     pub fn pop_pair(&mut self, area: &Area, pair: StackPair) -> Result<(), Rule>
         requires { IsFresh self.old }
-        ensures { IsRow (pop_pair area.now.program.now (state_of self.old) pair) result (state_of self.old) (state_of self.new) }
+        ensures row { IsRow (pop_pair area.now.program.now (state_of self.old) pair) result (state_of self.old) (state_of self.new) }
+        ensures memory { self.new.memory.now ≡ self.old.memory.now }
     {
         let word = self.read_word(area, self.sp)?;
         self.sp = self.sp.wrapping_add(2);

@@ -20,6 +20,7 @@ impl Draft<'_> {
         requires { IsFresh self.old }
         ensures answer { answer_of area.now.program.now (state_of self.old) result (state_of self.new) ≡ go_on area.now.program.now after (effect area.now.program.now (state_of self.old) instr) }
         ensures no_call { IsNoCall result }
+        ensures memory { self.new.memory.now ≡ self.old.memory.now }
     {
         self.effect(area, instr)?;
         self.go_to(area, after)?;
@@ -33,6 +34,7 @@ impl Draft<'_> {
         requires within { at + length80 instr ≤ 0xF000 }
         ensures answer { answer_of area.now.program.now (state_of self.old) result (state_of self.new) ≡ act area.now.program.now (state_of self.old) (at + length80 instr) instr }
         ensures call { IsCall area.now.program.now (state_of self.old) (return_of area.now.program.now (state_of self.old) at (Some instr)) result }
+        ensures memory { self.new.memory.now ≡ self.old.memory.now }
     {
         let after = at + length(instr);
         match instr {
@@ -56,6 +58,7 @@ impl Draft<'_> {
         requires { IsFresh self.old }
         ensures answer { answer_of area.now.program.now (state_of self.old) result (state_of self.new) ≡ step80 area.now.program.now (state_of self.old) }
         ensures call { IsCall area.now.program.now (state_of self.old) (return_at area.now.program.now (state_of self.old) self.old.place) result }
+        ensures memory { self.new.memory.now ≡ self.old.memory.now }
     {
         let Place::At(at) = self.place else {
             return Ok(Turn::Ended);
