@@ -1,17 +1,17 @@
 -- What an expression begins with, and what each way to begin leaves.
-use Rattle.std.proofs.Common.{◌≡◌, ◌≢◌, ℕ, zero, suc, ◌<◌, ◌≤◌, ◌+◌, ◌-◌, List, [], ◌∷◌, length, refl, sym, ap, subst, ◌∙◌, arith, Option, Some, None, Result, Ok, Err}
+use Rattle.std.proofs.Common.{◌≡◌, ◌≢◌, ℕ, zero, suc, ◌<◌, ◌-◌, List, ◌∷◌, refl, ap, ◌∙◌, arith, Option, Some, None, Result, Ok, Err}
 use Rattle.asm80_tokens.specs.declared.expr.Two.{Two}
 use Rattle.asm80_tokens.specs.declared.expr.Two.TheVariants.{Mul, Div, Mod, Shl, Shr, Add, Sub, And, Or, Xor}
 use Rattle.std.specs.Borrow.{Bor}
 use Rattle.asm80_tokens.specs.declared.expr.Expr.{Expr}
 use Rattle.asm80_tokens.specs.Tree.{tree_of, Tree, Number, Place, Named, Inverted, Negated, Binary}
 use Rattle.asm80_tokens.specs.declared.token.Token.{Token}
-use Rattle.asm80_tokens.specs.declared.token.Token.TheVariants.{Digits, Num, Here, Word, Register, Operation, Text, Op, Not, Open, Close, Comma, Colon, Bang, Stray}
+use Rattle.asm80_tokens.specs.declared.token.Token.TheVariants.{Digits, Num, Here, Word, Register, Op, Not, Open, Close}
 use Rattle.asm80_tokens.specs.declared.fault.ParseFault.{ParseFault}
 use Rattle.asm80_tokens.specs.declared.fault.ParseFault.TheVariants as faults
 use Rattle.asm80_tokens.specs.Results.{Sure, Never, Gives, Stops}
 use Rattle.asm80_tokens.specs.Grammar.{level_of, next_operator, IsLooser, Spells, Begins, Ends, EndsInside, alone, joined, digits, number, here, name, register, parens, tighter, minus, plus, inverse}
-use Rattle.asm80_tokens.proofs.Chain.{Extends, done, step, Chained, Unrolled, unrolled, ends_inside_all}
+use Rattle.asm80_tokens.proofs.Chain.{Extends, done, step, Chained, unrolled, ends_inside_all}
 
 -- ---- operands
 

@@ -1,12 +1,9 @@
 -- A chain of operators of one level, read from the left.
-use Rattle.std.proofs.Common.{◌≡◌, ◌≢◌, ℕ, zero, suc, ◌<◌, ◌≤◌, ◌+◌, List, [], ◌∷◌, length, refl, sym, ap, subst, ◌∙◌, arith, Option, Some, None, Result, Ok, Err}
+use Rattle.std.proofs.Common.{◌≡◌, ℕ, zero, suc, ◌<◌, List, ◌∷◌, length, refl, arith, Option, Some, None}
 use Rattle.asm80_tokens.specs.declared.expr.Two.{Two}
-use Rattle.asm80_tokens.specs.declared.expr.Two.TheVariants.{Mul, Div, Mod, Shl, Shr, Add, Sub, And, Or, Xor}
-use Rattle.asm80_tokens.specs.Tree.{Tree, Number, Place, Named, Inverted, Negated, Binary}
+use Rattle.asm80_tokens.specs.Tree.{Tree, Binary}
 use Rattle.asm80_tokens.specs.declared.token.Token.{Token}
-use Rattle.asm80_tokens.specs.declared.token.Token.TheVariants.{Digits, Num, Here, Word, Register, Operation, Text, Op, Not, Open, Close, Comma, Colon, Bang, Stray}
-use Rattle.asm80_tokens.specs.declared.fault.ParseFault.{ParseFault}
-use Rattle.asm80_tokens.specs.declared.fault.ParseFault.TheVariants as faults
+use Rattle.asm80_tokens.specs.declared.token.Token.TheVariants.{Op}
 use Rattle.asm80_tokens.specs.Grammar.{level_of, next_operator, IsLooser, Spells, Begins, Ends, EndsInside, alone, joined, digits, number, here, name, register, parens, tighter, minus, plus, inverse}
 
 -- From left with the tokens ts, operators of level n and their right operands lead to e with the tokens rest.

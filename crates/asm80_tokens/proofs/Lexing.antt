@@ -1,9 +1,9 @@
 -- A line has one list of tokens.
-use Rattle.std.proofs.Common.{◌≡◌, ◌≢◌, ℕ, suc, ◌<◌, ◌≤◌, ◌+◌, List, [], ◌∷◌, ◌++◌, length, drop, Bool, true, false, cond, eqb, Option, Some, None, refl, sym, ap, ◌∙◌, append_assoc, arith}
+use Rattle.std.proofs.Common.{◌≡◌, ℕ, List, ◌∷◌, true, Option, refl, sym, ap, ◌∙◌}
 use Rattle.asm80_tokens.specs.declared.fault.LineRule.{LineRule}
 use Rattle.asm80_tokens.specs.declared.token.Token.{Token}
-use Rattle.asm80_tokens.specs.Letters.{is_blank, comment_len}
-use Rattle.asm80_tokens.specs.Tokens.{Scanned, Got, Bad, token_at, Lexes, ends, blank, comment, token, faulty}
+use Rattle.asm80_tokens.specs.Letters.{is_blank}
+use Rattle.asm80_tokens.specs.Tokens.{Got, Lexes, ends, blank, comment, token, faulty}
 
 got_same : (a b : Token) (r s : List ℕ) → Got a r ≡ Got b s → (a ≡ b) × (r ≡ s)
 got_same a b r s e = (cc, cc)

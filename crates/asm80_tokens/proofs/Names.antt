@@ -1,10 +1,10 @@
 -- The bytes that count of a word are a name.
-use Rattle.std.proofs.Common.{◌≡◌, ◌≢◌, ℕ, suc, ◌+◌, ◌-◌, ◌<◌, ◌≤◌, List, [], ◌∷◌, Bool, true, false, cond, eqb, leb, length, take, map, refl, sym, ap, ◌∙◌, arith, inl, inr, ◌⊎◌, ◌&&◌, ◌||◌, All}
-use Rattle.std.specs.List.{filter, prefix_len, AllByRecursion}
+use Rattle.std.proofs.Common.{◌≡◌, ℕ, suc, ◌+◌, ◌<◌, ◌≤◌, List, [], ◌∷◌, Bool, true, false, eqb, length, take, refl, arith, inl, inr, ◌⊎◌, ◌||◌}
+use Rattle.std.specs.List.{AllByRecursion}
 use Rattle.std.proofs.lemmas.Bool.Decides.{nat_tests}
 use Rattle.std.proofs.lemmas.List.Elements.{All-from_recursion}
 use Rattle.asm80_tokens.specs.Name.{IsNameByte, IsName}
-use Rattle.asm80_tokens.specs.Letters.{is_digit, is_upper, is_lower, is_inside, upper, significant, inside_len}
+use Rattle.asm80_tokens.specs.Letters.{is_upper, is_lower, is_inside, upper, significant, inside_len}
 use Rattle.asm80_tokens.specs.Results.{BeginsWithLetter}
 
 upper_is : (b : ℕ) → is_inside b ≡ true → eqb b 36 ≡ false → IsNameByte (upper b)

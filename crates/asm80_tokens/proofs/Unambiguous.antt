@@ -1,10 +1,9 @@
 -- Tokens spell one expression.
-use Rattle.std.proofs.Common.{◌≡◌, ◌≢◌, ℕ, zero, suc, ◌<◌, ◌≤◌, ◌+◌, ◌-◌, ◌*◌, List, [], ◌∷◌, length, refl, sym, ap, ◌∙◌, arith}
-use Rattle.asm80_tokens.specs.declared.expr.Two.{Two}
-use Rattle.asm80_tokens.specs.Tree.{Tree, Number, Place, Named, Inverted, Negated, Binary}
+use Rattle.std.proofs.Common.{◌≡◌, ℕ, zero, suc, ◌<◌, ◌≤◌, ◌+◌, ◌*◌, List, ◌∷◌, length, refl, ap, arith}
+use Rattle.asm80_tokens.specs.Tree.{Tree, Inverted, Negated, Binary}
 use Rattle.asm80_tokens.specs.declared.token.Token.{Token}
-use Rattle.asm80_tokens.specs.declared.token.Token.TheVariants.{Op, Close}
-use Rattle.asm80_tokens.specs.Grammar.{level_of, next_operator, IsLooser, Spells, Begins, Ends, EndsInside, alone, joined, digits, number, here, name, register, parens, tighter, minus, plus, inverse}
+use Rattle.asm80_tokens.specs.declared.token.Token.TheVariants.{Close}
+use Rattle.asm80_tokens.specs.Grammar.{Spells, Begins, Ends, EndsInside, digits, number, here, name, register, parens, tighter, minus, plus, inverse}
 use Rattle.asm80_tokens.proofs.Chain.{Extends, done, step, unrolled, ends_inside_all, spells_shorter, begins_shorter}
 use Rattle.asm80_tokens.proofs.Cases.{ends_three, no_operator, no_not}
 

@@ -1,5 +1,5 @@
 -- The numbers of a source, in capitals and with no $ (CP/M 2.2 Operating System Manual, the assembler, "Numeric constants").
-use Rattle.std.specs.Prelude.{ℕ, ◌+◌, ◌-◌, ◌*◌, List, [], ◌∷◌, Bool, Option, Some, None, nat_le, nat_lt, ◌==◌, ◌&&◌, ◌||◌, if◌then◌else◌, length, take, slice_index}
+use Rattle.std.specs.Prelude.{ℕ, ◌+◌, ◌-◌, ◌*◌, List, Option, Some, None, nat_le, nat_lt, ◌==◌, ◌&&◌, ◌||◌, if◌then◌else◌, length, take, slice_index}
 use Rattle.std.specs.List.{fold, list_all}
 use Rattle.asm80_tokens.specs.Letters.{is_digit, is_upper}
 

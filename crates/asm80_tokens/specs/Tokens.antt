@@ -1,11 +1,11 @@
 -- The tokens of a line.
-use Rattle.std.specs.Prelude.{◌≤◌, ◌≡◌, ◌≢◌, ℕ, List, [], ◌∷◌, Bool, true, false, Option, Some, None, nat_lt, ◌==◌, ◌||◌, if◌then◌else◌, length, take, drop, slice_index}
+use Rattle.std.specs.Prelude.{◌≤◌, ◌≡◌, ◌≢◌, ℕ, List, [], ◌∷◌, true, false, Option, Some, None, nat_lt, ◌==◌, ◌||◌, if◌then◌else◌, length, take, drop, slice_index}
 use Rattle.std.specs.List.{list_all}
 use Rattle.asm80_tokens.specs.declared.fault.LineRule.{LineRule}
 use Rattle.asm80_tokens.specs.declared.fault.LineRule.TheVariants as rules
 use Rattle.asm80_tokens.specs.declared.expr.Two.TheVariants.{Mul, Div, Add, Sub}
 use Rattle.asm80_tokens.specs.declared.token.Token.{Token}
-use Rattle.asm80_tokens.specs.declared.token.Token.TheVariants.{Digits, Num, Here, Word, Register, Operation, Text, Op, Not, Open, Close, Comma, Colon, Bang, Stray}
+use Rattle.asm80_tokens.specs.declared.token.Token.TheVariants.{Digits, Num, Here, Word, Operation, Text, Op, Open, Close, Comma, Colon, Bang, Stray}
 use Rattle.asm80_tokens.specs.Letters.{is_digit, is_upper, is_lower, is_printable, is_blank, significant, inside_len, comment_len}
 use Rattle.asm80_tokens.specs.Words.{word_token, is_operation, is_register}
 use Rattle.asm80_tokens.specs.Numbers.{number_of}

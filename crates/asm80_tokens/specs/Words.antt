@@ -3,7 +3,6 @@
 use Rattle.std.specs.Prelude.{ℕ, List, [], ◌∷◌, codes, Bool, if◌then◌else◌}
 use Rattle.std.specs.List.{list_any}
 use Rattle.std.specs.Str.{bytes_eq}
-use Rattle.asm80_tokens.specs.declared.expr.Two.{Two}
 use Rattle.asm80_tokens.specs.declared.expr.Two.TheVariants.{Mod, Shl, Shr, And, Or, Xor}
 use Rattle.asm80_tokens.specs.declared.token.Token.{Token}
 use Rattle.asm80_tokens.specs.declared.token.Token.TheVariants as tokens

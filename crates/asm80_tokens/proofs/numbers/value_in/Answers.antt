@@ -1,6 +1,5 @@
-use Rattle.std.proofs.Common.{◌≡◌, ◌<◌, ◌≤◌, ◌+◌, ◌*◌, min, length, take, refl, sym, ap, ◌∙◌, arith, rules}
+use Rattle.std.proofs.Common.{min, refl, sym, ap, ◌∙◌, arith}
 use Rattle.std.proofs.lemmas.List.{take_all}
-use Rattle.asm80_tokens.specs.Numbers.{digit_of, total, value_in}
 use Rattle.asm80_tokens.proofs.Digits.{cap_step, total_more, total_none, no_value, too_large, has_value, digits_more}
 use Rattle.asm80_tokens.proofs.numbers.value_in.Goals as goal
 

@@ -1,8 +1,5 @@
-use Rattle.std.proofs.Common.{◌≡◌, ◌≢◌, ◌-◌, ◌∷◌, drop, length, true, false, ap, sym, ◌∙◌, arith, rules}
+use Rattle.std.proofs.Common.{◌≡◌, ◌∷◌, drop, length, true, false, ap, sym, ◌∙◌, arith, rules}
 use Rattle.std.proofs.lemmas.Result.{err_from_is_err_and}
-use Rattle.asm80_tokens.specs.Tree.{tree_of}
-use Rattle.asm80_tokens.specs.declared.token.Token.{Token}
-use Rattle.asm80_tokens.specs.Grammar.{Spells, Begins, Ends, EndsInside}
 use Rattle.asm80_tokens.proofs.Chain.{spells_shorter, begins_shorter}
 use Rattle.asm80_tokens.proofs.Cases.{digits_read, number_read, here_read, name_read, register_read, parens_read, signed_never, added, taken_off, tighter_read, tighter_never, unsigned_read, unsigned_never, chain_starts, chain_never, chain_goes_on, chain_breaks, chain_ends, gives_on, fails_on}
 use Rattle.asm80_tokens.proofs.Inverted.{row_read, row_fails}

@@ -1,5 +1,5 @@
 use Rattle.std.proofs.Common.{arith}
-use Rattle.asm80_tokens.proofs.Unambiguous.{Same, one_expression}
+use Rattle.asm80_tokens.proofs.Unambiguous.{one_expression}
 use Rattle.asm80_tokens.proofs.parser.expression_has_one_tree.Goals as goal
 
 pub returns : goal.returns

@@ -1,4 +1,4 @@
-use Rattle.std.proofs.Common.{◌≡◌, ◌++◌, ◌∷◌, [], length, ap, sym, ◌∙◌, arith}
+use Rattle.std.proofs.Common.{length, ap, arith}
 use Rattle.asm80_tokens.proofs.Quotes.{goes_on, doubled, closes, open_ended}
 use Rattle.asm80_tokens.proofs.strings.quoted.Goals as goal
 

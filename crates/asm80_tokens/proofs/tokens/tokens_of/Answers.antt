@@ -1,7 +1,7 @@
-use Rattle.std.proofs.Common.{◌≡◌, ◌++◌, ◌∷◌, [], Some, None, ap, sym, subst, ◌∙◌, length, arith, append_assoc, drop}
+use Rattle.std.proofs.Common.{◌∷◌, [], Some, None, sym, ◌∙◌, append_assoc}
 use Rattle.std.proofs.lemmas.List.{append-nil}
 use Rattle.std.proofs.lemmas.List.Elements.{All-push}
-use Rattle.asm80_tokens.specs.Tokens.{IsLawful, Lexes, ends, blank, comment, token, faulty}
+use Rattle.asm80_tokens.specs.Tokens.{IsLawful, ends, blank, comment, token, faulty}
 use Rattle.asm80_tokens.proofs.tokens.tokens_of.Goals as goal
 
 pub loop-b-preserved-then-is_blank : goal.loop-b-preserved-then-is_blank

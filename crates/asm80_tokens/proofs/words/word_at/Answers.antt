@@ -1,4 +1,4 @@
-use Rattle.std.proofs.Common.{◌≡◌, length, take, ap, sym, ◌∙◌, arith}
+use Rattle.std.proofs.Common.{◌≡◌, length, take, ap, ◌∙◌, arith}
 use Rattle.asm80_tokens.specs.Letters.{significant, inside_len}
 use Rattle.asm80_tokens.proofs.Names.{is_name}
 use Rattle.asm80_tokens.proofs.words.word_at.Goals as goal
