@@ -22,4 +22,3 @@ pub use parser::{expression, expression_has_one_tree, first};
 pub use stmt::Stmt80;
 pub use token::Token;
 pub use tokens::{line_has_one_reading, tokens_of};
-pub use words::{is_operation, is_register};
