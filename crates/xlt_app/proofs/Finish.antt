@@ -1,22 +1,21 @@
 -- From the work and the last line to what the program says of its status.
-use Rattle.std.proofs.Common.{◌≡◌, ◌≢◌, ℕ, ◌+◌, ◌-◌, ◌≤◌, ◌<◌, ◌⊎◌, inl, inr, ⊎_elim, List, [], ◌∷◌, length, take, Option, Some, None, refl, sym, ap, ◌∙◌, subst, arith}
+use Rattle.std.proofs.Common.{◌≡◌, ℕ, ◌≤◌, ◌⊎◌, inl, inr, ⊎_elim, List, length, take, refl, sym, ap, ◌∙◌, subst, arith}
 use Rattle.std.proofs.lemmas.List.{take_all}
+use Rattle.first_source.specs.First.{AreFirst, first_program}
 use Rattle.first_source.specs.Source.{IsSource}
-use Rattle.host.specs.Host.{HostState, FileTold, Missing, IsFile, HasRisen, last_count, OnlyFileChanged, SameFiles, SameSaid, Says, said_more, Rewrites, rewritten, SameFaults, OnlyReads, OnlySays}
-use Rattle.host.specs.Host.{ReadFailed as ReadFails, WriteFailed as WriteFails}
+use Rattle.host.specs.Host.{HostState, HasRisen, OnlyFileChanged, SameFiles, SameSaid, Says, said_more, Rewrites, OnlySays}
 use Rattle.lines86.specs.Written.{text_of}
-use Rattle.lines86.specs.Image.{Assembles, IsImage, image_of}
+use Rattle.lines86.specs.Image.{Assembles, image_of}
 use Rattle.program80.specs.Program.{Program}
 use Rattle.templates.specs.Plain.{plain}
-use Rattle.transfer.specs.Transfer.{IsLonger}
 use Rattle.xlt_core.specs.Same.{Same}
 use Rattle.xlt_app.specs.declared.translate.Stop.{Stop}
 use Rattle.xlt_app.specs.declared.translate.Stop.TheVariants.{SourceRefused, ReadFailed, WriteFailed, OutOfMemory, FileTooLong}
 use Rattle.xlt_app.specs.Words.{Translate, IsTranslate}
-use Rattle.xlt_app.specs.Report.{translated_line, memory_line, write_line}
-use Rattle.xlt_app.specs.Top.{source_limit, SaysLine, WritesSome, ReadsSource, IsNoCommand, IsTranslated, IsSourceRefused, AreWordsRefused, IsReadFailed, IsWriteFailed, IsOutOfMemory, IsFileTooLong}
-use Rattle.xlt_app.specs.Work.{Works, Refuses, WritesPart, StopsBy}
-use Rattle.xlt_app.specs.Closing.{SaysLast, IsRefusedWords, SaysPart, IsSaid, whole, failed, no_memory, ClosesBy, said, unsaid, status_of}
+use Rattle.xlt_app.specs.Report.{translated_line, memory_line}
+use Rattle.xlt_app.specs.Top.{SaysLine, WritesSome, ReadsSource, IsNoCommand}
+use Rattle.xlt_app.specs.Work.{Works, StopsBy}
+use Rattle.xlt_app.specs.Closing.{SaysLast, IsRefusedWords, IsSaid, whole, failed, no_memory, ClosesBy, said, unsaid}
 use Rattle.xlt_app.proofs.Outcomes.{Outcomes, outcomes_0, outcomes_1, outcomes_2, outcomes_3, outcomes_4, outcomes_5, outcomes_14}
 
 -- every program of a source has a plain text that assembles, to an image that does the same
@@ -71,7 +70,7 @@ module _ (words : List (List ℕ)) (c : Translate) (is_words : IsTranslate words
         file = inr (length text, subst (λ t. Rewrites old new c.output t) (sym (take_all (length text) text (omega arith))) (rewrites_on only text w.written));
       }
 
-  worked : SourcesHold → (line : List ℕ) → Works c old mid line → (status : ℕ) → IsSaid line mid new status → Outcomes words old new status
+  pub worked : SourcesHold → (line : List ℕ) → Works c old mid line → (status : ℕ) → IsSaid line mid new status → Outcomes words old new status
   worked holds line w _ (whole only s faults) =
       outcomes_0 words old new (record {
         command = c;
@@ -128,7 +127,7 @@ module _ (words : List (List ℕ)) (c : Translate) (is_words : IsTranslate words
         said = inl (l.line.count, said_on (take l.line.count memory_line) (quiet_of stop s) l.line.said);
       })
 
-  stopped : (stop : Stop) → StopsBy c old mid stop → (status : ℕ) → ClosesBy stop c.input mid new status → Outcomes words old new status
+  pub stopped : (stop : Stop) → StopsBy c old mid stop → (status : ℕ) → ClosesBy stop c.input mid new status → Outcomes words old new status
   stopped stop s _ (unsaid l) = no_room stop s l
   stopped SourceRefused s _ (said l) =
       outcomes_1 words old new (record {
@@ -176,3 +175,10 @@ pub refused_words : (words : List (List ℕ)) (old new : HostState) (status : �
 refused_words words old new status none r =
     subst (Outcomes words old new) (sym r.0)
     (outcomes_2 words old new (record { refused = none; files = r.1.only.files; reads = r.1.only.reads; said = r.1.line }))
+
+-- from the law of first programs to the programs of sources
+pub sources_hold : ((is : _) → AreFirst is → Assembles (plain (first_program is))) → ((is : _) → AreFirst is → Same (first_program is) (image_of (plain (first_program is)))) → SourcesHold
+sources_hold assembles same = record {
+  assembles = λ bytes p s. subst (λ q. Assembles (plain q)) (sym s.program) (assembles s.is s.spelled.first);
+  same = λ bytes p s. subst (λ q. Same q (image_of (plain q))) (sym s.program) (same s.is s.spelled.first);
+}

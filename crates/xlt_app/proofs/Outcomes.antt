@@ -1,10 +1,9 @@
 -- Each status with all that the program says of its statuses.
-use Rattle.std.proofs.Common.{◌≡◌, ◌≢◌, ℕ, ◌+◌, ◌-◌, ◌^◌, ◌≤◌, ◌<◌, ◌⊎◌, inl, inr, ⊎_elim, List, [], ◌∷◌, length, take, refl, sym, ap, ◌∙◌, subst, arith}
+use Rattle.std.proofs.Common.{◌≡◌, ℕ, ◌<◌, ⊎_elim, List, length, refl, sym, ap, ◌∙◌, subst, arith}
 use Rattle.first_source.specs.Source.{IsSource}
-use Rattle.host.specs.Host.{HostState, Missing, Holds, IsFile, HasRisen, last_count, SameFaults}
-use Rattle.program80.specs.Program.{Program}
+use Rattle.host.specs.Host.{HostState, Holds, IsFile, HasRisen, last_count}
 use Rattle.xlt_app.specs.Words.{Translate, IsTranslate}
-use Rattle.xlt_app.specs.Top.{IsStatus, IsNoCommand, source_limit, IsTranslated, IsSourceRefused, AreWordsRefused, IsReadFailed, IsWriteFailed, IsOutOfMemory, IsFileTooLong, NoCallFailed, Completes}
+use Rattle.xlt_app.specs.Top.{IsStatus, IsNoCommand, IsTranslated, IsSourceRefused, AreWordsRefused, IsReadFailed, IsWriteFailed, IsOutOfMemory, IsFileTooLong, Completes}
 
 -- what is said of a status
 pub record Outcomes (words : List (List ℕ)) (old new : HostState) (status : ℕ) : Type 0 where

@@ -1,5 +1,5 @@
 -- What is said last, and the status.
-use Rattle.std.specs.Prelude.{◌≡◌, ℕ, ◌⊎◌, List, take}
+use Rattle.std.specs.Prelude.{◌≡◌, ℕ, List, take}
 use Rattle.host.specs.Host.{HostState, Says, SameFaults, OnlySays}
 use Rattle.host.specs.Host.{WriteFailed as WriteFails}
 use Rattle.xlt_app.specs.declared.translate.Stop.{Stop}

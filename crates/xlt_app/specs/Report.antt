@@ -6,10 +6,12 @@ use Rattle.program80.specs.Program.{Program}
 use Rattle.templates.specs.Plain.{plain_statements}
 
 -- the line of a translation: how many 8080 instructions, data cells and bytes of 8086 code
+abbrev pub sizes_line : ℕ → ℕ → ℕ → List ℕ
+sizes_line instructions cells code =
+    codes "translated: " ++ (decimal instructions ++ (codes " instructions, " ++ (decimal cells ++ (codes " data bytes, " ++ (decimal code ++ codes " code bytes\n")))))
+
 abbrev pub translated_line : Program → List ℕ
-translated_line p =
-    codes "translated: " ++ (decimal (length p.instrs) ++ (codes " instructions, " ++ (decimal (length p.cells) ++ (codes " data bytes, "
-    ++ (decimal (sizes_of (plain_statements p)) ++ codes " code bytes\n")))))
+translated_line p = sizes_line (length p.instrs) (length p.cells) (sizes_of (plain_statements p))
 
 -- until a source may be more than a first source, its fault has no line of its own
 abbrev pub source_line : List ℕ

@@ -1,7 +1,7 @@
 -- What the program answers, by its status: the causes, the files, what is said, and the headline.
-use Rattle.std.specs.Prelude.{◌≡◌, ◌≢◌, ℕ, ◌<◌, ◌≤◌, ◌⊎◌, List, [], ◌∷◌, ◌++◌, Contains, length, take}
+use Rattle.std.specs.Prelude.{◌≡◌, ◌≢◌, ℕ, ◌<◌, ◌≤◌, ◌⊎◌, List, [], ◌∷◌, Contains, length, take}
 use Rattle.first_source.specs.Source.{IsSource}
-use Rattle.host.specs.Host.{HostState, Missing, Holds, IsFile, HasRisen, last_count, OnlyFileChanged, SameFiles, SameSaid, Says, Rewrites, SameFaults, OnlySays, ReadFailed, WriteFailed}
+use Rattle.host.specs.Host.{HostState, Missing, Holds, IsFile, HasRisen, last_count, OnlyFileChanged, SameFiles, Says, Rewrites, SameFaults, ReadFailed, WriteFailed}
 use Rattle.lines86.specs.Written.{text_of}
 use Rattle.lines86.specs.Image.{Image, IsImage}
 use Rattle.program80.specs.Program.{Program}

@@ -1,5 +1,5 @@
 -- The words of the command line: so far one command, `translate IN OUT --plain`, in this order.
-use Rattle.std.specs.Prelude.{◌≡◌, ◌≢◌, ℕ, codes, List, [], ◌∷◌, Option, Some, slice_get}
+use Rattle.std.specs.Prelude.{◌≡◌, ◌≢◌, ℕ, codes, List, [], ◌∷◌, Some, slice_get}
 
 -- a name is not empty, and it does not begin with `-`, or is `-` alone
 pub record IsName (word : List ℕ) : Type 0 where

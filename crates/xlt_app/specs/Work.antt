@@ -5,7 +5,7 @@ use Rattle.first_source.specs.declared.reader.FirstFault.TheVariants.{Refused, M
 use Rattle.first_source.specs.Source.{IsSource}
 use Rattle.host.specs.declared.HostFault.{HostFault}
 use Rattle.host.specs.declared.HostFault.TheVariants.{Failed, Memory}
-use Rattle.host.specs.Host.{HostState, IsFile, OnlyFileChanged, SameFiles, SameSaid, Rewrites, SameFaults, OnlyReads, OnlyWrites}
+use Rattle.host.specs.Host.{HostState, IsFile, OnlyFileChanged, SameSaid, Rewrites, SameFaults, OnlyReads}
 use Rattle.host.specs.Host.{ReadFailed as ReadFails, WriteFailed as WriteFails}
 use Rattle.lines86.specs.Written.{text_of}
 use Rattle.program80.specs.Program.{Program}

@@ -18,6 +18,7 @@ use crate::report::{said, say_of, words_refused};
 use crate::translate::translate;
 use host::Host;
 use std::alloc::Global;
+use xlt_core::first_is_same;
 
 /// What the program does with the words after its name: it answers the status that the process ends with. The files of the
 /// command are those of the host, and the last line goes to it.
@@ -48,7 +49,10 @@ pub fn xlt<H: Host>(alloc: Global, words: Vec<String>, host: &mut H) -> u8
         return words_refused(host);
     };
     match translate(alloc, host, command) {
-        Ok(line) => said(host, line.as_str()),
+        Ok(line) => {
+            first_is_same();
+            said(host, line.as_str())
+        }
         Err(stop) => say_of(alloc, host, stop, command.input),
     }
 }

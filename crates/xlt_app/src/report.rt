@@ -1,6 +1,8 @@
 // What is said last, and the status that goes with it.
-ghost use Rattle.std.specs.Prelude.{◌≡◌};
-ghost use Rattle.xlt_app.specs.Closing.{IsSaid, ClosesBy, IsRefusedWords};
+ghost use Rattle.std.specs.Prelude.{◌≡◌, ◌<◌, ◌++◌, ◌⊎◌, length, codes, IfOk};
+ghost use Rattle.std.specs.String.{string_bytes};
+ghost use Rattle.xlt_app.specs.Report.{memory_line};
+ghost use Rattle.xlt_app.specs.Closing.{IsSaid, SaysLast, ClosesBy, IsRefusedWords};
 
 use crate::translate::Stop;
 use host::{Host, HostFault};
@@ -16,6 +18,7 @@ pub fn words_refused<H: Host>(host: &mut H) -> u8
 
 /// Says the line of status 0. A fault there is the status.
 pub fn said<H: Host>(host: &mut H, line: &str) -> u8
+    requires { 0 < length line.now }
     ensures { IsSaid line.now (H.state host.old) (H.state host.new) result }
 {
     match say_line(host, line.as_bytes()) {
@@ -27,6 +30,9 @@ pub fn said<H: Host>(host: &mut H, line: &str) -> u8
 
 // Says a last line whose fault changes no status.
 fn say_last<H: Host>(host: &mut H, line: &[u8], status: u8) -> u8
+    requires { 0 < length line.now }
+    ensures status { result ≡ status }
+    ensures said { SaysLast line.now (H.state host.old) (H.state host.new) }
 {
     let _ = say_line(host, line);
     status
@@ -45,14 +51,20 @@ pub fn say_of<H: Host>(alloc: Global, host: &mut H, stop: Stop, input: &str) -> 
     }
 }
 
-// The same of a line with a file's name.
-fn say_named<H: Host>(alloc: Global, host: &mut H, text: &str, name: &str, status: u8) -> u8 {
+// The same of a line that ends with a file's name, where there is memory for it.
+fn say_named<H: Host>(alloc: Global, host: &mut H, text: &str, name: &str, status: u8) -> u8
+    ensures { ((result ≡ status) × SaysLast (text.now ++ (name.now ++ codes "\n")) (H.state host.old) (H.state host.new))
+        ⊎ ((result ≡ 5) × SaysLast memory_line (H.state host.old) (H.state host.new)) }
+{
     match named_line(alloc, text, name) {
         Ok(line) => say_last(host, line.as_bytes(), status),
         Err(_) => say_last(host, b"out of memory\n", 5),
     }
 }
 
-fn named_line(alloc: Global, text: &str, name: &str) -> Result<String, AllocError> {
+// The line: a text, the name and the end of the line.
+fn named_line(alloc: Global, text: &str, name: &str) -> Result<String, AllocError>
+    ensures { IfOk result (λ line. string_bytes line ≡ text.now ++ (name.now ++ codes "\n")) }
+{
     format!(in alloc; "{text}{name}\n")
 }
