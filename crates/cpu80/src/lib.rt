@@ -4,6 +4,8 @@
 mod memory;
 mod processor;
 mod replies;
+mod runs;
 mod start;
 
 pub use processor::{Cpu80, Phase, Step80};
+pub use runs::calls_give_runs;
