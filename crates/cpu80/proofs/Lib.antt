@@ -4,3 +4,4 @@ pub mod Starts
 pub mod Places
 pub mod Steps
 pub mod Replied
+pub mod Called

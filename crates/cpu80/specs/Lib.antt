@@ -1,3 +1,4 @@
 pub mod State
 pub mod Machine
 pub mod Reply
+pub mod Calls

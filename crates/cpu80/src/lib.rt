@@ -4,6 +4,10 @@
 mod memory;
 mod processor;
 mod replies;
+mod runs;
 mod start;
+#[cfg(test)]
+mod tests;
 
 pub use processor::{Cpu80, Phase, Step80};
+pub use runs::calls_give_runs;
