@@ -1,4 +1,6 @@
 // The plain 8086 as a machine, by single steps and by whole runs.
 #![tactic(auto)]
 
-pub mod machine;
+pub mod cpu;
+pub mod run;
+pub mod start;
