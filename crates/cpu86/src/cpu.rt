@@ -80,7 +80,8 @@ impl Cpu86 {
         fill: &[u8],
     ) -> Result<Cpu86, AllocError>
         requires { length fill.now ≡ 0x10000 }
-        ensures start { IfOk result (λ c. standing c ≡ record { state = start86 image.now page.now fill.now (start_of start); said = None }) }
+        ensures state { IfOk result (λ c. (standing c).state ≡ start86 image.now page.now fill.now (start_of start)) }
+        ensures idle { IfOk result (λ c. (standing c).said ≡ None) }
         ensures code { IfOk result (λ c. code_of c ≡ image.now.code) }
     {
         let code = Vec::from_slice(alloc, image.code())?;

@@ -4,3 +4,5 @@
 pub mod cpu;
 pub mod run;
 pub mod start;
+#[cfg(test)]
+mod tests;
