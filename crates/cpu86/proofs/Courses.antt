@@ -1,5 +1,5 @@
 -- One turn of a run, by what the machine's calls told.
-use Rattle.std.proofs.Common.{◌≡◌, ℕ, suc, ◌+◌, ◌-◌, ◌<◌, Bool, true, false, cond, List, [], ◌∷◌, ◌++◌, length, get_or, drop, Option, Some, None, refl, sym, ap, ◌∙◌, arith}
+use Rattle.std.proofs.Common.{◌≡◌, ℕ, suc, ◌+◌, ◌-◌, ◌<◌, true, false, cond, List, [], ◌∷◌, ◌++◌, length, get_or, drop, Option, Some, None, sym, ap, ◌∙◌, arith}
 use Rattle.std.proofs.lemmas.Bool.Decides.{nat_tests}
 use Rattle.std.proofs.lemmas.List.{drop_more}
 use Rattle.std.specs.Prelude.{nat_lt}
@@ -8,7 +8,7 @@ use Rattle.dialogue.specs.declared.request.Reply.{Reply}
 use Rattle.dialogue.specs.declared.request.Event.{Event}
 use Rattle.dialogue.specs.declared.request.Event.TheVariants.{Call, End}
 use Rattle.dialogue.specs.declared.request.Request.{Request}
-use Rattle.machine.specs.Run.{Answer, Ran, Asks, Ends, Stops, Status, Going, Waiting, Over, Stopped, Run, choice_at, answers, take_reply, settle, turn_by, turn, turns}
+use Rattle.machine.specs.Run.{Answer, Asks, Ends, Stops, Status, Going, Waiting, Over, Stopped, Run, choice_at, answers, take_reply, settle, turn_by, turn, turns}
 use Rattle.step86.specs.State.{State86}
 use Rattle.step86.specs.Call.{Stop, replied86}
 use Rattle.step86.specs.Step.{step86, machine86}

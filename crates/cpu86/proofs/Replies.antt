@@ -1,5 +1,5 @@
 -- Replies that do not fit.
-use Rattle.std.proofs.Common.{◌≡◌, ℕ, ◌==◌, ◌&&◌, Bool, true, false, cond, List, Option, Some, None, refl, sym, ap, ◌∙◌, subst}
+use Rattle.std.proofs.Common.{◌≡◌, ℕ, Bool, true, false, cond, List, Option, Some, None, refl, sym, ap, ◌∙◌, subst}
 use Rattle.dialogue.specs.declared.blocks.Block.{Block}
 use Rattle.dialogue.specs.declared.request.Shape.{Shape}
 use Rattle.dialogue.specs.declared.request.Request.{Request}
@@ -7,8 +7,8 @@ use Rattle.dialogue.specs.declared.request.Reply.{Reply}
 use Rattle.dialogue.specs.declared.request.Event.{Event}
 use Rattle.dialogue.specs.declared.request.Event.TheVariants.{Call}
 use Rattle.dialogue.specs.Table.{Row, row_of}
-use Rattle.dialogue.specs.Shape.{ranges, request_of}
-use Rattle.dialogue.specs.Fits.{answer_fits, line_fits, writes_fit, fits_row, fits}
+use Rattle.dialogue.specs.Shape.{request_of}
+use Rattle.dialogue.specs.Fits.{fits_row, fits}
 use Rattle.machine.specs.Run.{answers}
 use Rattle.step86.specs.State.{State86}
 use Rattle.step86.specs.Call.{seen_by, replied86}

@@ -1,14 +1,12 @@
 -- What a step answers, and what the definition's step is.
-use Rattle.std.proofs.Common.{◌≡◌, ℕ, ◌==◌, ◌&&◌, not, Bool, true, false, cond, Some, None, refl, sym, ap, ◌∙◌, subst}
+use Rattle.std.proofs.Common.{◌≡◌, ℕ, ◌==◌, ◌&&◌, not, false, cond, None, refl, sym, ap, ◌∙◌, subst}
 use Rattle.i86.specs.declared.Instr86.{Instr86}
 use Rattle.i86.specs.declared.Instr86.TheVariants.{Int224}
-use Rattle.dialogue.specs.declared.request.Event.TheVariants.{End}
 use Rattle.machine.specs.Run.{Answer, Ran, Asks, Ends, Stops}
 use Rattle.step86.specs.State.{State86}
 use Rattle.step86.specs.Call.{Stop, NoInstruction, StackSegment, OddCall, call_system}
 use Rattle.step86.specs.Step.{uses_stack, act, act_from}
 use Rattle.cpu86.specs.declared.cpu.Step86.{Step86}
-use Rattle.cpu86.specs.declared.cpu.Step86.TheVariants.{Ran as DidRun, Asked, Ended, NoInstruction as HasNone, StackSegment as HasSegment, OddCall as HasOdd}
 use Rattle.cpu86.specs.Standing.{Standing}
 use Rattle.cpu86.specs.Calls.{stop_of, settled, IsTold}
 

@@ -1,4 +1,4 @@
-use Rattle.std.proofs.Common.{◌≡◌, ℕ, ◌-◌, drop, refl, sym, ap, ◌∙◌, subst, arith}
+use Rattle.std.proofs.Common.{◌≡◌, ◌-◌, drop, refl, sym, ap, ◌∙◌, subst, arith}
 use Rattle.i86.specs.Code.{Reads}
 use Rattle.machine.specs.Run.{Going, turns}
 use Rattle.step86.specs.Step.{machine86}

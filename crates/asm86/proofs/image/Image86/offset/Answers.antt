@@ -1,4 +1,4 @@
-use Rattle.std.proofs.Common.{◌∙◌, sym, arith}
+use Rattle.std.proofs.Common.{◌∙◌, sym}
 use Rattle.lines86.specs.declared.line.Label.TheVariants.{At}
 use Rattle.asm86.proofs.Labels.{offset_found, offset_after}
 use Rattle.asm86.proofs.image.Image86.offset.Goals as goal

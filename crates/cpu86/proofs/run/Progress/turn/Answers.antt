@@ -1,4 +1,4 @@
-use Rattle.std.proofs.Common.{◌≡◌, Some, sym, ap, ◌∙◌}
+use Rattle.std.proofs.Common.{sym, ap, ◌∙◌}
 use Rattle.dialogue.specs.declared.request.Event.TheVariants.{Call}
 use Rattle.step86.specs.Call.{NoInstruction, StackSegment, OddCall}
 use Rattle.processor86.specs.State.{state_of}
