@@ -1,10 +1,9 @@
 // The machine: code, a processor, and what it has said last.
-ghost use Rattle.std.specs.Prelude.{◌≡◌, ℕ, ◌<◌, Option, Some, Ok, length};
+ghost use Rattle.std.specs.Prelude.{◌≡◌, ℕ, Option, Some, length};
 ghost use Rattle.dialogue.specs.declared.request.Shape.{Shape};
-ghost use Rattle.dialogue.specs.Shape.{shape_of};
-ghost use Rattle.step86.specs.Call.{seen_by};
 ghost use Rattle.step86.specs.Step.{uses_stack};
 ghost use Rattle.processor86.specs.State.{state_of};
+ghost use Rattle.processor86.specs.System.{IsAsked};
 ghost use Rattle.cpu86.specs.declared.cpu.Pending.TheVariants.{Answer};
 ghost use Rattle.std.proofs.Props.{props};
 
@@ -54,7 +53,7 @@ pub struct Cpu86 {
     processor: Processor,
     code: Vec<u8>,
     pending: Pending,
-    ghost asked: { (shape : Shape) → pending ≡ Answer shape → shape_of (Some processor.registers.cl) (Some processor.registers.dh) (Some processor.registers.dl) processor.dma (seen_by (state_of processor).mem) ≡ Ok shape } by { Prim.hlevel props },
+    ghost asked: { (shape : Shape) → pending ≡ Answer shape → IsAsked (state_of processor) shape } by { Prim.hlevel props },
 }
 
 impl Cpu86 {
