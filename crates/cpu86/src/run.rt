@@ -7,6 +7,7 @@ ghost use Rattle.machine.specs.Run.{choice_at, take_reply, turn, turns, start_ru
 ghost use Rattle.step86.specs.Step.{machine86};
 ghost use Rattle.cpu86.specs.Standing.{standing, code_of};
 ghost use Rattle.cpu86.specs.Runs.{run_of};
+ghost use Rattle.cpu86.specs.Histories.{CallsGiveRuns};
 
 use crate::cpu::{Cpu86, Step86};
 use dialogue::request::{Event, Reply, Request};
@@ -32,6 +33,12 @@ pub struct Progress {
     pub taken: usize,
     pub used: u64,
 }
+
+/// A law: any calls of `step` and `reply` on a machine at the start of an image give the run of the image over the replies
+/// that it took. It computes nothing.
+pub fn calls_give_runs()
+    ensures { CallsGiveRuns }
+{}
 
 /// Runs a machine that has nothing open for so many turns, with these replies and these choices, which come round.
 pub fn run(
