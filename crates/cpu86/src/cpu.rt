@@ -8,7 +8,7 @@ ghost use Rattle.cpu86.specs.declared.cpu.Pending.TheVariants.{Answer};
 ghost use Rattle.std.proofs.Props.{props};
 
 use crate::start::Start86;
-use asm86::image::Image86;
+use asm86::Image86;
 use dialogue::blocks::Blocks;
 use dialogue::replies::fits;
 use dialogue::request::{Reply, Request, Shape};

@@ -6,3 +6,7 @@ pub mod run;
 pub mod start;
 #[cfg(test)]
 mod tests;
+
+pub use cpu::{Cpu86, Step86};
+pub use run::calls_give_runs;
+pub use start::Start86;

@@ -5,7 +5,7 @@ ghost use Rattle.cpu86.specs.Standing.{standing};
 use crate::cpu::{Cpu86, Step86};
 use crate::run::{RunStatus, run};
 use crate::start::Start86;
-use asm86::image::Image86;
+use asm86::Image86;
 use dialogue::blocks::Blocks;
 use dialogue::request::{ArgWord, Event, Reply};
 use dialogue::start_page::Page;
