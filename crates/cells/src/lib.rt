@@ -1,6 +1,16 @@
 // The values of the tagged 8080: what a register or a memory cell is known to hold.
 #![tactic(auto)]
 
+ghost use Rattle.std.proofs.Common.{rules};
+ghost use Rattle.std.specs.Cmp.Rules.{comparing};
+ghost use Rattle.std.specs.Ordering.{on};
+ghost use Rattle.std.specs.Prelude.{◌≡◌, ◌<◌, ◌==◌, ◌↔◌, IsTrue, not, option_map};
+ghost use Rattle.cells.specs.Bits.{has_bit};
+ghost use Rattle.cells.specs.Conditions.{unknown_flags, flags_of_byte, holds};
+ghost use Rattle.cells.specs.Parts.{nothing, everything, only, union, has, bits_of_parts};
+
+use std::marker::Model;
+
 /// A place of the program: an instruction's 8080 address, or the point to which a program returns to end.
 #[derive(Clone, Copy, PartialEq, Eq)]
 pub enum Place {
@@ -73,4 +83,203 @@ pub enum Rule {
     P10,
     P11,
     P12,
+}
+
+/// A set of parts.
+#[derive(Clone, Copy)]
+pub struct Keep {
+    bits: u16,
+}
+
+impl Model for Keep {
+    ghost use Rattle.cells.specs.Parts.{Parts, AreParts, parts_of_bits, bits_of_parts};
+
+    ghost Value = { Parts };
+
+    ghost view = { λ k. parts_of_bits k.bits };
+
+    ghost invariant = { λ k. AreParts k.bits };
+
+    ghost inverse = { λ parts. record { bits = bits_of_parts parts } };
+
+    ghost inverse_ok = { λ k known i. record { bits = known.1 i } };
+}
+
+impl PartialEq for Keep {
+    ghost use Rattle.cells.specs.Parts.{bits_of_parts};
+
+    ghost eq = { on bits_of_parts ◌==◌ };
+
+    ghost laws = { Prim.search (comparing, rules) };
+
+    fn eq(&self, other: &Keep) -> bool
+        ensures gives { result ≡ (bits_of_parts self.now == bits_of_parts other.now) }
+        ensures same { IsTrue result ↔ (self.now ≡ other.now) }
+    {
+        self.bits == other.bits
+    }
+}
+
+impl Eq for Keep {
+    ghost laws = { Prim.search (comparing, rules) };
+}
+
+impl Keep {
+    pub fn none() -> Keep
+        ensures { result ≡ nothing }
+    {
+        Keep { bits: 0 }
+    }
+
+    pub fn all() -> Keep
+        ensures { result ≡ everything }
+    {
+        Keep { bits: 0xFFF }
+    }
+
+    pub fn with(self, part: Part) -> Keep
+        ensures { result ≡ union self (only part) }
+    {
+        Keep {
+            bits: self.bits | 1 << part as u16,
+        }
+    }
+
+    pub fn has(self, part: Part) -> bool
+        ensures { result ≡ has self part }
+    {
+        (self.bits >> part as u16) & 1 == 1
+    }
+
+    pub fn join(self, other: Keep) -> Keep
+        ensures { result ≡ union self other }
+    {
+        Keep {
+            bits: self.bits | other.bits,
+        }
+    }
+}
+
+impl Flags {
+    /// No flag is known.
+    pub fn unknown() -> Flags
+        ensures { result ≡ unknown_flags }
+    {
+        Flags {
+            s: None,
+            z: None,
+            ac: None,
+            p: None,
+            cy: None,
+        }
+    }
+
+    /// The flags in the byte that PUSH PSW stores: bits 7 6 4 2 0 are S Z AC P CY.
+    pub fn of_byte(byte: u8) -> Flags
+        ensures { result ≡ flags_of_byte byte }
+    {
+        Flags {
+            s: Some(is_set(byte, 7)),
+            z: Some(is_set(byte, 6)),
+            ac: Some(is_set(byte, 4)),
+            p: Some(is_set(byte, 2)),
+            cy: Some(is_set(byte, 0)),
+        }
+    }
+
+    /// Whether a condition holds; None where its flag is unknown.
+    pub fn holds(self, cond: Cond) -> Option<bool>
+        ensures { result ≡ holds self cond }
+    {
+        match cond {
+            Cond::Nz => is_clear(self.z),
+            Cond::Z => self.z,
+            Cond::Nc => is_clear(self.cy),
+            Cond::C => self.cy,
+            Cond::Po => is_clear(self.p),
+            Cond::Pe => self.p,
+            Cond::P => is_clear(self.s),
+            Cond::M => self.s,
+        }
+    }
+}
+
+fn is_set(byte: u8, place: u8) -> bool
+    requires { place < 8 }
+    ensures { result ≡ has_bit byte place }
+{
+    (byte >> place) & 1 == 1
+}
+
+fn is_clear(flag: Option<bool>) -> Option<bool>
+    ensures { result ≡ option_map not flag }
+{
+    flag.map(|value| !value)
+}
+
+#[cfg(test)]
+mod tests {
+    use super::*;
+
+    #[test]
+    fn sets(rt: HostRuntime) {
+        let registers = Keep::none().with(Part::A).with(Part::L).with(Part::A);
+        let flags = Keep::none().with(Part::S).with(Part::Cy);
+        for (part, in_registers, in_flags) in [
+            (Part::A, true, false),
+            (Part::B, false, false),
+            (Part::L, true, false),
+            (Part::S, false, true),
+            (Part::Ac, false, false),
+            (Part::Cy, false, true),
+        ] {
+            assert!(rt; !Keep::none().has(part));
+            assert!(rt; Keep::all().has(part));
+            assert_eq!(rt; registers.has(part), in_registers);
+            assert_eq!(rt; flags.has(part), in_flags);
+            assert_eq!(rt; registers.join(flags).has(part), in_registers || in_flags);
+        }
+        assert!(rt; registers == Keep::none().with(Part::L).with(Part::A));
+        assert!(rt; registers != flags);
+    }
+
+    /// Each condition, the bit of its flag in the byte of PUSH PSW, and the value of that flag where it holds.
+    #[test]
+    fn conditions(rt: HostRuntime) {
+        for (cond, bit, value) in [
+            (Cond::Nz, 0x40, false),
+            (Cond::Z, 0x40, true),
+            (Cond::Nc, 0x01, false),
+            (Cond::C, 0x01, true),
+            (Cond::Po, 0x04, false),
+            (Cond::Pe, 0x04, true),
+            (Cond::P, 0x80, false),
+            (Cond::M, 0x80, true),
+        ] {
+            assert_eq!(rt; Flags::of_byte(bit).holds(cond), Some(value));
+            assert_eq!(rt; Flags::of_byte(bit ^ 0xFF).holds(cond), Some(!value));
+            assert_eq!(rt; Flags::unknown().holds(cond), None);
+        }
+    }
+
+    #[test]
+    fn flag_bytes(rt: HostRuntime) {
+        for (byte, s, z, ac, p, cy) in [
+            (0x00, false, false, false, false, false),
+            (0x2A, false, false, false, false, false),
+            (0x80, true, false, false, false, false),
+            (0x40, false, true, false, false, false),
+            (0x10, false, false, true, false, false),
+            (0x04, false, false, false, true, false),
+            (0x01, false, false, false, false, true),
+            (0xD7, true, true, true, true, true),
+        ] {
+            let flags = Flags::of_byte(byte);
+            assert_eq!(rt; flags.s, Some(s));
+            assert_eq!(rt; flags.z, Some(z));
+            assert_eq!(rt; flags.ac, Some(ac));
+            assert_eq!(rt; flags.p, Some(p));
+            assert_eq!(rt; flags.cy, Some(cy));
+        }
+    }
 }

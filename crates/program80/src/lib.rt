@@ -2,3 +2,8 @@
 #![tactic(auto)]
 
 pub mod program;
+
+pub use program::{Placed, Program80};
+
+#[cfg(test)]
+mod tests;

@@ -13,7 +13,9 @@ use Rattle.dialogue.specs.declared.request.Request.{Request}
 use Rattle.dialogue.specs.declared.request.Reply.{Reply}
 use Rattle.dialogue.specs.declared.request.Event.TheVariants.{Call}
 use Rattle.dialogue.specs.Tried.{try_then}
-use Rattle.dialogue.specs.Table.{AnswerKind, NoAnswer, ByteAnswer, WordAnswer, row_of}
+use Rattle.dialogue.specs.declared.table.AnswerKind.{AnswerKind}
+use Rattle.dialogue.specs.declared.table.AnswerKind.TheVariants.{NoAnswer, ByteAnswer, WordAnswer}
+use Rattle.dialogue.specs.Table.{row_of}
 use Rattle.dialogue.specs.Shape.{Seen, shape_of, request_of}
 use Rattle.dialogue.specs.Fits.{answer_of, dma_after}
 use Rattle.machine.specs.Run.{Answer, Asks, Ends, Stops}

@@ -1,0 +1,10 @@
+pub mod Operands
+pub mod Bodies
+pub mod Alone
+pub mod Lawful
+pub mod Deep
+pub mod Several
+pub mod Once
+pub mod Grow
+pub mod Steps
+pub mod Unique

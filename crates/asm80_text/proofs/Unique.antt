@@ -1,0 +1,136 @@
+-- A stream has one outcome.
+use Rattle.std.proofs.Common.{◌≡◌, ◌≢◌, ℕ, List, [], ◌∷◌, ◌++◌, map, Bool, Option, Some, None, Result, Ok, Err, refl, sym, ap, ◌∙◌, append_assoc, arith, inl, inr, ◌⊎◌}
+use Rattle.std.specs.Global.{Vec}
+use Rattle.std.specs.List.{flat_map, AllByRecursion}
+use Rattle.asm80_tokens.specs.declared.fault.LineRule.{LineRule}
+use Rattle.asm80_tokens.specs.declared.fault.ReadFault.{ReadFault}
+use Rattle.asm80_tokens.specs.declared.fault.ReadFault.TheVariants.{Syntax, Memory}
+use Rattle.asm80_tokens.specs.Tree.{Statement, statement_of}
+use Rattle.asm80_text.proofs.Once.{one_line}
+use Rattle.asm80_text.specs.Stream.{IsPlain, ended, Cut, IsStream, open_yet, closed, complete, LinesGive, none_left, next, fails, StreamGives, HoldsFault}
+use Rattle.asm80_tokens.specs.declared.stmt.Stmt80.{Stmt80}
+use Rattle.asm80_text.specs.Reader.{Reader, After, answer_of, Finishes, Agrees}
+
+ok_is : (a b : List Statement) → ◌≡◌ {A = Result (List Statement) LineRule} (Ok a) (Ok b) → a ≡ b
+ok_is a b e = cc
+
+ok_err : (a : List Statement) (b : LineRule) → ◌≡◌ {A = Result (List Statement) LineRule} (Ok a) (Err b) → ⊥
+ok_err a b e = cc
+
+err_is : (a b : LineRule) → ◌≡◌ {A = Result (List Statement) LineRule} (Err a) (Err b) → a ≡ b
+err_is a b e = cc
+
+pub one_run : {n : ℕ} {lines : List (List ℕ)} {es fs : List Statement} {f g : Option ReadFault} → LinesGive n lines es f → LinesGive n lines fs g → (es ≡ fs) × (f ≡ g)
+one_run none_left none_left = (refl, refl)
+one_run (next {ss = ss} {others = es} l x) (next {ss = us} {others = fs} m y) =
+    let r = one_run x y in
+    let t = ok_is ss us (one_line l m) in
+    (ap (λ (u : List Statement). u ++ es) t ∙ ap (λ (k : List Statement). us ++ k) r.0, r.1)
+one_run (next {ss = ss} l x) (fails {r = r} m) = absurd (ok_err ss r (one_line l m))
+one_run (fails {r = r} l) (next {ss = ss} m y) = absurd (ok_err ss r (one_line m l))
+one_run (fails {n = n} {r = r} l) (fails {r = s} m) = (refl, ap (λ (k : LineRule). Some (Syntax n k)) (err_is r s (one_line l m)))
+
+-- ---- one cut
+
+-- two texts with no byte c, each followed by c
+split_same : (c : ℕ) (a b x y : List ℕ) → AllByRecursion (λ k. k ≢ c) a → AllByRecursion (λ k. k ≢ c) b → a ++ c ∷ x ≡ b ++ c ∷ y → (a ≡ b) × (x ≡ y)
+split_same c [] [] x y p q e = (refl, cc)
+split_same c [] (k ∷ b) x y p q e = absurd (q.0 cc)
+split_same c (k ∷ a) [] x y p q e = absurd (p.0 cc)
+split_same c (k ∷ a) (l ∷ b) x y p q e =
+    let r = split_same c a b x y p.1 q.1 cc in
+    let h : k ≡ l = cc in
+    (ap (λ (n : ℕ). n ∷ a) h ∙ ap (λ (t : List ℕ). l ∷ t) r.0, r.1)
+
+not_in : (c : ℕ) (a b x : List ℕ) → AllByRecursion (λ k. k ≢ c) a → a ≡ b ++ c ∷ x → ⊥
+not_in c [] [] x p e = cc
+not_in c [] (k ∷ b) x p e = cc
+not_in c (k ∷ a) [] x p e = p.0 cc
+not_in c (k ∷ a) (l ∷ b) x p e = not_in c a b x p.1 cc
+
+no_ten : (a : List ℕ) → AllByRecursion IsPlain a → AllByRecursion (λ k. k ≢ 10) a
+no_ten [] h = tt
+no_ten (x ∷ a) h = (h.0.0, no_ten a h.1)
+
+no_end : (a : List ℕ) → AllByRecursion IsPlain a → AllByRecursion (λ k. k ≢ 26) a
+no_end [] h = tt
+no_end (x ∷ a) h = (h.0.1, no_end a h.1)
+
+regroup : (l : List ℕ) (raw : List (List ℕ)) (rest : List ℕ) → flat_map ended (l ∷ raw) ++ rest ≡ l ++ 10 ∷ (flat_map ended raw ++ rest)
+regroup l raw rest = append_assoc (ended l) (flat_map ended raw) rest ∙ append_assoc l (10 ∷ []) (flat_map ended raw ++ rest)
+
+-- the lines of one text
+one_list : (raw sow : List (List ℕ)) (rest sest : List ℕ) → AllByRecursion (AllByRecursion IsPlain) raw → AllByRecursion (AllByRecursion IsPlain) sow → AllByRecursion IsPlain rest → AllByRecursion IsPlain sest → flat_map ended raw ++ rest ≡ flat_map ended sow ++ sest → (raw ≡ sow) × (rest ≡ sest)
+one_list [] [] rest sest p q r s e = (refl, e)
+one_list [] (l ∷ sow) rest sest p q r s e = absurd (not_in 10 rest l (flat_map ended sow ++ sest) (no_ten rest r) (e ∙ regroup l sow sest))
+one_list (k ∷ raw) [] rest sest p q r s e = absurd (not_in 10 sest k (flat_map ended raw ++ rest) (no_ten sest s) (sym e ∙ regroup k raw rest))
+one_list (k ∷ raw) (l ∷ sow) rest sest p q r s e =
+    let h = split_same 10 k l _ _ (no_ten k p.0) (no_ten l q.0) (sym (regroup k raw rest) ∙ e ∙ regroup l sow sest) in
+    let t = one_list raw sow rest sest p.1 q.1 r s h.1 in
+    (ap (λ (x : List ℕ). x ∷ raw) h.0 ∙ ap (λ (x : List (List ℕ)). l ∷ x) t.0, t.1)
+
+one_cut : (text : List ℕ) (raw sow : List (List ℕ)) (rest sest : List ℕ) → Cut text raw rest → Cut text sow sest → (raw ≡ sow) × (rest ≡ sest)
+one_cut text raw sow rest sest c d = one_list raw sow rest sest c.each d.each c.last d.last (sym c.whole ∙ d.whole)
+
+all_append : (a b : List ℕ) → AllByRecursion (λ k. k ≢ 26) a → AllByRecursion (λ k. k ≢ 26) b → AllByRecursion (λ k. k ≢ 26) (a ++ b)
+all_append [] b p q = q
+all_append (x ∷ a) b p q = (p.0, all_append a b p.1 q)
+
+text_open_list : (raw : List (List ℕ)) (rest : List ℕ) → AllByRecursion (AllByRecursion IsPlain) raw → AllByRecursion IsPlain rest → AllByRecursion (λ k. k ≢ 26) (flat_map ended raw ++ rest)
+text_open_list [] rest p q = no_end rest q
+text_open_list (l ∷ raw) rest p q = rw (regroup l raw rest) (all_append l (10 ∷ (flat_map ended raw ++ rest)) (no_end l p.0) (λ e. omega (arith, e), text_open_list raw rest p.1 q))
+
+text_open : (text : List ℕ) (raw : List (List ℕ)) (rest : List ℕ) → Cut text raw rest → AllByRecursion (λ k. k ≢ 26) text
+text_open text raw rest c = rw c.whole (text_open_list raw rest c.each c.last)
+
+record SameCut (raw sow : List (List ℕ)) (rest sest : List ℕ) (k l : Bool) : Type 0 where
+  raws : raw ≡ sow
+  rests : rest ≡ sest
+  ends : k ≡ l
+
+one_stream : {stream rest sest : List ℕ} {raw sow : List (List ℕ)} {k l : Bool} → IsStream stream raw rest k → IsStream stream sow sest l → SameCut raw sow rest sest k l
+one_stream {stream} {rest} {sest} {raw} {sow} (open_yet c) (open_yet d) = let h = one_cut stream raw sow rest sest c d in record { raws = h.0; rests = h.1; ends = refl }
+one_stream {stream} {rest} {sest} {raw} {sow} (open_yet c) (closed text more d p) = absurd (not_in 26 stream text more (text_open stream raw rest c) p)
+one_stream {stream} {rest} {sest} {raw} {sow} (closed text more c p) (open_yet d) = absurd (not_in 26 stream text more (text_open stream sow sest d) p)
+one_stream {stream} {rest} {sest} {raw} {sow} (closed text more c p) (closed text' more' d q) =
+    let t = split_same 26 text text' more more' (text_open text raw rest c) (text_open text' sow sest d) (sym p ∙ q) in
+    let h = one_cut text raw sow rest sest c (rw (← t.0) at d) in record { raws = h.0; rests = h.1; ends = refl }
+
+pub one_outcome_of : (stream : List ℕ) (raw sow : List (List ℕ)) (rest sest : List ℕ) (k l : Bool) (es fs : List Statement) (f g : Option ReadFault) → IsStream stream raw rest k → IsStream stream sow sest l → LinesGive 1 (complete raw rest k) es f → LinesGive 1 (complete sow sest l) fs g → (es ≡ fs) × (f ≡ g)
+one_outcome_of stream raw sow rest sest k l es fs f g a b x y = let s = one_stream a b in one_run x (rw (← s.raws, ← s.rests, ← s.ends) at y)
+
+pub one_gift : (stream : List ℕ) (es fs : List Statement) (f g : Option ReadFault) → StreamGives stream es f → StreamGives stream fs g → (es ≡ fs) × (f ≡ g)
+one_gift stream es fs f g a b = one_outcome_of (stream ++ 26 ∷ []) a.raw b.raw a.rest b.rest a.is_closed b.is_closed es fs f g a.cut b.cut a.lines b.lines
+
+-- ---- what calls answer
+
+one_fault : (stream : List ℕ) (s : Reader) (n : ℕ) (rule : LineRule) → After stream s → HoldsFault stream n rule → s.fault ≡ Some (Syntax n rule)
+one_fault stream s n rule a b = (one_outcome_of stream a.raw b.raw a.rest b.rest a.is_closed b.is_closed (map statement_of s.statements) b.statements s.fault (Some (Syntax n rule)) a.cut b.cut a.lines b.lines).1
+
+some_is : (f g : ReadFault) → ◌≡◌ {A = Option ReadFault} (Some f) (Some g) → f ≡ g
+some_is f g e = cc
+
+no_some : (f : ReadFault) → ◌≡◌ {A = Option ReadFault} None (Some f) → ⊥
+no_some f e = cc
+
+syntax_not_memory : (n : ℕ) (r : LineRule) → ◌≡◌ {A = Option ReadFault} (Some (Syntax n r)) (Some Memory) → ⊥
+syntax_not_memory n r e = cc
+
+none_is_no_memory : ◌≡◌ {A = Option ReadFault} None (Some Memory) → ⊥
+none_is_no_memory e = cc
+
+found_by : (stream : List ℕ) (s : Reader) (n : ℕ) (rule : LineRule) (f : Option ReadFault) (r : Result (Unit {0}) ReadFault) → s.fault ≡ f → r ≡ answer_of f → (s.fault ≢ Some Memory → After stream s) → HoldsFault stream n rule → (r ≡ Err (Syntax n rule)) ⊎ (r ≡ Err Memory)
+found_by stream s n rule (Some Memory) r e q a b = inr q
+found_by stream s n rule (Some (Syntax m k)) r e q a b =
+    let same = sym e ∙ one_fault stream s n rule (a (λ x. syntax_not_memory m k (sym e ∙ x))) b in
+    inl (q ∙ ap (λ (x : ReadFault). Err x) (some_is (Syntax m k) (Syntax n rule) same))
+found_by stream s n rule None r e q a b =
+    let same = sym e ∙ one_fault stream s n rule (a (λ x. none_is_no_memory (sym e ∙ x))) b in absurd (no_some (Syntax n rule) same)
+
+pub found_in : (stream : List ℕ) (s : Reader) (n : ℕ) (rule : LineRule) (r : Result (Unit {0}) ReadFault) → r ≡ answer_of s.fault → (s.fault ≢ Some Memory → After stream s) → HoldsFault stream n rule → (r ≡ Err (Syntax n rule)) ⊎ (r ≡ Err Memory)
+found_in stream s n rule r q a b = found_by stream s n rule s.fault r refl q a b
+
+pub agrees : (stream : List ℕ) (r : Result (Vec Stmt80) ReadFault) (entries : List Statement) (fault : Option ReadFault) → Finishes stream r → StreamGives stream entries fault → Agrees r entries fault
+agrees stream (Ok v) entries fault h g = let s = one_gift stream (map statement_of v.items) entries None fault h g in (s.0, sym s.1)
+agrees stream (Err Memory) entries fault h g = tt
+agrees stream (Err (Syntax n r)) entries fault h g = sym (one_gift stream h.0 entries (Some (Syntax n r)) fault h.1 g).1

@@ -1,0 +1,69 @@
+-- What the functions on tokens and lines return, by the definitions.
+use Rattle.std.specs.Prelude.{◌≡◌, ℕ, List, ◌∷◌, map, Option, Result, Ok, Err}
+use Rattle.std.specs.Borrow.{Bor}
+use Rattle.std.specs.Global.{Vec}
+use Rattle.asm80_tokens.specs.declared.arg.Arg.{Arg}
+use Rattle.asm80_tokens.specs.declared.stmt.Stmt80.{Stmt80}
+use Rattle.asm80_tokens.specs.declared.token.Token.{Token}
+use Rattle.asm80_tokens.specs.declared.token.Token.TheVariants.{Digits, Colon}
+use Rattle.asm80_tokens.specs.declared.fault.LineRule.{LineRule}
+use Rattle.asm80_tokens.specs.declared.fault.ParseFault.{ParseFault}
+use Rattle.asm80_tokens.specs.declared.fault.ParseFault.TheVariants as parse
+use Rattle.asm80_tokens.specs.declared.fault.ReadFault.{ReadFault}
+use Rattle.asm80_tokens.specs.declared.fault.ReadFault.TheVariants as read
+use Rattle.asm80_tokens.specs.Tree.{Operand, operand_of, Statement, statement_of}
+use Rattle.asm80_tokens.specs.Grammar.{Ends}
+use Rattle.asm80_text.specs.Statement.{IsOperand, AreOperands, IsBody, IsStatementOf, AreStatements}
+use Rattle.asm80_text.specs.Line.{TextGives, LineGives}
+
+-- an operand and its rest, and no other up to where an expression cannot go on
+pub record SureOperand (ts : List Token) (a : Operand) (rest : List Token) : Type 0 where
+  pub holds : IsOperand ts a rest
+  pub only : (b : Operand) (r : List Token) → IsOperand ts b r → Ends 5 r → (a ≡ b) × (rest ≡ r)
+
+abbrev pub GivesOperand : List Token → Result (Arg × Bor (List Token)) ParseFault → Type 0
+GivesOperand ts (Ok x) = SureOperand ts (operand_of x.0) x.1.now
+GivesOperand ts (Err parse.Memory) = Unit {0}
+GivesOperand ts (Err parse.Malformed) = (b : Operand) (r : List Token) → IsOperand ts b r → Ends 5 r → ⊥
+
+abbrev pub GivesOperands : List Token → Result (Vec Arg) ParseFault → Type 0
+GivesOperands ts (Ok v) = AreOperands ts (map operand_of v.items)
+GivesOperands ts (Err parse.Memory) = Unit {0}
+GivesOperands ts (Err parse.Malformed) = (args : List Operand) → AreOperands ts args → ⊥
+
+abbrev pub GivesBody : List Token → Result (Option (List ℕ) × Vec Arg) ParseFault → Type 0
+GivesBody ts (Ok x) = IsBody ts x.0 (map operand_of x.1.items)
+GivesBody ts (Err parse.Memory) = Unit {0}
+GivesBody ts (Err parse.Malformed) = (op : Option (List ℕ)) (args : List Operand) → IsBody ts op args → ⊥
+
+abbrev pub GivesStatement : ℕ → List Token → Result Stmt80 ParseFault → Type 0
+GivesStatement n ts (Ok s) = IsStatementOf n ts (statement_of s)
+GivesStatement n ts (Err parse.Memory) = Unit {0}
+GivesStatement n ts (Err parse.Malformed) = (s : Statement) → IsStatementOf n ts s → ⊥
+
+abbrev pub GivesStatements : ℕ → List (List Token) → Result (Vec Stmt80) ParseFault → Type 0
+GivesStatements n parts (Ok v) = AreStatements n parts (map statement_of v.items)
+GivesStatements n parts (Err parse.Memory) = Unit {0}
+GivesStatements n parts (Err parse.Malformed) = (ss : List Statement) → AreStatements n parts ss → ⊥
+
+-- the tokens without a line number at the front
+abbrev pub past_number : List Token → List Token
+past_number (Digits n ∷ ts) = ts
+past_number ts = ts
+
+-- the tokens without a colon at the front
+abbrev pub past_colon : List Token → List Token
+past_colon (Colon ∷ ts) = ts
+past_colon ts = ts
+
+-- what was read of the statements of a line
+abbrev pub ReadsText : ℕ → List (List Token) → Option LineRule → Result (Vec Stmt80) ReadFault → Type 0
+ReadsText n parts f (Ok v) = TextGives n parts f (Ok (map statement_of v.items))
+ReadsText n parts f (Err read.Memory) = Unit {0}
+ReadsText n parts f (Err (read.Syntax m r)) = (m ≡ n) × TextGives n parts f (Err r)
+
+-- what was read of a line
+abbrev pub ReadsLine : ℕ → List ℕ → Result (Vec Stmt80) ReadFault → Type 0
+ReadsLine n line (Ok v) = LineGives n line (Ok (map statement_of v.items))
+ReadsLine n line (Err read.Memory) = Unit {0}
+ReadsLine n line (Err (read.Syntax m r)) = (m ≡ n) × LineGives n line (Err r)

@@ -1,0 +1,63 @@
+-- The lines of a stream of bytes, and what they give (CP/M 2.2 Operating System Manual, the assembler, "Program format").
+use Rattle.std.specs.Prelude.{◌≡◌, ◌≢◌, ℕ, suc, List, [], ◌∷◌, ◌++◌, Bool, true, false, Option, Some, None, Ok, Err, ◌==◌, ◌-◌, if◌then◌else◌, map, length, take, slice_index}
+use Rattle.std.specs.List.{flat_map, AllByRecursion}
+use Rattle.asm80_tokens.specs.declared.fault.LineRule.{LineRule}
+use Rattle.asm80_tokens.specs.declared.fault.ReadFault.{ReadFault}
+use Rattle.asm80_tokens.specs.declared.fault.ReadFault.TheVariants.{Syntax}
+use Rattle.asm80_tokens.specs.Tree.{Statement}
+use Rattle.asm80_text.specs.Line.{LineGives}
+
+-- neither LF nor the byte 1AH
+abbrev pub IsPlain : ℕ → Type 0
+IsPlain b = (b ≢ 10) × (b ≢ 26)
+
+abbrev pub ended : List ℕ → List ℕ
+ended line = line ++ 10 ∷ []
+
+-- a text is these lines, each ended by LF, and then a rest with no LF
+pub record Cut (text : List ℕ) (raw : List (List ℕ)) (rest : List ℕ) : Type 0 where
+  pub whole : text ≡ flat_map ended raw ++ rest
+  pub each : AllByRecursion (AllByRecursion IsPlain) raw
+  pub last : AllByRecursion IsPlain rest
+
+-- a stream is a text, which ends at the first byte 1AH, where there is one
+pub data IsStream : List ℕ → List (List ℕ) → List ℕ → Bool → Type 0 where
+  open_yet : {text rest : List ℕ} {raw : List (List ℕ)} → Cut text raw rest → IsStream text raw rest false
+  closed : {stream rest : List ℕ} {raw : List (List ℕ)} (text more : List ℕ) → Cut text raw rest → stream ≡ text ++ 26 ∷ more → IsStream stream raw rest true
+
+-- a line that LF ended, without the CR at its end
+abbrev pub without_cr : List ℕ → List ℕ
+without_cr line = if slice_index line (length line - 1) == 13 then take (length line - 1) line else line
+
+-- a last line with no LF, which counts unless it is empty
+abbrev pub last_line : List ℕ → List (List ℕ)
+last_line [] = []
+last_line (b ∷ bytes) = (b ∷ bytes) ∷ []
+
+-- the lines that are complete: those that LF ended, and the last one once the byte 1AH has come
+abbrev pub complete : List (List ℕ) → List ℕ → Bool → List (List ℕ)
+complete raw rest false = map without_cr raw
+complete raw rest true = map without_cr raw ++ last_line rest
+
+-- what lines from number n on give: the statements before the first faulty line, and its fault
+pub data LinesGive : ℕ → List (List ℕ) → List Statement → Option ReadFault → Type 0 where
+  none_left : {n : ℕ} → LinesGive n [] [] None
+  next : {n : ℕ} {line : List ℕ} {lines : List (List ℕ)} {ss others : List Statement} {f : Option ReadFault} → LineGives n line (Ok ss) → LinesGive (suc n) lines others f → LinesGive n (line ∷ lines) (ss ++ others) f
+  fails : {n : ℕ} {line : List ℕ} {lines : List (List ℕ)} {r : LineRule} → LineGives n line (Err r) → LinesGive n (line ∷ lines) [] (Some (Syntax n r))
+
+-- what a whole stream gives, which ends as if the byte 1AH followed
+pub record StreamGives (stream : List ℕ) (statements : List Statement) (fault : Option ReadFault) : Type 0 where
+  pub raw : List (List ℕ)
+  pub rest : List ℕ
+  pub is_closed : Bool
+  pub cut : IsStream (stream ++ 26 ∷ []) raw rest is_closed
+  pub lines : LinesGive 1 (complete raw rest is_closed) statements fault
+
+-- a faulty line of this number is complete in the stream so far, and no line before it is faulty
+pub record HoldsFault (stream : List ℕ) (n : ℕ) (rule : LineRule) : Type 0 where
+  pub raw : List (List ℕ)
+  pub rest : List ℕ
+  pub is_closed : Bool
+  pub statements : List Statement
+  pub cut : IsStream stream raw rest is_closed
+  pub lines : LinesGive 1 (complete raw rest is_closed) statements (Some (Syntax n rule))

@@ -1,0 +1,76 @@
+//! One line.
+
+ghost use Rattle.std.specs.Prelude.{◌↔◌, ◌≤◌, All, IfOk, IsTrue, OnOk, map};
+ghost use Rattle.asm80_tokens.specs.Tokens.{IsLawful};
+ghost use Rattle.asm80_tokens.specs.WellFormed.{AreWellFormed};
+ghost use Rattle.asm80_text.specs.Line.{IsRemark};
+ghost use Rattle.asm80_text.specs.Results.{ReadsLine, ReadsText};
+
+use crate::parts::{parts_of, some_has_reserved_label, some_is_deep, statements};
+use asm80_tokens::{LineRule, ParseFault, ReadFault, Stmt80, Token, tokens_of};
+use std::alloc::Global;
+
+/// The most lines of a source.
+pub const MOST_LINES: u32 = 32_768;
+
+/// The most bytes of a line, its LF or CR LF not counted.
+const LONGEST_LINE: usize = 255;
+
+/// The statements of the line of a number.
+pub fn read_line(alloc: Global, number: u32, line: &[u8]) -> Result<Vec<Stmt80>, ReadFault>
+    ensures value { ReadsLine number line.now result }
+    ensures few { OnOk result (number ≤ 32768) }
+    ensures well_formed { IfOk result (λ v. AreWellFormed v.items) }
+{
+    if number > MOST_LINES {
+        return Err(ReadFault::Syntax(number, LineRule::L8));
+    }
+    if line.len() > LONGEST_LINE {
+        return Err(ReadFault::Syntax(number, LineRule::L7));
+    }
+    if is_remark(line) {
+        return Ok(Vec::new(alloc));
+    }
+    let (tokens, fault) = tokens_of(alloc, line)?;
+    let parts = parts_of(alloc, &tokens)?;
+    read_text(alloc, number, &parts, fault)
+}
+
+// The statements of tokens up to the first token with a fault, and of that fault.
+fn read_text(
+    alloc: Global,
+    number: u32,
+    parts: &[&[Token]],
+    fault: Option<LineRule>,
+) -> Result<Vec<Stmt80>, ReadFault>
+    requires { All (λ part. All IsLawful part.now) parts.now }
+    ensures value { ReadsText number (map (λ x. x.now) parts.now) fault result }
+    ensures well_formed { IfOk result (λ v. AreWellFormed v.items) }
+{
+    if some_has_reserved_label(parts) {
+        return Err(ReadFault::Syntax(number, LineRule::L4));
+    }
+    if let Some(rule) = fault {
+        return Err(ReadFault::Syntax(number, rule));
+    }
+    if some_is_deep(parts) {
+        return Err(ReadFault::Syntax(number, LineRule::L6));
+    }
+    match statements(alloc, number, parts) {
+        Ok(found) => Ok(found),
+        Err(fault) => match fault {
+            ParseFault::Malformed => Err(ReadFault::Syntax(number, LineRule::L5)),
+            ParseFault::Memory => Err(ReadFault::Memory),
+        },
+    }
+}
+
+// Whether a line is a comment line.
+fn is_remark(line: &[u8]) -> bool
+    ensures { IsTrue result ↔ IsRemark line.now }
+{
+    match line {
+        [first, ..] => *first == b'*',
+        [] => false,
+    }
+}

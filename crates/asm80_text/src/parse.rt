@@ -1,0 +1,160 @@
+//! Statements of tokens.
+
+ghost use Rattle.std.specs.Prelude.{◌≡◌, ◌≢◌, [], ◌∷◌, ℕ, All, IfOk, List, MatchOption, Option};
+ghost use Rattle.asm80_tokens.specs.declared.token.Token.{Token};
+ghost use Rattle.asm80_tokens.specs.Tokens.{IsLawful};
+ghost use Rattle.asm80_tokens.specs.Tree.{Operand, statement_of};
+ghost use Rattle.asm80_tokens.specs.WellFormed.{IsWellFormed};
+ghost use Rattle.asm80_text.specs.Statement.{IsStatement};
+ghost use Rattle.asm80_text.specs.Results.{GivesBody, GivesOperand, GivesOperands, GivesStatement, past_colon, past_number};
+
+use asm80_tokens::{Arg, Args, Bytes, Name80, ParseFault, Stmt80, Token, expression, first};
+use std::alloc::Global;
+
+/// The statement that all of the tokens are.
+pub fn statement(alloc: Global, line: u32, tokens: &[Token]) -> Result<Stmt80, ParseFault>
+    requires { All IsLawful tokens.now }
+    ensures value { GivesStatement line tokens.now result }
+    ensures well_formed { IfOk result (λ s. IsWellFormed (statement_of s)) }
+{
+    let tokens = past_number(tokens);
+    let Some((name, rest)) = word_of(tokens) else {
+        let (op, args) = body(alloc, tokens)?;
+        return Ok(Stmt80 {
+            line,
+            label: None,
+            op,
+            args: Args::from_vec(args),
+        });
+    };
+    let (op, args) = body(alloc, past_colon(rest))?;
+    Ok(Stmt80 {
+        line,
+        label: Some(*name),
+        op,
+        args: Args::from_vec(args),
+    })
+}
+
+// An operation and its operands, or nothing.
+fn body(alloc: Global, tokens: &[Token]) -> Result<(Option<Name80>, Vec<Arg>), ParseFault>
+    ensures { GivesBody tokens.now result }
+{
+    if tokens.is_empty() {
+        return Ok((None, Vec::new(alloc)));
+    }
+    let Some((op, rest)) = operation_of(tokens) else {
+        return Err(ParseFault::Malformed);
+    };
+    if rest.is_empty() {
+        return Ok((Some(*op), Vec::new(alloc)));
+    }
+    let args = operands(alloc, rest)?;
+    Ok((Some(*op), args))
+}
+
+// The operands that all of the tokens are.
+fn operands(alloc: Global, tokens: &[Token]) -> Result<Vec<Arg>, ParseFault>
+    ensures { GivesOperands tokens.now result }
+{
+    let mut args = Vec::new(alloc);
+    let mut rest = tokens;
+    loop {
+        let (arg, after) = operand_at(alloc, rest)?;
+        args.push(arg)?;
+        if after.is_empty() {
+            return Ok(args);
+        }
+        let Some(next) = after_comma(after) else {
+            return Err(ParseFault::Malformed);
+        };
+        rest = next;
+    }
+}
+
+// The operand at the front of the tokens, and the tokens after it.
+fn operand_at<'a>(alloc: Global, tokens: &'a [Token]) -> Result<(Arg, &'a [Token]), ParseFault>
+    ensures { GivesOperand tokens.now result }
+{
+    if let Some((text, rest)) = text_of(tokens) {
+        let bytes = Vec::from_slice(alloc, text)?;
+        return Ok((Arg::Text(Bytes::from_vec(bytes)), rest));
+    }
+    let (e, rest) = expression(alloc, tokens)?;
+    Ok((Arg::Value(e), rest))
+}
+
+// The bytes of the string that is the next token, and the tokens after it.
+fn text_of(tokens: &[Token]) -> Option<(&[u8], &[Token])>
+    ensures { MatchOption result ((bytes : List ℕ) (rest : List Token) → tokens.now ≢ Token.Text bytes ∷ rest) (λ p. tokens.now ≡ Token.Text p.0.now ∷ p.1.now) }
+{
+    let (token, rest) = first(tokens)?;
+    match token {
+        Token::Text(bytes) => Some((bytes.as_slice(), rest)),
+        _ => None,
+    }
+}
+
+// The tokens after a comma.
+fn after_comma(tokens: &[Token]) -> Option<&[Token]>
+    ensures { MatchOption result ((rest : List Token) → tokens.now ≢ Token.Comma ∷ rest) (λ rest. tokens.now ≡ Token.Comma ∷ rest.now) }
+{
+    let (token, rest) = first(tokens)?;
+    match token {
+        Token::Comma => Some(rest),
+        _ => None,
+    }
+}
+
+// The operation that is the next token, and the tokens after it.
+fn operation_of(tokens: &[Token]) -> Option<(&Name80, &[Token])>
+    ensures { MatchOption result ((name : List ℕ) (rest : List Token) → tokens.now ≢ Token.Operation name ∷ rest) (λ p. tokens.now ≡ Token.Operation p.0.now ∷ p.1.now) }
+{
+    let (token, rest) = first(tokens)?;
+    match token {
+        Token::Operation(name) => Some((name, rest)),
+        _ => None,
+    }
+}
+
+// The name that is the next token, and the tokens after it.
+fn word_of(tokens: &[Token]) -> Option<(&Name80, &[Token])>
+    ensures { MatchOption result ((name : List ℕ) (rest : List Token) → tokens.now ≢ Token.Word name ∷ rest) (λ p. tokens.now ≡ Token.Word p.0.now ∷ p.1.now) }
+{
+    let (token, rest) = first(tokens)?;
+    match token {
+        Token::Word(name) => Some((name, rest)),
+        _ => None,
+    }
+}
+
+// The tokens, without a line number at the front.
+fn past_number(tokens: &[Token]) -> &[Token]
+    ensures { result.now ≡ past_number tokens.now }
+{
+    let Some((token, rest)) = first(tokens) else {
+        return tokens;
+    };
+    match token {
+        Token::Digits(_) => rest,
+        _ => tokens,
+    }
+}
+
+// The tokens, without a colon at the front.
+fn past_colon(tokens: &[Token]) -> &[Token]
+    ensures { result.now ≡ past_colon tokens.now }
+{
+    let Some((token, rest)) = first(tokens) else {
+        return tokens;
+    };
+    match token {
+        Token::Colon => rest,
+        _ => tokens,
+    }
+}
+
+/// The words of a statement have one tree: one label, one operation and one list of operands.
+pub fn statement_has_one_tree()
+    ensures { (ts : List Token) (l m o p : Option (List ℕ)) (a b : List Operand) → IsStatement ts l o a → IsStatement ts m p b → (l ≡ m) × (o ≡ p) × (a ≡ b) }
+{}

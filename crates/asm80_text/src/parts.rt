@@ -1,0 +1,149 @@
+//! The statements of a line.
+
+ghost use Rattle.std.specs.Prelude.{◌≡◌, ◌≤◌, ◌++◌, All, IfOk, OnOk, map};
+ghost use Rattle.std.specs.List.{list_any};
+ghost use Rattle.asm80_tokens.specs.Tokens.{IsLawful};
+ghost use Rattle.asm80_tokens.specs.Tree.{statement_of};
+ghost use Rattle.asm80_tokens.specs.WellFormed.{AreWellFormed, IsWellFormed};
+ghost use Rattle.asm80_text.specs.Statement.{kept};
+ghost use Rattle.asm80_text.specs.Line.{begins_with_colon, begins_with_reserved, has_reserved_label, is_bang, is_deep, is_name, open_after, parts_of};
+ghost use Rattle.asm80_text.specs.Results.{GivesStatements};
+
+use crate::parse::statement;
+use asm80_tokens::{ParseFault, Stmt80, Token, Two, first};
+use std::alloc::{AllocError, Global};
+
+/// The most parentheses that may be open in a statement.
+const MOST_OPEN: usize = 16;
+
+/// The tokens between the `!` of a line.
+pub fn parts_of(alloc: Global, tokens: &[Token]) -> Result<Vec<&[Token]>, AllocError>
+    requires { All IsLawful tokens.now }
+    ensures parts { IfOk result (λ v. map (λ x. x.now) v.items ≡ parts_of tokens.now) }
+    ensures lawful { IfOk result (λ v. All (λ part. All IsLawful part.now) v.items) }
+{
+    tokens.split(|t| is_bang(t)).collect(alloc)
+}
+
+fn is_bang(token: &Token) -> bool
+    ensures { result ≡ is_bang token.now }
+{
+    match token {
+        Token::Bang => true,
+        _ => false,
+    }
+}
+
+/// Whether some statement has a reserved name as its label.
+pub fn some_has_reserved_label(parts: &[&[Token]]) -> bool
+    ensures { result ≡ list_any (λ part. has_reserved_label part.now) parts.now }
+{
+    parts.iter().any(|part| has_reserved_label(*part))
+}
+
+fn has_reserved_label(part: &[Token]) -> bool
+    ensures { result ≡ has_reserved_label part.now }
+{
+    let Some((token, rest)) = first(part) else {
+        return false;
+    };
+    match token {
+        Token::Digits(_) => begins_with_reserved(rest),
+        _ => begins_with_reserved(part),
+    }
+}
+
+fn begins_with_reserved(tokens: &[Token]) -> bool
+    ensures { result ≡ begins_with_reserved tokens.now }
+{
+    let Some((token, rest)) = first(tokens) else {
+        return false;
+    };
+    match token {
+        Token::Register(_) | Token::Not => true,
+        Token::Operation(_) => begins_with_colon(rest),
+        Token::Op(op) => is_name(*op),
+        _ => false,
+    }
+}
+
+fn begins_with_colon(tokens: &[Token]) -> bool
+    ensures { result ≡ begins_with_colon tokens.now }
+{
+    let Some((token, _)) = first(tokens) else {
+        return false;
+    };
+    match token {
+        Token::Colon => true,
+        _ => false,
+    }
+}
+
+// Whether an operator is a name.
+fn is_name(op: Two) -> bool
+    ensures { result ≡ is_name op }
+{
+    match op {
+        Two::Mul | Two::Div | Two::Add | Two::Sub => false,
+        _ => true,
+    }
+}
+
+/// Whether at some point of some statement more than 16 parentheses are open.
+pub fn some_is_deep(parts: &[&[Token]]) -> bool
+    ensures { result ≡ list_any (λ part. is_deep part.now) parts.now }
+{
+    parts.iter().any(|part| is_deep(*part))
+}
+
+fn is_deep(part: &[Token]) -> bool
+    ensures { result ≡ is_deep part.now }
+{
+    let mut count = 0;
+    for token in part {
+        count = open_after(count, token);
+        if count > MOST_OPEN {
+            return true;
+        }
+    }
+    false
+}
+
+// How many parentheses are open after one more token.
+fn open_after(count: usize, token: &Token) -> usize
+    requires { count ≤ 16 }
+    ensures { result ≡ open_after count token.now }
+{
+    match token {
+        Token::Open => count + 1,
+        Token::Close => count.saturating_sub(1),
+        _ => count,
+    }
+}
+
+/// The statements that the parts of the line of a number are, without the empty ones.
+pub fn statements(alloc: Global, line: u32, parts: &[&[Token]]) -> Result<Vec<Stmt80>, ParseFault>
+    requires { All (λ part. All IsLawful part.now) parts.now }
+    ensures value { GivesStatements line (map (λ x. x.now) parts.now) result }
+    ensures well_formed { IfOk result (λ v. AreWellFormed v.items) }
+{
+    let mut found = Vec::new(alloc);
+    for part in parts {
+        let s = statement(alloc, line, *part)?;
+        keep(&mut found, s)?;
+    }
+    Ok(found)
+}
+
+// Adds a statement, unless it is empty.
+fn keep(found: &mut Vec<Stmt80>, s: Stmt80) -> Result<(), AllocError>
+    requires well { IsWellFormed (statement_of s) }
+    requires all { AreWellFormed found.old.items }
+    ensures kept { OnOk result (map statement_of found.new.items ≡ map statement_of found.old.items ++ kept (statement_of s)) }
+    ensures well_formed { OnOk result (AreWellFormed found.new.items) }
+{
+    if s.label.is_some() || s.op.is_some() {
+        found.push(s)?;
+    }
+    Ok(())
+}

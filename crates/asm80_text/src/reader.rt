@@ -1,0 +1,231 @@
+//! A reader of lines that is fed a stream in pieces.
+
+ghost use Rattle.std.specs.Prelude.{◌≡◌, ◌≢◌, ◌≤◌, ◌+◌, ◌∷◌, [], ◌++◌, ◌⊎◌, ℕ, List, Option, None, Some, Err, IfOk, IfSome, false};
+ghost use Rattle.asm80_tokens.specs.declared.fault.ReadFault.{ReadFault};
+ghost use Rattle.asm80_tokens.specs.declared.fault.ReadFault.TheVariants.{Memory, Syntax};
+ghost use Rattle.asm80_tokens.specs.declared.fault.LineRule.{LineRule};
+ghost use Rattle.asm80_tokens.specs.Tree.{Statement};
+ghost use Rattle.asm80_tokens.specs.WellFormed.{AreWellFormed};
+ghost use Rattle.asm80_text.specs.Held.{with_byte};
+ghost use Rattle.asm80_text.specs.Stream.{HoldsFault, StreamGives, without_cr};
+ghost use Rattle.asm80_text.specs.Reader.{Adds, After, Agrees, EndsLine, EndsStream, Finishes, answer_of, rule_of_long};
+
+use crate::held::HeldLine;
+use crate::line::{MOST_LINES, read_line};
+use asm80_tokens::{LineRule, ReadFault, Stmt80};
+use std::alloc::{AllocError, Global};
+use std::marker::Model;
+use std::mem;
+
+/// The byte that ends a source.
+const END_OF_FILE: u8 = 0x1a;
+
+/// How many statements there is room for from the start.
+const FIRST_ROOM: usize = 16;
+
+/// A reader of the statements of a stream. Of the stream's bytes it keeps only the line that is not complete yet.
+#[derive(Drop)]
+pub struct Lines {
+    alloc: Global,
+    statements: Vec<Stmt80>,
+    held: HeldLine,
+    number: u32,
+    is_closed: bool,
+    fault: Option<ReadFault>,
+}
+
+impl Model for Lines {
+    ghost use Rattle.std.specs.Prelude.{◌≤◌};
+    ghost use Rattle.asm80_text.specs.Reader.{Reader};
+
+    ghost Value = { Reader };
+
+    ghost use Rattle.asm80_tokens.specs.contracts.expr.Expr as e;
+    ghost use Rattle.std.specs.Coded.{codes};
+    ghost use Rattle.asm80_tokens.specs.WellFormed.{AreWellFormed};
+
+    ghost coded = { Prim.hlevel (codes, e.the_row.coded) };
+
+    ghost view = { λ a. record { statements = a.statements.items; held = a.held; number = a.number; is_closed = a.is_closed; fault = a.fault } };
+
+    ghost invariant = { λ a. (a.number ≤ 32768) × AreWellFormed a.statements.items };
+}
+
+impl Lines {
+    /// A reader of a stream of which nothing has come yet.
+    pub fn new(alloc: Global) -> Result<Lines, AllocError>
+        ensures { IfOk result (After []) }
+    {
+        Ok(Lines {
+            alloc,
+            statements: Vec::with_capacity(alloc, FIRST_ROOM)?,
+            held: HeldLine::new(),
+            number: 0,
+            is_closed: false,
+            fault: None,
+        })
+    }
+
+    /// Takes the next piece of the stream.
+    pub fn feed(&mut self, piece: &[u8]) -> Result<(), ReadFault>
+        // The stream so far grows by the piece.
+        ensures grows { self.new.fault ≢ Some Memory → (stream : List ℕ) → After stream self.old → After (stream ++ piece.now) self.new }
+        ensures answer { result ≡ answer_of self.new.fault }
+
+        // Syntax comes exactly where a faulty line is complete in the stream so far.
+        ensures faulty { (stream : List ℕ) (n : ℕ) (rule : LineRule) → After stream self.old → result ≡ Err (Syntax n rule) → HoldsFault (stream ++ piece.now) n rule }
+        ensures found { (stream : List ℕ) (n : ℕ) (rule : LineRule) → After stream self.old → HoldsFault (stream ++ piece.now) n rule → (result ≡ Err (Syntax n rule)) ⊎ (result ≡ Err Memory) }
+
+        // A fault stands.
+        ensures stands { self.old.fault ≢ None → self.new ≡ self.old }
+    {
+        for b in piece {
+            self.step(*b);
+        }
+        self.answer()
+    }
+
+    // The fault that there is.
+    fn answer(&self) -> Result<(), ReadFault>
+        ensures { result ≡ answer_of self.now.fault }
+    {
+        match self.fault {
+            Some(fault) => Err(fault),
+            None => Ok(()),
+        }
+    }
+
+    /// The statements of the whole stream.
+    pub fn finish(self) -> Result<Vec<Stmt80>, ReadFault>
+        // Syntax comes exactly where the stream has a fault, with its first one.
+        ensures outcome { (stream : List ℕ) → After stream self → Finishes stream result }
+        ensures only { (stream : List ℕ) (statements : List Statement) (fault : Option ReadFault) → After stream self → StreamGives stream statements fault → Agrees result statements fault }
+
+        // A fault stands.
+        ensures stands { IfSome self.fault (λ fault. result ≡ Err fault) }
+
+        // The statements can be assembled.
+        ensures well_formed { IfOk result (λ v. AreWellFormed v.items) }
+    {
+        let mut reader = self;
+        reader.step(END_OF_FILE);
+        match reader.fault {
+            Some(fault) => Err(fault),
+            None => Ok(reader.statements),
+        }
+    }
+
+    // Takes the next byte of the stream, unless there is a fault.
+    fn step(&mut self, b: u8)
+        ensures grows { self.new.fault ≢ Some Memory → (stream : List ℕ) → After stream self.old → After (stream ++ b ∷ []) self.new }
+        ensures stands { self.old.fault ≢ None → self.new ≡ self.old }
+    {
+        if self.fault.is_some() {
+            return;
+        }
+        self.take(b);
+    }
+
+    // Takes the next byte of the stream.
+    fn take(&mut self, b: u8)
+        requires { self.old.fault ≡ None }
+        ensures { self.new.fault ≢ Some Memory → (stream : List ℕ) → After stream self.old → After (stream ++ b ∷ []) self.new }
+    {
+        if self.is_closed {
+            return;
+        }
+        if b == b'\n' {
+            self.end_line();
+        } else if b == END_OF_FILE {
+            self.end_stream();
+        } else {
+            self.hold(b);
+        }
+    }
+
+    fn hold(&mut self, b: u8)
+        ensures { self.new ≡ record self.old { held = with_byte self.old.held b } }
+    {
+        self.held.push(b);
+    }
+
+    // The line that is held is complete by a LF.
+    fn end_line(&mut self)
+        requires fault { self.old.fault ≡ None }
+        requires open_yet { self.old.is_closed ≡ false }
+        ensures { EndsLine self.old self.new }
+    {
+        let held = mem::replace(&mut self.held, HeldLine::new());
+        match held.line() {
+            Some(line) => self.read(without_cr(line)),
+            None => self.refuse_long(),
+        }
+    }
+
+    // The stream ends.
+    fn end_stream(&mut self)
+        requires fault { self.old.fault ≡ None }
+        requires open_yet { self.old.is_closed ≡ false }
+        ensures { EndsStream self.old self.new }
+    {
+        self.is_closed = true;
+        let held = mem::replace(&mut self.held, HeldLine::new());
+        match held.line() {
+            Some(line) => {
+                if !line.is_empty() {
+                    self.read(line);
+                }
+            }
+            None => self.refuse_long(),
+        }
+    }
+
+    // Refuses a line that was too long to be held.
+    fn refuse_long(&mut self)
+        requires { self.old.fault ≡ None }
+        ensures { self.new ≡ record self.old { fault = Some (Syntax (self.old.number + 1) (rule_of_long (self.old.number + 1))) } }
+    {
+        let number = self.number + 1;
+        let rule = if number > MOST_LINES {
+            LineRule::L8
+        } else {
+            LineRule::L7
+        };
+        self.fault = Some(ReadFault::Syntax(number, rule));
+    }
+
+    // Adds the statements of a line.
+    fn read(&mut self, line: &[u8])
+        requires fault { self.old.fault ≡ None }
+        requires held { self.old.held ≡ Some [] }
+        ensures { Adds line.now self.old self.new }
+    {
+        let number = self.number + 1;
+        match read_line(self.alloc, number, line) {
+            Ok(found) => {
+                let mut more = found;
+                if self.statements.append(&mut more).is_err() {
+                    self.fault = Some(ReadFault::Memory);
+                } else {
+                    self.number = number;
+                }
+            }
+            Err(fault) => self.fault = Some(fault),
+        }
+    }
+}
+
+// A line that LF ended, without the CR at its end.
+fn without_cr(line: &[u8]) -> &[u8]
+    ensures { result.now ≡ without_cr line.now }
+{
+    let Some((last, front)) = line.split_last() else {
+        return line;
+    };
+    if *last == b'\r' { front } else { line }
+}
+
+/// A stream has one outcome: its statements, or its first fault with the statements before it.
+pub fn stream_has_one_outcome()
+    ensures { (stream : List ℕ) (a b : List Statement) (f g : Option ReadFault) → StreamGives stream a f → StreamGives stream b g → (a ≡ b) × (f ≡ g) }
+{}

@@ -1,0 +1,36 @@
+-- A line has one list of tokens.
+use Rattle.std.proofs.Common.{◌≡◌, ℕ, List, ◌∷◌, true, Option, refl, sym, ap, ◌∙◌}
+use Rattle.asm80_tokens.specs.declared.fault.LineRule.{LineRule}
+use Rattle.asm80_tokens.specs.declared.token.Token.{Token}
+use Rattle.asm80_tokens.specs.Letters.{is_blank}
+use Rattle.asm80_tokens.specs.Tokens.{Got, Lexes, ends, blank, comment, token, faulty}
+
+got_same : (a b : Token) (r s : List ℕ) → Got a r ≡ Got b s → (a ≡ b) × (r ≡ s)
+got_same a b r s e = (cc, cc)
+
+pub one_reading : {bytes : List ℕ} {ts us : List Token} {f g : Option LineRule} → Lexes bytes ts f → Lexes bytes us g → (ts ≡ us) × (f ≡ g)
+one_reading ends ends = (refl, refl)
+one_reading (blank e x) (blank e' y) = one_reading x y
+one_reading (blank e x) (comment y) = absurd cc
+one_reading (blank e x) (token ne n t y) = absurd cc
+one_reading (blank e x) (faulty ne n t) = absurd cc
+one_reading (comment x) (comment y) = one_reading x y
+one_reading (comment x) (blank e y) = absurd cc
+one_reading (comment x) (token ne n t y) = absurd (n refl)
+one_reading (comment x) (faulty ne n t) = absurd (n refl)
+one_reading {f = f} {g = g} (token {rest = rest} {t = a} {ts = ts} ne n t x) (token {rest = rest'} {t = b} {ts = us} ne' n' t' y) =
+    let same = got_same a b rest rest' (sym t ∙ t') in
+    let r = one_reading (rw same.1 at x) y in
+    (ap (λ k. k ∷ ts) same.0 ∙ ap (λ k. b ∷ k) r.0, r.1)
+one_reading (token ne n t x) (faulty ne' n' t') = absurd cc
+one_reading (token ne n t x) (blank e y) = absurd cc
+one_reading (token ne n t x) (comment y) = absurd (n refl)
+one_reading (faulty ne n t) (faulty ne' n' t') = (refl, cc)
+one_reading (faulty ne n t) (token ne' n' t' y) = absurd cc
+one_reading (faulty ne n t) (blank e y) = absurd cc
+one_reading (faulty ne n t) (comment y) = absurd (n refl)
+
+-- ---- what a loop does
+
+pub past_blank : (bytes rest : List ℕ) (b : ℕ) (so_far line : List Token → Option LineRule → Type 0) → ((ts : List Token) (f : Option LineRule) → Lexes bytes ts f → line ts f) → bytes ≡ b ∷ rest → is_blank b ≡ true → (ts : List Token) (f : Option LineRule) → Lexes rest ts f → line ts f
+past_blank bytes rest b so_far line h e is ts f x = h ts f (rw e (blank is x))

@@ -1,0 +1,11 @@
+pub mod Name
+pub mod Padded
+pub mod Letters
+pub mod Tree
+pub mod Words
+pub mod Numbers
+pub mod Strings
+pub mod Tokens
+pub mod Grammar
+pub mod WellFormed
+pub mod Results

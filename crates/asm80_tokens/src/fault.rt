@@ -1,0 +1,122 @@
+//! Why a source, a token or an expression is refused.
+
+ghost use Rattle.std.specs.Prelude.{◌≡◌};
+ghost use Rattle.asm80_tokens.specs.declared.fault.ReadFault.TheVariants as read;
+ghost use Rattle.asm80_tokens.specs.declared.fault.ScanFault.TheVariants as scan;
+ghost use Rattle.asm80_tokens.specs.declared.fault.ParseFault.TheVariants as parse;
+
+use std::alloc::{AllocError, AllocFailed};
+use std::fmt;
+use thiserror::Error;
+
+/// A rule of the line grammar.
+#[derive(Clone, Copy, Debug, PartialEq, Eq)]
+pub enum LineRule {
+    /// A byte that may not stand in a source, or a tab within a string.
+    L1,
+    /// A number with a wrong digit, or above 65,535.
+    L2,
+    /// A string that is empty, not ended on its line, or above 64 characters.
+    L3,
+    /// A name above 16 characters, or a reserved name as a label.
+    L4,
+    /// The names and signs of a statement form no statement.
+    L5,
+    /// More than 16 parentheses are open at some point of a statement.
+    L6,
+    /// A line above 255 bytes.
+    L7,
+    /// Line 32,769 exists.
+    L8,
+}
+
+impl fmt::Display for LineRule {
+    fn fmt<W: fmt::Write>(&self, f: &mut fmt::Formatter<W>) -> fmt::Result {
+        match self {
+            LineRule::L1 => write!(f, "L1"),
+            LineRule::L2 => write!(f, "L2"),
+            LineRule::L3 => write!(f, "L3"),
+            LineRule::L4 => write!(f, "L4"),
+            LineRule::L5 => write!(f, "L5"),
+            LineRule::L6 => write!(f, "L6"),
+            LineRule::L7 => write!(f, "L7"),
+            LineRule::L8 => write!(f, "L8"),
+        }
+    }
+}
+
+/// Why a source is not read.
+#[derive(Clone, Copy, Debug, PartialEq, Eq, Drop, Error)]
+pub enum ReadFault {
+    /// The line of this number, counted from 1, is the first that breaks a rule.
+    #[error("source line {0}: {1}")]
+    Syntax(u32, LineRule),
+    #[error("out of memory")]
+    Memory,
+}
+
+/// Why there is no token.
+#[derive(Clone, Copy, Debug, PartialEq, Eq, Drop, Error)]
+pub enum ScanFault {
+    #[error("{0}")]
+    Rule(LineRule),
+    #[error("out of memory")]
+    Memory,
+}
+
+/// Why there is no expression or no statement.
+#[derive(Clone, Copy, Debug, PartialEq, Eq, Drop, Error)]
+pub enum ParseFault {
+    #[error("the tokens form none")]
+    Malformed,
+    #[error("out of memory")]
+    Memory,
+}
+
+impl From<AllocError> for ReadFault {
+    ghost from_gives = { λ _ e. e ≡ read.Memory };
+
+    fn from(_e: AllocError) -> ReadFault {
+        ReadFault::Memory
+    }
+}
+
+impl<T: Drop> From<AllocFailed<T>> for ReadFault {
+    ghost from_gives = { λ _ e. e ≡ read.Memory };
+
+    fn from(_e: AllocFailed<T>) -> ReadFault {
+        ReadFault::Memory
+    }
+}
+
+impl From<AllocError> for ScanFault {
+    ghost from_gives = { λ _ e. e ≡ scan.Memory };
+
+    fn from(_e: AllocError) -> ScanFault {
+        ScanFault::Memory
+    }
+}
+
+impl<T: Drop> From<AllocFailed<T>> for ScanFault {
+    ghost from_gives = { λ _ e. e ≡ scan.Memory };
+
+    fn from(_e: AllocFailed<T>) -> ScanFault {
+        ScanFault::Memory
+    }
+}
+
+impl From<AllocError> for ParseFault {
+    ghost from_gives = { λ _ e. e ≡ parse.Memory };
+
+    fn from(_e: AllocError) -> ParseFault {
+        ParseFault::Memory
+    }
+}
+
+impl<T: Drop> From<AllocFailed<T>> for ParseFault {
+    ghost from_gives = { λ _ e. e ≡ parse.Memory };
+
+    fn from(_e: AllocFailed<T>) -> ParseFault {
+        ParseFault::Memory
+    }
+}

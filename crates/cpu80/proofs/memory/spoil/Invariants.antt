@@ -1,0 +1,8 @@
+use Rattle.std.proofs.Common.{◌≡◌}
+use Rattle.tagged80.specs.Draft.{memory_of}
+use Rattle.tagged80.specs.Sight.{closed_in}
+use Rattle.cpu80.specs.Reply.{spoiled}
+use Rattle.cpu80.proofs.memory.spoil.Given as goal
+
+abbrev pub invariant-loop-k : goal.invariant-loop-k
+invariant-loop-k l = memory_of l.memory ≡ spoiled l.k (closed_in l.closed) l.sp (memory_of l.fn.memory)

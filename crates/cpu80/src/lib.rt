@@ -1,0 +1,9 @@
+// The tagged 8080 with a program: its state, its steps, and its calls of the system.
+#![tactic(auto)]
+
+mod memory;
+mod processor;
+mod replies;
+mod start;
+
+pub use processor::{Cpu80, Phase, Step80};

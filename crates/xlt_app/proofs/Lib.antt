@@ -1,0 +1,4 @@
+pub mod Outcomes
+pub mod Finish
+pub mod Said
+pub mod Working
