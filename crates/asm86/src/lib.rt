@@ -1,4 +1,6 @@
 // ASM-86 texts, and the images that they assemble to.
 #![tactic(auto)]
 
-pub mod image;
+mod images;
+
+pub use images::Image86;

@@ -1,5 +1,5 @@
 -- What the calls of a machine answer and leave.
-use Rattle.std.specs.Prelude.{◌≡◌, ℕ, Bool, true, false, cond, Option, Some, None}
+use Rattle.std.specs.Prelude.{◌≡◌, ℕ, Bool, true, false, cond, Option, Some, None, IsSome}
 use Rattle.i86.specs.declared.Instr86.{Instr86}
 use Rattle.dialogue.specs.declared.request.Event.{Event}
 use Rattle.dialogue.specs.declared.request.Event.TheVariants.{Call, End}
@@ -8,9 +8,9 @@ use Rattle.machine.specs.Run.{Answer, Ran, Asks, Ends, Stops, answers}
 use Rattle.step86.specs.State.{State86}
 use Rattle.step86.specs.Call.{Stop, NoInstruction, StackSegment, OddCall, replied86}
 use Rattle.step86.specs.Step.{step86}
-use Rattle.cpu86.specs.declared.machine.Step86.{Step86}
-use Rattle.cpu86.specs.declared.machine.Step86.TheVariants.{Ran as DidRun, Asked, Ended, NoInstruction as HasNone, StackSegment as HasSegment, OddCall as HasOdd}
-use Rattle.cpu86.specs.Standing.{Standing}
+use Rattle.cpu86.specs.declared.cpu.Step86.{Step86}
+use Rattle.cpu86.specs.declared.cpu.Step86.TheVariants.{Ran as DidRun, Asked, Ended, NoInstruction as HasNone, StackSegment as HasSegment, OddCall as HasOdd}
+use Rattle.cpu86.specs.Standing.{Standing, request_in}
 
 abbrev pub stop_of : Stop → Step86
 stop_of (NoInstruction ip) = HasNone ip
@@ -43,6 +43,15 @@ replied_by s y choice (Some e) =
 
 abbrev pub replied : Standing → Reply → ℕ → Bool × Standing
 replied x y choice = replied_by x.state y choice x.said
+
+-- what is open after a step, by its answer
+abbrev pub IsOpen : Step86 → Option Event → Type 0
+IsOpen DidRun said = said ≡ None
+IsOpen Asked said = IsSome (request_in said)
+IsOpen Ended said = said ≡ Some End
+IsOpen (HasNone ip) said = said ≡ None
+IsOpen (HasSegment ip) said = said ≡ None
+IsOpen (HasOdd function) said = said ≡ None
 
 -- the same by what a step answers, for a machine that has nothing open: what the definition's step is, and how the machine
 -- stands

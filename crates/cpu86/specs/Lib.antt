@@ -1,2 +1,5 @@
 pub mod Standing
 pub mod Calls
+pub mod Starts
+pub mod Runs
+pub mod Histories

@@ -7,9 +7,9 @@ use Rattle.dialogue.specs.Shape.{request_of}
 use Rattle.step86.specs.State.{State86}
 use Rattle.step86.specs.Call.{seen_by}
 use Rattle.processor86.specs.State.{state_of}
-use Rattle.cpu86.specs.declared.machine.Pending.{Pending}
-use Rattle.cpu86.specs.declared.machine.Pending.TheVariants.{Nothing, Answer, Ending}
-use Rattle.cpu86.specs.declared.machine.Cpu86.{Cpu86}
+use Rattle.cpu86.specs.declared.cpu.Pending.{Pending}
+use Rattle.cpu86.specs.declared.cpu.Pending.TheVariants.{Nothing, Answer, Ending}
+use Rattle.cpu86.specs.declared.cpu.Cpu86.{Cpu86}
 
 -- the state, and what the machine has said last if that is still open: a request while it asks, and the end once the program
 -- has ended

@@ -1,14 +1,14 @@
 -- A call of the system, by what the shape of it is.
-use Rattle.std.proofs.Common.{◌≡◌, ℕ, ◌==◌, false, cond, Option, Some, None, Result, Ok, Err, refl, sym, ap, ◌∙◌, arith}
+use Rattle.std.proofs.Common.{◌≡◌, ℕ, ◌==◌, false, cond, Some, None, Result, Ok, Err, refl, sym, ap, ◌∙◌, arith}
 use Rattle.std.proofs.lemmas.Bool.Decides.{nat_tests}
 use Rattle.std.specs.Result.{result_ok}
 use Rattle.cells.specs.declared.Rule.{Rule}
 use Rattle.dialogue.specs.declared.request.Shape.{Shape}
 use Rattle.dialogue.specs.declared.request.Event.TheVariants.{Call}
 use Rattle.dialogue.specs.Shape.{shape_of, request_of}
-use Rattle.machine.specs.Run.{Answer, Asks, Ends, Stops}
+use Rattle.machine.specs.Run.{Asks, Ends, Stops}
 use Rattle.step86.specs.State.{State86, back, put_bytes}
-use Rattle.step86.specs.Call.{Stop, OddCall, seen_by, ask, call_system, spoiled}
+use Rattle.step86.specs.Call.{OddCall, seen_by, ask, call_system, spoiled}
 use Rattle.processor86.specs.State.{with_mem}
 use Rattle.processor86.specs.System.{six_at, IsAsked}
 use Rattle.processor86.proofs.Writes.{put_back_six}

@@ -200,7 +200,9 @@ pub fn rotate16_carry(rotate: Rotate, value: u16) -> bool
 fn turn_word_left(value: u16, carry: bool) -> u16
     ensures { result ≡ (2 * value + as_bit carry) % 0x10000 }
 {
-    value.wrapping_add(value).wrapping_add(u16::from(bit(carry)))
+    value
+        .wrapping_add(value)
+        .wrapping_add(u16::from(bit(carry)))
 }
 
 fn turn_word_right(value: u16, carry: bool) -> u16

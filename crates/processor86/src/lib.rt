@@ -11,3 +11,5 @@ pub mod processor;
 pub mod registers;
 pub mod start;
 pub mod system;
+#[cfg(test)]
+mod tests;

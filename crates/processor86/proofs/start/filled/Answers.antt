@@ -1,4 +1,4 @@
-use Rattle.std.proofs.Common.{◌≡◌, ℕ, List, ◌++◌, length, get_or, take, drop, ap, ◌∙◌}
+use Rattle.std.proofs.Common.{ℕ, List, ◌++◌, length, get_or, take, drop, ap, ◌∙◌}
 use Rattle.processor86.proofs.Overlay.{overlay}
 use Rattle.processor86.proofs.start.filled.Goals as goal
 

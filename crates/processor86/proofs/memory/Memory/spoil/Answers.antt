@@ -1,5 +1,5 @@
-use Rattle.std.proofs.Common.{◌≡◌, ℕ, List, [], ◌∷◌, ap, ◌∙◌}
-use Rattle.step86.specs.State.{back, byte_of, put_bytes}
+use Rattle.std.proofs.Common.{◌≡◌, ℕ, [], ◌∷◌, ap, ◌∙◌}
+use Rattle.step86.specs.State.{back, put_bytes}
 use Rattle.step86.specs.Call.{spoiled}
 use Rattle.processor86.specs.State.{mem_of}
 use Rattle.processor86.proofs.memory.Memory.spoil.Goals as goal

@@ -1,4 +1,4 @@
-use Rattle.std.proofs.Common.{◌≡◌, ap, ◌∙◌, sym}
+use Rattle.std.proofs.Common.{ap, ◌∙◌, sym}
 use Rattle.step86.specs.State.{back, put_bytes}
 use Rattle.processor86.specs.State.{state_of, mem_of, with_mem}
 use Rattle.processor86.proofs.Calls.{asked, odd, written_back}

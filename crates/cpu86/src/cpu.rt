@@ -1,19 +1,23 @@
 // The machine: code, a processor, and what it has said last.
-ghost use Rattle.std.specs.Prelude.{◌≡◌, ℕ, ◌<◌, Option, Some, Ok, length};
+ghost use Rattle.std.specs.Prelude.{◌≡◌, ℕ, Option, Some, length};
 ghost use Rattle.dialogue.specs.declared.request.Shape.{Shape};
-ghost use Rattle.dialogue.specs.Shape.{shape_of};
-ghost use Rattle.step86.specs.Call.{seen_by};
 ghost use Rattle.step86.specs.Step.{uses_stack};
 ghost use Rattle.processor86.specs.State.{state_of};
-ghost use Rattle.cpu86.specs.declared.machine.Pending.TheVariants.{Answer};
+ghost use Rattle.processor86.specs.System.{IsAsked};
+ghost use Rattle.cpu86.specs.declared.cpu.Pending.TheVariants.{Answer};
 ghost use Rattle.std.proofs.Props.{props};
 
+use crate::start::Start86;
+use asm86::Image86;
 use dialogue::blocks::Blocks;
 use dialogue::replies::fits;
 use dialogue::request::{Reply, Request, Shape};
 use dialogue::shape::request_of;
-use i86::{Instr86, decoding::decode_at};
+use dialogue::start_page::Page;
+use i86::{Instr86, decode_at};
+use processor86::flags::Flags;
 use processor86::processor::Processor;
+use processor86::start::start_memory;
 use processor86::system::Interrupt;
 use std::alloc::{AllocError, Global};
 
@@ -49,25 +53,62 @@ pub struct Cpu86 {
     processor: Processor,
     code: Vec<u8>,
     pending: Pending,
-    ghost asked: { (shape : Shape) → pending ≡ Answer shape → shape_of (Some processor.registers.cl) (Some processor.registers.dh) (Some processor.registers.dl) processor.dma (seen_by (state_of processor).mem) ≡ Ok shape } by { Prim.hlevel props },
+    ghost asked: { (shape : Shape) → pending ≡ Answer shape → IsAsked (state_of processor) shape } by { Prim.hlevel props },
 }
 
 impl Cpu86 {
-    ghost use Rattle.std.specs.Prelude.{None, IfOk, IfSome, Bool};
+    ghost use Rattle.std.specs.Prelude.{None, IfOk, IfSome, Bool, ◌&&◌, ◌==◌, not};
     ghost use Rattle.dialogue.specs.declared.request.Event.{Event};
     ghost use Rattle.dialogue.specs.Lawful.{IsLawful};
     ghost use Rattle.i86.specs.declared.Instr86.{Instr86};
     ghost use Rattle.i86.specs.Code.{Reads};
     ghost use Rattle.step86.specs.Call.{call_system};
     ghost use Rattle.step86.specs.Step.{step86, act_from};
+    ghost use Rattle.step86.specs.Start.{start86};
+    ghost use Rattle.cpu86.specs.Starts.{start_of};
     ghost use Rattle.cpu86.specs.Standing.{standing, code_of, request_in};
-    ghost use Rattle.cpu86.specs.Calls.{settled, stepped, replied, IsTold, IsTaken};
+    ghost use Rattle.cpu86.specs.Calls.{settled, stepped, replied, IsOpen, IsTold, IsTaken};
+
+    /// The machine at the start of an image, of which it keeps a copy of the code. Memory is the fill, over it the page, and over
+    /// both the image's data cells.
+    pub fn new(
+        alloc: Global,
+        image: &Image86,
+        start: Start86,
+        page: &Page,
+        fill: &[u8],
+    ) -> Result<Cpu86, AllocError>
+        requires { length fill.now ≡ 0x10000 }
+        ensures state { IfOk result (λ c. (standing c).state ≡ start86 image.now page.now fill.now (start_of start)) }
+        ensures idle { IfOk result (λ c. (standing c).said ≡ None) }
+        ensures code { IfOk result (λ c. code_of c ≡ image.now.code) }
+    {
+        let code = Vec::from_slice(alloc, image.code())?;
+        let memory = start_memory(alloc, fill, page.bytes(), image.cells())?;
+        let processor = Processor {
+            registers: start.registers(),
+            sp: start.sp,
+            si: start.si,
+            ip: 0,
+            ds: start.ds,
+            ss: start.ss,
+            flags: Flags::of_choice(u128::from(start.flags), 0),
+            memory,
+            dma: 0x80,
+        };
+        Ok(Cpu86 {
+            processor,
+            code,
+            pending: Pending::Nothing,
+        })
+    }
 
     /// One instruction. While the machine asks it answers `Asked`, and after the end `Ended`; these change nothing, nor does a
     /// stop.
     pub fn step(&mut self, choice: u128) -> Step86
         ensures step { (fetch : ℕ → Option Instr86) → Reads (code_of self.old) fetch → (result, standing self.new) ≡ stepped fetch (standing self.old) choice }
         ensures told { (fetch : ℕ → Option Instr86) → Reads (code_of self.old) fetch → (standing self.old).said ≡ None → IsTold (step86 fetch (standing self.old).state choice) result (standing self.old).state (standing self.new) }
+        ensures said { IsOpen result (standing self.new).said }
         ensures code { code_of self.new ≡ code_of self.old }
     {
         match self.pending {
@@ -81,6 +122,7 @@ impl Cpu86 {
     fn run_one(&mut self, choice: u128) -> Step86
         requires { self.old.pending ≡ Pending.Nothing }
         ensures step { (fetch : ℕ → Option Instr86) → Reads (code_of self.old) fetch → (result, standing self.new) ≡ settled (standing self.old).state (step86 fetch (standing self.old).state choice) }
+        ensures said { IsOpen result (standing self.new).said }
         ensures code { code_of self.new ≡ code_of self.old }
     {
         let at = self.processor.ip;
@@ -94,10 +136,11 @@ impl Cpu86 {
     fn act(&mut self, instr: Instr86, next: u16, choice: u128) -> Step86
         requires { self.old.pending ≡ Pending.Nothing }
         ensures act { (result, standing self.new) ≡ settled (standing self.old).state (act_from (standing self.old).state.ip instr (record ((standing self.old).state) { ip = next }) choice) }
+        ensures said { IsOpen result (standing self.new).said }
         ensures code { code_of self.new ≡ code_of self.old }
     {
         let at = self.processor.ip;
-        if uses_stack(instr) && self.processor.ss != self.processor.ds {
+        if self.lacks_stack(instr) {
             return Step86::StackSegment(at);
         }
         match instr {
@@ -110,10 +153,18 @@ impl Cpu86 {
         }
     }
 
+    // Whether an instruction uses the stack while SS is not DS.
+    fn lacks_stack(&self, instr: Instr86) -> bool
+        ensures { result ≡ (uses_stack instr && not ((standing self.now).state.ss == (standing self.now).state.ds)) }
+    {
+        uses_stack(instr) && self.processor.ss != self.processor.ds
+    }
+
     // INT 224, where nothing is open and the stack may be used.
     fn call_system(&mut self, next: u16, choice: u128) -> Step86
         requires { self.old.pending ≡ Pending.Nothing }
         ensures call { (result, standing self.new) ≡ settled (standing self.old).state (call_system (record ((standing self.old).state) { ip = next }) choice) }
+        ensures said { IsOpen result (standing self.new).said }
         ensures code { code_of self.new ≡ code_of self.old }
     {
         match self.processor.interrupt(next, choice) {

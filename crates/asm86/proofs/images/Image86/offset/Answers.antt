@@ -1,7 +1,7 @@
-use Rattle.std.proofs.Common.{◌∙◌, sym, arith}
+use Rattle.std.proofs.Common.{◌∙◌, sym}
 use Rattle.lines86.specs.declared.line.Label.TheVariants.{At}
 use Rattle.asm86.proofs.Labels.{offset_found, offset_after}
-use Rattle.asm86.proofs.image.Image86.offset.Goals as goal
+use Rattle.asm86.proofs.images.Image86.offset.Goals as goal
 
 pub returns-then-is_same : goal.returns-then-is_same
 returns-then-is_same c =

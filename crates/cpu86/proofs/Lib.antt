@@ -1,0 +1,4 @@
+pub mod Steps
+pub mod Replies
+pub mod Courses
+pub mod Called
