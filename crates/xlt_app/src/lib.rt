@@ -11,13 +11,12 @@ ghost use Rattle.std.specs.Prelude.{◌≡◌, ◌↔◌, map};
 ghost use Rattle.std.specs.String.{string_bytes};
 ghost use Rattle.xlt_app.specs.Top.{IsStatus, IsNoCommand, IsTranslated, IsSourceRefused, AreWordsRefused, IsReadFailed, IsWriteFailed, IsOutOfMemory, IsFileTooLong, Completes};
 
-pub use transfer::write_out;
-
 use crate::command::Translate;
 use crate::report::{said, say_of, words_refused};
 use crate::translate::translate;
 use host::Host;
 use std::alloc::Global;
+pub use transfer::write_out;
 use xlt_core::first_is_same;
 
 /// What the program does with the words after its name: it answers the status that the process ends with. The files of the

@@ -8,11 +8,14 @@ const ONE_LETTER: &str = "ORG 100H\nMVI C,2\nMVI E,41H\nCALL 5\nJMP 0\nEND\n";
 
 const TRANSLATED: &str = "translated: 4 instructions, 0 data bytes, 44 code bytes\n";
 
-const PROLOGUE: &str = "\tCSEG\r\n\tMOV\tSI,0F000H\r\n\tMOV\tWORD PTR .00006H,SI\r\n\tMOV\tAX,DS\r\n\tMOV\tSS,AX\r\n\tMOV\tSP,SI\r\n\tMOV\tSI,OFFSET X_END\r\n\tPUSH\tSI\r\n";
+const PROLOGUE: &str =
+    "\tCSEG\r\n\tMOV\tSI,0F000H\r\n\tMOV\tWORD PTR .00006H,SI\r\n\tMOV\tAX,DS\r\n\tMOV\tSS,AX\r\n\tMOV\tSP,SI\r\n\tMOV\tSI,OFFSET X_END\r\n\tPUSH\tSI\r\n";
 
-const BODY: &str = "L0100:\r\n\tMOV\tCL,002H\r\nL0102:\r\n\tMOV\tDL,041H\r\nL0104:\r\n\tCALL\tX_SYS\r\nL0107:\r\n\tJMP\tX_END\r\n";
+const BODY: &str =
+    "L0100:\r\n\tMOV\tCL,002H\r\nL0102:\r\n\tMOV\tDL,041H\r\nL0104:\r\n\tCALL\tX_SYS\r\nL0107:\r\n\tJMP\tX_END\r\n";
 
-const RUNTIME: &str = "X_SYS:\r\n\tOR\tCL,CL\r\n\tJZ\tX_END\r\n\tINT\t224\r\n\tMOV\tBL,AL\r\n\tMOV\tCH,BH\r\n\tRET\r\nX_END:\r\n\tMOV\tCL,000H\r\n\tMOV\tDL,000H\r\n\tINT\t224\r\n\tDSEG\r\n\tORG\t0EFFFH\r\n\tRB\t00001H\r\n\tEND\r\n";
+const RUNTIME: &str =
+    "X_SYS:\r\n\tOR\tCL,CL\r\n\tJZ\tX_END\r\n\tINT\t224\r\n\tMOV\tBL,AL\r\n\tMOV\tCH,BH\r\n\tRET\r\nX_END:\r\n\tMOV\tCL,000H\r\n\tMOV\tDL,000H\r\n\tINT\t224\r\n\tDSEG\r\n\tORG\t0EFFFH\r\n\tRB\t00001H\r\n\tEND\r\n";
 
 // A host with a source, an output that is there before, and a call that fails (none where it is 0).
 fn host_of(alloc: Global, source: &str, call: u64) -> Result<MemHost, AllocError> {
@@ -167,7 +170,10 @@ fn longest_source_is_translated(rt: HostRuntime) -> Result<(), Fail> {
     let status = translate(rt.alloc(), &mut host)?;
     let text = host.file("OUT").unwrap_or(&[]);
     assert_eq!(rt; status, 0);
-    assert_eq!(rt; host.said(), b"translated: 253 instructions, 0 data bytes, 540 code bytes\n".as_slice());
+    assert_eq!(rt;
+        host.said(),
+        b"translated: 253 instructions, 0 data bytes, 540 code bytes\n".as_slice()
+    );
     assert_eq!(rt; text.len(), PROLOGUE.len() + 253 * 22 + RUNTIME.len());
     assert!(rt; text.ends_with(RUNTIME.as_bytes()));
 

@@ -118,5 +118,7 @@ fn sizes(
 ) -> Result<String, AllocError>
     ensures { IfOk result (λ line. string_bytes line ≡ sizes_line instructions cells code) }
 {
-    format!(in alloc; "translated: {instructions} instructions, {cells} data bytes, {code} code bytes\n")
+    format!(in alloc;
+        "translated: {instructions} instructions, {cells} data bytes, {code} code bytes\n"
+    )
 }

@@ -2,10 +2,9 @@
 #![tactic(auto)]
 
 use host::RealHost;
-use std::env;
-use std::io;
 use std::io::ErrorKind;
 use std::process::ExitCode;
+use std::{env, io};
 use xlt_app::xlt;
 
 // The words after the program's name.

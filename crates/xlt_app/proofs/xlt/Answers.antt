@@ -13,18 +13,18 @@ out-in-Ok g c =
     let old = g.H.Host.state c.args.host.now in
     let mid = g.H.Host.state c.translate.new.host in
     worked (map string_bytes c.args.words.items) command (subst (λ words. IsTranslate (map string_bytes words) command) c.as_slice.ensures.value c.in-Some.ensures)
-        old mid (g.H.Host.state c.said.new.host)
-        (sources_hold c.first_is_same.ensures.assembles c.first_is_same.ensures.same)
-        c.as_str.result.now (subst (Works command old mid) (sym c.as_str.ensures.value) c.in-Ok.ensures)
-        c.said.result c.said.ensures
+    old mid (g.H.Host.state c.said.new.host)
+    (sources_hold c.first_is_same.ensures.assembles c.first_is_same.ensures.same)
+    c.as_str.result.now (subst (Works command old mid) (sym c.as_str.ensures.value) c.in-Ok.ensures)
+    c.said.result c.said.ensures
 
 out : (g : Over) (c : goal.After-drop-words-2 g) → Outcomes (map string_bytes c.args.words.items) (g.H.Host.state c.args.host.now) (g.H.Host.state c.say_of.new.host) c.say_of.result
 out g c =
     let command : Translate = record { input = c.in-Some.command.input.now; output = c.in-Some.command.output.now } in
     stopped (map string_bytes c.args.words.items) command (subst (λ words. IsTranslate (map string_bytes words) command) c.as_slice.ensures.value c.in-Some.ensures)
-        (g.H.Host.state c.args.host.now) (g.H.Host.state c.translate.new.host) (g.H.Host.state c.say_of.new.host)
-        c.in-Err.stop c.in-Err.ensures
-        c.say_of.result c.say_of.ensures
+    (g.H.Host.state c.args.host.now) (g.H.Host.state c.translate.new.host) (g.H.Host.state c.say_of.new.host)
+    c.in-Err.stop c.in-Err.ensures
+    c.say_of.result c.say_of.ensures
 
 pub returns-in-Ok-clause-number : goal.returns-in-Ok-clause-number
 returns-in-Ok-clause-number g c = (out-in-Ok g c).number

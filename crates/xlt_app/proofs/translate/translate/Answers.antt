@@ -12,9 +12,9 @@ returns-in_err-program g c =
     let new = g.H.Host.state c.read_file.new.host in
     let file = c.in_ok-bytes in
     stops c.from_residual-in_err-program.result (λ stop. stop ≡ stop_of_source c.in_err-program.field-0.0) (StopsBy command old new) _ c.from_residual-in_err-program.ensures.1
-        (λ stop is. subst (StopsBy command old new) (sym is)
-            (source_stop command old new new c.as_slice.result.now file.bytes.items c.as_slice.ensures.value file.ensures.ok (let e = file.bytes.ok in let le = file.ensures.within in omega (arith, e, le)) file.ensures.only file.ensures.counted c.in_err-program.field-0.0
-                (λ e p. c.in_err-program.ensures.refused (ap Err e) p)))
+    (λ stop is. subst (StopsBy command old new) (sym is)
+    (source_stop command old new new c.as_slice.result.now file.bytes.items c.as_slice.ensures.value file.ensures.ok (let e = file.bytes.ok in let le = file.ensures.within in omega (arith, e, le)) file.ensures.only file.ensures.counted c.in_err-program.field-0.0
+    (λ e p. c.in_err-program.ensures.refused (ap Err e) p)))
 
 pub returns-in_err-write_out : goal.returns-in_err-write_out
 returns-in_err-write_out g c =
@@ -26,7 +26,7 @@ returns-in_err-write_out g c =
     let p = c.in_ok-program.program in
     let write = c.in_err-write_out.ensures in
     stops c.from_residual-in_err-write_out.result (λ stop. stop ≡ stop_of_write c.in_err-write_out.field-0.0) (StopsBy command old new) _ c.from_residual-in_err-write_out.ensures.1
-        (λ stop is. subst (StopsBy command old new) (sym is)
-            (write_stop command old mid new p (text_of c.as_slice-3.result.now)
-                (read_source command old mid new c.as_slice.result.now file.bytes.items p c.as_slice.ensures.value file.ensures.ok (let e = file.bytes.ok in let le = file.ensures.within in omega (arith, e, le)) c.in_ok-program.ensures.ok)
-                file.ensures.only write.only (ap text_of (c.as_slice-3.ensures.value ∙ c.in_ok-lines.ensures.value)) write.fault write.failed c.in_err-write_out.field-0.0))
+    (λ stop is. subst (StopsBy command old new) (sym is)
+    (write_stop command old mid new p (text_of c.as_slice-3.result.now)
+    (read_source command old mid new c.as_slice.result.now file.bytes.items p c.as_slice.ensures.value file.ensures.ok (let e = file.bytes.ok in let le = file.ensures.within in omega (arith, e, le)) c.in_ok-program.ensures.ok)
+    file.ensures.only write.only (ap text_of (c.as_slice-3.ensures.value ∙ c.in_ok-lines.ensures.value)) write.fault write.failed c.in_err-write_out.field-0.0))
