@@ -2,8 +2,10 @@
 #![tactic(auto)]
 
 use host::RealHost;
+use std::alloc::AllocGlobal;
 use std::io::ErrorKind;
 use std::process::ExitCode;
+use std::rt::Env;
 use std::{env, io};
 use xlt_app::xlt;
 
