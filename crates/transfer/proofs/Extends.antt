@@ -1,10 +1,10 @@
--- Files to which bytes were added in pieces, and files of which the first bytes were read.
+-- Files to which bytes were added in pieces.
 use Rattle.std.proofs.Common.{◌≡◌, ℕ, ◌+◌, ◌<◌, ◌≤◌, List, [], ◌∷◌, ◌++◌, length, take, drop, refl, ap, ◌∙◌, sym, append_assoc, append-nil, arith, length-drop}
 use Rattle.std.proofs.Math.Seq.{take-add}
 use Rattle.std.proofs.lemmas.List.{length-take}
-use Rattle.host.specs.Host.{FileTold, Untold, Missing, Holds, IsStartOfFile, appended, rewritten}
+use Rattle.host.specs.Host.{FileTold, Untold, Missing, Holds, appended, rewritten}
 use Rattle.host.proofs.HostLemmas.{appended-rewritten}
-use Rattle.transfer.specs.Transfer.{IsLonger, extended}
+use Rattle.transfer.specs.Transfer.{extended}
 
 -- bytes added after a file was rewritten
 pub extended-rewritten : (t : FileTold) (xs ys : List ℕ) → extended (rewritten t xs) ys ≡ rewritten t (xs ++ ys)
@@ -24,10 +24,3 @@ pub extended-take : (t : FileTold) (bytes : List ℕ) (n k : ℕ) → 0 < k → 
 extended-take t bytes n k some within =
     let more : 0 < length (take k (drop n bytes)) = omega (arith, length-take k (drop n bytes), length-drop n bytes) in
     ap (extended t) (take-add n k bytes) ∙ sym (appended-extended t (take n bytes) (take k (drop n bytes)) more)
-
--- a file that begins with more bytes than the limit
-pub IsLonger-start : (t : FileTold) (bytes : List ℕ) (limit : ℕ) → IsStartOfFile t bytes → limit < length bytes → IsLonger t limit
-IsLonger-start Untold bytes limit start longer = (bytes, tt, longer)
-IsLonger-start Missing bytes limit start longer = absurd (omega (arith, ap length start))
-IsLonger-start (Holds held) bytes limit start longer =
-    (held, refl, omega (arith, ap length start, length-take (length bytes) held))

@@ -1,5 +1,5 @@
 -- A text of which some first bytes are written and the rest waits.
-use Rattle.std.proofs.Common.{◌≡◌, ℕ, suc, ◌+◌, ◌<◌, List, [], ◌++◌, length, get_or, take, drop, refl, ap, ◌∙◌, sym, inr, append_assoc, add-one}
+use Rattle.std.proofs.Common.{◌≡◌, ℕ, suc, ◌+◌, ◌<◌, List, ◌++◌, length, get_or, take, drop, refl, ap, ◌∙◌, sym, inr, append_assoc, add-one}
 use Rattle.std.proofs.Math.Seq.{take-append_seam, drop-cons}
 use Rattle.std.proofs.lemmas.List.{take-append-drop}
 use Rattle.host.specs.Host.{HostState, rewritten, Rewrites}
@@ -13,10 +13,6 @@ pub record Waits (old new : HostState) (name text left : List ℕ) : Type 0 wher
   pub done : List ℕ
   pub written : Rewrites old new name done
   pub whole : done ++ left ≡ text
-
--- a file that was made empty: all of the text is left
-pub Waits-start : {old new : HostState} {name : List ℕ} (text : List ℕ) → Rewrites old new name [] → Waits old new name text text
-Waits-start text empty = record { done = []; written = empty; whole = refl }
 
 -- some first bytes of those left were added
 pub Waits-more : {old mid : HostState} (new : HostState) {name text : List ℕ} (bytes rest after : List ℕ) (k : ℕ) → Waits old mid name text (bytes ++ rest) → new.file name ≡ extended (mid.file name) (take k bytes) → after ≡ drop k bytes → Waits old new name text (after ++ rest)
