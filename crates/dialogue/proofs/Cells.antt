@@ -1,5 +1,5 @@
 -- A range's cells, one after another.
-use Rattle.std.proofs.Common.{◌≡◌, refl, sym, ◌∙◌, ap, ℕ, zero, suc, ◌+◌, ◌-◌, ◌<◌, ◌≤◌, Bool, true, false, List, [], ◌∷◌, ◌++◌, arith, append_assoc}
+use Rattle.std.proofs.Common.{◌≡◌, refl, sym, ◌∙◌, ap, ℕ, suc, ◌+◌, ◌-◌, ◌<◌, ◌≤◌, Bool, true, false, List, [], ◌∷◌, ◌++◌, arith, append_assoc}
 use Rattle.std.specs.Prelude.{Option, Some, None, unwrap_or, ◌==◌, option_map}
 use Rattle.dialogue.specs.Shape.{Seen, all_cells, bytes_in, text_length, text_length_by}
 

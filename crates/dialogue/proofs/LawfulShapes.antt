@@ -4,14 +4,13 @@ use Rattle.std.proofs.lemmas.Bool.{leb-true, eqb-true}
 use Rattle.std.proofs.lemmas.List.{map-append}
 use Rattle.std.proofs.lemmas.List.Elements.{All-nil, All-cons, All-head, All-tail}
 use Rattle.std.specs.Prelude.{Option, Some, None, Result, Ok, Err, map, unwrap_or, slice_index_or, IfSome, IsTrue, ◌==◌, ◌&&◌, ◌||◌, nat_le, not}
-use Rattle.std.specs.List.{All, list_all}
+use Rattle.std.specs.List.{All}
 use Rattle.cells.specs.declared.Rule.{Rule}
-use Rattle.cells.specs.declared.Rule.TheVariants.{P9, P10, P11}
+use Rattle.cells.specs.declared.Rule.TheVariants.{P10, P11}
 use Rattle.dialogue.specs.declared.blocks.Block.{Block}
 use Rattle.dialogue.specs.declared.request.ArgWord.{ArgWord}
 use Rattle.dialogue.specs.declared.request.Range.{Range}
 use Rattle.dialogue.specs.declared.request.Shape.{Shape}
-use Rattle.dialogue.specs.declared.request.Request.{Request}
 use Rattle.dialogue.specs.Tried.{try_then}
 use Rattle.dialogue.specs.Table.{Argument, NoArgument, InE, InDE, Extent, F, Dma, Text, Line, Row, call_table, row_of, padded}
 use Rattle.dialogue.specs.Shape.{Seen, argument_of, address_of, is_readable, line_room, text_length, text_range, range_of, is_within, range_within, ranges_within, has_room, ranges, bytes_in, block_of, request_of, shape_by, shape_in, shape_of}

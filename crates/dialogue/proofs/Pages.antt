@@ -1,10 +1,10 @@
 -- Bytes put one after another into cells that hold 0.
-use Rattle.std.proofs.Common.{◌≡◌, refl, sym, ◌∙◌, ap, ℕ, zero, suc, ◌+◌, ◌-◌, ◌≤◌, ◌<◌, List, [], ◌∷◌, ◌++◌, length, take, drop, arith, append_assoc, append-nil, length-append}
+use Rattle.std.proofs.Common.{◌≡◌, refl, sym, ◌∙◌, ap, ℕ, ◌+◌, ◌-◌, ◌≤◌, List, [], ◌∷◌, ◌++◌, length, take, drop, arith, append_assoc, append-nil, length-append}
 use Rattle.std.proofs.lemmas.List.{take_at, drop_at, length-replicate, replicate-append-replicate, length-take-le, take-replicate}
 use Rattle.std.proofs.Math.Seq.{take-append-add}
-use Rattle.std.specs.Prelude.{replicate, map, Option, Some, ◌==◌, Bool, true, false}
+use Rattle.std.specs.Prelude.{replicate, map, Some, ◌==◌, true, false}
 use Rattle.std.specs.Char.{to_ascii_uppercase}
-use Rattle.dialogue.specs.StartPage.{is, name_of, type_of, field, control_block, counted, tail_area, is_tail, page, page_of_tail}
+use Rattle.dialogue.specs.StartPage.{name_of, type_of, field, control_block, counted, tail_area, is_tail, page, page_of_tail}
 
 -- bytes put into cells of which the first are given and the others are 0: they stand after a gap
 pub put-zeros : (given bytes cells : List ℕ) (gap left total start : ℕ) → cells ≡ given ++ replicate total 0 →

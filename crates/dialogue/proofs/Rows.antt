@@ -1,10 +1,10 @@
 -- The table's rows, and the shapes that they give in lists and in arrays.
-use Rattle.std.proofs.Common.{◌≡◌, refl, sym, ◌∙◌, ap, ℕ, zero, suc, ◌≤◌, ◌<◌, Bool, true, false, cond, List, [], ◌∷◌, length, arith}
+use Rattle.std.proofs.Common.{◌≡◌, refl, ℕ, zero, suc, ◌≤◌, Bool, true, false, cond, List, [], ◌∷◌, length, arith}
 use Rattle.std.proofs.lemmas.Bool.{leb-true}
 use Rattle.std.specs.Prelude.{Option, Some, None, Result, Ok, Err, option_map, ◌==◌, ◌&&◌, nat_le, not}
 use Rattle.std.specs.List.{list_all}
 use Rattle.cells.specs.declared.Rule.{Rule}
-use Rattle.cells.specs.declared.Rule.TheVariants.{P9, P10, P11}
+use Rattle.cells.specs.declared.Rule.TheVariants.{P10, P11}
 use Rattle.dialogue.specs.declared.request.ArgWord.{ArgWord}
 use Rattle.dialogue.specs.declared.request.Range.{Range}
 use Rattle.dialogue.specs.declared.request.Shape.{Shape}
@@ -12,9 +12,9 @@ use Rattle.dialogue.specs.declared.shape.Access.{Access}
 use Rattle.dialogue.specs.declared.shape.Access.TheVariants.{Read, Write}
 use Rattle.dialogue.specs.declared.table.Row.{Row as LaidOut}
 use Rattle.dialogue.specs.Tried.{try_then}
-use Rattle.dialogue.specs.Table.{Argument, AnswerKind, Extent, F, Dma, Text, Line, Row, call_table, entry_at, row_of, padded, laid_out}
-use Rattle.dialogue.specs.Shape.{Seen, argument_of, address_of, is_readable, line_room, range_of, range_within, ranges_within, has_room, shape_by, shape_in, shape_of}
-use Rattle.dialogue.specs.Places.{passes, rule_of, place_within, places_within, room_at, shape_by_places}
+use Rattle.dialogue.specs.Table.{Extent, F, Dma, Text, Line, Row, call_table, entry_at, row_of, padded, laid_out}
+use Rattle.dialogue.specs.Shape.{Seen, argument_of, address_of, is_readable, line_room, range_of, range_within, ranges_within, has_room, shape_by, shape_in}
+use Rattle.dialogue.specs.Places.{passes, rule_of, places_within, room_at, shape_by_places}
 
 -- the lists of a row have places in the arrays
 abbrev pub has_places : Row → Bool

@@ -7,3 +7,5 @@ pub mod request;
 pub mod shape;
 pub mod start_page;
 pub mod table;
+#[cfg(test)]
+mod tests;

@@ -1,4 +1,4 @@
-use Rattle.std.proofs.Common.{◌≡◌, ◌∙◌, sym, ◌+◌, Bool, true, arith}
+use Rattle.std.proofs.Common.{◌≡◌, ◌∙◌, ◌+◌, true}
 use Rattle.dialogue.specs.Shape.{seen_by}
 use Rattle.dialogue.specs.Places.{passes}
 use Rattle.dialogue.proofs.Cells.{all_cells-next}

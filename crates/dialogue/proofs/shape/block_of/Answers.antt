@@ -1,4 +1,4 @@
-use Rattle.std.proofs.Common.{◌≡◌, ◌∙◌, ap, ◌+◌, ◌-◌, ◌++◌}
+use Rattle.std.proofs.Common.{◌≡◌, ◌+◌}
 use Rattle.std.specs.Prelude.{unwrap_or}
 use Rattle.dialogue.specs.Shape.{Seen, seen_by}
 use Rattle.dialogue.proofs.Cells.{bytes_in-push}

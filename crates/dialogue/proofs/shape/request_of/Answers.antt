@@ -1,9 +1,7 @@
-use Rattle.std.proofs.Common.{◌≡◌, ◌∙◌, refl, arith, append-nil, List, [], ◌++◌, drop}
+use Rattle.std.proofs.Common.{◌≡◌, ◌∙◌, refl, arith, append-nil, [], drop}
 use Rattle.std.proofs.Math.ListN.{drop_of_length-le}
-use Rattle.std.specs.Prelude.{map, ℕ}
-use Rattle.dialogue.specs.declared.blocks.Block.{Block}
+use Rattle.std.specs.Prelude.{map}
 use Rattle.dialogue.specs.Shape.{Seen, seen_by, block_of, ranges}
-use Rattle.dialogue.specs.Lawful.{IsLawful}
 use Rattle.dialogue.proofs.LawfulShapes.{Ends-drop, ranges-drop, map-ranges, made, made-ends, made-lawful}
 use Rattle.dialogue.proofs.shape.request_of.Goals as goal
 

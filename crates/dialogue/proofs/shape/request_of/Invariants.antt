@@ -1,7 +1,7 @@
 use Rattle.std.proofs.Common.{◌≡◌, ◌++◌, drop}
 use Rattle.std.specs.Prelude.{map}
 use Rattle.std.specs.List.{All}
-use Rattle.dialogue.specs.Shape.{Seen, seen_by, block_of, ranges}
+use Rattle.dialogue.specs.Shape.{seen_by, block_of, ranges}
 use Rattle.dialogue.proofs.LawfulShapes.{Ends}
 use Rattle.dialogue.proofs.shape.request_of.Given as goal
 

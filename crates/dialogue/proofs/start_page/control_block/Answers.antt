@@ -1,7 +1,7 @@
-use Rattle.std.proofs.Common.{◌≡◌, ◌∙◌, ap, ℕ, length, List, [], ◌∷◌, ◌++◌}
+use Rattle.std.proofs.Common.{◌≡◌, ◌∙◌, ap, ℕ, length, List, ◌∷◌, ◌++◌}
 use Rattle.std.specs.Prelude.{replicate}
 use Rattle.std.specs.List.{before_first, after_first}
-use Rattle.dialogue.specs.StartPage.{is, name_of, type_of, field, drive_of, control_block}
+use Rattle.dialogue.specs.StartPage.{is, name_of, type_of, field}
 use Rattle.dialogue.proofs.Pages.{block-is, length-field}
 use Rattle.dialogue.proofs.start_page.control_block.Goals as goal
 

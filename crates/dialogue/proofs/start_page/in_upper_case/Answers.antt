@@ -1,4 +1,4 @@
-use Rattle.std.proofs.Common.{ℕ, ◌∙◌, ◌≡◌, sym, ap, ◌<◌, length, refl, arith, List, [], ◌∷◌, ◌++◌}
+use Rattle.std.proofs.Common.{ℕ, ◌∙◌, ◌≡◌, ap, ◌<◌, length, refl, arith}
 use Rattle.std.proofs.lemmas.List.{take_more_set, map_more, length-replicate, length-set}
 use Rattle.std.specs.Char.{to_ascii_uppercase}
 use Rattle.dialogue.proofs.start_page.in_upper_case.Goals as goal

@@ -1,7 +1,7 @@
-use Rattle.std.proofs.Common.{◌≡◌, ◌∙◌, sym, ap, ℕ, length, List, take, ◌++◌, Bool, true}
-use Rattle.std.specs.Prelude.{map, replicate, Option, Some}
+use Rattle.std.proofs.Common.{◌≡◌, ◌∙◌, sym, ap, ℕ, length, List, true}
+use Rattle.std.specs.Prelude.{map}
 use Rattle.std.specs.Char.{to_ascii_uppercase}
-use Rattle.dialogue.specs.StartPage.{is_tail, first_word, after_word, control_block, tail_area, page, page_of_tail}
+use Rattle.dialogue.specs.StartPage.{is_tail, first_word, after_word, control_block, tail_area}
 use Rattle.dialogue.proofs.Pages.{page-is, page_of_tail-is, same_page, length-control_block, length-tail_area}
 use Rattle.dialogue.proofs.start_page.Page.of_tail.Goals as goal
 
