@@ -142,13 +142,13 @@ flag Pe = only P
 flag Plus = only S
 flag Minus = only S
 
--- the system at 5 takes its function in C and its argument in DE
+-- the system at 5 takes its function in C and its argument in E or DE (CP/M 2.2 Operating System Manual, "BDOS functions")
 abbrev pub asked_of : Goal → Parts
 asked_of Bdos = these (C ∷ D ∷ E ∷ [])
 asked_of Boot = nothing
 asked_of (At a) = nothing
 
--- the system at 5 leaves nothing as it was
+-- after the system at 5 no part is what it was
 abbrev pub changed_by : Goal → Parts
 changed_by Bdos = everything
 changed_by Boot = nothing

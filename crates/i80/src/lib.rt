@@ -122,7 +122,7 @@ pub enum Instr80 {
     Rst0,
 }
 
-/// Whether the 8080 has the instruction: it has no `MOV M,M`, and LDAX and STAX of BC and DE alone. A code address goes to no SP.
+/// Whether the 8080 has the instruction: it has no `MOV M,M`, and LDAX and STAX of BC and DE alone. No code address goes to SP.
 pub fn well_formed(i: Instr80) -> bool
     ensures { result ≡ is_well_formed i }
 {
@@ -190,10 +190,10 @@ pub fn uses(i: Instr80) -> Keep
         Instr80::Cmc => cy(),
         Instr80::Shld(_) | Instr80::Xthl | Instr80::Sphl | Instr80::Pchl => hl(),
         Instr80::Xchg => hl().join(de()),
-        Instr80::Ldax(register_pair) | Instr80::Inx(register_pair) | Instr80::Dcx(register_pair) =>
-            { pair(register_pair) }
-        Instr80::Stax(register_pair) => pair(register_pair).with(Part::A),
-        Instr80::Dad(register_pair) => hl().join(pair(register_pair)),
+        Instr80::Ldax(registers) => pair(registers),
+        Instr80::Stax(registers) => pair(registers).with(Part::A),
+        Instr80::Inx(registers) | Instr80::Dcx(registers) => pair(registers),
+        Instr80::Dad(registers) => hl().join(pair(registers)),
         Instr80::Push(stored) => stack_pair(stored),
         Instr80::Jmp(goal) | Instr80::Call(goal) => asked_of(goal),
         Instr80::Jif(cond, goal) | Instr80::Cif(cond, goal) => flag(cond).join(asked_of(goal)),
@@ -222,9 +222,9 @@ pub fn defs(i: Instr80) -> Keep
         Instr80::Lda(_) | Instr80::Ldax(_) | Instr80::Cma => a(),
         Instr80::Rlc | Instr80::Rrc | Instr80::Ral | Instr80::Rar => a().with(Part::Cy),
         Instr80::Stc | Instr80::Cmc => cy(),
-        Instr80::Lxi(register_pair, _)
-        | Instr80::Inx(register_pair)
-        | Instr80::Dcx(register_pair) => { pair(register_pair) }
+        Instr80::Lxi(registers, _) | Instr80::Inx(registers) | Instr80::Dcx(registers) => pair(
+            registers,
+        ),
         Instr80::Lhld(_) | Instr80::Xthl => hl(),
         Instr80::Dad(_) => hl().with(Part::Cy),
         Instr80::Xchg => hl().join(de()),

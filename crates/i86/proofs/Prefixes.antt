@@ -1,10 +1,9 @@
 -- Bytes that stand at the first place of a code are a prefix of it.
-use Rattle.std.proofs.Common.{◌≡◌, ℕ, suc, ◌+◌, List, [], ◌∷◌, ◌++◌, Option, Some, None, slice_get, refl, sym, ap, ◌∙◌, subst, add-one}
+use Rattle.std.proofs.Common.{◌≡◌, ℕ, ◌+◌, List, [], ◌∷◌, ◌++◌, Option, Some, None, slice_get, refl, sym, ap, ◌∙◌, subst, add-one}
 use Rattle.i86.specs.declared.Instr86.{Instr86}
 use Rattle.i86.specs.Enc86.{enc86}
 use Rattle.i86.specs.Code.{HasBytes}
-use Rattle.i86.specs.Decode.{IsPrefix, IsPrefixFree, IsTheOne, IsDecoded, IsDecodedAt}
-use Rattle.i86.specs.Decoder.{decoded}
+use Rattle.i86.specs.Decode.{IsPrefix, IsPrefixFree, IsDecoded, IsDecodedAt}
 use Rattle.i86.proofs.Readers.{complete}
 
 -- one place on, behind one more byte

@@ -1,11 +1,12 @@
 -- What is decoded at a place is what stands there, and nothing else stands there.
-use Rattle.std.proofs.Common.{◌≡◌, ℕ, zero, suc, ◌+◌, ◌*◌, ◌/◌, ◌%◌, ◌<◌, ◌==◌, Bool, true, false, cond, List, [], ◌∷◌, ◌++◌, length, get_or, Option, Some, None, option_map, slice_get, refl, sym, ap, ◌∙◌, subst, lit<, add-one, arith}
+use Rattle.std.proofs.Common.{◌≡◌, ℕ, zero, suc, ◌+◌, ◌*◌, ◌/◌, ◌%◌, ◌<◌, ◌==◌, Bool, true, false, cond, List, [], ◌∷◌, length, get_or, Option, Some, None, option_map, slice_get, refl, sym, ap, ◌∙◌, subst, lit<, arith}
 use Rattle.std.specs.Prelude.{All}
 use Rattle.std.proofs.lemmas.Option.{get_or_from_slice_get}
+use Rattle.std.proofs.lemmas.Bool.{eqb-true}
 use Rattle.std.proofs.lemmas.Bool.Decides.{nat_tests}
 use Rattle.i86.specs.declared.Reg16.{Reg16}
 use Rattle.i86.specs.declared.Operand8.{Operand8}
-use Rattle.i86.specs.declared.Operand8.TheVariants.{Reg, Mem}
+use Rattle.i86.specs.declared.Operand8.TheVariants.{Mem}
 use Rattle.i86.specs.declared.Operand16.{Operand16}
 use Rattle.i86.specs.declared.Operand16.TheVariants.{Reg as Reg_16, Direct}
 use Rattle.i86.specs.declared.AluOp.{AluOp}
@@ -20,15 +21,12 @@ use Rattle.i86.specs.declared.decoding.FieldsForm.{FieldsForm}
 use Rattle.i86.specs.declared.decoding.FieldsForm.TheVariants.{MovReg8 as FieldsMov8, MovMem8 as FieldsToMem, MovMemNum as FieldsMemNum, MovReg16 as FieldsMov16, MovDirect16 as FieldsToDirect, Alu as FieldsAlu, Add16 as FieldsAdd16, Count8 as FieldsCount8, Xchg8 as FieldsXchg8, Xchg16 as FieldsXchg16, Rotate8 as FieldsRotate8, Rotate16 as FieldsRotate16, Not8 as FieldsNot8}
 use Rattle.i86.specs.declared.decoding.Form.{Form}
 use Rattle.i86.specs.declared.decoding.Form.TheVariants.{Alone, Fixed, Byte, Word, Fields}
-use Rattle.i86.specs.Enc86.{code8, code16, reg_of_stack, code_of_ptr, code_of_alu, code_of_count, code_of_rotate, code_of_jump, two, one, with_operand, word_then, enc86}
+use Rattle.i86.specs.Enc86.{code8, code16, reg_of_stack, code_of_ptr, code_of_alu, code_of_count, code_of_rotate, two, one, with_operand, word_then, enc86}
 use Rattle.i86.specs.Code.{HasBytes, Reads}
 use Rattle.i86.specs.Decode.{IsOnlyReader, HasOneReader, IsDecodedAt}
 use Rattle.i86.specs.Decoder.{look, then_opt, regs8, regs16, counts, rotates, reg8_at, reg16_at, ptr_at, operand8_at, direct_at, operand16_at, or_cl_cl, of_two, with_fields, with_byte, with_word, word_from, form_of, by_form, by_first, decoded}
 use Rattle.i86.proofs.Tables.{code_of_reg8, code_of_reg16, code_of_found_count, code_of_found_rotate, reg8_found, reg16_found, ptr_found, count_found, rotate_found, code8_small, code16_small, ptr_small, count_small, rotate_small, byte_opcode, word_opcode, fields_opcode, byte_form, word_form, fields_form, count_form, push_form, pop_form, Says, form_says}
 use Rattle.i86.proofs.Operands.{fields, mode_of, reg_of, rm_of, parts, if_then, of_map, of_both, both_found, reg8_at_is, reg16_at_is, ptr_at_is, direct_at_is, operand8_at_is, Names, operand16_at_is, mode_of_operand, rm_of_operand, operand8_fields, operand8_mode_small, operand8_rm_small, operand8_found}
-
-same : (a b : ℕ) → (a == b) ≡ true → a ≡ b
-same a b h = grind (arith, nat_tests)
 
 word_parts : (w : ℕ) → 256 * (w / 256) + w % 256 ≡ w
 word_parts w = omega arith
@@ -182,9 +180,9 @@ module _ (code : List ℕ) (at : ℕ) where
         (λ t f. if_then (reg == 1) (cond (rm == 1) (Some OrClCl) None) j (HasAt j) f
         (λ u f. if_then (rm == 1) (Some OrClCl) j (HasAt j) f
         (λ v f.
-        let a : mode ≡ 3 = same mode 3 t in
-        let b : reg ≡ 1 = same reg 1 u in
-        let c : rm ≡ 1 = same rm 1 v in
+        let a : mode ≡ 3 = eqb-true mode 3 t in
+        let b : reg ≡ 1 = eqb-true reg 1 u in
+        let c : rm ≡ 1 = eqb-true rm 1 v in
         let m : fields mode reg rm ≡ 0xC9 = omega arith in
         let is : OrClCl ≡ j = cc in
         subst HasAt is (h, (g ∙ ap Some m, tt)))))
@@ -206,7 +204,7 @@ module _ (code : List ℕ) (at : ℕ) where
     fields_has FieldsMemNum mode reg rm j h g e =
         if_then (reg == 0) (of_two MovMemNum (ptr_at mode rm) y) j (HasAt j) e
         (λ t f. of_both MovMemNum (ptr_at mode rm) y j HasAt f
-        (λ p n ep en. (h, (g ∙ ap Some (ptr_at_is mode reg rm p ep ∙ ap (λ k. one k (code_of_ptr p)) (same reg 0 t)), (third ∙ en, tt)))))
+        (λ p n ep en. (h, (g ∙ ap Some (ptr_at_is mode reg rm p ep ∙ ap (λ k. one k (code_of_ptr p)) (eqb-true reg 0 t)), (third ∙ en, tt)))))
     fields_has FieldsMov16 mode reg rm j h g e =
         of_both MovReg16 (look regs16 reg) (operand16_at mode rm (word_from y z)) j HasAt e
         (λ r o er eo. mov16_has (fields mode reg rm) r o h g (subst (λ k. Names k o (fields mode reg rm) (word_from y z)) (code_of_reg16 reg r er) (operand16_at_is mode reg rm o (word_from y z) eo)))
@@ -218,7 +216,7 @@ module _ (code : List ℕ) (at : ℕ) where
         by_test : (b : Bool) → (reg == 0) ≡ b → cond b (option_map (Alu op) (operand8_at mode rm)) (or_cl_cl op mode reg rm) ≡ Some j → HasAt j
         by_test true t f =
             of_map (Alu op) (operand8_at mode rm) j HasAt f
-            (λ o eo. has_two (8 * code_of_alu op + 2) (fields mode reg rm) (with_operand 0 o) h g (operand8_at_is mode reg rm o eo ∙ ap (λ k. with_operand k o) (same reg 0 t)))
+            (λ o eo. has_two (8 * code_of_alu op + 2) (fields mode reg rm) (with_operand 0 o) h g (operand8_at_is mode reg rm o eo ∙ ap (λ k. with_operand k o) (eqb-true reg 0 t)))
         by_test false t f = or_cl_has op mode reg rm j h g f
     fields_has FieldsAdd16 mode reg rm j h g e =
         of_both Add16 (look regs16 reg) (reg16_at mode rm) j HasAt e
@@ -241,7 +239,7 @@ module _ (code : List ℕ) (at : ℕ) where
     fields_has FieldsNot8 mode reg rm j h g e =
         if_then (reg == 2) (option_map Not8 (reg8_at mode rm)) j (HasAt j) e
         (λ t f. of_map Not8 (reg8_at mode rm) j HasAt f
-        (λ r er. has_two 0xF6 (fields mode reg rm) (two 2 (code8 r)) h g (reg8_at_is mode reg rm r er ∙ ap (λ k. two k (code8 r)) (same reg 2 t))))
+        (λ r er. has_two 0xF6 (fields mode reg rm) (two 2 (code8 r)) h g (reg8_at_is mode reg rm r er ∙ ap (λ k. two k (code8 r)) (eqb-true reg 2 t))))
 
     form_has : (b : ℕ) (f : Form) (o : Option ℕ) (j : Instr86) → slice_get code at ≡ Some b → Says b f → x ≡ o → by_form (Some f) o y z ≡ Some j → HasAt j
     form_has b (Alone i) o j h s g e =
@@ -250,7 +248,7 @@ module _ (code : List ℕ) (at : ℕ) where
     form_has b (Fixed c i) None j h s g e = absurd (cc)
     form_has b (Fixed c i) (Some m) j h s g e =
         if_then (m == c) (Some i) j (HasAt j) e
-        (λ t f. let is : i ≡ j = cc in subst HasAt is (subst (HasBytes code at) (sym s) (has_two b m c h g (same m c t))))
+        (λ t f. let is : i ≡ j = cc in subst HasAt is (subst (HasBytes code at) (sym s) (has_two b m c h g (eqb-true m c t))))
     form_has b (Byte f) o j h s g e =
         of_map (with_byte f) o j HasAt e
         (λ n en. subst (HasBytes code at) (sym (byte_encoding f n)) (h ∙ ap Some s, (g ∙ en, tt)))

@@ -1,5 +1,6 @@
 -- The tables of registers, operations and first bytes: what stands under a number, and under which number it stands.
-use Rattle.std.proofs.Common.{◌≡◌, ℕ, zero, suc, ◌+◌, ◌*◌, ◌/◌, ◌%◌, ◌<◌, ◌==◌, Bool, true, false, ◌&&◌, cond, List, [], ◌∷◌, Option, Some, None, refl, sym, ap, ◌∙◌, subst, lit<, arith}
+use Rattle.std.proofs.Common.{◌≡◌, ℕ, ◌+◌, ◌*◌, ◌<◌, ◌==◌, Bool, true, false, ◌&&◌, cond, List, [], ◌∷◌, Option, Some, None, refl, sym, ap, subst, lit<, arith}
+use Rattle.std.proofs.lemmas.Bool.{eqb-true, and_parts, agree_below_at}
 use Rattle.std.proofs.lemmas.Bool.Decides.{nat_tests}
 use Rattle.i86.specs.declared.Reg8.{Reg8}
 use Rattle.i86.specs.declared.Reg8.TheVariants.{Al, Cl, Dl, Bl, Ah, Ch, Dh, Bh}
@@ -17,8 +18,7 @@ use Rattle.i86.specs.declared.Rotate.{Rotate}
 use Rattle.i86.specs.declared.Rotate.TheVariants.{Rol, Ror, Rcl, Rcr}
 use Rattle.i86.specs.declared.Jump.{Jump}
 use Rattle.i86.specs.declared.Jump.TheVariants.{Jb, Jnb, Jz, Jnz, Js, Jns, Jp, Jnp}
-use Rattle.i86.specs.declared.Instr86.{Instr86}
-use Rattle.i86.specs.declared.Instr86.TheVariants.{MovReg8, MovMem8, MovAlDirect, MovDirectAl, MovNum8, MovNum16, MovMemNum, MovReg16, MovDirect16, MovAxDs, MovSsAx, Alu, AluNum, OrClCl, Add16, Count8, Count16, Push, Pop, Xchg8, Xchg16, Rotate8, Rotate16, Not8, Daa, Sahf, Lahf, Cmc, Stc, Nop, Jcc, JmpNear, JmpShort, JmpBx, CallNear, Ret, Int224}
+use Rattle.i86.specs.declared.Instr86.TheVariants.{Count16, Push, Pop}
 use Rattle.i86.specs.declared.decoding.ByteForm.{ByteForm}
 use Rattle.i86.specs.declared.decoding.ByteForm.TheVariants.{MovNum8 as ByteMov, AluNum as ByteAlu, Jcc as ByteJcc, JmpShort as ByteJmp}
 use Rattle.i86.specs.declared.decoding.WordForm.{WordForm}
@@ -235,42 +235,16 @@ begins b (Some (Byte f)) = byte_opcode f == b
 begins b (Some (Word f)) = word_opcode f == b
 begins b (Some (Fields f)) = fields_opcode f == b
 
-abbrev all_below : ℕ → (ℕ → Bool) → Bool
-all_below zero p = true
-all_below (suc n) p = p n && all_below n p
-
-both : (a b : Bool) → (a && b) ≡ true → (a ≡ true) × (b ≡ true)
-both true true h = (refl, refl)
-both true false h = absurd (cc)
-both false b h = absurd (cc)
-
-below : (n k : ℕ) (p : ℕ → Bool) → all_below n p ≡ true → k < n → p k ≡ true
-below zero k p h lt = absurd (omega arith)
-below (suc n) k p h lt = by_test (k == n) refl (below n k p (both (p n) (all_below n p) h).1)
-  where
-    by_test : (b : Bool) → (k == n) ≡ b → (k < n → p k ≡ true) → p k ≡ true
-    by_test true e rec =
-        let here : n ≡ k = grind (arith, nat_tests) in
-        subst (λ m. p m ≡ true) here (both (p n) (all_below n p) h).0
-    by_test false e rec = rec (grind (arith, nat_tests))
-
--- the test of the whole table, which the checker computes
-begins_everywhere : all_below 256 (λ b. begins b (form_of b)) ≡ true
-begins_everywhere = refl
-
-same : (a b : ℕ) → (a == b) ≡ true → a ≡ b
-same a b h = grind (arith, nat_tests)
-
 byte_is : (b : ℕ) (bytes : List ℕ) → is_byte b bytes ≡ true → bytes ≡ b ∷ []
 byte_is b [] h = absurd (cc)
-byte_is b (x ∷ []) h = ap (λ y. y ∷ []) (same x b h)
+byte_is b (x ∷ []) h = ap (λ y. y ∷ []) (eqb-true x b h)
 byte_is b (x ∷ (y ∷ rest)) h = absurd (cc)
 
 bytes_are : (b c : ℕ) (bytes : List ℕ) → are_bytes b c bytes ≡ true → bytes ≡ b ∷ (c ∷ [])
 bytes_are b c [] h = absurd (cc)
 bytes_are b c (x ∷ bytes) h =
-    let parts = both (x == b) (is_byte c bytes) h in
-    let first : x ≡ b = same x b parts.0 in
+    let parts = and_parts (x == b) (is_byte c bytes) h in
+    let first : x ≡ b = eqb-true x b parts.0 in
     let rest : bytes ≡ c ∷ [] = byte_is c bytes parts.1 in
     cc
 
@@ -285,9 +259,10 @@ Says b (Fields f) = b ≡ fields_opcode f
 begins_says : (b : ℕ) (f : Form) → begins b (Some f) ≡ true → Says b f
 begins_says b (Alone i) h = byte_is b (enc86 i) h
 begins_says b (Fixed c i) h = bytes_are b c (enc86 i) h
-begins_says b (Byte f) h = sym (same (byte_opcode f) b h)
-begins_says b (Word f) h = sym (same (word_opcode f) b h)
-begins_says b (Fields f) h = sym (same (fields_opcode f) b h)
+begins_says b (Byte f) h = sym (eqb-true (byte_opcode f) b h)
+begins_says b (Word f) h = sym (eqb-true (word_opcode f) b h)
+begins_says b (Fields f) h = sym (eqb-true (fields_opcode f) b h)
 
+-- at each of the 256 first bytes, by a test of the whole table that the checker computes
 pub form_says : (b : ℕ) (f : Form) → b < 256 → form_of b ≡ Some f → Says b f
-form_says b f lt h = begins_says b f (subst (λ o. begins b o ≡ true) h (below 256 b (λ n. begins n (form_of n)) begins_everywhere lt))
+form_says b f lt h = begins_says b f (subst (λ o. begins b o ≡ true) h (agree_below_at (λ n. begins n (form_of n)) (λ _. true) 256 b refl lt))

@@ -1,5 +1,5 @@
 -- Instructions in code: an instruction stands where the bytes of its encoding are the code's.
-use Rattle.std.specs.Prelude.{◌≡◌, ℕ, ◌+◌, ◌<◌, ◌↔◌, List, [], ◌∷◌, Option, Some, slice_get}
+use Rattle.std.specs.Prelude.{◌≡◌, ℕ, ◌+◌, ◌↔◌, List, [], ◌∷◌, Option, Some, slice_get}
 use Rattle.i86.specs.declared.Instr86.{Instr86}
 use Rattle.i86.specs.Enc86.{enc86}
 

@@ -1,5 +1,6 @@
--- A way from the bytes to the instruction, by which the code decodes. What it finds is proved to be what stands there by the encodings.
-use Rattle.std.specs.Prelude.{ℕ, ◌+◌, ◌*◌, ◌/◌, ◌%◌, ◌==◌, nat_lt, cond, List, [], ◌∷◌, Option, Some, None, option_map, slice_get}
+-- A way from the bytes to the instruction, by which the code decodes. Nobody has to believe it: what it finds is proved to be what stands there
+-- by the encodings, and nothing else (`decode_at`, `code_has_one_reader`).
+use Rattle.std.specs.Prelude.{ℕ, ◌+◌, ◌*◌, ◌/◌, ◌%◌, ◌==◌, nat_le, Bool, ◌&&◌, cond, List, [], ◌∷◌, Option, Some, None, option_map, slice_get}
 use Rattle.i86.specs.declared.Reg8.{Reg8}
 use Rattle.i86.specs.declared.Reg8.TheVariants.{Al, Cl, Dl, Bl, Ah, Ch, Dh, Bh}
 use Rattle.i86.specs.declared.Reg16.{Reg16}
@@ -88,16 +89,19 @@ singles =
     ((0xC3, Alone Ret) ∷ ((0xC6, Fields FieldsMemNum) ∷ ((0xCD, Fixed 0xE0 Int224) ∷ ((0xD0, Fields FieldsRotate8) ∷ ((0xD1, Fields FieldsRotate16) ∷ ((0xE8, Word WordCall) ∷ ((0xE9, Word WordJmp) ∷ ((0xEB, Byte ByteJmp) ∷
     ((0xF5, Alone Cmc) ∷ ((0xF6, Fields FieldsNot8) ∷ ((0xF9, Alone Stc) ∷ ((0xFE, Fields FieldsCount8) ∷ ((0xFF, Fixed 0xE3 JmpBx) ∷ [])))))))))))))))))))))))))
 
+-- a first byte from one to another
+abbrev pub is_from : ℕ → ℕ → ℕ → Bool
+is_from low high first = nat_le low first && nat_le first high
+
 -- the form that a first byte says
 abbrev pub form_of : ℕ → Option Form
 form_of first =
-    cond (nat_lt (first / 8) 8) (arithmetic (first / 8) (first % 8))
-    (cond (nat_lt (first / 8) 12) (on_word (first / 8) (first % 8))
-    (cond (first / 8 == 14) (option_map (λ j. Byte (ByteJcc j)) (look jumps (first % 16)))
-    (cond (first / 8 == 15) (option_map (λ j. Byte (ByteJcc j)) (look jumps (first % 16)))
-    (cond (first / 8 == 22) (option_map (λ r. Byte (ByteMov r)) (look regs8 (first % 8)))
-    (cond (first / 8 == 23) (option_map (λ r. Word (WordMov r)) (look regs16 (first % 8)))
-    (look singles first))))))
+    cond (is_from 0x00 0x3F first) (arithmetic (first / 8) (first % 8))
+    (cond (is_from 0x40 0x5F first) (on_word (first / 8) (first % 8))
+    (cond (is_from 0x70 0x7F first) (option_map (λ j. Byte (ByteJcc j)) (look jumps (first % 16)))
+    (cond (is_from 0xB0 0xB7 first) (option_map (λ r. Byte (ByteMov r)) (look regs8 (first % 8)))
+    (cond (is_from 0xB8 0xBF first) (option_map (λ r. Word (WordMov r)) (look regs16 (first % 8)))
+    (look singles first)))))
 
 -- the operands that the fields mod and rm name
 abbrev pub reg8_at : ℕ → ℕ → Option Reg8

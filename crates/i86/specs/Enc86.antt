@@ -10,7 +10,6 @@ use Rattle.i86.specs.declared.Ptr.{Ptr}
 use Rattle.i86.specs.declared.Ptr.TheVariants.{Bx as PtrBx, Si as PtrSi}
 use Rattle.i86.specs.declared.Operand8.{Operand8}
 use Rattle.i86.specs.declared.Operand8.TheVariants.{Reg, Mem}
-use Rattle.i86.specs.declared.Operand16.{Operand16}
 use Rattle.i86.specs.declared.Operand16.TheVariants.{Reg as Reg_16, Direct}
 use Rattle.i86.specs.declared.AluOp.{AluOp}
 use Rattle.i86.specs.declared.AluOp.TheVariants.{Add, Or, Adc, Sbb, And, Sub, Xor, Cmp}

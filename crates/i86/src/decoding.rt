@@ -65,7 +65,7 @@ pub fn decode(bytes: &[u8]) -> Option<(Instr86, u8)>
     decode_at(bytes, 0)
 }
 
-/// The instruction that stands at an offset of the code, and its number of bytes. It does not go on at offset 0 past the code's end.
+/// The instruction that stands at an offset of the code, and its number of bytes. Past the code's end nothing is read: fetching does not wrap.
 pub fn decode_at(code: &[u8], at: u16) -> Option<(Instr86, u8)>
     ensures stands { IsDecodedAt code.now at result }
     ensures decoded { option_map (λ d. d.0) result ≡ decoded code.now at }
@@ -77,11 +77,12 @@ pub fn decode_at(code: &[u8], at: u16) -> Option<(Instr86, u8)>
     }
 }
 
-/// A law: for any code of bytes there is one reading of it, as its definition asks.
+/// A law: each code of bytes has a reader, which gives at each offset the instruction that stands there, and only one.
 pub fn code_has_one_reader()
     ensures { HasOneReader }
 {}
 
+// The instruction at an offset.
 #[tactic(auto, unfolding(crate::specs::Decoder::decoded))]
 fn instruction_at(code: &[u8], at: usize) -> Option<Instr86>
     requires { at < 65536 }
@@ -126,16 +127,16 @@ fn word_from(low: Option<u8>, high: Option<u8>) -> Option<u16>
     Some(256 * high? as u16 + low as u16)
 }
 
+// What a first byte says, if an instruction begins with it.
 fn form_of(first: u8) -> Option<Form>
     ensures { result ≡ form_of first }
 {
-    let high = first / 8;
-    match high {
-        0..=7 => arithmetic(high, first % 8),
-        8..=11 => on_word(high, first % 8),
-        14 | 15 => Some(Form::Byte(ByteForm::Jcc(jump(first % 16)?))),
-        22 => Some(Form::Byte(ByteForm::MovNum8(reg8(first % 8)?))),
-        23 => Some(Form::Word(WordForm::MovNum16(reg16(first % 8)?))),
+    match first {
+        0x00..=0x3F => arithmetic(first / 8, first % 8),
+        0x40..=0x5F => on_word(first / 8, first % 8),
+        0x70..=0x7F => Some(Form::Byte(ByteForm::Jcc(jump(first % 16)?))),
+        0xB0..=0xB7 => Some(Form::Byte(ByteForm::MovNum8(reg8(first % 8)?))),
+        0xB8..=0xBF => Some(Form::Word(WordForm::MovNum16(reg16(first % 8)?))),
         _ => single(first),
     }
 }

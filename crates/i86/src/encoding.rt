@@ -65,12 +65,12 @@ impl Code {
         Code::of_three(first, low(word), high(word))
     }
 
-    // An opcode, the byte of the fields and a word.
-    fn with_fields_and_word(first: u8, fields: u8, word: u16) -> Code
-        ensures { result ≡ first ∷ (fields ∷ word_then word []) }
+    // An opcode, the byte of the fields of a word register and a direct address, mod 00 and rm 110, and the address.
+    fn with_direct(first: u8, reg: Reg16, address: u16) -> Code
+        ensures { result ≡ first ∷ (one (code16 reg) 6 ∷ word_then address []) }
     {
         Code {
-            bytes: [first, fields, low(word), high(word), 0, 0],
+            bytes: [first, 8 * reg.code() + 6, low(address), high(address), 0, 0],
             count: 4,
         }
     }
@@ -81,7 +81,7 @@ pub fn encode(i: Instr86) -> Code
     ensures { result ≡ enc86 i }
 {
     match i {
-        Instr86::MovReg8(reg, operand) => Code::of_two(0x8A, operand_fields(reg.code(), operand)),
+        Instr86::MovReg8(reg, operand) => Code::of_two(0x8A, with_operand(reg.code(), operand)),
         Instr86::MovMem8(ptr, reg) => Code::of_two(0x88, 8 * reg.code() + ptr.code()),
         Instr86::MovAlDirect(address) => Code::with_word(0xA0, address),
         Instr86::MovDirectAl(address) => Code::with_word(0xA2, address),
@@ -89,29 +89,19 @@ pub fn encode(i: Instr86) -> Code
         Instr86::MovNum16(reg, word) => Code::with_word(0xB8 + reg.code(), word),
         Instr86::MovMemNum(ptr, n) => Code::of_three(0xC6, ptr.code(), n),
         Instr86::MovReg16(reg, operand) => mov16(reg, operand),
-        Instr86::MovDirect16(address, reg) => Code::with_fields_and_word(
-            0x89,
-            direct_fields(reg),
-            address,
-        ),
+        Instr86::MovDirect16(address, reg) => Code::with_direct(0x89, reg, address),
         Instr86::MovAxDs => Code::of_two(0x8C, 0xD8),
         Instr86::MovSsAx => Code::of_two(0x8E, 0xD0),
-        Instr86::Alu(op, operand) => Code::of_two(8 * op.code() + 2, operand_fields(0, operand)),
+        Instr86::Alu(op, operand) => Code::of_two(8 * op.code() + 2, with_operand(0, operand)),
         Instr86::AluNum(op, n) => Code::of_two(8 * op.code() + 4, n),
         Instr86::OrClCl => Code::of_two(0x0A, 0xC9),
         Instr86::Add16(to, from) => Code::of_two(0x03, registers(to.code(), from.code())),
-        Instr86::Count8(count, operand) => Code::of_two(
-            0xFE,
-            operand_fields(count.code(), operand),
-        ),
+        Instr86::Count8(count, operand) => Code::of_two(0xFE, with_operand(count.code(), operand)),
         Instr86::Count16(count, reg) => Code::of_one(0x40 + 8 * count.code() + reg.code()),
         Instr86::Push(reg) => Code::of_one(0x50 + reg.code()),
         Instr86::Pop(reg) => Code::of_one(0x58 + reg.code()),
-        Instr86::Xchg8(first, second) => Code::of_two(0x86, registers(first.code(), second.code())),
-        Instr86::Xchg16(first, second) => Code::of_two(
-            0x87,
-            registers(first.code(), second.code()),
-        ),
+        Instr86::Xchg8(to, from) => Code::of_two(0x86, registers(to.code(), from.code())),
+        Instr86::Xchg16(to, from) => Code::of_two(0x87, registers(to.code(), from.code())),
         Instr86::Rotate8(rotate, reg) => Code::of_two(0xD0, registers(rotate.code(), reg.code())),
         Instr86::Rotate16(rotate, reg) => Code::of_two(0xD1, registers(rotate.code(), reg.code())),
         Instr86::Not8(reg) => Code::of_two(0xF6, registers(2, reg.code())),
@@ -137,7 +127,7 @@ fn mov16(to: Reg16, from: Operand16) -> Code
 {
     match from {
         Operand16::Reg(reg) => Code::of_two(0x8B, registers(to.code(), reg.code())),
-        Operand16::Direct(address) => Code::with_fields_and_word(0x8B, direct_fields(to), address),
+        Operand16::Direct(address) => Code::with_direct(0x8B, to, address),
     }
 }
 
@@ -159,7 +149,7 @@ fn registers(reg: u8, rm: u8) -> u8
 }
 
 // The byte of the fields of a register and a byte operand.
-fn operand_fields(reg: u8, operand: Operand8) -> u8
+fn with_operand(reg: u8, operand: Operand8) -> u8
     requires { reg < 8 }
     ensures { result ≡ with_operand reg operand }
 {
@@ -167,13 +157,6 @@ fn operand_fields(reg: u8, operand: Operand8) -> u8
         Operand8::Reg(rm) => registers(reg, rm.code()),
         Operand8::Mem(ptr) => 8 * reg + ptr.code(),
     }
-}
-
-// The byte of the fields of a word register and a direct address: mod 00, rm 110.
-fn direct_fields(reg: Reg16) -> u8
-    ensures { result ≡ one (code16 reg) 6 }
-{
-    8 * reg.code() + 6
 }
 
 impl Reg8 {

@@ -118,9 +118,13 @@ label_text (User a) = codes "U" ++ four_digits a
 label_text Sys = codes "X_SYS"
 label_text End = codes "X_END"
 
+-- OFFSET and a label
+abbrev pub offset_text : Label → List ℕ
+offset_text l = codes "OFFSET " ++ label_text l
+
 abbrev pub value_text : Value16 → List ℕ
 value_text (Num w) = word_text w
-value_text (Offset l) = codes "OFFSET " ++ label_text l
+value_text (Offset l) = offset_text l
 
 -- a line of a word alone, and of a word with one operand or two
 abbrev pub alone : List ℕ → List ℕ
@@ -182,7 +186,7 @@ line_of (Db n) = with_one (codes "DB") (byte_text n)
 line_of (Dw v) = with_one (codes "DW") (value_text v)
 line_of (Mark l) = label_text l ++ codes ":\r\n"
 line_of (Run i) = instr_line i
-line_of (MovOffset r l) = with_two (codes "MOV") (reg16_text r) (codes "OFFSET " ++ label_text l)
+line_of (MovOffset r l) = with_two (codes "MOV") (reg16_text r) (offset_text l)
 line_of (Jmp l) = with_one (codes "JMP") (label_text l)
 line_of (Jmps l) = with_one (codes "JMPS") (label_text l)
 line_of (JccTo j l) = with_one (jump_text j) (label_text l)

@@ -2,3 +2,15 @@
 #![tactic(auto)]
 
 pub mod line;
+mod line_text;
+mod operands;
+mod size;
+mod write;
+
+pub use line::{Jump, Label, Line86, Stmt86, Value16};
+pub use line_text::LineText;
+pub use size::code_size;
+pub use write::write_line;
+
+#[cfg(test)]
+mod tests;

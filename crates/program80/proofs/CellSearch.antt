@@ -52,3 +52,16 @@ module _ (xs : List Placed) (cs : List (ℕ × Cell)) (from limit a : ℕ) (laid
     | inl before ↦ let below : (get_or cs j d).0 < a = ranked _ a _ (sym ((found comparisons_rise).0 j d (omega arith) before)) in omega arith
     | inr past ↦ let above : a < (get_or cs j d).0 = ranked _ a _ (sym ((found comparisons_rise).1 j d past lt)) in omega arith
   ])
+
+-- each is within the area, and there are no more of them than addresses
+pub cell_at-laid : (xs : List Placed) (cs : List (ℕ × Cell)) (from limit k : ℕ) (d : ℕ × Cell) → CellsAreLaid xs from limit cs → k < length cs → (from ≤ (get_or cs k d).0) × ((get_or cs k d).0 < limit)
+cell_at-laid xs [] from limit k d laid lt = absurd (omega arith)
+cell_at-laid xs (c ∷ cs) from limit zero d laid lt = (laid.0, laid.1)
+cell_at-laid xs (c ∷ cs) from limit (suc k) d laid lt =
+    let rest = cell_at-laid xs cs (c.0 + 1) limit k d laid.3 (omega arith) in
+    (omega (arith, laid.0, rest.0), rest.1)
+
+pub length-cells : (xs : List Placed) (cs : List (ℕ × Cell)) (from limit : ℕ) → CellsAreLaid xs from limit cs → from ≤ limit → from + length cs ≤ limit
+length-cells xs [] from limit laid le = omega arith
+length-cells xs (c ∷ cs) from limit laid le =
+    omega (arith, laid.0, length-cells xs cs (c.0 + 1) limit laid.3 (omega (arith, laid.1)))

@@ -9,7 +9,7 @@ use Rattle.i80.specs.declared.Instr80.{Instr80}
 use Rattle.i80.specs.declared.Instr80.TheVariants.{Nop}
 use Rattle.i80.specs.Columns.{length80}
 use Rattle.program80.specs.declared.program.Placed.{Placed}
-use Rattle.program80.specs.Program.{placed_in, or_before, last_from, is_covered, starts_of, IsLast, IsLaid, AreLaid}
+use Rattle.program80.specs.Program.{placed_in, or_before, last_from, is_covered, starts_of, IsLast, IsLaid, AreLaid, is_top}
 
 -- where the first starts past an address, none is the last before it
 pub last_from-none : (xs : List Placed) (a : ℕ) → (0 < length xs → leb (get_or (starts_of xs) 0 0) a ≡ false) → last_from xs a ≡ None
@@ -142,3 +142,13 @@ module _ (xs : List Placed) (from limit a : ℕ) (laid : AreLaid from limit xs) 
         λ none. last_from-none xs a (λ some. let h = above 0 (omega arith) (omega (arith, length-starts xs)) in grind (arith, nat_tests)),
         λ some. record { within = omega (arith, length-starts xs); upto = omega (arith, below (n - 1) (omega arith)); past = λ lt. above (suc (n - 1)) (omega arith) (omega (arith, length-starts xs)) },
       )
+
+-- no more of them than cells
+pub length-laid : (xs : List Placed) (from limit : ℕ) → AreLaid from limit xs → from ≤ limit → from + length xs ≤ limit
+length-laid [] from limit laid le = omega arith
+length-laid (x ∷ xs) from limit laid le =
+    omega (arith, laid.0, length80-positive x.instr, length-laid xs (x.at + length80 x.instr) limit laid.3 laid.1)
+
+-- the tops lie between the lowest and the highest
+pub top_range : (t : ℕ) → is_top t ≡ true → (0x4000 ≤ t) × (t ≤ 0xF000)
+top_range t h = (grind (arith, nat_tests), grind (arith, nat_tests))

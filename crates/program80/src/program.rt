@@ -1,5 +1,5 @@
 // The program that a source stands for.
-ghost use Rattle.std.specs.Prelude.{◌≡◌, ◌+◌, ◌-◌, ◌≤◌, IsTrue, IfOk, IfSome, MatchOption};
+ghost use Rattle.std.specs.Prelude.{◌≡◌, ◌+◌, ◌-◌, ◌<◌, ◌≤◌, length, All, IsTrue, IfOk, IfSome, MatchOption};
 ghost use Rattle.i80.specs.Columns.{length80, is_well_formed};
 
 use cells::Cell;
@@ -153,17 +153,21 @@ impl Program80 {
         &self.starts
     }
 
-    /// The instructions, ascending.
+    /// The instructions, ascending: at most 61,182, as many as there are cells from 100H up and below 0EFFEH.
     pub fn instrs(&self) -> &[Placed]
         ensures value { result.now ≡ self.now.instrs }
+        ensures laid { All (λ x. IsLaid 0x100 (self.now.top - 2) x) result.now }
+        ensures few { length result.now ≤ 61182 }
         ensures program { IsProgram self.now }
     {
         &self.instrs
     }
 
-    /// The data cells, each with its address, ascending.
+    /// The data cells, each with its address, ascending: at most 61,182.
     pub fn cells(&self) -> &[(u16, Cell)]
         ensures value { result.now ≡ self.now.cells }
+        ensures laid { All (λ c. (0x100 ≤ c.0) × (c.0 + 2 < self.now.top)) result.now }
+        ensures few { length result.now ≤ 61182 }
         ensures program { IsProgram self.now }
     {
         &self.cells

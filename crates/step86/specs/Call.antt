@@ -7,7 +7,8 @@ use Rattle.dialogue.specs.declared.request.Request.{Request}
 use Rattle.dialogue.specs.declared.request.Reply.{Reply}
 use Rattle.dialogue.specs.declared.request.Event.{Event}
 use Rattle.dialogue.specs.declared.request.Event.TheVariants.{Call, End}
-use Rattle.dialogue.specs.Table.{AnswerKind, NoAnswer, ByteAnswer, WordAnswer}
+use Rattle.dialogue.specs.declared.table.AnswerKind.{AnswerKind}
+use Rattle.dialogue.specs.declared.table.AnswerKind.TheVariants.{NoAnswer, ByteAnswer, WordAnswer}
 use Rattle.dialogue.specs.Shape.{Seen, shape_of, request_of}
 use Rattle.dialogue.specs.Fits.{answer_of, dma_after}
 use Rattle.machine.specs.Run.{Answer, Asks, Ends, Stops}

@@ -1,2 +1,17 @@
 // The 8086 statements that stand for each 8080 instruction, and the whole text of a program.
 #![tactic(auto)]
+
+mod frame;
+mod operands;
+mod plain;
+mod rows;
+mod sequence;
+mod text;
+
+pub use frame::{prologue, runtime};
+pub use plain::plain_text;
+pub use rows::template;
+pub use sequence::Sequence;
+
+#[cfg(test)]
+mod tests;

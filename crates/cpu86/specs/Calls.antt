@@ -1,0 +1,60 @@
+-- What the calls of a machine answer and leave.
+use Rattle.std.specs.Prelude.{◌≡◌, ℕ, Bool, true, false, cond, Option, Some, None}
+use Rattle.i86.specs.declared.Instr86.{Instr86}
+use Rattle.dialogue.specs.declared.request.Event.{Event}
+use Rattle.dialogue.specs.declared.request.Event.TheVariants.{Call, End}
+use Rattle.dialogue.specs.declared.request.Reply.{Reply}
+use Rattle.machine.specs.Run.{Answer, Ran, Asks, Ends, Stops, answers}
+use Rattle.step86.specs.State.{State86}
+use Rattle.step86.specs.Call.{Stop, NoInstruction, StackSegment, OddCall, replied86}
+use Rattle.step86.specs.Step.{step86}
+use Rattle.cpu86.specs.declared.machine.Step86.{Step86}
+use Rattle.cpu86.specs.declared.machine.Step86.TheVariants.{Ran as DidRun, Asked, Ended, NoInstruction as HasNone, StackSegment as HasSegment, OddCall as HasOdd}
+use Rattle.cpu86.specs.Standing.{Standing}
+
+abbrev pub stop_of : Stop → Step86
+stop_of (NoInstruction ip) = HasNone ip
+stop_of (StackSegment ip) = HasSegment ip
+stop_of (OddCall function) = HasOdd function
+
+-- one step: what is answered, and how the machine stands after it. A stop changes nothing
+abbrev pub settled : State86 → Answer State86 Stop → Step86 × Standing
+settled s (Ran t) = (DidRun, record { state = t; said = None })
+settled s (Asks e t) = (Asked, record { state = t; said = Some e })
+settled s Ends = (Ended, record { state = s; said = Some End })
+settled s (Stops why) = (stop_of why, record { state = s; said = None })
+
+-- while it asks and after the end a step changes nothing
+abbrev pub stepped_by : (ℕ → Option Instr86) → State86 → ℕ → Option Event → Step86 × Standing
+stepped_by fetch s choice None = settled s (step86 fetch s choice)
+stepped_by fetch s choice (Some (Call q)) = (Asked, record { state = s; said = Some (Call q) })
+stepped_by fetch s choice (Some End) = (Ended, record { state = s; said = Some End })
+
+abbrev pub stepped : (ℕ → Option Instr86) → Standing → ℕ → Step86 × Standing
+stepped fetch x choice = stepped_by fetch x.state choice x.said
+
+-- a reply is taken exactly where the machine asks and the reply fits; else nothing changes
+abbrev pub replied_by : State86 → Reply → ℕ → Option Event → Bool × Standing
+replied_by s y choice None = (false, record { state = s; said = None })
+replied_by s y choice (Some e) =
+    cond (answers e y)
+    (true, record { state = replied86 s e y choice; said = None })
+    (false, record { state = s; said = Some e })
+
+abbrev pub replied : Standing → Reply → ℕ → Bool × Standing
+replied x y choice = replied_by x.state y choice x.said
+
+-- the same by what a step answers, for a machine that has nothing open: what the definition's step is, and how the machine
+-- stands
+abbrev pub IsTold : Answer State86 Stop → Step86 → State86 → Standing → Type 0
+IsTold a DidRun s y = (a ≡ Ran y.state) × (y.said ≡ None)
+IsTold a Asked s y = (e : Event) × ((a ≡ Asks e y.state) × (y.said ≡ Some e))
+IsTold a Ended s y = (a ≡ Ends) × (y ≡ record { state = s; said = Some End })
+IsTold a (HasNone ip) s y = (a ≡ Stops (NoInstruction ip)) × (y ≡ record { state = s; said = None })
+IsTold a (HasSegment ip) s y = (a ≡ Stops (StackSegment ip)) × (y ≡ record { state = s; said = None })
+IsTold a (HasOdd function) s y = (a ≡ Stops (OddCall function)) × (y ≡ record { state = s; said = None })
+
+-- the same by what `reply` answers, for a machine that has said `e` last
+abbrev pub IsTaken : Event → Bool → Reply → ℕ → State86 → Standing → Type 0
+IsTaken e true y choice s z = (answers e y ≡ true) × (z ≡ record { state = replied86 s e y choice; said = None })
+IsTaken e false y choice s z = (answers e y ≡ false) × (z ≡ record { state = s; said = Some e })

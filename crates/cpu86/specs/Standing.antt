@@ -1,0 +1,35 @@
+-- How a machine stands between its calls.
+use Rattle.std.specs.Prelude.{ℕ, List, Option, Some, None}
+use Rattle.dialogue.specs.declared.request.Event.{Event}
+use Rattle.dialogue.specs.declared.request.Event.TheVariants.{Call, End}
+use Rattle.dialogue.specs.declared.request.Request.{Request}
+use Rattle.dialogue.specs.Shape.{request_of}
+use Rattle.step86.specs.State.{State86}
+use Rattle.step86.specs.Call.{seen_by}
+use Rattle.processor86.specs.State.{state_of}
+use Rattle.cpu86.specs.declared.machine.Pending.{Pending}
+use Rattle.cpu86.specs.declared.machine.Pending.TheVariants.{Nothing, Answer, Ending}
+use Rattle.cpu86.specs.declared.machine.Cpu86.{Cpu86}
+
+-- the state, and what the machine has said last if that is still open: a request while it asks, and the end once the program
+-- has ended
+pub record Standing : Type 0 where
+  pub state : State86
+  pub said : Option Event
+
+abbrev pub said_by : Pending → (ℕ → ℕ) → Option Event
+said_by Nothing mem = None
+said_by (Answer shape) mem = Some (Call (request_of shape (seen_by mem)))
+said_by Ending mem = Some End
+
+abbrev pub standing : Cpu86 → Standing
+standing c = record { state = state_of c.processor; said = said_by c.pending (state_of c.processor).mem }
+
+abbrev pub code_of : Cpu86 → List ℕ
+code_of c = c.code.items
+
+-- the request that waits for its reply
+abbrev pub request_in : Option Event → Option Request
+request_in None = None
+request_in (Some (Call q)) = Some q
+request_in (Some End) = None

@@ -1,0 +1,180 @@
+// The machine: code, a processor, and what it has said last.
+ghost use Rattle.std.specs.Prelude.{◌≡◌, ℕ, ◌<◌, Option, Some, Ok, length};
+ghost use Rattle.dialogue.specs.declared.request.Shape.{Shape};
+ghost use Rattle.dialogue.specs.Shape.{shape_of};
+ghost use Rattle.step86.specs.Call.{seen_by};
+ghost use Rattle.step86.specs.Step.{uses_stack};
+ghost use Rattle.processor86.specs.State.{state_of};
+ghost use Rattle.cpu86.specs.declared.machine.Pending.TheVariants.{Answer};
+ghost use Rattle.std.proofs.Props.{props};
+
+use dialogue::blocks::Blocks;
+use dialogue::replies::fits;
+use dialogue::request::{Reply, Request, Shape};
+use dialogue::shape::request_of;
+use i86::{Instr86, decoding::decode_at};
+use processor86::processor::Processor;
+use processor86::system::Interrupt;
+use std::alloc::{AllocError, Global};
+
+/// What a step answers. The stops carry the offset of the instruction, or the function of the call.
+#[derive(Clone, Copy, PartialEq, Eq)]
+pub enum Step86 {
+    /// An instruction ran.
+    Ran,
+    /// The machine waits for the reply to a call of the system.
+    Asked,
+    /// The program has ended.
+    Ended,
+    /// No instruction of the subset stands at this offset of the code.
+    NoInstruction(u16),
+    /// The instruction at this offset uses the stack, and SS is not DS.
+    StackSegment(u16),
+    /// The profile has no such call of this function.
+    OddCall(u8),
+}
+
+/// What a machine has said last, while that is still open.
+#[derive(Clone, Copy)]
+enum Pending {
+    Nothing,
+    /// a call of this shape, which waits for its reply
+    Answer(Shape),
+    Ending,
+}
+
+/// The plain 8086 with its code.
+#[derive(Drop)]
+pub struct Cpu86 {
+    processor: Processor,
+    code: Vec<u8>,
+    pending: Pending,
+    ghost asked: { (shape : Shape) → pending ≡ Answer shape → shape_of (Some processor.registers.cl) (Some processor.registers.dh) (Some processor.registers.dl) processor.dma (seen_by (state_of processor).mem) ≡ Ok shape } by { Prim.hlevel props },
+}
+
+impl Cpu86 {
+    ghost use Rattle.std.specs.Prelude.{None, IfOk, IfSome, Bool};
+    ghost use Rattle.dialogue.specs.declared.request.Event.{Event};
+    ghost use Rattle.dialogue.specs.Lawful.{IsLawful};
+    ghost use Rattle.i86.specs.declared.Instr86.{Instr86};
+    ghost use Rattle.i86.specs.Code.{Reads};
+    ghost use Rattle.step86.specs.Call.{call_system};
+    ghost use Rattle.step86.specs.Step.{step86, act_from};
+    ghost use Rattle.cpu86.specs.Standing.{standing, code_of, request_in};
+    ghost use Rattle.cpu86.specs.Calls.{settled, stepped, replied, IsTold, IsTaken};
+
+    /// One instruction. While the machine asks it answers `Asked`, and after the end `Ended`; these change nothing, nor does a
+    /// stop.
+    pub fn step(&mut self, choice: u128) -> Step86
+        ensures step { (fetch : ℕ → Option Instr86) → Reads (code_of self.old) fetch → (result, standing self.new) ≡ stepped fetch (standing self.old) choice }
+        ensures told { (fetch : ℕ → Option Instr86) → Reads (code_of self.old) fetch → (standing self.old).said ≡ None → IsTold (step86 fetch (standing self.old).state choice) result (standing self.old).state (standing self.new) }
+        ensures code { code_of self.new ≡ code_of self.old }
+    {
+        match self.pending {
+            Pending::Nothing => self.run_one(choice),
+            Pending::Answer(_) => Step86::Asked,
+            Pending::Ending => Step86::Ended,
+        }
+    }
+
+    // One instruction, where nothing is open.
+    fn run_one(&mut self, choice: u128) -> Step86
+        requires { self.old.pending ≡ Pending.Nothing }
+        ensures step { (fetch : ℕ → Option Instr86) → Reads (code_of self.old) fetch → (result, standing self.new) ≡ settled (standing self.old).state (step86 fetch (standing self.old).state choice) }
+        ensures code { code_of self.new ≡ code_of self.old }
+    {
+        let at = self.processor.ip;
+        match decode_at(self.code.as_slice(), at) {
+            None => Step86::NoInstruction(at),
+            Some((instr, length)) => self.act(instr, at.wrapping_add(u16::from(length)), choice),
+        }
+    }
+
+    // An instruction, where nothing is open and the next one stands at `next`.
+    fn act(&mut self, instr: Instr86, next: u16, choice: u128) -> Step86
+        requires { self.old.pending ≡ Pending.Nothing }
+        ensures act { (result, standing self.new) ≡ settled (standing self.old).state (act_from (standing self.old).state.ip instr (record ((standing self.old).state) { ip = next }) choice) }
+        ensures code { code_of self.new ≡ code_of self.old }
+    {
+        let at = self.processor.ip;
+        if uses_stack(instr) && self.processor.ss != self.processor.ds {
+            return Step86::StackSegment(at);
+        }
+        match instr {
+            Instr86::Int224 => self.call_system(next, choice),
+            _ => {
+                self.processor.ip = next;
+                self.processor.execute(instr, choice);
+                Step86::Ran
+            }
+        }
+    }
+
+    // INT 224, where nothing is open and the stack may be used.
+    fn call_system(&mut self, next: u16, choice: u128) -> Step86
+        requires { self.old.pending ≡ Pending.Nothing }
+        ensures call { (result, standing self.new) ≡ settled (standing self.old).state (call_system (record ((standing self.old).state) { ip = next }) choice) }
+        ensures code { code_of self.new ≡ code_of self.old }
+    {
+        match self.processor.interrupt(next, choice) {
+            Interrupt::Ends => {
+                self.pending = Pending::Ending;
+                Step86::Ended
+            }
+            Interrupt::Asks(shape) => {
+                self.pending = Pending::Answer(shape);
+                Step86::Asked
+            }
+            Interrupt::Odd(function) => Step86::OddCall(function),
+        }
+    }
+
+    /// The request that waits for its reply; None where the machine does not ask.
+    pub fn asked(&self, alloc: Global) -> Result<Option<Request>, AllocError>
+        ensures request { IfOk result (λ r. r ≡ request_in (standing self.now).said) }
+        ensures lawful { IfOk result (λ r. IfSome r (λ q. IsLawful q)) }
+    {
+        match self.pending {
+            Pending::Answer(shape) => Ok(Some(request_of(alloc, shape, &self.processor.memory)?)),
+            Pending::Nothing | Pending::Ending => Ok(None),
+        }
+    }
+
+    /// Takes a reply to what was asked. False where the machine does not ask or the reply does not fit; then nothing changes.
+    pub fn reply(&mut self, reply: &Reply, choice: u128) -> bool
+        ensures reply { (result, standing self.new) ≡ replied (standing self.old) reply.now choice }
+        ensures taken { (e : Event) → (standing self.old).said ≡ Some e → IsTaken e result reply.now choice (standing self.old).state (standing self.new) }
+        ensures code { code_of self.new ≡ code_of self.old }
+    {
+        let Pending::Answer(shape) = self.pending else {
+            return false;
+        };
+        let request = Request {
+            shape,
+            blocks: Blocks::from_vec(Vec::new(*self.code.allocator())),
+        };
+        if !fits(&request, reply) {
+            return false;
+        }
+        self.pending = Pending::Nothing;
+        self.processor.take_reply(&request, reply, choice);
+        true
+    }
+
+    /// The offset of the next instruction; while the machine asks, of the one behind the INT, and after the end that of the INT.
+    pub fn ip(&self) -> u16
+        ensures { result ≡ (standing self.now).state.ip }
+    {
+        self.processor.ip
+    }
+}
+
+// Whether an instruction uses the stack.
+fn uses_stack(instr: Instr86) -> bool
+    ensures { result ≡ uses_stack instr }
+{
+    matches!(
+        instr,
+        Instr86::Push(_) | Instr86::Pop(_) | Instr86::CallNear(_) | Instr86::Ret | Instr86::Int224
+    )
+}

@@ -1,0 +1,5 @@
+pub mod FirstProgram
+pub mod Texts
+pub mod Lines
+pub mod Reading
+pub mod Faults

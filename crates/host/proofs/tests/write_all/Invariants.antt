@@ -1,0 +1,13 @@
+use Rattle.std.proofs.Common.{length, ◌-◌, ◌≤◌, take}
+use Rattle.host.specs.Host.{OnlyWrites, Rewrites}
+use Rattle.host.proofs.tests.write_all.Given as goal
+
+abbrev pub invariant-loop-done : goal.invariant-loop-done
+invariant-loop-done g l = record {
+  within : l.done ≤ length l.bytes;
+  only : OnlyWrites (g.H.Host.state l.fn.host) (g.H.Host.state l.host) l.name;
+  bytes : Rewrites (g.H.Host.state l.fn.host) (g.H.Host.state l.host) l.name (take l.done l.bytes);
+}
+
+abbrev pub decreases-loop-done : goal.decreases-loop-done
+decreases-loop-done g l = length l.bytes - l.done

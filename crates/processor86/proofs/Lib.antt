@@ -1,0 +1,3 @@
+pub mod Writes
+pub mod Overlay
+pub mod Calls

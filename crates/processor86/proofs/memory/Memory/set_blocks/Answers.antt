@@ -1,0 +1,10 @@
+use Rattle.std.proofs.Common.{ap, ◌∙◌}
+use Rattle.step86.specs.State.{put_bytes}
+use Rattle.processor86.specs.State.{mem_of}
+use Rattle.processor86.proofs.Writes.{put_blocks_more}
+use Rattle.processor86.proofs.memory.Memory.set_blocks.Goals as goal
+
+pub loop-block-preserved : goal.loop-block-preserved
+loop-block-preserved c =
+    put_blocks_more (mem_of c.loop-block.self) (mem_of c.set_bytes.new.self) c.args.blocks.now c.loop-block.block-index c.block-item.result c.loop-block-test.true c.block-item.is (c.set_bytes.ensures ∙ ap (put_bytes (mem_of c.loop-block.self) c.block-item.result.at) c.as_slice.ensures)
+    ∙ c.loop-block.invariant

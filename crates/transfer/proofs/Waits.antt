@@ -1,0 +1,43 @@
+-- A text of which some first bytes are written and the rest waits.
+use Rattle.std.proofs.Common.{◌≡◌, ℕ, suc, ◌+◌, ◌<◌, List, [], ◌++◌, length, get_or, take, drop, refl, ap, ◌∙◌, sym, inr, append_assoc, add-one}
+use Rattle.std.proofs.Math.Seq.{take-append_seam, drop-cons}
+use Rattle.std.proofs.lemmas.List.{take-append-drop}
+use Rattle.host.specs.Host.{HostState, rewritten, Rewrites}
+use Rattle.lines86.specs.declared.line.Line86.{Line86}
+use Rattle.lines86.specs.Written.{line_of, text_of}
+use Rattle.transfer.specs.Transfer.{extended, IsBeforeOrPrefix}
+use Rattle.transfer.proofs.Extends.{extended-rewritten}
+
+-- the file of this name was rewritten with the bytes of the text in front of those left
+pub record Waits (old new : HostState) (name text left : List ℕ) : Type 0 where
+  pub done : List ℕ
+  pub written : Rewrites old new name done
+  pub whole : done ++ left ≡ text
+
+-- a file that was made empty: all of the text is left
+pub Waits-start : {old new : HostState} {name : List ℕ} (text : List ℕ) → Rewrites old new name [] → Waits old new name text text
+Waits-start text empty = record { done = []; written = empty; whole = refl }
+
+-- some first bytes of those left were added
+pub Waits-more : {old mid : HostState} (new : HostState) {name text : List ℕ} (bytes rest after : List ℕ) (k : ℕ) → Waits old mid name text (bytes ++ rest) → new.file name ≡ extended (mid.file name) (take k bytes) → after ≡ drop k bytes → Waits old new name text (after ++ rest)
+Waits-more {old = old} new {name = name} bytes rest after k w added left = record {
+  done = w.done ++ take k bytes;
+  written = added ∙ ap (λ t. extended t (take k bytes)) w.written ∙ extended-rewritten (old.file name) w.done (take k bytes);
+  whole = append_assoc w.done (take k bytes) (after ++ rest) ∙ ap (λ x. w.done ++ x) (sym (append_assoc (take k bytes) after rest) ∙ ap (λ x. x ++ rest) (ap (λ x. take k bytes ++ x) left ∙ take-append-drop k bytes)) ∙ w.whole;
+}
+
+-- after a fault some first bytes of those left were added: what is written is a prefix of the text
+pub Waits-fault : {old mid : HostState} (new : HostState) {name text : List ℕ} (bytes rest : List ℕ) → Waits old mid name text (bytes ++ rest) → (k : ℕ) × (new.file name ≡ extended (mid.file name) (take k bytes)) → IsBeforeOrPrefix old new name text
+Waits-fault {old = old} new {name = name} bytes rest w added =
+    let after : Waits old new name _ (drop added.0 bytes ++ rest) = Waits-more new bytes rest (drop added.0 bytes) added.0 w added.1 refl in
+    inr (length after.done, after.written ∙ ap (rewritten (old.file name)) (sym (take-append_seam after.done (drop added.0 bytes ++ rest)) ∙ ap (take (length after.done)) after.whole))
+
+-- the line at an index comes next
+pub Waits-line : {old new : HostState} {name text : List ℕ} (piece line : List ℕ) (lines : List Line86) (i : ℕ) (d : Line86) → i < length lines → line ≡ line_of (get_or lines i d).stmt → Waits old new name text (piece ++ text_of (drop i lines)) → Waits old new name text ((piece ++ line) ++ text_of (drop (i + 1) lines))
+Waits-line piece line lines i d within is w =
+    let next : line ++ text_of (drop (i + 1) lines) ≡ text_of (drop i lines) = rw add-one (ap (λ x. x ++ text_of (drop (suc i) lines)) is ∙ sym (ap text_of (drop-cons lines i d within))) in
+    record {
+      done = w.done;
+      written = w.written;
+      whole = ap (λ x. w.done ++ x) (append_assoc piece line (text_of (drop (i + 1) lines)) ∙ ap (λ x. piece ++ x) next) ∙ w.whole;
+    }

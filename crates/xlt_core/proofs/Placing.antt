@@ -1,0 +1,168 @@
+-- Where the templates of a program's instructions stand in its plain text.
+use Rattle.std.proofs.Common.{◌≡◌, ◌≢◌, ℕ, ◌+◌, ◌≤◌, List, [], ◌∷◌, ◌++◌, Option, Some, refl, sym, ap, ◌∙◌, subst, arith, append_assoc, Bool, true, false, cond, ◌==◌}
+use Rattle.std.proofs.lemmas.Bool.Decides.{nat_tests}
+use Rattle.i80.specs.declared.Src.TheVariants.{Reg, Mem}
+use Rattle.i80.specs.declared.StackPair.TheVariants.{B as StackB, D as StackD, H as StackH, Psw}
+use Rattle.i80.specs.declared.Word.TheVariants.{Num, Code}
+use Rattle.i80.specs.declared.Goal.TheVariants.{At, Boot, Bdos}
+use Rattle.i80.specs.declared.Instr80.{Instr80}
+use Rattle.i80.specs.declared.Instr80.TheVariants.{Nop, Mov, Mvi, Lxi, Ldax, Stax, Xthl, Inx, Dcx, Dad, Push, Pop, Jif, Call, Cif, Rif}
+use Rattle.i80.specs.Columns.{length80}
+use Rattle.lines86.specs.declared.line.Label.{Label}
+use Rattle.lines86.specs.declared.line.Label.TheVariants.{At as Line, Skip}
+use Rattle.lines86.specs.declared.line.Stmt86.{Stmt86}
+use Rattle.lines86.specs.Layout.{sizes_of, offset_from, same_label}
+use Rattle.program80.specs.declared.program.Placed.{Placed}
+use Rattle.program80.specs.Program.{placed_in, AreLaid}
+use Rattle.templates.specs.Template.{template}
+use Rattle.templates.specs.Plain.{body}
+use Rattle.xlt_core.proofs.Standing.{StandAll, stand_front, stand_back, MarksNot, offset_past}
+
+pub length80-some : (i : Instr80) → 1 ≤ length80 i
+length80-some Nop = omega arith
+length80-some i = omega arith
+
+-- an instruction of a list that is laid from an address up stands at that address or above it
+pub laid_above : (xs : List Placed) (from limit a : ℕ) (x : Placed) → AreLaid from limit xs → placed_in xs a ≡ Some x → from ≤ a
+laid_above [] from limit a x laid h = absurd (cc)
+laid_above (y ∷ ys) from limit a x laid h = by_test (y.at == a) refl h (laid_above ys (y.at + length80 y.instr) limit a x laid.3)
+  where
+    by_test : (t : Bool) → (y.at == a) ≡ t → cond t (Some y) (placed_in ys a) ≡ Some x → (placed_in ys a ≡ Some x → y.at + length80 y.instr ≤ a) → from ≤ a
+    by_test true e g up = let le = laid.0 in grind (arith, nat_tests)
+    by_test false e g up = let le = up g in let le' = laid.0 in omega (arith, le, le')
+
+-- what is found at an address stands there
+pub found_at : (xs : List Placed) (a : ℕ) (x : Placed) → placed_in xs a ≡ Some x → x.at ≡ a
+found_at [] a x h = absurd (cc)
+found_at (y ∷ ys) a x h = by_test (y.at == a) refl h (found_at ys a x)
+  where
+    by_test : (t : Bool) → (y.at == a) ≡ t → cond t (Some y) (placed_in ys a) ≡ Some x → (placed_in ys a ≡ Some x → x.at ≡ a) → x.at ≡ a
+    by_test true e g rec = let k : y.at ≡ a = grind (arith, nat_tests) in let same : y ≡ x = cc in subst (λ v. v.at ≡ a) same k
+    by_test false e g rec = rec g
+
+-- a template has no label but that past its own condition
+pub template_marks_not : (l : Label) (at : ℕ) → same_label (Skip at) l ≡ false → (i : Instr80) → MarksNot l (template i at true)
+template_marks_not l at h (Mov (Reg r) s) = (refl, tt)
+template_marks_not l at h (Mov Mem (Reg r)) = (refl, tt)
+template_marks_not l at h (Mov Mem Mem) = tt
+template_marks_not l at h (Mvi (Reg r) n) = (refl, tt)
+template_marks_not l at h (Mvi Mem n) = (refl, tt)
+template_marks_not l at h (Lxi p (Num w)) = (refl, tt)
+template_marks_not l at h (Lxi p (Code a)) = (refl, tt)
+template_marks_not l at h (Ldax p) = (refl, (refl, tt))
+template_marks_not l at h (Stax p) = (refl, (refl, tt))
+template_marks_not l at h Xthl = (refl, (refl, (refl, tt)))
+template_marks_not l at h (Inx p) = (refl, (refl, (refl, tt)))
+template_marks_not l at h (Dcx p) = (refl, (refl, (refl, tt)))
+template_marks_not l at h (Dad p) = (refl, (refl, (refl, (refl, (refl, tt)))))
+template_marks_not l at h (Push StackB) = (refl, tt)
+template_marks_not l at h (Push StackD) = (refl, tt)
+template_marks_not l at h (Push StackH) = (refl, tt)
+template_marks_not l at h (Push Psw) = (refl, (refl, (refl, (refl, tt))))
+template_marks_not l at h (Pop StackB) = (refl, tt)
+template_marks_not l at h (Pop StackD) = (refl, tt)
+template_marks_not l at h (Pop StackH) = (refl, tt)
+template_marks_not l at h (Pop Psw) = (refl, (refl, (refl, tt)))
+template_marks_not l at h (Jif c t) = (refl, (refl, (h, tt)))
+template_marks_not l at h (Call (At t)) = (refl, tt)
+template_marks_not l at h (Call Boot) = (refl, tt)
+template_marks_not l at h (Call Bdos) = (refl, tt)
+template_marks_not l at h (Cif c (At t)) = (refl, (refl, (h, tt)))
+template_marks_not l at h (Cif c Boot) = (refl, (refl, (h, tt)))
+template_marks_not l at h (Cif c Bdos) = (refl, (refl, (h, tt)))
+template_marks_not l at h (Rif c) = (refl, (refl, (h, tt)))
+template_marks_not l at h i = (refl, tt)
+
+same_is : (a : ℕ) → (a == a) ≡ true
+same_is a = grind (arith, nat_tests)
+
+not_same : (a b : ℕ) → a ≢ b → (a == b) ≡ false
+not_same a b h = grind (arith, nat_tests)
+
+-- the bytes of an instruction's template
+abbrev pub template_size : Placed → ℕ
+template_size x = sizes_of (template x.instr x.at true)
+
+-- the first instruction's offset
+pub first_offset : (at : ℕ) (x : Placed) (xs : List Placed) (rest : List Stmt86) → offset_from at (body (x ∷ xs) ++ rest) (Line x.at) ≡ Some at
+first_offset at x xs rest = ap (λ t. cond t (Some at) (offset_from (at + 0) (template x.instr x.at true ++ body xs ++ rest) (Line x.at))) (same_is x.at)
+
+-- past the first instruction
+later_offset : (at a : ℕ) (x : Placed) (xs : List Placed) (rest : List Stmt86) → x.at ≢ a → offset_from at (body (x ∷ xs) ++ rest) (Line a) ≡ offset_from (at + template_size x) (body xs ++ rest) (Line a)
+later_offset at a x xs rest ne =
+    ap (λ t. cond t (Some at) (offset_from (at + 0) (template x.instr x.at true ++ body xs ++ rest) (Line a))) (not_same x.at a ne)
+    ∙ ap (λ l. offset_from (at + 0) l (Line a)) (append_assoc (template x.instr x.at true) (body xs) rest)
+    ∙ offset_past (at + 0) (Line a) (template x.instr x.at true) (body xs ++ rest) (template_marks_not (Line a) x.at refl x.instr)
+    ∙ (let e : at + 0 + template_size x ≡ at + template_size x = omega arith in ap (λ n. offset_from n (body xs ++ rest) (Line a)) e)
+
+-- where an instruction's template stands, and that the next instruction's label follows it
+pub record IsPlaced (code : List ℕ) (off : Label → ℕ) (there : Label → Option ℕ) (xs : List Placed) (x : Placed) : Type 0 where
+  pub offset : ℕ
+  pub at : there (Line x.at) ≡ Some offset
+  pub stands : StandAll code off offset (template x.instr x.at true)
+  pub next : (y : Placed) → placed_in xs (x.at + length80 x.instr) ≡ Some y → there (Line (x.at + length80 x.instr)) ≡ Some (offset + template_size x)
+
+-- the label of the instruction right after the first
+next_is : (at limit : ℕ) (x y : Placed) (xs : List Placed) (rest : List Stmt86) → AreLaid (x.at + length80 x.instr) limit xs → placed_in (x ∷ xs) (x.at + length80 x.instr) ≡ Some y → offset_from at (body (x ∷ xs) ++ rest) (Line (x.at + length80 x.instr)) ≡ Some (at + template_size x)
+next_is at limit x y xs rest laid h = by_rest xs laid (sym (ap (λ t. cond t (Some x) (placed_in xs (x.at + length80 x.instr))) (not_same x.at (x.at + length80 x.instr) ne)) ∙ h)
+  where
+    ne : x.at ≢ x.at + length80 x.instr
+    ne = let up = length80-some x.instr in omega (arith, up)
+
+    to : ℕ
+    to = x.at + length80 x.instr
+
+    by_rest : (xs : List Placed) → AreLaid to limit xs → placed_in xs to ≡ Some y → offset_from at (body (x ∷ xs) ++ rest) (Line to) ≡ Some (at + template_size x)
+    by_rest [] laid g = absurd (cc)
+    by_rest (z ∷ zs) laid g = later_offset at to x (z ∷ zs) rest ne ∙ by_test (z.at == to) refl g
+      where
+        by_test : (t : Bool) → (z.at == to) ≡ t → cond t (Some z) (placed_in zs to) ≡ Some y → offset_from (at + template_size x) (body (z ∷ zs) ++ rest) (Line to) ≡ Some (at + template_size x)
+        by_test true e f =
+            let k : z.at ≡ to = grind (arith, nat_tests) in
+            subst (λ n. offset_from (at + template_size x) (body (z ∷ zs) ++ rest) (Line n) ≡ Some (at + template_size x)) k (first_offset (at + template_size x) z zs rest)
+        by_test false e f =
+            let up = laid_above zs (z.at + length80 z.instr) limit to y laid.3 f in
+            let some = length80-some z.instr in
+            let from = laid.0 in
+            absurd (omega (arith, up, some, from))
+
+-- each instruction of a list is placed, where the list's body stands
+pub is_placed : (code : List ℕ) (off : Label → ℕ) (xs : List Placed) (at from limit a : ℕ) (x : Placed) (rest : List Stmt86) → AreLaid from limit xs → StandAll code off at (body xs ++ rest) → placed_in xs a ≡ Some x → IsPlaced code off (offset_from at (body xs ++ rest)) xs x
+is_placed code off [] at from limit a x rest laid st h = absurd (cc)
+is_placed code off (z ∷ zs) at from limit a x rest laid st h =
+    by_test (z.at == a) refl h (λ g. is_placed code off zs (at + template_size z) (z.at + length80 z.instr) limit a x rest laid.3 st_rest g)
+  where
+    st' : StandAll code off at (template z.instr z.at true ++ (body zs ++ rest))
+    st' =
+        let e : at + 0 ≡ at = omega arith in
+        subst (λ l. StandAll code off at l) (append_assoc (template z.instr z.at true) (body zs) rest) (subst (λ n. StandAll code off n (template z.instr z.at true ++ body zs ++ rest)) e st.1)
+
+    st_rest : StandAll code off (at + template_size z) (body zs ++ rest)
+    st_rest = stand_back code off at (template z.instr z.at true) (body zs ++ rest) st'
+
+    here : IsPlaced code off (offset_from at (body (z ∷ zs) ++ rest)) (z ∷ zs) z
+    here = record {
+      offset = at;
+      at = first_offset at z zs rest;
+      stands = stand_front code off at (template z.instr z.at true) (body zs ++ rest) st';
+      next = λ y g. next_is at limit z y zs rest laid.3 g;
+    }
+
+    later : z.at + length80 z.instr ≤ x.at → IsPlaced code off (offset_from (at + template_size z) (body zs ++ rest)) zs x → IsPlaced code off (offset_from at (body (z ∷ zs) ++ rest)) (z ∷ zs) x
+    later le q =
+        let up = length80-some z.instr in
+        let ne : z.at ≢ x.at = omega (arith, up) in
+        let ne' : z.at ≢ x.at + length80 x.instr = omega (arith, up) in
+        record {
+          offset = q.offset;
+          at = later_offset at x.at z zs rest ne ∙ q.at;
+          stands = q.stands;
+          next = λ y g. later_offset at (x.at + length80 x.instr) z zs rest ne' ∙ q.next y (sym (ap (λ t. cond t (Some z) (placed_in zs (x.at + length80 x.instr))) (not_same z.at (x.at + length80 x.instr) ne')) ∙ g);
+        }
+
+    by_test : (t : Bool) → (z.at == a) ≡ t → cond t (Some z) (placed_in zs a) ≡ Some x → (placed_in zs a ≡ Some x → IsPlaced code off (offset_from (at + template_size z) (body zs ++ rest)) zs x) → IsPlaced code off (offset_from at (body (z ∷ zs) ++ rest)) (z ∷ zs) x
+    by_test true e g rec = let f : z ≡ x = cc in subst (λ y. IsPlaced code off (offset_from at (body (z ∷ zs) ++ rest)) (z ∷ zs) y) f here
+    by_test false e g rec =
+        let le = laid_above zs (z.at + length80 z.instr) limit a x laid.3 g in
+        let at_a = found_at zs a x g in
+        later (subst (λ n. z.at + length80 z.instr ≤ n) (sym at_a) le) (rec g)

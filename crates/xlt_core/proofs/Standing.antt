@@ -1,0 +1,110 @@
+-- Which statements stand at which place of a code, and the offsets of their labels.
+use Rattle.std.proofs.Common.{◌≡◌, ℕ, ◌+◌, ◌≤◌, ◌<◌, ⊎_elim, List, [], ◌∷◌, ◌++◌, length, Some, refl, ap, ◌∙◌, subst, arith, append_assoc, length-append, true, false, cond}
+use Rattle.std.proofs.Math.Seq.{get_or-append_seam}
+use Rattle.std.specs.Prelude.{slice_get}
+use Rattle.std.proofs.lemmas.Option.{slice_get-get_or, slice_get_past}
+use Rattle.std.proofs.lemmas.Bool.{cases_lt}
+use Rattle.i86.specs.Code.{HasBytes}
+use Rattle.lines86.specs.declared.line.Label.{Label}
+use Rattle.lines86.specs.declared.line.Stmt86.{Stmt86}
+use Rattle.lines86.specs.declared.line.Stmt86.TheVariants.{Cseg, Dseg, Org, Rb, Db, Dw, Mark, Run, MovOffset, Jmp, Jmps, Jcc as JccTo, Call, EndText}
+use Rattle.lines86.specs.Layout.{size_of, sizes_of, marks, offset_from, bytes_at, code_from}
+
+pub bytes_front : (code : List ℕ) (at : ℕ) (a b : List ℕ) → HasBytes code at (a ++ b) → HasBytes code at a
+bytes_front code at [] b h = tt
+bytes_front code at (x ∷ a) b h = (h.0, bytes_front code (at + 1) a b h.1)
+
+pub bytes_back : (code : List ℕ) (at : ℕ) (a b : List ℕ) → HasBytes code at (a ++ b) → HasBytes code (at + length a) b
+bytes_back code at [] b h = let e : at ≡ at + 0 = omega arith in subst (λ n. HasBytes code n b) e h
+bytes_back code at (x ∷ a) b h =
+    let e : at + 1 + length a ≡ at + length (x ∷ a) = omega arith in
+    subst (λ n. HasBytes code n b) e (bytes_back code (at + 1) a b h.1)
+
+-- bytes after others stand behind them
+pub bytes_all : (bs pre : List ℕ) → HasBytes (pre ++ bs) (length pre) bs
+bytes_all [] pre = tt
+bytes_all (b ∷ bs) pre =
+    let within : length pre < length (pre ++ b ∷ bs) = omega (arith, length-append pre (b ∷ bs)) in
+    let here = slice_get-get_or (pre ++ b ∷ bs) (length pre) b within ∙ ap Some (get_or-append_seam pre b bs b) in
+    let n : length (pre ++ b ∷ []) ≡ length pre + 1 = omega (arith, length-append pre (b ∷ [])) in
+    let rest = bytes_all bs (pre ++ b ∷ []) in
+    let rest' = subst (λ l. HasBytes l (length (pre ++ b ∷ [])) bs) (append_assoc pre (b ∷ []) bs) rest in
+    (here, subst (λ m. HasBytes (pre ++ b ∷ bs) m bs) n rest')
+
+-- these statements stand in the code from this place on
+abbrev pub StandAll : List ℕ → (Label → ℕ) → ℕ → List Stmt86 → Type 0
+StandAll code off at [] = Unit {0}
+StandAll code off at (x ∷ xs) = HasBytes code at (bytes_at off at x) × StandAll code off (at + size_of x) xs
+
+length-bytes_at : (off : Label → ℕ) (at : ℕ) (x : Stmt86) → length (bytes_at off at x) ≡ size_of x
+length-bytes_at off at Cseg = refl
+length-bytes_at off at Dseg = refl
+length-bytes_at off at (Org w) = refl
+length-bytes_at off at (Rb w) = refl
+length-bytes_at off at (Db n) = refl
+length-bytes_at off at (Dw v) = refl
+length-bytes_at off at (Mark l) = refl
+length-bytes_at off at (Run i) = refl
+length-bytes_at off at (MovOffset r l) = refl
+length-bytes_at off at (Jmp l) = refl
+length-bytes_at off at (Jmps l) = refl
+length-bytes_at off at (JccTo j l) = refl
+length-bytes_at off at (Call l) = refl
+length-bytes_at off at EndText = refl
+
+pub stand_all : (code : List ℕ) (off : Label → ℕ) (at : ℕ) (xs : List Stmt86) → HasBytes code at (code_from off at xs) → StandAll code off at xs
+stand_all code off at [] h = tt
+stand_all code off at (x ∷ xs) h =
+    let back = bytes_back code at (bytes_at off at x) (code_from off (at + size_of x) xs) h in
+    (bytes_front code at (bytes_at off at x) _ h, stand_all code off (at + size_of x) xs (subst (λ n. HasBytes code (at + n) (code_from off (at + size_of x) xs)) (length-bytes_at off at x) back))
+
+pub stand_front : (code : List ℕ) (off : Label → ℕ) (at : ℕ) (xs ys : List Stmt86) → StandAll code off at (xs ++ ys) → StandAll code off at xs
+stand_front code off at [] ys h = tt
+stand_front code off at (x ∷ xs) ys h = (h.0, stand_front code off (at + size_of x) xs ys h.1)
+
+pub stand_back : (code : List ℕ) (off : Label → ℕ) (at : ℕ) (xs ys : List Stmt86) → StandAll code off at (xs ++ ys) → StandAll code off (at + sizes_of xs) ys
+stand_back code off at [] ys h = let e : at ≡ at + 0 = omega arith in subst (λ n. StandAll code off n ys) e h
+stand_back code off at (x ∷ xs) ys h =
+    let e : at + size_of x + sizes_of xs ≡ at + (size_of x + sizes_of xs) = omega arith in
+    subst (λ n. StandAll code off n ys) e (stand_back code off (at + size_of x) xs ys h.1)
+
+-- what follows a label stands at its place
+pub past_mark : (code : List ℕ) (off : Label → ℕ) (at : ℕ) (l : Label) (xs : List Stmt86) → StandAll code off at (Mark l ∷ xs) → StandAll code off at xs
+past_mark code off at l xs h = let e : at + 0 ≡ at = omega arith in subst (λ n. StandAll code off n xs) e h.1
+
+-- no statement is this label
+abbrev pub MarksNot : Label → List Stmt86 → Type 0
+MarksNot l [] = Unit {0}
+MarksNot l (x ∷ xs) = (marks l x ≡ false) × MarksNot l xs
+
+pub marks_not-append : (l : Label) (xs ys : List Stmt86) → MarksNot l xs → MarksNot l ys → MarksNot l (xs ++ ys)
+marks_not-append l [] ys h g = g
+marks_not-append l (x ∷ xs) ys h g = (h.0, marks_not-append l xs ys h.1 g)
+
+-- a label that does not stand in a list is looked for behind it
+pub offset_past : (at : ℕ) (l : Label) (xs ys : List Stmt86) → MarksNot l xs → offset_from at (xs ++ ys) l ≡ offset_from (at + sizes_of xs) ys l
+offset_past at l [] ys h = let e : at ≡ at + 0 = omega arith in ap (λ n. offset_from n ys l) e
+offset_past at l (x ∷ xs) ys h =
+    let e : at + size_of x + sizes_of xs ≡ at + (size_of x + sizes_of xs) = omega arith in
+    ap (λ b. cond b (Some at) (offset_from (at + size_of x) (xs ++ ys) l)) h.0 ∙ offset_past (at + size_of x) l xs ys h.1 ∙ ap (λ n. offset_from n ys l) e
+
+-- a label that stands here has this offset
+pub offset_here : (at : ℕ) (l : Label) (x : Stmt86) (xs : List Stmt86) → marks l x ≡ true → offset_from at (x ∷ xs) l ≡ Some at
+offset_here at l x xs h = ap (λ b. cond b (Some at) (offset_from (at + size_of x) xs l)) h
+
+get_within : (code : List ℕ) (at b : ℕ) → slice_get code at ≡ Some b → at < length code
+get_within code at b h = ⊎_elim (λ lt. lt) (λ le. let n = slice_get_past code at le in absurd (cc)) (cases_lt at (length code))
+
+-- what stands in the code is within it
+pub bytes_within : (code : List ℕ) (at b : ℕ) (bs : List ℕ) → HasBytes code at (b ∷ bs) → at + length (b ∷ bs) ≤ length code
+bytes_within code at b [] h = let lt = get_within code at b h.0 in omega (arith, lt)
+bytes_within code at b (c ∷ bs) h =
+    let le = bytes_within code (at + 1) c bs h.1 in omega (arith, le)
+
+pub length-code_from : (off : Label → ℕ) (at : ℕ) (xs : List Stmt86) → length (code_from off at xs) ≡ sizes_of xs
+length-code_from off at [] = refl
+length-code_from off at (x ∷ xs) = length-append (bytes_at off at x) (code_from off (at + size_of x) xs) ∙ ap (λ n. n + length (code_from off (at + size_of x) xs)) (length-bytes_at off at x) ∙ ap (λ n. size_of x + n) (length-code_from off (at + size_of x) xs)
+
+pub sizes_of-append : (xs ys : List Stmt86) → sizes_of (xs ++ ys) ≡ sizes_of xs + sizes_of ys
+sizes_of-append [] ys = let e : sizes_of ys ≡ 0 + sizes_of ys = omega arith in e
+sizes_of-append (x ∷ xs) ys = ap (λ n. size_of x + n) (sizes_of-append xs ys) ∙ (let e : size_of x + (sizes_of xs + sizes_of ys) ≡ size_of x + sizes_of xs + sizes_of ys = omega arith in e)

@@ -1,0 +1,9 @@
+use Rattle.xlt_core.proofs.FirstLayout.{first_assembles}
+use Rattle.xlt_core.proofs.FirstStart.{first_same}
+use Rattle.xlt_core.proofs.first_is_same.Goals as goal
+
+pub returns-clause-assembles : goal.returns-clause-assembles
+returns-clause-assembles c = first_assembles
+
+pub returns-clause-same : goal.returns-clause-same
+returns-clause-same c = first_same
