@@ -7,3 +7,4 @@ pub mod Letter
 pub mod FirstTurn
 pub mod FirstLayout
 pub mod FirstStart
+pub mod Rows
