@@ -14,7 +14,7 @@ use Rattle.dialogue.specs.declared.request.Event.TheVariants.{Call}
 use Rattle.dialogue.specs.Tried.{try_then}
 use Rattle.dialogue.specs.Table.{Row, row_of}
 use Rattle.dialogue.specs.Shape.{Seen, argument_of, address_of, is_readable, ranges_within, has_room, shape_of, shape_in as shape_of_row, shape_by, ranges, request_of}
-use Rattle.dialogue.specs.Fits.{fills, writes_fit, line_fits, line_bytes_fit, answer_fits, fits, fits_row, answer_of}
+use Rattle.dialogue.specs.Fits.{fills, writes_fit, line_fits, line_bytes_fit, answer_fits, fits, fits_row}
 use Rattle.dialogue.specs.Lawful.{IsLawful, IsShapeOver}
 use Rattle.dialogue.proofs.LawfulShapes.{made, made-lawful}
 use Rattle.machine.specs.Run.{Asks}
@@ -55,7 +55,7 @@ row_function f row d e dma seen shape given =
     cc made_of
 
 -- a shape is of the function that asks
-pub shape_function : (f d e : Option ℕ) (dma : ℕ) (seen : Seen) (shape : Shape) → shape_of f d e dma seen ≡ Ok shape → f ≡ Some shape.function
+shape_function : (f d e : Option ℕ) (dma : ℕ) (seen : Seen) (shape : Shape) → shape_of f d e dma seen ≡ Ok shape → f ≡ Some shape.function
 shape_function None d e dma seen shape h = cc
 shape_function (Some f) d e dma seen shape h = by_row (row_of f) h
   where
@@ -64,7 +64,7 @@ shape_function (Some f) d e dma seen shape h = by_row (row_of f) h
     by_row (Some row) g = ap Some (row_function f row d e dma seen shape g)
 
 -- the shape that the machine finds again is the one that it asked by
-pub shape_again : (p : Program) (c : Cpu80) (kept : Return) (shape : Shape) (h : HasClosed p c.closed.items) (w : IsWaiting p (state_of c) kept) → shape_in c kept.is_popped ≡ Ok shape → shape ≡ w.shape
+shape_again : (p : Program) (c : Cpu80) (kept : Return) (shape : Shape) (h : HasClosed p c.closed.items) (w : IsWaiting p (state_of c) kept) → shape_in c kept.is_popped ≡ Ok shape → shape ≡ w.shape
 shape_again p c kept shape h w e =
     let same = same_shape p c kept.is_popped h in
     let given = w.given in
@@ -122,7 +122,7 @@ replied p c kept q y h w =
 
 -- what fits is within memory
 
-abbrev pub Ends : Range → Type 0
+abbrev Ends : Range → Type 0
 Ends r = r.at + r.len ≤ 0x10000
 
 and_left : (a b : Bool) → (a && b) ≡ true → a ≡ true
@@ -187,13 +187,3 @@ fits_within c is_popped shape q y e is fit =
     let lawful = made-lawful (seen_of c is_popped) shape (made (seen_of c is_popped) shape over) in
     let ends : All Ends (ranges q.shape.writes) = subst (λ (s : Shape). All Ends (ranges s.writes)) (sym is) lawful.writes_end in
     row_within (row_of q.shape.function) q y ends fit
-
-row_answers : (o : Option Row) (q : Request) (y : Reply) → row_of q.shape.function ≡ o → fits_row o q y ≡ true → answer_fits (answer_of q) y.answer ≡ true
-row_answers None q y is e = cc
-row_answers (Some row) q y is e =
-    let answer : answer_fits row.answer y.answer ≡ true = and_left (answer_fits row.answer y.answer) _ e in
-    cc
-
--- a reply that fits answers by the function's kind
-pub fits_answer : (q : Request) (y : Reply) → fits q y ≡ true → answer_fits (answer_of q) y.answer ≡ true
-fits_answer q y e = row_answers (row_of q.shape.function) q y refl e

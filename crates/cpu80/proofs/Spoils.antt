@@ -16,10 +16,10 @@ below sp a = wrap (sp + (0xFFFF - a))
 abbrev pub cell_below : ℕ → ℕ → ℕ
 cell_below sp k = (sp + (0x10000 - (k + 1))) % 0x10000
 
-pub below-cell : (sp k : ℕ) → sp < 0x10000 → k < 8 → below sp (cell_below sp k) ≡ k
+below-cell : (sp k : ℕ) → sp < 0x10000 → k < 8 → below sp (cell_below sp k) ≡ k
 below-cell sp k h g = omega arith
 
-pub cell-below : (sp k a : ℕ) → sp < 0x10000 → k < 8 → a < 0x10000 → below sp a ≡ k → a ≡ cell_below sp k
+cell-below : (sp k a : ℕ) → sp < 0x10000 → k < 8 → a < 0x10000 → below sp a ≡ k → a ≡ cell_below sp k
 cell-below sp k a h g i e = omega arith
 
 lt-next : (d k : ℕ) → d ≢ k → nat_lt d k ≡ nat_lt d (k + 1)

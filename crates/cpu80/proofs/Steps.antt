@@ -2,7 +2,7 @@
 use Rattle.std.proofs.Common.{◌≡◌, ◌≢◌, Bool, true, List, Some, Result, Ok, Err, is_ok, refl, sym, ap, ◌∙◌, subst}
 use Rattle.cells.specs.declared.Rule.{Rule}
 use Rattle.dialogue.specs.declared.request.Shape.{Shape}
-use Rattle.machine.specs.Run.{Ran, Ends}
+use Rattle.machine.specs.Run.{Ran}
 use Rattle.program80.specs.Program.{Program}
 use Rattle.step80.specs.State.{State80, num_of}
 use Rattle.step80.specs.Call.{ask, is_place}
@@ -11,7 +11,7 @@ use Rattle.tagged80.specs.declared.turn.Return.{Return as KeptReturn}
 use Rattle.tagged80.specs.declared.turn.Turn.{Turn}
 use Rattle.tagged80.specs.declared.turn.Turn.TheVariants.{Ran as TurnRan, Asked as TurnAsked}
 use Rattle.tagged80.specs.Turn.{return_of, shape_at, answer_of, IsCall}
-use Rattle.cpu80.specs.declared.processor.Step80.TheVariants.{Ran as DidRun, Asked as DidAsk, Ended as DidEnd}
+use Rattle.cpu80.specs.declared.processor.Step80.TheVariants.{Asked as DidAsk}
 use Rattle.tagged80.specs.Area.{HasClosed}
 use Rattle.cpu80.specs.declared.processor.Cpu80.{Cpu80}
 use Rattle.cpu80.specs.declared.processor.Phase.TheVariants.{Running}
@@ -19,14 +19,11 @@ use Rattle.cpu80.specs.State.{state_of}
 use Rattle.cpu80.specs.Machine.{IsWaiting, IsPhase, IsMachineOf, IsStep}
 use Rattle.cpu80.proofs.Places.{GoesOn, goes_on}
 
-pub ran_step : (p : Program) (s t after : State80) → Ran t ≡ step80 p s → after ≡ t → IsStep (step80 p s) DidRun s after
-ran_step p s t after e h = subst (λ a. IsStep a DidRun s after) e (refl, h)
-
 pub ran_place : (p : Program) (s t : State80) → Ran t ≡ step80 p s → is_place p t.place ≡ true
 ran_place p s t e = subst (GoesOn p) (sym e) (goes_on p s)
 
 -- a call that has a shape waits
-pub waiting : (p : Program) (s : State80) (kept : KeptReturn) → ask p s kept.is_popped (shape_at p s kept.is_popped) ≡ step80 p s → return_at p s s.place ≡ Ok (return_of kept) → is_ok (shape_at p s kept.is_popped) ≡ true → num_of s.regs.c ≢ Some 0 → IsWaiting p s kept
+waiting : (p : Program) (s : State80) (kept : KeptReturn) → ask p s kept.is_popped (shape_at p s kept.is_popped) ≡ step80 p s → return_at p s s.place ≡ Ok (return_of kept) → is_ok (shape_at p s kept.is_popped) ≡ true → num_of s.regs.c ≢ Some 0 → IsWaiting p s kept
 waiting p s kept e back good no_reset = by_shape (shape_at p s kept.is_popped) refl good
   where
     by_shape : (r : Result Shape Rule) → shape_at p s kept.is_popped ≡ r → is_ok r ≡ true → IsWaiting p s kept
@@ -41,9 +38,6 @@ waiting p s kept e back good no_reset = by_shape (shape_at p s kept.is_popped) r
 
 pub waiting_step : (p : Program) (s : State80) (kept : KeptReturn) → IsWaiting p s kept → IsStep (step80 p s) DidAsk s s
 waiting_step p s kept w = subst (λ a. IsStep a DidAsk s s) (sym w.asked) (refl, refl)
-
-pub ended_step : (p : Program) (s : State80) → step80 p s ≡ Ends → IsStep (step80 p s) DidEnd s s
-ended_step p s e = subst (λ a. IsStep a DidEnd s s) (sym e) (refl, refl)
 
 -- the answer and the call of a turn that is known
 pub ran_answer : (p : Program) (s t : State80) (r : Result Turn Rule) (turn : Turn) → r ≡ Ok turn → turn ≡ TurnRan → answer_of p s r t ≡ step80 p s → Ran t ≡ step80 p s

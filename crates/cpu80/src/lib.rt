@@ -9,5 +9,5 @@ mod start;
 #[cfg(test)]
 mod tests;
 
-pub use processor::{Cpu80, Phase, Step80};
+pub use processor::{Cpu80, Step80};
 pub use runs::calls_give_runs;

@@ -2,7 +2,9 @@
 ghost use Rattle.std.specs.Prelude.{IfOk};
 ghost use Rattle.cpu80.specs.Machine.{IsMachineOf};
 
+use crate::Step80::{Ended, Left};
 use crate::{Cpu80, Step80};
+use cells::Place::{At, Exit};
 use cells::{Place, Rule};
 use dialogue::blocks::Blocks;
 use dialogue::request::{ArgWord, Reply};
@@ -40,7 +42,7 @@ fn one_letter(alloc: Global) -> Result<Program80, AllocError> {
     Program80::new(alloc, instrs.to_vec(alloc)?, Vec::new(alloc), 0xF000)
 }
 
-fn without_a_function(alloc: Global) -> Result<Program80, AllocError> {
+fn no_function(alloc: Global) -> Result<Program80, AllocError> {
     let instrs = [
         placed!(0x100, MVI_E),
         placed!(0x102, CALL_5),
@@ -49,7 +51,7 @@ fn without_a_function(alloc: Global) -> Result<Program80, AllocError> {
     Program80::new(alloc, instrs.to_vec(alloc)?, Vec::new(alloc), 0xF000)
 }
 
-fn without_an_argument(alloc: Global) -> Result<Program80, AllocError> {
+fn no_argument(alloc: Global) -> Result<Program80, AllocError> {
     let instrs = [
         placed!(0x100, MVI_C),
         placed!(0x102, CALL_5),
@@ -143,60 +145,15 @@ fn run(
 #[test]
 fn programs_run_to_their_ends(rt: HostRuntime) -> Result<(), Fail> {
     let alloc = rt.alloc();
-    let exit = Place::Exit;
-    let left = Step80::Left;
-    let rows = [
-        (
-            one_letter(alloc)?,
-            Some(0x41),
-            Step80::Ended,
-            4,
-            Place::At(0x107),
-        ),
-        (
-            without_a_function(alloc)?,
-            None,
-            left(Rule::P9),
-            1,
-            Place::At(0x102),
-        ),
-        (
-            without_an_argument(alloc)?,
-            None,
-            left(Rule::P10),
-            1,
-            Place::At(0x102),
-        ),
-        (
-            off_its_end(alloc)?,
-            None,
-            left(Rule::P1),
-            1,
-            Place::At(0x102),
-        ),
-        (
-            decimal_adjust(alloc)?,
-            Some(0x17),
-            Step80::Ended,
-            7,
-            Place::At(0x10B),
-        ),
-        (
-            only_returns(alloc)?,
-            None,
-            Step80::Ended,
-            1,
-            Place::At(0x100),
-        ),
-        (
-            jumps_to_the_system(alloc)?,
-            Some(0x41),
-            Step80::Ended,
-            4,
-            exit,
-        ),
-    ];
-    for (program, letter, end, count, place) in &rows {
+    for (program, letter, end, count, place) in &[
+        (one_letter(alloc)?, Some(0x41), Ended, 4, At(0x107)),
+        (no_function(alloc)?, None, Left(Rule::P9), 1, At(0x102)),
+        (no_argument(alloc)?, None, Left(Rule::P10), 1, At(0x102)),
+        (off_its_end(alloc)?, None, Left(Rule::P1), 1, At(0x102)),
+        (decimal_adjust(alloc)?, Some(0x17), Ended, 7, At(0x10B)),
+        (only_returns(alloc)?, None, Ended, 1, At(0x100)),
+        (jumps_to_the_system(alloc)?, Some(0x41), Ended, 4, Exit),
+    ] {
         let mut said = Vec::new(alloc);
         let (step, ran, at) = run(alloc, program, &mut said)?;
         assert!(rt; step == *end && at == *place);
