@@ -115,7 +115,7 @@ fn read(alloc: Global, source: &[u8], at: usize) -> Result<String, AllocError>
 }
 
 // Sources, and the statements that they are.
-const STATEMENTS: [(&[u8], &str); 34] = [
+const STATEMENTS: [(&[u8], &str); 36] = [
     (b"", ""),
     (b"\n\n  \n", ""),
     (b"* NOP ! 'x\n*\x01", ""),
@@ -153,6 +153,11 @@ const STATEMENTS: [(&[u8], &str); 34] = [
     ),
     (b"DB 1 OR NOT 2", "1 DB (1 OR (NOT 2))"),
     (b"DB 1 AND -1,(-1)", "1 DB (1 AND (-1));(-1)"),
+    (b"DB NOT 0 AND 0FH", "1 DB ((NOT 0) AND 15)"),
+    (
+        b"DB -1,2-(-1),7 MOD 4 SHL 2",
+        "1 DB (-1);(2-(-1));((7 MOD 4) SHL 2)",
+    ),
     (b"DB (1+2)*3", "1 DB ((1+2)*3)"),
     (b"MVI A,'AB'", "1 MVI A;'AB'"),
     (b"NOP\x1aFOO BAR\nNOP", "1 NOP"),
