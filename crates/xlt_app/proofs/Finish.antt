@@ -1,13 +1,13 @@
 -- From the work and the last line to what the program says of its status.
 use Rattle.std.proofs.Common.{◌≡◌, ℕ, ◌≤◌, ◌⊎◌, inl, inr, ⊎_elim, List, length, take, refl, sym, ap, ◌∙◌, subst, arith}
 use Rattle.std.proofs.lemmas.List.{take_all}
-use Rattle.first_source.specs.First.{AreFirst, first_program}
 use Rattle.first_source.specs.Source.{IsSource}
 use Rattle.host.specs.Host.{HostState, HasRisen, OnlyFileChanged, SameFiles, SameSaid, Says, said_more, Rewrites, OnlySays}
 use Rattle.lines86.specs.Written.{text_of}
 use Rattle.lines86.specs.Image.{Assembles, image_of}
-use Rattle.program80.specs.Program.{Program}
+use Rattle.program80.specs.Program.{Program, IsProgram}
 use Rattle.templates.specs.Plain.{plain}
+use Rattle.xlt_core.specs.First.{IsFirst}
 use Rattle.xlt_core.specs.Same.{Same}
 use Rattle.xlt_app.specs.declared.translate.Stop.{Stop}
 use Rattle.xlt_app.specs.declared.translate.Stop.TheVariants.{SourceRefused, ReadFailed, WriteFailed, OutOfMemory, FileTooLong}
@@ -16,6 +16,7 @@ use Rattle.xlt_app.specs.Report.{translated_line, memory_line}
 use Rattle.xlt_app.specs.Top.{SaysLine, WritesSome, ReadsSource, IsNoCommand}
 use Rattle.xlt_app.specs.Work.{Works, StopsBy}
 use Rattle.xlt_app.specs.Closing.{SaysLast, IsRefusedWords, IsSaid, whole, failed, no_memory, ClosesBy, said, unsaid}
+use Rattle.xlt_app.proofs.Sources.{source_is_program, source_is_first}
 use Rattle.xlt_app.proofs.Outcomes.{Outcomes, outcomes_0, outcomes_1, outcomes_2, outcomes_3, outcomes_4, outcomes_5, outcomes_14}
 
 -- every program of a source has a plain text that assembles, to an image that does the same
@@ -176,9 +177,9 @@ refused_words words old new status none r =
     subst (Outcomes words old new) (sym r.0)
     (outcomes_2 words old new (record { refused = none; files = r.1.only.files; reads = r.1.only.reads; said = r.1.line }))
 
--- from the law of first programs to the programs of sources
-pub sources_hold : ((is : _) → AreFirst is → Assembles (plain (first_program is))) → ((is : _) → AreFirst is → Same (first_program is) (image_of (plain (first_program is)))) → SourcesHold
+-- from the law of programs to the programs of sources
+pub sources_hold : ((p : Program) → IsProgram p → IsFirst p → Assembles (plain p)) → ((p : Program) → IsProgram p → IsFirst p → Same p (image_of (plain p))) → SourcesHold
 sources_hold assembles same = record {
-  assembles = λ bytes p s. subst (λ q. Assembles (plain q)) (sym s.program) (assembles s.is s.spelled.first);
-  same = λ bytes p s. subst (λ q. Same q (image_of (plain q))) (sym s.program) (same s.is s.spelled.first);
+  assembles = λ bytes p s. assembles p (source_is_program bytes p s) (source_is_first bytes p s);
+  same = λ bytes p s. same p (source_is_program bytes p s) (source_is_first bytes p s);
 }

@@ -1,13 +1,11 @@
--- From the start of a plain text to its first instruction, and the headline for first programs.
-use Rattle.std.proofs.Common.{◌≡◌, ◌≢◌, ℕ, suc, ◌+◌, ◌-◌, ◌/◌, ◌%◌, ◌<◌, List, [], ◌∷◌, length, Option, Some, refl, sym, ap, ◌∙◌, subst, arith, Bool, true, false, cond, ◌==◌, ◌&&◌, nat_lt, ◌⊎◌, inl, lit<, lit≤}
-use Rattle.std.specs.Prelude.{slice_index, unwrap_or, nat_le}
+-- From the start of a plain text to its first instruction, and the headline.
+use Rattle.std.proofs.Common.{◌≡◌, ◌≢◌, ℕ, suc, ◌+◌, ◌-◌, ◌/◌, ◌%◌, ◌≤◌, ◌<◌, List, [], length, Option, Some, None, refl, sym, ap, ◌∙◌, subst, arith, Bool, true, false, cond, ◌==◌, ◌&&◌, nat_lt, ◌⊎◌, inl, lit<, lit≤}
+use Rattle.std.specs.Prelude.{slice_index, unwrap_or, nat_le, is_some, All}
 use Rattle.std.proofs.lemmas.Bool.Decides.{nat_tests}
 use Rattle.cells.specs.declared.Cell.{Cell}
 use Rattle.cells.specs.declared.Cell.TheVariants.{Num, Lo, Hi, Junk}
 use Rattle.cells.specs.declared.Place.TheVariants.{Exit}
 use Rattle.cells.specs.declared.Rule.{Rule}
-use Rattle.i80.specs.declared.Instr80.{Instr80}
-use Rattle.i80.specs.Columns.{length80}
 use Rattle.i86.specs.declared.Reg16.TheVariants.{Sp, Si}
 use Rattle.i86.specs.declared.StackReg.TheVariants.{Si as StackSi}
 use Rattle.i86.specs.declared.Operand16.TheVariants.{Reg as Reg_16}
@@ -16,10 +14,8 @@ use Rattle.i86.specs.declared.Instr86.TheVariants.{MovNum16, MovDirect16, MovAxD
 use Rattle.i86.specs.Enc86.{enc86}
 use Rattle.i86.specs.Code.{HasBytes, Reads}
 use Rattle.dialogue.specs.declared.request.Reply.{Reply}
-use Rattle.first_source.specs.First.{IsFirst, AreFirst, laid_out, first_program}
-use Rattle.first_source.proofs.FirstProgram.{first_laid, first_found}
 use Rattle.lines86.specs.declared.line.Label.{Label}
-use Rattle.lines86.specs.declared.line.Label.TheVariants.{End}
+use Rattle.lines86.specs.declared.line.Label.TheVariants.{At as Line, End}
 use Rattle.lines86.specs.declared.line.Stmt86.{Stmt86}
 use Rattle.lines86.specs.Layout.{place_of, code_of}
 use Rattle.lines86.specs.Image.{Image, cells_from, labels_from, image_of}
@@ -27,74 +23,99 @@ use Rattle.machine.specs.Run.{Machine, Status, Going, Waiting, Over, Stopped, Ru
 use Rattle.machine.specs.Same.{SameDialogue}
 use Rattle.machine.proofs.FollowBlocks.{BothStill, Block, blocks_same}
 use Rattle.program80.specs.declared.program.Placed.{Placed}
-use Rattle.program80.specs.Program.{Program, placed_in}
+use Rattle.program80.specs.Program.{Program, program_of, placed_in, AreLaid, IsProgram}
 use Rattle.step80.specs.State.{State80}
 use Rattle.step80.specs.Step.{machine80}
 use Rattle.step80.specs.Start.{start_cell80, start80, run80}
-use Rattle.step86.specs.State.{State86, wrap, put_word}
+use Rattle.step86.specs.State.{State86, wrap, back, put_word}
 use Rattle.step86.specs.Call.{Stop}
 use Rattle.step86.specs.Step.{act_from, machine86}
 use Rattle.step86.specs.Start.{Start, start_byte, start86, run86}
 use Rattle.templates.specs.Plain.{plain_statements, plain}
+use Rattle.xlt_core.specs.First.{IsFirstInstr, HoldsFirst, IsFirst}
 use Rattle.xlt_core.specs.Same.{Same}
 use Rattle.xlt_core.proofs.Standing.{length-code_from}
-use Rattle.xlt_core.proofs.Words.{word_parts, put_word_past}
+use Rattle.xlt_core.proofs.Words.{word_parts, put_word_past, put_word_low, put_word_high}
 use Rattle.xlt_core.proofs.Link.{Stands, Linked}
-use Rattle.xlt_core.proofs.Placing.{first_offset}
+use Rattle.xlt_core.proofs.Placing.{found_holds, lowest_offset}
 use Rattle.xlt_core.proofs.PlainFacts.{PlainFacts, plain_facts, tail_of}
-use Rattle.xlt_core.proofs.FirstLayout.{statements-numbered, first_small, first_no_cells}
+use Rattle.xlt_core.proofs.FirstLayout.{statements-numbered, first_small, first_no_cells, top_low, top_high, without_data}
 use Rattle.xlt_core.proofs.FirstTurn.{turn86, stack_passes, no_regs, link_same, link_going, linked_turn}
 
 -- memory after the prologue, where e is the offset of the end
-abbrev opened : List ℕ → List ℕ → ℕ → ℕ → ℕ
-opened fill page e = put_word (put_word (start_byte fill page) 6 0xF000) 0xEFFE e
+abbrev opened : List ℕ → List ℕ → ℕ → ℕ → ℕ → ℕ
+opened fill page top e = put_word (put_word (start_byte fill page) 6 top) (back top 2) e
 
--- each cell at the start stands for its byte
-module _ (is : List Instr80) (off : Label → ℕ) (fill page : List ℕ) (a : ℕ) where
+-- each cell at the start stands for its byte, where there is no data
+module _ (xs : List Placed) (top : ℕ) (low : 0x4000 ≤ top) (high : top ≤ 0xF000) (off : Label → ℕ) (fill page : List ℕ) (a : ℕ) (fits : a < 0x10000) where
   abbrev S : Cell → Type 0
-  S v = Stands off v (opened fill page (off End) a)
+  S v = Stands off v (opened fill page top (off End) a)
 
-  by_high : (b : Bool) → (a == 0xEFFF) ≡ b → S (cond b (Hi Exit) Junk)
+  -- the push changes no cell below 100H
+  below : a < 0x100 → opened fill page top (off End) a ≡ put_word (start_byte fill page) 6 top a
+  below h =
+      let nl : a ≢ back top 2 = omega (arith, low, high, h) in
+      let nh : a ≢ wrap (back top 2 + 1) = omega (arith, low, high, h) in
+      put_word_past (put_word (start_byte fill page) 6 top) (back top 2) (off End) a nl nh
+
+  abbrev high_cell : Bool → Cell
+  high_cell b = cond b (Hi Exit) Junk
+
+  abbrev low_cell : Bool → Cell
+  low_cell b = cond b (Lo Exit) (high_cell (a == top - 1))
+
+  abbrev page_cell : Bool → Cell
+  page_cell b = cond b (Num (slice_index page (a - 0x5C))) (low_cell (a == top - 2))
+
+  abbrev seventh_cell : Bool → Cell
+  seventh_cell b = cond b (Num (top / 256)) (page_cell (nat_le 0x5C a && nat_lt a 0x100))
+
+  abbrev sixth_cell : Bool → Cell
+  sixth_cell b = cond b (Num (top % 256)) (seventh_cell (a == 7))
+
+  by_high : (b : Bool) → (a == top - 1) ≡ b → S (high_cell b)
   by_high false h = tt
   by_high true h =
-      let e : a ≡ 0xEFFF = grind (arith, nat_tests) in
-      subst (λ n. opened fill page (off End) n ≡ off End / 256) (sym e) refl
+      let k : a ≡ top - 1 = grind (arith, nat_tests) in
+      let e : a ≡ wrap (back top 2 + 1) = omega (arith, k, low, high) in
+      subst (λ n. opened fill page top (off End) n ≡ off End / 256) (sym e) (put_word_high (put_word (start_byte fill page) 6 top) (back top 2) (off End))
 
-  by_low : (b : Bool) → (a == 0xEFFE) ≡ b → S (cond b (Lo Exit) (cond (a == 0xEFFF) (Hi Exit) Junk))
-  by_low false h = by_high (a == 0xEFFF) refl
+  by_low : (b : Bool) → (a == top - 2) ≡ b → S (low_cell b)
+  by_low false h = by_high (a == top - 1) refl
   by_low true h =
-      let e : a ≡ 0xEFFE = grind (arith, nat_tests) in
-      subst (λ n. opened fill page (off End) n ≡ off End % 256) (sym e) refl
+      let k : a ≡ top - 2 = grind (arith, nat_tests) in
+      let e : a ≡ back top 2 = omega (arith, k, low, high) in
+      subst (λ n. opened fill page top (off End) n ≡ off End % 256) (sym e) (put_word_low (put_word (start_byte fill page) 6 top) (back top 2) (off End) (omega arith))
 
-  by_page : (b : Bool) → (nat_le 0x5C a && nat_lt a 0x100) ≡ b → S (cond b (Num (slice_index page (a - 0x5C))) (cond (a == 0xEFFE) (Lo Exit) (cond (a == 0xEFFF) (Hi Exit) Junk)))
-  by_page false h = by_low (a == 0xEFFE) refl
+  by_page : (b : Bool) → (nat_le 0x5C a && nat_lt a 0x100) ≡ b → S (page_cell b)
+  by_page false h = by_low (a == top - 2) refl
   by_page true h =
+      let lt : a < 0x100 = grind (arith, nat_tests) in
       let n6 : a ≢ 6 = grind (arith, nat_tests) in
       let n7 : a ≢ 7 = grind (arith, nat_tests) in
-      let nl : a ≢ 0xEFFE = grind (arith, nat_tests) in
-      let nh : a ≢ 0xEFFF = grind (arith, nat_tests) in
-      put_word_past (put_word (start_byte fill page) 6 0xF000) 0xEFFE (off End) a nl nh
-      ∙ put_word_past (start_byte fill page) 6 0xF000 a n6 n7
+      below lt
+      ∙ put_word_past (start_byte fill page) 6 top a n6 n7
       ∙ ap (λ t. cond t (slice_index page (a - 0x5C)) (slice_index fill a)) h
 
-  by_seven : (b : Bool) → (a == 7) ≡ b → S (cond b (Num 0xF0) (cond (nat_le 0x5C a && nat_lt a 0x100) (Num (slice_index page (a - 0x5C))) (cond (a == 0xEFFE) (Lo Exit) (cond (a == 0xEFFF) (Hi Exit) Junk))))
+  by_seven : (b : Bool) → (a == 7) ≡ b → S (seventh_cell b)
   by_seven false h = by_page (nat_le 0x5C a && nat_lt a 0x100) refl
   by_seven true h =
       let e : a ≡ 7 = grind (arith, nat_tests) in
-      subst (λ n. opened fill page (off End) n ≡ 0xF0) (sym e) refl
+      below (omega (arith, e)) ∙ subst (λ n. put_word (start_byte fill page) 6 top n ≡ top / 256) (sym e) (put_word_high (start_byte fill page) 6 top)
 
-  by_six : (b : Bool) → (a == 6) ≡ b → S (cond b (Num 0x00) (cond (a == 7) (Num 0xF0) (cond (nat_le 0x5C a && nat_lt a 0x100) (Num (slice_index page (a - 0x5C))) (cond (a == 0xEFFE) (Lo Exit) (cond (a == 0xEFFF) (Hi Exit) Junk)))))
+  by_six : (b : Bool) → (a == 6) ≡ b → S (sixth_cell b)
   by_six false h = by_seven (a == 7) refl
   by_six true h =
       let e : a ≡ 6 = grind (arith, nat_tests) in
-      subst (λ n. opened fill page (off End) n ≡ 0) (sym e) refl
+      below (omega (arith, e)) ∙ subst (λ n. put_word (start_byte fill page) 6 top n ≡ top % 256) (sym e) (put_word_low (start_byte fill page) 6 top (lit< tt))
 
-  start_stands : S (start_cell80 (first_program is) page a)
+  start_stands : S (start_cell80 (program_of xs [] top) page a)
   start_stands = by_six (a == 6) refl
 
-module _ (i : Instr80) (is : List Instr80) (first : AreFirst (i ∷ is)) (fetch : ℕ → Option Instr86) (page fill : List ℕ) (start : Start) (cs : List ℕ) (replies : List Reply) where
+-- the run of a program without data
+module _ (xs : List Placed) (top : ℕ) (laid : AreLaid 0x100 (top - 2) xs) (begins : is_some (placed_in xs 0x100) ≡ true) (kinds : All HoldsFirst xs) (low : 0x4000 ≤ top) (high : top ≤ 0xF000) (fetch : ℕ → Option Instr86) (page fill : List ℕ) (start : Start) (cs : List ℕ) (replies : List Reply) where
   abbrev p : Program
-  p = first_program (i ∷ is)
+  p = program_of xs [] top
 
   abbrev stmts : List Stmt86
   stmts = plain_statements p
@@ -118,10 +139,10 @@ module _ (i : Instr80) (is : List Instr80) (first : AreFirst (i ∷ is)) (fetch 
   set y s = record y { state = s; used = suc y.used }
 
   abbrev y1 : Run State86 Stop
-  y1 = set y0 (record (y0.state) { ip = 3; si = 0xF000 })
+  y1 = set y0 (record (y0.state) { ip = 3; si = top })
 
   abbrev y2 : Run State86 Stop
-  y2 = set y1 (record (y1.state) { ip = 7; mem = put_word y1.state.mem 6 0xF000 })
+  y2 = set y1 (record (y1.state) { ip = 7; mem = put_word y1.state.mem 6 top })
 
   abbrev y3 : Run State86 Stop
   y3 = set y2 (record (y2.state) { ip = 9; regs = record (y2.state.regs) { ah = start.ds / 256; al = start.ds % 256 } })
@@ -130,23 +151,23 @@ module _ (i : Instr80) (is : List Instr80) (first : AreFirst (i ∷ is)) (fetch 
   y4 = set y3 (record (y3.state) { ip = 11; ss = start.ds })
 
   abbrev y5 : Run State86 Stop
-  y5 = set y4 (record (y4.state) { ip = 13; sp = 0xF000 })
+  y5 = set y4 (record (y4.state) { ip = 13; sp = top })
 
   abbrev y6 : Run State86 Stop
   y6 = set y5 (record (y5.state) { ip = 16; si = off End })
 
   abbrev y7 : Run State86 Stop
-  y7 = set y6 (record (y6.state) { ip = 17; sp = 0xEFFE; mem = put_word y6.state.mem 0xEFFE (off End) })
+  y7 = set y6 (record (y6.state) { ip = 17; sp = back top 2; mem = put_word y6.state.mem (back top 2) (off End) })
 
   module _ (reads : Reads code fetch) where
     facts : PlainFacts p code off
-    facts = let few = first.few in plain_facts p 0xEFFE (first_laid (i ∷ is) 0x100 2 0xEFFE first.kinds (omega (arith, few)))
+    facts = plain_facts p (top - 2) laid
 
     small : length code < 0x10000
-    small = let e = length-code_from off 0 stmts in let le = first_small (i ∷ is) first in omega (arith, e, le)
+    small = let e = length-code_from off 0 stmts in let le = first_small xs top laid kinds low high in omega (arith, e, le)
 
-    firsts : (a : ℕ) (x : Placed) → placed_in p.instrs a ≡ Some x → IsFirst x.instr
-    firsts a x h = first_found (i ∷ is) 0x100 2 a x first.kinds h
+    firsts : (a : ℕ) (x : Placed) → placed_in p.instrs a ≡ Some x → IsFirstInstr x.instr
+    firsts a x h = found_holds HoldsFirst xs a x kinds h
 
     one : (y : Run State86 Stop) (k k' : ℕ) (j : Instr86) → y.status ≡ Going → y.state.ip ≡ k → HasBytes code k (enc86 j) → wrap (k + length (enc86 j)) ≡ k' → turn M86 cs y ≡ settle M86 cs y (act_from k j (record (y.state) { ip = k' }) (choice_at cs y.used))
     one = turn86 p code fetch reads facts small firsts cs
@@ -159,7 +180,7 @@ module _ (i : Instr80) (is : List Instr80) (first : AreFirst (i ∷ is)) (fetch 
     prologue_turns : turns M86 cs 7 y0 ≡ y7
     prologue_turns =
         let o = facts.opening in
-        ap (turns M86 cs 6) (one y0 0 3 (MovNum16 Si 0xF000) refl refl o.0 refl)
+        ap (turns M86 cs 6) (one y0 0 3 (MovNum16 Si top) refl refl o.0 refl)
         ∙ ap (turns M86 cs 5) (one y1 3 7 (MovDirect16 6 Si) refl refl o.1.0 refl)
         ∙ ap (turns M86 cs 4) (one y2 7 9 MovAxDs refl refl o.1.1.0 refl)
         ∙ ap (turns M86 cs 3) (one y3 9 11 MovSsAx refl refl o.1.1.1.0 refl ∙ ap (λ w. set y3 (record (y3.state) { ip = 11; ss = w })) (word_parts start.ds))
@@ -170,20 +191,25 @@ module _ (i : Instr80) (is : List Instr80) (first : AreFirst (i ∷ is)) (fetch 
     abbrev x0 : Run State80 Rule
     x0 = start_run (start80 p page) replies
 
+    -- the first instruction is right behind the prologue
+    first_at : (o : Option Placed) → placed_in xs 0x100 ≡ o → is_some o ≡ true → off (Line 0x100) ≡ 17
+    first_at None h g = absurd (cc)
+    first_at (Some x) h g = ap (λ o. unwrap_or o 0) (lowest_offset 17 0x100 (top - 2) x xs (tail_of p) laid h)
+
     linked_start : Linked p off x0 y7
     linked_start = record {
       going80 = refl;
       going86 = refl;
       place = 0x100;
       at80 = refl;
-      at86 = sym (ap (λ o. unwrap_or o 0) (first_offset 17 (record { at = 0x100; line = 2; instr = i }) (laid_out (0x100 + length80 i) 3 is) (tail_of p)));
+      at86 = sym (first_at (placed_in xs 0x100) refl begins);
       segments = refl;
-      sp_same = refl;
-      sp_fits = lit< tt;
+      sp_same = omega (arith, low, high);
+      sp_fits = omega (arith, high);
       function = λ f h. absurd (cc);
       regs = λ r. no_regs p code fetch reads facts small firsts cs r y7.state.regs;
       flags = record { s = tt; z = tt; ac = tt; p = tt; cy = tt };
-      mem = λ a lt is_open. start_stands (i ∷ is) off fill page a;
+      mem = λ a lt is_open. start_stands xs top low high off fill page a lt;
       dma = refl;
       dialogue = refl;
       replies = refl;
@@ -220,27 +246,29 @@ module _ (i : Instr80) (is : List Instr80) (first : AreFirst (i ∷ is)) (fetch 
     block : (x : Run State80 Rule) (y : Run State86 Stop) → Link x y → OneBlock x y
     block x y l = block_by x y l (turn (machine80 p) [] x).status refl
 
-    pub same_from_start : SameDialogue State80 Rule State86 Stop (run80 p page replies) (run86 fetch image page fill start cs replies)
+    same_from_start : SameDialogue State80 Rule State86 Stop (run80 p page replies) (run86 fetch image page fill start cs replies)
     same_from_start =
         blocks_same (machine80 p) M86 cs Link same going block x0 y0 7 (lit≤ tt)
         (subst (λ r. Link x0 r ⊎ BothStill x0 r) (sym prologue_turns) (inl linked_start))
 
--- the image of a first program's plain text
-image_is : (is : List Instr80) → AreFirst is → image_of (plain (first_program is)) ≡ record { code = code_of (plain_statements (first_program is)); cells = []; labels = labels_from 0 (plain_statements (first_program is)) }
-image_is is first =
-    ap (λ xs. image_with xs) (statements-numbered 1 (plain_statements (first_program is)))
-    ∙ ap (λ cs. image_cells cs) (first_no_cells is first)
-  where
-    image_with : List Stmt86 → Image
-    image_with xs = record { code = code_of xs; cells = cells_from (place_of xs) 0 xs; labels = labels_from 0 xs }
+  -- its image
+  image_is : image_of (plain p) ≡ image
+  image_is = ap image_with (statements-numbered 1 stmts) ∙ ap image_cells (first_no_cells xs top laid kinds low high)
+    where
+      image_with : List Stmt86 → Image
+      image_with xs = record { code = code_of xs; cells = cells_from (place_of xs) 0 xs; labels = labels_from 0 xs }
 
-    image_cells : List (ℕ × ℕ) → Image
-    image_cells cs = record { code = code_of (plain_statements (first_program is)); cells = cs; labels = labels_from 0 (plain_statements (first_program is)) }
+      image_cells : List (ℕ × ℕ) → Image
+      image_cells cells = record { code = code; cells = cells; labels = labels_from 0 stmts }
 
--- the headline for first programs
-pub first_same : (is : List Instr80) → AreFirst is → Same (first_program is) (image_of (plain (first_program is)))
+  pub same_with_image : Reads (image_of (plain p)).code fetch → SameDialogue State80 Rule State86 Stop (run80 p page replies) (run86 fetch (image_of (plain p)) page fill start cs replies)
+  same_with_image reads =
+      subst (λ m. SameDialogue State80 Rule State86 Stop (run80 p page replies) (run86 fetch m page fill start cs replies)) (sym image_is)
+      (same_from_start (subst (λ m. Reads m.code fetch) image_is reads))
+
+-- the headline for programs of the first instructions
+pub first_same : (p : Program) → IsProgram p → IsFirst p → Same p (image_of (plain p))
 unfolding Same
-first_same [] first = let some = first.some in absurd (omega (arith, some))
-first_same (i ∷ is) first =
-    subst (λ m. Same (first_program (i ∷ is)) m) (sym (image_is (i ∷ is) first))
-    (λ fetch page fill start cs replies reads _ _ _ _ _. same_from_start i is first fetch page fill start cs replies reads)
+first_same p is first =
+    subst (λ q. Same q (image_of (plain q))) (without_data p first)
+    (λ fetch page fill start cs replies reads _ _ _ _ _. same_with_image p.instrs p.top is.instrs is.first first.kinds (top_low p.top is.top) (top_high p.top is.top) fetch page fill start cs replies reads)

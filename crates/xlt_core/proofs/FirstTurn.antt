@@ -1,4 +1,4 @@
--- One instruction of a first program, and the 8086 instructions that stand for it: linked states are led to paired ones.
+-- One instruction of the first kinds, and the 8086 instructions that stand for it: linked states are led to paired ones.
 use Rattle.std.proofs.Common.{◌≡◌, ℕ, suc, ◌+◌, ◌≤◌, ◌<◌, List, [], ◌∷◌, ◌++◌, length, Option, Some, None, refl, sym, ap, ◌∙◌, subst, arith, Bool, true, false, cond, ◌==◌, ◌&&◌, not, ◌⊎◌, inl, inr}
 use Rattle.std.specs.Prelude.{unwrap_or, is_some, bit_or, Result, Ok}
 use Rattle.dialogue.specs.Tried.{try_then}
@@ -27,7 +27,6 @@ use Rattle.dialogue.specs.declared.request.Event.TheVariants.{Call as Asked, End
 use Rattle.dialogue.specs.Table.{row_of}
 use Rattle.dialogue.specs.Shape.{shape_of}
 use Rattle.dialogue.specs.Fits.{fits}
-use Rattle.first_source.specs.First.{IsFirst, function, argument, system, finish}
 use Rattle.lines86.specs.declared.line.Label.{Label}
 use Rattle.lines86.specs.declared.line.Label.TheVariants.{At as Line, Sys, End}
 use Rattle.lines86.specs.Layout.{sizes_of, distance8, distance16, place_of, offset_of}
@@ -47,6 +46,7 @@ use Rattle.step86.specs.Call.{Stop, StackSegment, OddCall, spoiled, seen_by, ask
 use Rattle.step86.specs.Step.{act_from, act_at as act_at86, machine86}
 use Rattle.templates.specs.Template.{template, reg_of}
 use Rattle.templates.specs.Plain.{plain_statements}
+use Rattle.xlt_core.specs.First.{IsFirstInstr, function, argument, system, finish}
 use Rattle.xlt_core.proofs.Standing.{StandAll, bytes_within}
 use Rattle.xlt_core.proofs.Words.{wrap_small, jump_lands, back_on, eq_true, pushed_back, call_keeps}
 use Rattle.xlt_core.proofs.Link.{Stands, IsLetterOrLost, Linked, regs_write}
@@ -59,7 +59,7 @@ pub bytes_end : (code : List ℕ) (at : ℕ) (bs : List ℕ) → 0 < length bs �
 bytes_end code at [] some h = absurd (omega arith)
 bytes_end code at (b ∷ bs) some h = bytes_within code at b bs h
 
-module _ (p : Program) (code : List ℕ) (fetch : ℕ → Option Instr86) (reads : Reads code fetch) (facts : PlainFacts p code (place_of (plain_statements p))) (small : length code < 0x10000) (firsts : (a : ℕ) (x : Placed) → placed_in p.instrs a ≡ Some x → IsFirst x.instr) (cs : List ℕ) where
+module _ (p : Program) (code : List ℕ) (fetch : ℕ → Option Instr86) (reads : Reads code fetch) (facts : PlainFacts p code (place_of (plain_statements p))) (small : length code < 0x10000) (firsts : (a : ℕ) (x : Placed) → placed_in p.instrs a ≡ Some x → IsFirstInstr x.instr) (cs : List ℕ) where
   abbrev M80 : Machine State80 Rule
   M80 = machine80 p
 
@@ -434,7 +434,7 @@ module _ (p : Program) (code : List ℕ) (fetch : ℕ → Option Instr86) (reads
   pub linked_turn : (x : Run State80 Rule) (y : Run State86 Stop) → Link x y → IsNotStopped (turn M80 [] x).status → Turn x y
   linked_turn x y l ns = by_placed (placed_in p.instrs l.place) refl
     where
-      by_kind : (z : Placed) (i : Instr80) → IsFirst i → placed_in p.instrs l.place ≡ Some z → z.instr ≡ i → Turn x y
+      by_kind : (z : Placed) (i : Instr80) → IsFirstInstr i → placed_in p.instrs l.place ≡ Some z → z.instr ≡ i → Turn x y
       by_kind z _ function h e = mvi_turn C 2 x y l (λ f g. cc) (ap instr_of_placed h ∙ ap Some e) (here l.place z _ h e) (is_start p (l.place + 2)) refl ns
       by_kind z _ (argument n lt) h e = mvi_turn E n x y l l.function (ap instr_of_placed h ∙ ap Some e) (here l.place z _ h e) (is_start p (l.place + 2)) refl ns
       by_kind z _ system h e = letter_turn x y l (ap instr_of_placed h ∙ ap Some e) (here l.place z _ h e) ns

@@ -1,6 +1,8 @@
 -- Where the templates of a program's instructions stand in its plain text.
 use Rattle.std.proofs.Common.{◌≡◌, ◌≢◌, ℕ, ◌+◌, ◌≤◌, List, [], ◌∷◌, ◌++◌, Option, Some, refl, sym, ap, ◌∙◌, subst, arith, append_assoc, Bool, true, false, cond, ◌==◌}
+use Rattle.std.specs.Prelude.{All}
 use Rattle.std.proofs.lemmas.Bool.Decides.{nat_tests}
+use Rattle.std.proofs.lemmas.List.Elements.{All-head, All-tail}
 use Rattle.i80.specs.declared.Src.TheVariants.{Reg, Mem}
 use Rattle.i80.specs.declared.StackPair.TheVariants.{B as StackB, D as StackD, H as StackH, Psw}
 use Rattle.i80.specs.declared.Word.TheVariants.{Num, Code}
@@ -16,6 +18,7 @@ use Rattle.program80.specs.declared.program.Placed.{Placed}
 use Rattle.program80.specs.Program.{placed_in, AreLaid}
 use Rattle.templates.specs.Template.{template}
 use Rattle.templates.specs.Plain.{body}
+use Rattle.xlt_core.proofs.Words.{eq_true, eq_false}
 use Rattle.xlt_core.proofs.Standing.{StandAll, stand_front, stand_back, MarksNot, offset_past}
 
 pub length80-some : (i : Instr80) → 1 ≤ length80 i
@@ -39,6 +42,15 @@ found_at (y ∷ ys) a x h = by_test (y.at == a) refl h (found_at ys a x)
     by_test : (t : Bool) → (y.at == a) ≡ t → cond t (Some y) (placed_in ys a) ≡ Some x → (placed_in ys a ≡ Some x → x.at ≡ a) → x.at ≡ a
     by_test true e g rec = let k : y.at ≡ a = grind (arith, nat_tests) in let same : y ≡ x = cc in subst (λ v. v.at ≡ a) same k
     by_test false e g rec = rec g
+
+-- what holds of all instructions of a list holds of one that is found
+pub found_holds : (P : Placed → Type 0) (xs : List Placed) (a : ℕ) (x : Placed) → All P xs → placed_in xs a ≡ Some x → P x
+found_holds P [] a x all h = absurd (cc)
+found_holds P (y ∷ ys) a x all h = by_test (y.at == a) h (found_holds P ys a x (All-tail P y ys all))
+  where
+    by_test : (t : Bool) → cond t (Some y) (placed_in ys a) ≡ Some x → (placed_in ys a ≡ Some x → P x) → P x
+    by_test true g rec = let e : y ≡ x = cc in subst P e (All-head P y ys all)
+    by_test false g rec = rec g
 
 -- a template has no label but that past its own condition
 pub template_marks_not : (l : Label) (at : ℕ) → same_label (Skip at) l ≡ false → (i : Instr80) → MarksNot l (template i at true)
@@ -73,24 +85,18 @@ template_marks_not l at h (Cif c Bdos) = (refl, (refl, (h, tt)))
 template_marks_not l at h (Rif c) = (refl, (refl, (h, tt)))
 template_marks_not l at h i = (refl, tt)
 
-same_is : (a : ℕ) → (a == a) ≡ true
-same_is a = grind (arith, nat_tests)
-
-not_same : (a b : ℕ) → a ≢ b → (a == b) ≡ false
-not_same a b h = grind (arith, nat_tests)
-
 -- the bytes of an instruction's template
 abbrev pub template_size : Placed → ℕ
 template_size x = sizes_of (template x.instr x.at true)
 
 -- the first instruction's offset
-pub first_offset : (at : ℕ) (x : Placed) (xs : List Placed) (rest : List Stmt86) → offset_from at (body (x ∷ xs) ++ rest) (Line x.at) ≡ Some at
-first_offset at x xs rest = ap (λ t. cond t (Some at) (offset_from (at + 0) (template x.instr x.at true ++ body xs ++ rest) (Line x.at))) (same_is x.at)
+first_offset : (at : ℕ) (x : Placed) (xs : List Placed) (rest : List Stmt86) → offset_from at (body (x ∷ xs) ++ rest) (Line x.at) ≡ Some at
+first_offset at x xs rest = ap (λ t. cond t (Some at) (offset_from (at + 0) (template x.instr x.at true ++ body xs ++ rest) (Line x.at))) (eq_true x.at x.at refl)
 
 -- past the first instruction
 later_offset : (at a : ℕ) (x : Placed) (xs : List Placed) (rest : List Stmt86) → x.at ≢ a → offset_from at (body (x ∷ xs) ++ rest) (Line a) ≡ offset_from (at + template_size x) (body xs ++ rest) (Line a)
 later_offset at a x xs rest ne =
-    ap (λ t. cond t (Some at) (offset_from (at + 0) (template x.instr x.at true ++ body xs ++ rest) (Line a))) (not_same x.at a ne)
+    ap (λ t. cond t (Some at) (offset_from (at + 0) (template x.instr x.at true ++ body xs ++ rest) (Line a))) (eq_false x.at a ne)
     ∙ ap (λ l. offset_from (at + 0) l (Line a)) (append_assoc (template x.instr x.at true) (body xs) rest)
     ∙ offset_past (at + 0) (Line a) (template x.instr x.at true) (body xs ++ rest) (template_marks_not (Line a) x.at refl x.instr)
     ∙ (let e : at + 0 + template_size x ≡ at + template_size x = omega arith in ap (λ n. offset_from n (body xs ++ rest) (Line a)) e)
@@ -102,29 +108,32 @@ pub record IsPlaced (code : List ℕ) (off : Label → ℕ) (there : Label → O
   pub stands : StandAll code off offset (template x.instr x.at true)
   pub next : (y : Placed) → placed_in xs (x.at + length80 x.instr) ≡ Some y → there (Line (x.at + length80 x.instr)) ≡ Some (offset + template_size x)
 
+-- the label of the lowest place, where an instruction starts there
+pub lowest_offset : (at from limit : ℕ) (y : Placed) (xs : List Placed) (rest : List Stmt86) → AreLaid from limit xs → placed_in xs from ≡ Some y → offset_from at (body xs ++ rest) (Line from) ≡ Some at
+lowest_offset at from limit y [] rest laid h = absurd (cc)
+lowest_offset at from limit y (z ∷ zs) rest laid h = by_test (z.at == from) refl h
+  where
+    by_test : (t : Bool) → (z.at == from) ≡ t → cond t (Some z) (placed_in zs from) ≡ Some y → offset_from at (body (z ∷ zs) ++ rest) (Line from) ≡ Some at
+    by_test true e f =
+        let k : z.at ≡ from = grind (arith, nat_tests) in
+        subst (λ n. offset_from at (body (z ∷ zs) ++ rest) (Line n) ≡ Some at) k (first_offset at z zs rest)
+    by_test false e f =
+        let up = laid_above zs (z.at + length80 z.instr) limit from y laid.3 f in
+        let some = length80-some z.instr in
+        let above = laid.0 in
+        absurd (omega (arith, up, some, above))
+
 -- the label of the instruction right after the first
 next_is : (at limit : ℕ) (x y : Placed) (xs : List Placed) (rest : List Stmt86) → AreLaid (x.at + length80 x.instr) limit xs → placed_in (x ∷ xs) (x.at + length80 x.instr) ≡ Some y → offset_from at (body (x ∷ xs) ++ rest) (Line (x.at + length80 x.instr)) ≡ Some (at + template_size x)
-next_is at limit x y xs rest laid h = by_rest xs laid (sym (ap (λ t. cond t (Some x) (placed_in xs (x.at + length80 x.instr))) (not_same x.at (x.at + length80 x.instr) ne)) ∙ h)
+next_is at limit x y xs rest laid h =
+    later_offset at to x xs rest ne
+    ∙ lowest_offset (at + template_size x) to limit y xs rest laid (sym (ap (λ t. cond t (Some x) (placed_in xs to)) (eq_false x.at to ne)) ∙ h)
   where
-    ne : x.at ≢ x.at + length80 x.instr
-    ne = let up = length80-some x.instr in omega (arith, up)
-
     to : ℕ
     to = x.at + length80 x.instr
 
-    by_rest : (xs : List Placed) → AreLaid to limit xs → placed_in xs to ≡ Some y → offset_from at (body (x ∷ xs) ++ rest) (Line to) ≡ Some (at + template_size x)
-    by_rest [] laid g = absurd (cc)
-    by_rest (z ∷ zs) laid g = later_offset at to x (z ∷ zs) rest ne ∙ by_test (z.at == to) refl g
-      where
-        by_test : (t : Bool) → (z.at == to) ≡ t → cond t (Some z) (placed_in zs to) ≡ Some y → offset_from (at + template_size x) (body (z ∷ zs) ++ rest) (Line to) ≡ Some (at + template_size x)
-        by_test true e f =
-            let k : z.at ≡ to = grind (arith, nat_tests) in
-            subst (λ n. offset_from (at + template_size x) (body (z ∷ zs) ++ rest) (Line n) ≡ Some (at + template_size x)) k (first_offset (at + template_size x) z zs rest)
-        by_test false e f =
-            let up = laid_above zs (z.at + length80 z.instr) limit to y laid.3 f in
-            let some = length80-some z.instr in
-            let from = laid.0 in
-            absurd (omega (arith, up, some, from))
+    ne : x.at ≢ to
+    ne = let up = length80-some x.instr in omega (arith, up)
 
 -- each instruction of a list is placed, where the list's body stands
 pub is_placed : (code : List ℕ) (off : Label → ℕ) (xs : List Placed) (at from limit a : ℕ) (x : Placed) (rest : List Stmt86) → AreLaid from limit xs → StandAll code off at (body xs ++ rest) → placed_in xs a ≡ Some x → IsPlaced code off (offset_from at (body xs ++ rest)) xs x
@@ -157,7 +166,7 @@ is_placed code off (z ∷ zs) at from limit a x rest laid st h =
           offset = q.offset;
           at = later_offset at x.at z zs rest ne ∙ q.at;
           stands = q.stands;
-          next = λ y g. later_offset at (x.at + length80 x.instr) z zs rest ne' ∙ q.next y (sym (ap (λ t. cond t (Some z) (placed_in zs (x.at + length80 x.instr))) (not_same z.at (x.at + length80 x.instr) ne')) ∙ g);
+          next = λ y g. later_offset at (x.at + length80 x.instr) z zs rest ne' ∙ q.next y (sym (ap (λ t. cond t (Some z) (placed_in zs (x.at + length80 x.instr))) (eq_false z.at (x.at + length80 x.instr) ne')) ∙ g);
         }
 
     by_test : (t : Bool) → (z.at == a) ≡ t → cond t (Some z) (placed_in zs a) ≡ Some x → (placed_in zs a ≡ Some x → IsPlaced code off (offset_from (at + template_size z) (body zs ++ rest)) zs x) → IsPlaced code off (offset_from at (body (z ∷ zs) ++ rest)) (z ∷ zs) x

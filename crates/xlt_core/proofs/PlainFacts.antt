@@ -20,7 +20,7 @@ pub record PlainFacts (p : Program) (code : List ℕ) (off : Label → ℕ) : Ty
   pub finish : StandAll code off (off End) end_code
 
 -- no instruction's statements have a label that is neither an instruction's nor past a condition
-body_marks_not : (l : Label) → ((a : ℕ) → same_label (Line a) l ≡ false) → ((a : ℕ) → same_label (Skip a) l ≡ false) → (xs : List Placed) → MarksNot l (body xs)
+pub body_marks_not : (l : Label) → ((a : ℕ) → same_label (Line a) l ≡ false) → ((a : ℕ) → same_label (Skip a) l ≡ false) → (xs : List Placed) → MarksNot l (body xs)
 body_marks_not l h g [] = tt
 body_marks_not l h g (x ∷ xs) = (h x.at, marks_not-append l (template x.instr x.at true) (body xs) (template_marks_not l x.at (g x.at) x.instr) (body_marks_not l h g xs))
 
