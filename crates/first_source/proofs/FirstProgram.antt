@@ -1,15 +1,15 @@
 -- First programs as programs: how they are laid out.
-use Rattle.std.proofs.Common.{◌≡◌, ℕ, ◌+◌, ◌*◌, ◌≤◌, List, [], ◌∷◌, length, Some, refl, ap, ◌∙◌, subst, arith, Bool, true, false, cond, ◌==◌}
+use Rattle.std.proofs.Common.{◌≡◌, ℕ, ◌+◌, ◌*◌, ◌≤◌, List, [], ◌∷◌, length, refl, ap, ◌∙◌, arith, true}
 use Rattle.std.specs.Prelude.{All}
 use Rattle.std.proofs.lemmas.List.Elements.{All-head, All-tail}
 use Rattle.i80.specs.declared.Instr80.{Instr80}
 use Rattle.i80.specs.Columns.{length80, is_well_formed}
 use Rattle.program80.specs.declared.program.Placed.{Placed}
 use Rattle.cells.specs.declared.Cell.{Cell}
-use Rattle.program80.specs.Program.{program_of, placed_in, AreLaid, IsProgram}
+use Rattle.program80.specs.Program.{program_of, AreLaid, IsProgram}
 use Rattle.first_source.specs.First.{IsFirst, function, argument, system, finish, AreFirst, laid_out, first_program}
 
-pub first_length : (i : Instr80) → IsFirst i → length80 i ≤ 3
+first_length : (i : Instr80) → IsFirst i → length80 i ≤ 3
 first_length _ function = omega arith
 first_length _ (argument n lt) = omega arith
 first_length _ system = omega arith
@@ -22,24 +22,12 @@ first_well_formed _ system = refl
 first_well_formed _ finish = refl
 
 -- first programs are laid out below any limit that has room for them
-pub first_laid : (is : List Instr80) (at line limit : ℕ) → All IsFirst is → at + 3 * length is ≤ limit → AreLaid at limit (laid_out at line is)
+first_laid : (is : List Instr80) (at line limit : ℕ) → All IsFirst is → at + 3 * length is ≤ limit → AreLaid at limit (laid_out at line is)
 first_laid [] at line limit kinds h = tt
 first_laid (i ∷ is) at line limit kinds h =
     let kind = All-head IsFirst i is kinds in
     let le = first_length i kind in
     (omega arith, omega (arith, le), first_well_formed i kind, first_laid is (at + length80 i) (line + 1) limit (All-tail IsFirst i is kinds) (omega (arith, le)))
-
--- what is found in a first program is of the first form
-pub first_found : (is : List Instr80) (at line a : ℕ) (x : Placed) → All IsFirst is → placed_in (laid_out at line is) a ≡ Some x → IsFirst x.instr
-first_found [] at line a x kinds h = absurd (cc)
-first_found (i ∷ is) at line a x kinds h = by_test (at == a) h (first_found is (at + length80 i) (line + 1) a x (All-tail IsFirst i is kinds))
-  where
-    y : Placed
-    y = record { at = at; line = line; instr = i }
-
-    by_test : (t : Bool) → cond t (Some y) (placed_in (laid_out (at + length80 i) (line + 1) is) a) ≡ Some x → (placed_in (laid_out (at + length80 i) (line + 1) is) a ≡ Some x → IsFirst x.instr) → IsFirst x.instr
-    by_test true g rec = let e : y ≡ x = cc in subst (λ (z : Placed). IsFirst z.instr) e (All-head IsFirst i is kinds)
-    by_test false g rec = rec g
 
 -- a first program is a program
 pub first_is_program : (is : List Instr80) → AreFirst is → IsProgram (first_program is)
