@@ -20,7 +20,8 @@ use Rattle.templates.specs.Plain.{body, plain_statements, numbered, plain}
 use Rattle.xlt_core.specs.First.{IsFirstInstr, function, argument, system, finish, HoldsFirst, IsFirst}
 use Rattle.xlt_core.proofs.Standing.{MarksNot, marks_not-append, sizes_of-append}
 use Rattle.xlt_core.proofs.Words.{eq_false}
-use Rattle.xlt_core.proofs.Placing.{length80-some, template_marks_not}
+use Rattle.xlt_core.proofs.Shapes.{template_marks_not}
+use Rattle.xlt_core.proofs.Placing.{length80-some}
 use Rattle.xlt_core.proofs.PlainFacts.{body_marks_not, body_has_no_sys, body_has_no_end, tail_of, sys_at, end_at}
 
 -- the statements of numbered lines

@@ -1,6 +1,7 @@
 pub mod Standing
 pub mod Words
 pub mod Link
+pub mod Shapes
 pub mod Placing
 pub mod PlainFacts
 pub mod Letter

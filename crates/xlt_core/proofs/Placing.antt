@@ -3,23 +3,20 @@ use Rattle.std.proofs.Common.{◌≡◌, ◌≢◌, ℕ, ◌+◌, ◌≤◌, Lis
 use Rattle.std.specs.Prelude.{All}
 use Rattle.std.proofs.lemmas.Bool.Decides.{nat_tests}
 use Rattle.std.proofs.lemmas.List.Elements.{All-head, All-tail}
-use Rattle.i80.specs.declared.Src.TheVariants.{Reg, Mem}
-use Rattle.i80.specs.declared.StackPair.TheVariants.{B as StackB, D as StackD, H as StackH, Psw}
-use Rattle.i80.specs.declared.Word.TheVariants.{Num, Code}
-use Rattle.i80.specs.declared.Goal.TheVariants.{At, Boot, Bdos}
 use Rattle.i80.specs.declared.Instr80.{Instr80}
-use Rattle.i80.specs.declared.Instr80.TheVariants.{Nop, Mov, Mvi, Lxi, Ldax, Stax, Xthl, Inx, Dcx, Dad, Push, Pop, Jif, Call, Cif, Rif}
+use Rattle.i80.specs.declared.Instr80.TheVariants.{Nop}
 use Rattle.i80.specs.Columns.{length80}
 use Rattle.lines86.specs.declared.line.Label.{Label}
-use Rattle.lines86.specs.declared.line.Label.TheVariants.{At as Line, Skip}
+use Rattle.lines86.specs.declared.line.Label.TheVariants.{At as Line}
 use Rattle.lines86.specs.declared.line.Stmt86.{Stmt86}
-use Rattle.lines86.specs.Layout.{sizes_of, offset_from, same_label}
+use Rattle.lines86.specs.Layout.{sizes_of, offset_from}
 use Rattle.program80.specs.declared.program.Placed.{Placed}
 use Rattle.program80.specs.Program.{placed_in, AreLaid}
 use Rattle.templates.specs.Template.{template}
 use Rattle.templates.specs.Plain.{body}
 use Rattle.xlt_core.proofs.Words.{eq_true, eq_false}
-use Rattle.xlt_core.proofs.Standing.{StandAll, stand_front, stand_back, MarksNot, offset_past}
+use Rattle.xlt_core.proofs.Shapes.{template_marks_not}
+use Rattle.xlt_core.proofs.Standing.{StandAll, stand_front, stand_back, offset_past}
 
 pub length80-some : (i : Instr80) → 1 ≤ length80 i
 length80-some Nop = omega arith
@@ -51,39 +48,6 @@ found_holds P (y ∷ ys) a x all h = by_test (y.at == a) h (found_holds P ys a x
     by_test : (t : Bool) → cond t (Some y) (placed_in ys a) ≡ Some x → (placed_in ys a ≡ Some x → P x) → P x
     by_test true g rec = let e : y ≡ x = cc in subst P e (All-head P y ys all)
     by_test false g rec = rec g
-
--- a template has no label but that past its own condition
-pub template_marks_not : (l : Label) (at : ℕ) → same_label (Skip at) l ≡ false → (i : Instr80) → MarksNot l (template i at true)
-template_marks_not l at h (Mov (Reg r) s) = (refl, tt)
-template_marks_not l at h (Mov Mem (Reg r)) = (refl, tt)
-template_marks_not l at h (Mov Mem Mem) = tt
-template_marks_not l at h (Mvi (Reg r) n) = (refl, tt)
-template_marks_not l at h (Mvi Mem n) = (refl, tt)
-template_marks_not l at h (Lxi p (Num w)) = (refl, tt)
-template_marks_not l at h (Lxi p (Code a)) = (refl, tt)
-template_marks_not l at h (Ldax p) = (refl, (refl, tt))
-template_marks_not l at h (Stax p) = (refl, (refl, tt))
-template_marks_not l at h Xthl = (refl, (refl, (refl, tt)))
-template_marks_not l at h (Inx p) = (refl, (refl, (refl, tt)))
-template_marks_not l at h (Dcx p) = (refl, (refl, (refl, tt)))
-template_marks_not l at h (Dad p) = (refl, (refl, (refl, (refl, (refl, tt)))))
-template_marks_not l at h (Push StackB) = (refl, tt)
-template_marks_not l at h (Push StackD) = (refl, tt)
-template_marks_not l at h (Push StackH) = (refl, tt)
-template_marks_not l at h (Push Psw) = (refl, (refl, (refl, (refl, tt))))
-template_marks_not l at h (Pop StackB) = (refl, tt)
-template_marks_not l at h (Pop StackD) = (refl, tt)
-template_marks_not l at h (Pop StackH) = (refl, tt)
-template_marks_not l at h (Pop Psw) = (refl, (refl, (refl, tt)))
-template_marks_not l at h (Jif c t) = (refl, (refl, (h, tt)))
-template_marks_not l at h (Call (At t)) = (refl, tt)
-template_marks_not l at h (Call Boot) = (refl, tt)
-template_marks_not l at h (Call Bdos) = (refl, tt)
-template_marks_not l at h (Cif c (At t)) = (refl, (refl, (h, tt)))
-template_marks_not l at h (Cif c Boot) = (refl, (refl, (h, tt)))
-template_marks_not l at h (Cif c Bdos) = (refl, (refl, (h, tt)))
-template_marks_not l at h (Rif c) = (refl, (refl, (h, tt)))
-template_marks_not l at h i = (refl, tt)
 
 -- the bytes of an instruction's template
 abbrev pub template_size : Placed → ℕ

@@ -11,7 +11,8 @@ use Rattle.program80.specs.Program.{Program, placed_in, AreLaid}
 use Rattle.templates.specs.Template.{template}
 use Rattle.templates.specs.Plain.{prologue, call_code, end_code, runtime, body, data_from, ending, plain_statements}
 use Rattle.xlt_core.proofs.Standing.{StandAll, bytes_all, stand_all, stand_front, stand_back, past_mark, MarksNot, marks_not-append, offset_past}
-use Rattle.xlt_core.proofs.Placing.{IsPlaced, is_placed, template_marks_not}
+use Rattle.xlt_core.proofs.Shapes.{template_marks_not}
+use Rattle.xlt_core.proofs.Placing.{IsPlaced, is_placed}
 
 pub record PlainFacts (p : Program) (code : List ℕ) (off : Label → ℕ) : Type 0 where
   pub opening : StandAll code off 0 (prologue p.top)
