@@ -39,7 +39,8 @@ use Rattle.xlt_core.proofs.Words.{word_parts, put_word_past, put_word_low, put_w
 use Rattle.xlt_core.proofs.Link.{Stands, Linked}
 use Rattle.xlt_core.proofs.Placing.{found_holds, lowest_offset}
 use Rattle.xlt_core.proofs.PlainFacts.{PlainFacts, plain_facts, tail_of}
-use Rattle.xlt_core.proofs.FirstLayout.{statements-numbered, first_small, first_no_cells, top_low, top_high, without_data}
+use Rattle.xlt_core.proofs.Assembling.{statements-numbered, body_cells}
+use Rattle.xlt_core.proofs.FirstLayout.{first_small, top_low, top_high, without_data}
 use Rattle.xlt_core.proofs.FirstTurn.{turn86, stack_passes, no_regs, link_same, link_going, linked_turn}
 
 -- memory after the prologue, where e is the offset of the end
@@ -253,7 +254,7 @@ module _ (xs : List Placed) (top : ℕ) (laid : AreLaid 0x100 (top - 2) xs) (beg
 
   -- its image
   image_is : image_of (plain p) ≡ image
-  image_is = ap image_with (statements-numbered 1 stmts) ∙ ap image_cells (first_no_cells xs top laid kinds low high)
+  image_is = ap image_with (statements-numbered 1 stmts) ∙ ap image_cells (body_cells off 0 xs (tail_of p))
     where
       image_with : List Stmt86 → Image
       image_with xs = record { code = code_of xs; cells = cells_from (place_of xs) 0 xs; labels = labels_from 0 xs }

@@ -6,6 +6,7 @@ pub mod Placing
 pub mod PlainFacts
 pub mod Letter
 pub mod FirstTurn
+pub mod Assembling
 pub mod FirstLayout
 pub mod FirstStart
 pub mod Rows

@@ -7,9 +7,9 @@ use Rattle.i80.specs.declared.Instr80.{Instr80}
 use Rattle.i80.specs.declared.Instr80.TheVariants.{Nop}
 use Rattle.i80.specs.Columns.{length80}
 use Rattle.lines86.specs.declared.line.Label.{Label}
-use Rattle.lines86.specs.declared.line.Label.TheVariants.{At as Line}
+use Rattle.lines86.specs.declared.line.Label.TheVariants.{At as Line, Skip}
 use Rattle.lines86.specs.declared.line.Stmt86.{Stmt86}
-use Rattle.lines86.specs.Layout.{sizes_of, offset_from}
+use Rattle.lines86.specs.Layout.{sizes_of, offset_from, same_label}
 use Rattle.program80.specs.declared.program.Placed.{Placed}
 use Rattle.program80.specs.Program.{placed_in, AreLaid}
 use Rattle.templates.specs.Template.{template}
@@ -57,13 +57,23 @@ template_size x = sizes_of (template x.instr x.at true)
 first_offset : (at : ℕ) (x : Placed) (xs : List Placed) (rest : List Stmt86) → offset_from at (body (x ∷ xs) ++ rest) (Line x.at) ≡ Some at
 first_offset at x xs rest = ap (λ t. cond t (Some at) (offset_from (at + 0) (template x.instr x.at true ++ body xs ++ rest) (Line x.at))) (eq_true x.at x.at refl)
 
+-- a label that is no other address's
+abbrev pub IsOf : ℕ → Label → Type 0
+IsOf a l = (b : ℕ) → b ≢ a → (same_label (Line b) l ≡ false) × (same_label (Skip b) l ≡ false)
+
+pub line_of : (a : ℕ) → IsOf a (Line a)
+line_of a b ne = (eq_false b a ne, refl)
+
+pub skip_of : (a : ℕ) → IsOf a (Skip a)
+skip_of a b ne = (refl, eq_false b a ne)
+
 -- past the first instruction
-later_offset : (at a : ℕ) (x : Placed) (xs : List Placed) (rest : List Stmt86) → x.at ≢ a → offset_from at (body (x ∷ xs) ++ rest) (Line a) ≡ offset_from (at + template_size x) (body xs ++ rest) (Line a)
-later_offset at a x xs rest ne =
-    ap (λ t. cond t (Some at) (offset_from (at + 0) (template x.instr x.at true ++ body xs ++ rest) (Line a))) (eq_false x.at a ne)
-    ∙ ap (λ l. offset_from (at + 0) l (Line a)) (append_assoc (template x.instr x.at true) (body xs) rest)
-    ∙ offset_past (at + 0) (Line a) (template x.instr x.at true) (body xs ++ rest) (template_marks_not (Line a) x.at refl x.instr)
-    ∙ (let e : at + 0 + template_size x ≡ at + template_size x = omega arith in ap (λ n. offset_from n (body xs ++ rest) (Line a)) e)
+pub later_offset : (at a : ℕ) (l : Label) → IsOf a l → (x : Placed) (xs : List Placed) (rest : List Stmt86) → x.at ≢ a → offset_from at (body (x ∷ xs) ++ rest) l ≡ offset_from (at + template_size x) (body xs ++ rest) l
+later_offset at a l of x xs rest ne =
+    ap (λ t. cond t (Some at) (offset_from (at + 0) (template x.instr x.at true ++ body xs ++ rest) l)) (of x.at ne).0
+    ∙ ap (λ ys. offset_from (at + 0) ys l) (append_assoc (template x.instr x.at true) (body xs) rest)
+    ∙ offset_past (at + 0) l (template x.instr x.at true) (body xs ++ rest) (template_marks_not l x.at (of x.at ne).1 x.instr)
+    ∙ (let e : at + 0 + template_size x ≡ at + template_size x = omega arith in ap (λ n. offset_from n (body xs ++ rest) l) e)
 
 -- where an instruction's template stands, and that the next instruction's label follows it
 pub record IsPlaced (code : List ℕ) (off : Label → ℕ) (there : Label → Option ℕ) (xs : List Placed) (x : Placed) : Type 0 where
@@ -90,7 +100,7 @@ lowest_offset at from limit y (z ∷ zs) rest laid h = by_test (z.at == from) re
 -- the label of the instruction right after the first
 next_is : (at limit : ℕ) (x y : Placed) (xs : List Placed) (rest : List Stmt86) → AreLaid (x.at + length80 x.instr) limit xs → placed_in (x ∷ xs) (x.at + length80 x.instr) ≡ Some y → offset_from at (body (x ∷ xs) ++ rest) (Line (x.at + length80 x.instr)) ≡ Some (at + template_size x)
 next_is at limit x y xs rest laid h =
-    later_offset at to x xs rest ne
+    later_offset at to (Line to) (line_of to) x xs rest ne
     ∙ lowest_offset (at + template_size x) to limit y xs rest laid (sym (ap (λ t. cond t (Some x) (placed_in xs to)) (eq_false x.at to ne)) ∙ h)
   where
     to : ℕ
@@ -128,9 +138,9 @@ is_placed code off (z ∷ zs) at from limit a x rest laid st h =
         let ne' : z.at ≢ x.at + length80 x.instr = omega (arith, up) in
         record {
           offset = q.offset;
-          at = later_offset at x.at z zs rest ne ∙ q.at;
+          at = later_offset at x.at (Line x.at) (line_of x.at) z zs rest ne ∙ q.at;
           stands = q.stands;
-          next = λ y g. later_offset at (x.at + length80 x.instr) z zs rest ne' ∙ q.next y (sym (ap (λ t. cond t (Some z) (placed_in zs (x.at + length80 x.instr))) (eq_false z.at (x.at + length80 x.instr) ne')) ∙ g);
+          next = λ y g. later_offset at (x.at + length80 x.instr) (Line (x.at + length80 x.instr)) (line_of (x.at + length80 x.instr)) z zs rest ne' ∙ q.next y (sym (ap (λ t. cond t (Some z) (placed_in zs (x.at + length80 x.instr))) (eq_false z.at (x.at + length80 x.instr) ne')) ∙ g);
         }
 
     by_test : (t : Bool) → (z.at == a) ≡ t → cond t (Some z) (placed_in zs a) ≡ Some x → (placed_in zs a ≡ Some x → IsPlaced code off (offset_from (at + template_size z) (body zs ++ rest)) zs x) → IsPlaced code off (offset_from at (body (z ∷ zs) ++ rest)) (z ∷ zs) x

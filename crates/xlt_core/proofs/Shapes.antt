@@ -79,10 +79,10 @@ template_shape G Rst0 at h = straight _ (jumps Boot h, tt)
 template_shape G i at h = straight _ (runs _, tt)
 
 -- any place at all
-abbrev Any : Goal → Type 0
+abbrev pub Any : Goal → Type 0
 Any g = Unit {0}
 
-names_any : (i : Instr80) → Names Any i
+pub names_any : (i : Instr80) → Names Any i
 names_any (Lxi p (Num w)) = tt
 names_any (Lxi p (Code a)) = tt
 names_any i = tt
@@ -94,7 +94,7 @@ step_marks_not G l _ (loads r a h) = refl
 step_marks_not G l _ (jumps g h) = refl
 step_marks_not G l _ (calls g h) = refl
 
-steps_mark_not : (G : Goal → Type 0) (l : Label) (xs : List Stmt86) → AreSteps G xs → MarksNot l xs
+pub steps_mark_not : (G : Goal → Type 0) (l : Label) (xs : List Stmt86) → AreSteps G xs → MarksNot l xs
 steps_mark_not G l [] h = tt
 steps_mark_not G l (x ∷ xs) h = (step_marks_not G l x h.0, steps_mark_not G l xs h.1)
 
