@@ -12,7 +12,7 @@ use Rattle.program80.specs.Program.{Program}
 use Rattle.lines86.specs.Image.{statements}
 use Rattle.templates.specs.Plain.{plain, plain_statements}
 use Rattle.transfer.specs.Transfer.{IsBeforeOrPrefix}
-use Rattle.xlt_core.proofs.FirstLayout.{statements-numbered}
+use Rattle.xlt_core.proofs.Assembling.{statements-numbered}
 use Rattle.xlt_app.specs.declared.translate.Stop.{Stop}
 use Rattle.xlt_app.specs.Words.{Translate}
 use Rattle.xlt_app.specs.Report.{memory_line}
