@@ -1,0 +1,57 @@
+-- The words behind a command's word, sorted into names, and options with their values.
+use Rattle.std.specs.Prelude.{◌≡◌, ℕ, ◌<◌, List, [], ◌∷◌, codes, Bool, not, ◌||◌, ◌==◌, nat_lt, if◌then◌else◌, Option, Some, None, map, length, slice_index}
+use Rattle.std.specs.List.{before_first, after_first, list_any}
+use Rattle.std.specs.Str.{bytes_eq}
+use Rattle.command_words.specs.declared.table.CommandName.{CommandName}
+use Rattle.command_words.specs.declared.table.OptionName.{OptionName}
+use Rattle.command_words.specs.Table.{Word, options_of, flags_of, named_among}
+
+-- a name, or an option with the text of its value; a flag's text is empty
+pub data Item : Type 0 where
+  Name : (word : Word) → Item
+  Given : (option : OptionName) → (text : Word) → Item
+
+-- a name or an option's value is a word that does not begin with `-`, or is `-` alone
+abbrev pub is_value : Word → Bool
+is_value w = not (slice_index w 0 == 0x2D) || bytes_eq w (codes "-")
+
+-- the mark, after which every word is a name
+abbrev pub mark : Word
+mark = codes "--"
+
+abbrev pub is_equals : ℕ → Bool
+is_equals b = b == 0x3D
+
+-- an item, and the words behind it
+abbrev pub First : Type 0
+First = Option (Item × List Word)
+
+-- an option's value stands after `=` in the same word, and may then be anything
+abbrev pub joined_item : Option OptionName → Word → List Word → First
+joined_item (Some o) text ws = Some (Given o text, ws)
+joined_item None text ws = None
+
+-- or it is the next word
+abbrev pub parted_item : Option OptionName → List Word → First
+parted_item (Some o) (text ∷ ws) = if is_value text then Some (Given o text, ws) else None
+parted_item (Some o) [] = None
+parted_item None ws = None
+
+-- a flag takes no value
+abbrev pub lone_item : (flag option : Option OptionName) → List Word → First
+lone_item (Some f) option ws = Some (Given f [], ws)
+lone_item None option ws = parted_item option ws
+
+-- what a command's words begin with
+abbrev pub first_item : CommandName → Word → List Word → First
+first_item c w ws =
+    if is_value w then Some (Name w, ws)
+    else (if list_any is_equals w
+    then joined_item (named_among (options_of c) (before_first is_equals w)) (after_first is_equals w) ws
+    else lone_item (named_among (flags_of c) w) (named_among (options_of c) w) ws)
+
+-- a command's words are these items
+pub data Sorts (c : CommandName) : List Word → List Item → Type 0 where
+  none : Sorts c [] []
+  marked : {ws : List Word} → Sorts c (mark ∷ ws) (map Name ws)
+  more : {w : Word} {ws rest : List Word} {item : Item} {items : List Item} → first_item c w ws ≡ Some (item, rest) → Sorts c rest items → Sorts c (w ∷ ws) (item ∷ items)

@@ -1,0 +1,4 @@
+pub mod Table
+pub mod Items
+pub mod Values
+pub mod Read
