@@ -1,6 +1,6 @@
 -- The words behind a command's word, sorted into names, and options with their values.
-use Rattle.std.specs.Prelude.{◌≡◌, ℕ, ◌<◌, List, [], ◌∷◌, codes, Bool, not, ◌||◌, ◌==◌, nat_lt, if◌then◌else◌, Option, Some, None, map, length, slice_index}
-use Rattle.std.specs.List.{before_first, after_first, list_any}
+use Rattle.std.specs.Prelude.{◌≡◌, ℕ, List, [], ◌∷◌, codes, Bool, not, ◌||◌, ◌==◌, nat_lt, if◌then◌else◌, Option, Some, None, map, length, slice_index}
+use Rattle.std.specs.List.{before_first, after_first, position_or_len}
 use Rattle.std.specs.Str.{bytes_eq}
 use Rattle.command_words.specs.declared.table.CommandName.{CommandName}
 use Rattle.command_words.specs.declared.table.OptionName.{OptionName}
@@ -21,6 +21,9 @@ mark = codes "--"
 
 abbrev pub is_equals : ℕ → Bool
 is_equals b = b == 0x3D
+
+abbrev pub has_equals : Word → Bool
+has_equals w = nat_lt (position_or_len is_equals w) (length w)
 
 -- an item, and the words behind it
 abbrev pub First : Type 0
@@ -46,7 +49,7 @@ lone_item None option ws = parted_item option ws
 abbrev pub first_item : CommandName → Word → List Word → First
 first_item c w ws =
     if is_value w then Some (Name w, ws)
-    else (if list_any is_equals w
+    else (if has_equals w
     then joined_item (named_among (options_of c) (before_first is_equals w)) (after_first is_equals w) ws
     else lone_item (named_among (flags_of c) w) (named_among (options_of c) w) ws)
 

@@ -1,5 +1,5 @@
 -- The values that the texts of options stand for.
-use Rattle.std.specs.Prelude.{ℕ, List, [], ◌∷◌, Bool, Option, Some, None, length, nat_lt, nat_le, ◌==◌, ◌&&◌, if◌then◌else◌, option_and_then}
+use Rattle.std.specs.Prelude.{ℕ, List, [], ◌∷◌, Option, Some, None, length, nat_lt, nat_le, ◌==◌, ◌&&◌, if◌then◌else◌, option_and_then}
 use Rattle.std.specs.List.{list_all, list_any}
 use Rattle.std.specs.Char.{is_digit}
 use Rattle.std.specs.Str.Parse.{digits_value}
