@@ -9,7 +9,7 @@ use Rattle.command_words.specs.Table.{Word, options_of, flags_of, named_among}
 -- a name, or an option with the text of its value; a flag's text is empty
 pub data Item : Type 0 where
   Name : (word : Word) → Item
-  Given : (option : OptionName) → (text : Word) → Item
+  Setting : (option : OptionName) → (text : Word) → Item
 
 -- a name or an option's value is a word that does not begin with `-`, or is `-` alone
 abbrev pub is_value : Word → Bool
@@ -31,18 +31,18 @@ First = Option (Item × List Word)
 
 -- an option's value stands after `=` in the same word, and may then be anything
 abbrev pub joined_item : Option OptionName → Word → List Word → First
-joined_item (Some o) text ws = Some (Given o text, ws)
+joined_item (Some o) text ws = Some (Setting o text, ws)
 joined_item None text ws = None
 
 -- or it is the next word
 abbrev pub parted_item : Option OptionName → List Word → First
-parted_item (Some o) (text ∷ ws) = if is_value text then Some (Given o text, ws) else None
+parted_item (Some o) (text ∷ ws) = if is_value text then Some (Setting o text, ws) else None
 parted_item (Some o) [] = None
 parted_item None ws = None
 
 -- a flag takes no value
 abbrev pub lone_item : (flag option : Option OptionName) → List Word → First
-lone_item (Some f) option ws = Some (Given f [], ws)
+lone_item (Some f) option ws = Some (Setting f [], ws)
 lone_item None option ws = parted_item option ws
 
 -- what a command's words begin with

@@ -13,7 +13,7 @@ use crate::table::{CommandName, OptionName};
 #[derive(Clone, Copy)]
 pub enum Item<'a> {
     Name(&'a str),
-    Given(OptionName, &'a str),
+    Setting(OptionName, &'a str),
 }
 
 /// Whether every word behind this one is a name.
@@ -57,7 +57,7 @@ fn joined_item<'a>(
     ensures first { first_of result ≡ joined_item option text.now (map string_bytes words.now) }
     ensures shorter { IfSome result (λ x. length x.1.now ≤ length words.now) }
 {
-    Some((Item::Given(option?, text), words))
+    Some((Item::Setting(option?, text), words))
 }
 
 // A flag, or an option whose value is the next word.
@@ -71,7 +71,7 @@ fn lone_item<'a>(
     ensures shorter { IfSome result (λ x. length x.1.now ≤ length words.now) }
 {
     match command.flag_of_word(word) {
-        Some(flag) => Some((Item::Given(flag, ""), words)),
+        Some(flag) => Some((Item::Setting(flag, ""), words)),
         None => parted_item(command.option_of_word(word), words),
     }
 }
@@ -87,7 +87,7 @@ fn parted_item<'a>(
     let option = option?;
     let (text, rest) = words.split_first()?;
     if is_value(text.as_str()) {
-        Some((Item::Given(option, text.as_str()), rest))
+        Some((Item::Setting(option, text.as_str()), rest))
     } else {
         None
     }
