@@ -1,11 +1,12 @@
 -- What the items of a command give: its names, and each option's text.
-use Rattle.std.specs.Prelude.{List, [], ◌∷◌, if◌then◌else◌, Option, Some, None}
+use Rattle.std.specs.Prelude.{◌≡◌, List, [], ◌∷◌, if◌then◌else◌, Option, Some, None}
 use Rattle.std.specs.List.{filter_map}
 use Rattle.std.specs.Str.{bytes_eq}
+use Rattle.command_words.specs.declared.table.CommandName.{CommandName}
 use Rattle.command_words.specs.declared.table.OptionName.{OptionName}
 use Rattle.command_words.specs.declared.table.OptionName.TheVariants.{Top, Choice, Input, Tail, Steps, Plain}
 use Rattle.command_words.specs.Table.{Word, option_word}
-use Rattle.command_words.specs.Items.{Item, Name, Setting}
+use Rattle.command_words.specs.Items.{Item, Name, Setting, Sorts}
 
 abbrev pub name_in : Item → Option Word
 name_in (Name w) = Some w
@@ -66,3 +67,13 @@ gathered items = record {
   steps = occurrence (texts_of Steps items);
   plain = occurrence (texts_of Plain items);
 }
+
+-- a command's words are items that give this
+pub record AreSorted (c : CommandName) (ws : List Word) (g : Gathered) : Type 0 where
+  pub items : List Item
+  pub sorted : Sorts c ws items
+  pub given : g ≡ gathered items
+
+-- a command's words are no items
+abbrev pub AreUnsorted : CommandName → List Word → Type 0
+AreUnsorted c ws = (items : List Item) → Sorts c ws items → ⊥

@@ -1,14 +1,14 @@
 //! The names and options behind a command's word, gathered.
 
-ghost use Rattle.std.specs.Prelude.{◌≡◌, List, [], map, MatchOption};
+ghost use Rattle.std.specs.Prelude.{◌≡◌, [], fold, map, MatchOption};
 ghost use Rattle.std.specs.String.{string_bytes};
-ghost use Rattle.command_words.specs.Items.{Item, Name, Setting, Sorts};
-ghost use Rattle.command_words.specs.Given.{gathered, names};
-ghost use Rattle.command_words.specs.GivenRead.{gathered_of, item_more, names_read, occurrence_of, one_more, one_name_more};
-ghost use Rattle.command_words.specs.Read.{item_of};
+ghost use Rattle.command_words.specs.Items.{Name, Setting};
+ghost use Rattle.command_words.specs.Given.{gathered, AreSorted, AreUnsorted};
+ghost use Rattle.command_words.specs.Read.{item_of, item_more, names_read, occurrence_of, one_more, one_name_more};
 
-use crate::items::{Item, first_item, is_mark};
+use crate::items::{Item, first_item, first_word, is_mark};
 use crate::table::{CommandName, OptionName};
+use std::marker::Model;
 
 /// An option stands nowhere, once with a text, or more often.
 #[derive(Clone, Copy)]
@@ -28,7 +28,7 @@ pub enum Names<'a> {
 }
 
 /// What the words behind a command's word give.
-#[derive(Clone, Copy)]
+#[derive(Drop)]
 pub struct Given<'a> {
     pub names: Names<'a>,
     pub top: Occurrence<'a>,
@@ -37,6 +37,23 @@ pub struct Given<'a> {
     pub tail: Occurrence<'a>,
     pub steps: Occurrence<'a>,
     pub plain: Occurrence<'a>,
+}
+
+impl<'a> Model for Given<'a> {
+    ghost use Rattle.command_words.specs.Given.{Gathered};
+    ghost use Rattle.command_words.specs.Read.{names_read, occurrence_of};
+
+    ghost Value = { Gathered };
+
+    ghost view = { λ g. record {
+      names = names_read g.names;
+      top = occurrence_of g.top;
+      choice = occurrence_of g.choice;
+      input = occurrence_of g.input;
+      tail = occurrence_of g.tail;
+      steps = occurrence_of g.steps;
+      plain = occurrence_of g.plain;
+    } };
 }
 
 impl<'a> Occurrence<'a> {
@@ -65,9 +82,30 @@ impl<'a> Names<'a> {
 }
 
 impl<'a> Given<'a> {
+    /// What the words behind a command's word give; None where they are no items of the command.
+    pub fn of_words(command: CommandName, words: &'a [String]) -> Option<Given<'a>>
+        ensures { MatchOption result (AreUnsorted command (map string_bytes words.now))
+            (λ given. AreSorted command (map string_bytes words.now) given) }
+    {
+        let mut given = Given::nothing();
+        let mut rest = words;
+        loop {
+            let Some((word, others)) = first_word(rest) else {
+                return Some(given);
+            };
+            if is_mark(word) {
+                given.add_names(others);
+                return Some(given);
+            }
+            let (item, behind) = first_item(command, word, others)?;
+            given.add(item);
+            rest = behind;
+        }
+    }
+
     // What no words give.
     fn nothing() -> Given<'a>
-        ensures { gathered_of result ≡ gathered [] }
+        ensures { result ≡ gathered [] }
     {
         Given {
             names: Names::Zero,
@@ -80,32 +118,33 @@ impl<'a> Given<'a> {
         }
     }
 
-    // With one more item.
-    fn and(self, item: Item<'a>) -> Given<'a>
-        ensures { gathered_of result ≡ item_more (gathered_of self.entry) (item_of item.entry) }
+    fn add_names(&mut self, names: &'a [String])
+        ensures { self.new ≡ fold item_more self.old (map Name (map string_bytes names.now)) }
     {
-        match item {
-            Item::Name(name) => Given {
-                names: self.names.and(name),
-                ..self
-            },
-            Item::Setting(option, text) => self.and_option(option, text),
+        for name in names {
+            self.add(Item::Name(name.as_str()));
         }
     }
 
-    // With one more option.
-    fn and_option(self, option: OptionName, text: &'a str) -> Given<'a>
-        ensures { gathered_of result ≡ item_more (gathered_of self.entry) (Setting option text.now) }
+    fn add(&mut self, item: Item<'a>)
+        ensures { self.new ≡ item_more self.old (item_of item.entry) }
     {
-        let mut given = self;
-        match option {
-            OptionName::Top => given.top = self.top.and(text),
-            OptionName::Choice => given.choice = self.choice.and(text),
-            OptionName::Input => given.input = self.input.and(text),
-            OptionName::Tail => given.tail = self.tail.and(text),
-            OptionName::Steps => given.steps = self.steps.and(text),
-            OptionName::Plain => given.plain = self.plain.and(text),
+        match item {
+            Item::Name(name) => self.names = self.names.and(name),
+            Item::Setting(option, text) => self.add_setting(option, text),
         }
-        given
+    }
+
+    fn add_setting(&mut self, option: OptionName, text: &'a str)
+        ensures { self.new ≡ item_more self.old (Setting option text.now) }
+    {
+        match option {
+            OptionName::Top => self.top = self.top.and(text),
+            OptionName::Choice => self.choice = self.choice.and(text),
+            OptionName::Input => self.input = self.input.and(text),
+            OptionName::Tail => self.tail = self.tail.and(text),
+            OptionName::Steps => self.steps = self.steps.and(text),
+            OptionName::Plain => self.plain = self.plain.and(text),
+        }
     }
 }

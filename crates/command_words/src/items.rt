@@ -1,6 +1,6 @@
 //! The words behind a command's word, one item after the other.
 
-ghost use Rattle.std.specs.Prelude.{◌≡◌, ◌≤◌, IfSome, length, map, option_map};
+ghost use Rattle.std.specs.Prelude.{◌≡◌, ◌<◌, ◌≤◌, [], ◌∷◌, IfSome, MatchOption, length, map};
 ghost use Rattle.std.specs.String.{string_bytes};
 ghost use Rattle.std.specs.Str.{bytes_eq};
 ghost use Rattle.command_words.specs.Table.{flags_of, named_among, options_of};
@@ -21,6 +21,16 @@ pub fn is_mark(word: &str) -> bool
     ensures { result ≡ bytes_eq word.now mark }
 {
     word == "--"
+}
+
+/// The first word, and the words behind it.
+pub fn first_word(words: &[String]) -> Option<(&str, &[String])>
+    ensures first { MatchOption result (words.now ≡ [])
+        (λ x. map string_bytes words.now ≡ x.0.now ∷ map string_bytes x.1.now) }
+    ensures shorter { IfSome result (λ x. length x.1.now < length words.now) }
+{
+    let (word, rest) = words.split_first()?;
+    Some((word.as_str(), rest))
 }
 
 // Whether a word may be a name or an option's value.
@@ -85,9 +95,9 @@ fn parted_item<'a>(
     ensures shorter { IfSome result (λ x. length x.1.now ≤ length words.now) }
 {
     let option = option?;
-    let (text, rest) = words.split_first()?;
-    if is_value(text.as_str()) {
-        Some((Item::Setting(option, text.as_str()), rest))
+    let (text, rest) = first_word(words)?;
+    if is_value(text) {
+        Some((Item::Setting(option, text), rest))
     } else {
         None
     }

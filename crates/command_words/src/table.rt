@@ -33,7 +33,10 @@ impl CommandName {
     pub fn of_word(word: &str) -> Option<CommandName>
         ensures { result ≡ command_named word.now }
     {
-        COMMANDS.iter().copied().find(|command| command.word() == word)
+        COMMANDS
+            .iter()
+            .copied()
+            .find(|command| command.word() == word)
     }
 
     fn word(self) -> &'static str
