@@ -1,3 +1,4 @@
 pub mod Numbers
 pub mod Gathering
 pub mod Reading
+pub mod Commands

@@ -1,7 +1,7 @@
 -- The words up to a place, sorted: what the items so far give, and how those of the words behind join them.
 use Rattle.std.proofs.Common.{◌≡◌, ◌≢◌, List, [], ◌∷◌, ◌++◌, Some, None, refl, ap, subst, sym, ◌∙◌, fold, append_assoc, map}
 use Rattle.std.proofs.lemmas.List.{append-nil}
-use Rattle.std.proofs.lemmas.Option.{some_pair_parts}
+use Rattle.std.proofs.lemmas.Option.{some_pair_parts, none-some}
 use Rattle.command_words.specs.declared.table.CommandName.{CommandName}
 use Rattle.command_words.specs.declared.table.CommandName.TheVariants.{Translate, Run80, Run86}
 use Rattle.command_words.specs.Table.{Word}
@@ -17,15 +17,17 @@ no_item_at_mark Run80 ws = refl
 no_item_at_mark Run86 ws = refl
 
 -- where an item stands first, the items are that item and those of the words behind it
-behind_item : {c : CommandName} {w : Word} {ws rest : List Word} {item : Item} {items : List Item} → Sorts c (w ∷ ws) items → first_item c w ws ≡ Some (item, rest) → (behind : List Item) × (items ≡ item ∷ behind) × Sorts c rest behind
-behind_item {c} (marked {ws}) e = let bad : ⊥ = absurd_some (sym (no_item_at_mark c ws) ∙ e) in absurd bad
-  where
-    absurd_some : {X : Type 0} {x : X} → None ≡ Some x → ⊥
-    absurd_some e = cc
+pub behind_item : {c : CommandName} {w : Word} {ws rest : List Word} {item : Item} {items : List Item} → Sorts c (w ∷ ws) items → first_item c w ws ≡ Some (item, rest) → (behind : List Item) × (items ≡ item ∷ behind) × Sorts c rest behind
+behind_item {c} (marked {ws}) e = absurd (none-some _ (sym (no_item_at_mark c ws) ∙ e))
 behind_item {c} (more {items = found} f s) e =
     let same = some_pair_parts _ _ _ _ (sym f ∙ e) in
     let P : List Word → Type 0 = λ ws. Sorts c ws found in
     (found, ap (λ i. i ∷ found) same.0, subst P same.1 s)
+
+-- behind the mark all are names
+pub behind_mark : {c : CommandName} {ws : List Word} {items : List Item} → Sorts c (mark ∷ ws) items → items ≡ map Name ws
+behind_mark marked = refl
+behind_mark {c} {ws} (more f s) = absurd (none-some _ (sym (no_item_at_mark c ws) ∙ f))
 
 pub record IsUpTo (c : CommandName) (words : List Word) (g : Gathered) (rest : List Word) : Type 0 where
   pub done : List Item

@@ -3,3 +3,5 @@ pub mod Items
 pub mod Values
 pub mod Given
 pub mod Read
+pub mod Words
+pub mod ReadCommands

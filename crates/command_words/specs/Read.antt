@@ -1,5 +1,5 @@
 -- What the code's items stand for.
-use Rattle.std.specs.Prelude.{List, Option, Some, None, map}
+use Rattle.std.specs.Prelude.{List, Option, Some, None, map, option_copied}
 use Rattle.std.specs.Borrow.{Bor}
 use Rattle.std.specs.declared.string.String.{String}
 use Rattle.std.specs.String.{string_bytes}
@@ -54,3 +54,11 @@ item_more g (Setting Input text) = record g { input = one_more g.input text }
 item_more g (Setting Tail text) = record g { tail = one_more g.tail text }
 item_more g (Setting Steps text) = record g { steps = one_more g.steps text }
 item_more g (Setting Plain text) = record g { plain = one_more g.plain text }
+
+abbrev pub files_of : Option (Bor Word × Bor Word) → Option (Word × Word)
+files_of (Some names) = Some (names.0.now, names.1.now)
+files_of None = None
+
+abbrev pub input_of : Option (Option (Bor Word)) → Option (Option Word)
+input_of (Some name) = Some (option_copied name)
+input_of None = None
