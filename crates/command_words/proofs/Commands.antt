@@ -1,5 +1,5 @@
 -- The words are one command at most.
-use Rattle.std.proofs.Common.{◌≡◌, List, ◌∷◌, Option, Some, None, MatchOption, refl, ap, sym, ◌∙◌, subst, option_map}
+use Rattle.std.proofs.Common.{◌≡◌, List, [], ◌∷◌, Option, Some, None, MatchOption, ap, sym, ◌∙◌, subst, option_map}
 use Rattle.std.proofs.lemmas.Option.{same_Some, none-some}
 use Rattle.command_words.specs.declared.command.Command.{Command as ReadCommand}
 use Rattle.command_words.specs.declared.table.CommandName.{CommandName}
@@ -8,13 +8,15 @@ use Rattle.command_words.specs.Items.{Item, Sorts, none, marked, more}
 use Rattle.command_words.specs.Given.{Gathered, gathered, AreSorted}
 use Rattle.command_words.specs.ReadCommands.{command_read}
 use Rattle.command_words.specs.Words.{Command, command_of, IsCommand, IsNoCommand}
-use Rattle.command_words.proofs.Reading.{behind_item, behind_mark}
+use Rattle.command_words.proofs.Forms.{form_of_rule}
+use Rattle.command_words.proofs.Reading.{behind_item, behind_mark, behind_nothing}
 
 one_sorting : {c : CommandName} {ws : List Word} {items others : List Item} → Sorts c ws items → Sorts c ws others → items ≡ others
-one_sorting none none = refl
+one_sorting none s = sym (behind_nothing s)
 one_sorting marked s = sym (behind_mark s)
-one_sorting (more {item} f s) t =
-    let behind = behind_item t f in
+one_sorting (more {ws = []} f s) t = elim f [ ]
+one_sorting (more {ws = w ∷ ws} {item} f s) t =
+    let behind = behind_item t (form_of_rule f) in
     ap (λ is. item ∷ is) (one_sorting s behind.2) ∙ sym behind.1
 
 one_given : {c : CommandName} {ws : List Word} {g h : Gathered} → AreSorted c ws g → AreSorted c ws h → g ≡ h

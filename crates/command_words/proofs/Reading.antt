@@ -3,31 +3,31 @@ use Rattle.std.proofs.Common.{◌≡◌, ◌≢◌, List, [], ◌∷◌, ◌++�
 use Rattle.std.proofs.lemmas.List.{append-nil}
 use Rattle.std.proofs.lemmas.Option.{some_pair_parts, none-some}
 use Rattle.command_words.specs.declared.table.CommandName.{CommandName}
-use Rattle.command_words.specs.declared.table.CommandName.TheVariants.{Translate, Run80, Run86}
 use Rattle.command_words.specs.Table.{Word}
-use Rattle.command_words.specs.Items.{Item, Name, Sorts, none, marked, more, mark, first_item}
+use Rattle.command_words.specs.Items.{Item, Name, Sorts, none, marked, more, mark}
+use Rattle.command_words.specs.Forms.{first_item}
 use Rattle.command_words.specs.Given.{Gathered, gathered, AreSorted}
 use Rattle.command_words.specs.Read.{item_more}
+use Rattle.command_words.proofs.Forms.{form_of_rule, rule_of_form, no_item_at_mark}
 use Rattle.command_words.proofs.Gathering.{gathered-more, gathered-append}
-
--- the mark begins no item
-no_item_at_mark : (c : CommandName) (ws : List Word) → first_item c mark ws ≡ None
-no_item_at_mark Translate ws = refl
-no_item_at_mark Run80 ws = refl
-no_item_at_mark Run86 ws = refl
 
 -- where an item stands first, the items are that item and those of the words behind it
 pub behind_item : {c : CommandName} {w : Word} {ws rest : List Word} {item : Item} {items : List Item} → Sorts c (w ∷ ws) items → first_item c w ws ≡ Some (item, rest) → (behind : List Item) × (items ≡ item ∷ behind) × Sorts c rest behind
 behind_item {c} (marked {ws}) e = absurd (none-some _ (sym (no_item_at_mark c ws) ∙ e))
 behind_item {c} (more {items = found} f s) e =
-    let same = some_pair_parts _ _ _ _ (sym f ∙ e) in
+    let same = some_pair_parts _ _ _ _ (sym (form_of_rule f) ∙ e) in
     let P : List Word → Type 0 = λ ws. Sorts c ws found in
     (found, ap (λ i. i ∷ found) same.0, subst P same.1 s)
+
+-- no words are no items
+pub behind_nothing : {c : CommandName} {items : List Item} → Sorts c [] items → items ≡ []
+behind_nothing none = refl
+behind_nothing (more f s) = elim f [ ]
 
 -- behind the mark all are names
 pub behind_mark : {c : CommandName} {ws : List Word} {items : List Item} → Sorts c (mark ∷ ws) items → items ≡ map Name ws
 behind_mark marked = refl
-behind_mark {c} {ws} (more f s) = absurd (none-some _ (sym (no_item_at_mark c ws) ∙ f))
+behind_mark {c} {ws} (more f s) = absurd (none-some _ (sym (no_item_at_mark c ws) ∙ form_of_rule f))
 
 pub record IsUpTo (c : CommandName) (words : List Word) (g : Gathered) (rest : List Word) : Type 0 where
   pub done : List Item
@@ -41,7 +41,7 @@ at_start c words = record { done = []; to = λ items s. s; from = λ items s. (i
 pub item_further : (c : CommandName) (words : List Word) (g : Gathered) (w : Word) (ws rest : List Word) (item : Item) → IsUpTo c words g (w ∷ ws) → first_item c w ws ≡ Some (item, rest) → IsUpTo c words (item_more g item) rest
 item_further c words g w ws rest item h e = record {
   done = h.done ++ (item ∷ []);
-  to = λ items s. rw (append_assoc h.done (item ∷ []) items) (h.to (item ∷ items) (more e s));
+  to = λ items s. rw (append_assoc h.done (item ∷ []) items) (h.to (item ∷ items) (more (rule_of_form c w ws rest item e) s));
   from = λ items s.
       let outer = h.from items s in
       let inner = behind_item outer.2 e in
@@ -51,7 +51,7 @@ item_further c words g w ws rest item h e = record {
 
 nothing_behind : {c : CommandName} {w : Word} {ws : List Word} {behind : List Item} → Sorts c (w ∷ ws) behind → first_item c w ws ≡ None → w ≢ mark → ⊥
 nothing_behind marked e other = other refl
-nothing_behind (more f s) e other = cc
+nothing_behind (more f s) e other = none-some _ (sym e ∙ form_of_rule f)
 
 -- no item and no mark: the words are not sorted
 pub unsorted : (c : CommandName) (words : List Word) (g : Gathered) (w : Word) (ws : List Word) → IsUpTo c words g (w ∷ ws) → first_item c w ws ≡ None → w ≢ mark → (items : List Item) → Sorts c words items → ⊥

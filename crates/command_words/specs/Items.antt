@@ -1,6 +1,5 @@
 -- The words behind a command's word, sorted into names, and options with their values.
-use Rattle.std.specs.Prelude.{◌≡◌, ℕ, List, [], ◌∷◌, codes, Bool, not, ◌||◌, ◌==◌, nat_lt, if◌then◌else◌, Option, Some, None, map, length, slice_index}
-use Rattle.std.specs.List.{before_first, after_first, position_or_len}
+use Rattle.std.specs.Prelude.{◌≡◌, List, [], ◌∷◌, ◌++◌, codes, Bool, true, not, ◌||◌, ◌==◌, Some, map, slice_index}
 use Rattle.std.specs.Str.{bytes_eq}
 use Rattle.command_words.specs.declared.table.CommandName.{CommandName}
 use Rattle.command_words.specs.declared.table.OptionName.{OptionName}
@@ -19,42 +18,20 @@ is_value w = not (slice_index w 0 == 0x2D) || bytes_eq w (codes "-")
 abbrev pub mark : Word
 mark = codes "--"
 
-abbrev pub is_equals : ℕ → Bool
-is_equals b = b == 0x3D
-
-abbrev pub has_equals : Word → Bool
-has_equals w = nat_lt (position_or_len is_equals w) (length w)
-
--- an item, and the words behind it
-abbrev pub First : Type 0
-First = Option (Item × List Word)
-
--- an option's value stands after `=` in the same word, and may then be anything
-abbrev pub joined_item : Option OptionName → Word → List Word → First
-joined_item (Some o) text ws = Some (Setting o text, ws)
-joined_item None text ws = None
-
--- or it is the next word
-abbrev pub parted_item : Option OptionName → List Word → First
-parted_item (Some o) (text ∷ ws) = if is_value text then Some (Setting o text, ws) else None
-parted_item (Some o) [] = None
-parted_item None ws = None
-
--- a flag takes no value
-abbrev pub lone_item : (flag option : Option OptionName) → List Word → First
-lone_item (Some f) option ws = Some (Setting f [], ws)
-lone_item None option ws = parted_item option ws
-
--- what a command's words begin with
-abbrev pub first_item : CommandName → Word → List Word → First
-first_item c w ws =
-    if is_value w then Some (Name w, ws)
-    else (if has_equals w
-    then joined_item (named_among (options_of c) (before_first is_equals w)) (after_first is_equals w) ws
-    else lone_item (named_among (flags_of c) w) (named_among (options_of c) w) ws)
+-- what a command's words begin with, and the words behind it
+pub data Begins (c : CommandName) : List Word → Item → List Word → Type 0 where
+  -- a name
+  name : {w : Word} {ws : List Word} → is_value w ≡ true → Begins c (w ∷ ws) (Name w) ws
+  -- a flag of the command, which takes no value
+  flag : {w : Word} {ws : List Word} {f : OptionName} → named_among (flags_of c) w ≡ Some f → Begins c (w ∷ ws) (Setting f []) ws
+  -- an option of the command, whose value is the next word
+  parted : {w text : Word} {ws : List Word} {o : OptionName} → named_among (options_of c) w ≡ Some o → is_value text ≡ true → Begins c (w ∷ (text ∷ ws)) (Setting o text) ws
+  -- or stands after `=` in the same word, and may then be anything
+  joined : {w text : Word} {ws : List Word} {o : OptionName} (option : Word) → w ≡ option ++ (0x3D ∷ text) → named_among (options_of c) option ≡ Some o → Begins c (w ∷ ws) (Setting o text) ws
 
 -- a command's words are these items
 pub data Sorts (c : CommandName) : List Word → List Item → Type 0 where
   none : Sorts c [] []
+  -- after the first `--` every word is a name
   marked : {ws : List Word} → Sorts c (mark ∷ ws) (map Name ws)
-  more : {w : Word} {ws rest : List Word} {item : Item} {items : List Item} → first_item c w ws ≡ Some (item, rest) → Sorts c rest items → Sorts c (w ∷ ws) (item ∷ items)
+  more : {ws rest : List Word} {item : Item} {items : List Item} → Begins c ws item rest → Sorts c rest items → Sorts c ws (item ∷ items)

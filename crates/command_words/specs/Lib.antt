@@ -1,5 +1,6 @@
 pub mod Table
 pub mod Items
+pub mod Forms
 pub mod Values
 pub mod Given
 pub mod Read

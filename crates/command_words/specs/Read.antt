@@ -11,7 +11,8 @@ use Rattle.command_words.specs.declared.given.Occurrence.{Occurrence as ReadOccu
 use Rattle.command_words.specs.declared.given.Occurrence.TheVariants as read_occurrence
 use Rattle.command_words.specs.declared.table.OptionName.TheVariants.{Top, Choice, Input, Tail, Steps, Plain}
 use Rattle.command_words.specs.Table.{Word}
-use Rattle.command_words.specs.Items.{Item, Name, Setting, First}
+use Rattle.command_words.specs.Items.{Item, Name, Setting}
+use Rattle.command_words.specs.Forms.{First}
 use Rattle.command_words.specs.Given.{Occurrence, Absent, Once, Repeated, Names, NoName, OneName, TwoNames, MoreNames, Gathered}
 
 abbrev pub item_of : Read → Item

@@ -1,10 +1,10 @@
 //! The commands with their values.
 
-ghost use Rattle.std.specs.Prelude.{◌≡◌, map, option_copied, option_map, MatchOption};
+ghost use Rattle.std.specs.Prelude.{◌≡◌, ℕ, List, map, option_copied, option_map, MatchOption};
 ghost use Rattle.std.specs.String.{string_bytes};
 ghost use Rattle.command_words.specs.Read.{files_of, input_of, names_read, occurrence_of};
 ghost use Rattle.command_words.specs.ReadCommands.{command_read, run80_read, run86_read, run_options_read, translate_read};
-ghost use Rattle.command_words.specs.Words.{choice_of, command_of, input_file, once, one_file, page_of, run80_of, run86_of, run_options_of, steps_of, text_or, top_of, translate_of, two_files, IsCommand, IsNoCommand};
+ghost use Rattle.command_words.specs.Words.{choice_of, command_of, input_file, once, one_file, page_of, run80_of, run86_of, run_options_of, steps_of, text_or, top_of, translate_of, two_files, Command as CommandValue, IsCommand, IsNoCommand};
 
 use crate::given::{Given, Names, Occurrence};
 use crate::items::first_word;
@@ -190,3 +190,8 @@ pub fn read_words(words: &[String]) -> Option<Command<'_>>
     let given = Given::of_words(name, rest)?;
     given.command(name)
 }
+
+/// Words are one command at most.
+pub fn words_are_one_command()
+    ensures { (words : List (List ℕ)) (c d : CommandValue) → IsCommand words c → IsCommand words d → c ≡ d }
+{}

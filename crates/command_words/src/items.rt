@@ -4,7 +4,8 @@ ghost use Rattle.std.specs.Prelude.{◌≡◌, ◌<◌, ◌≤◌, [], ◌∷◌
 ghost use Rattle.std.specs.String.{string_bytes};
 ghost use Rattle.std.specs.Str.{bytes_eq};
 ghost use Rattle.command_words.specs.Table.{flags_of, named_among, options_of};
-ghost use Rattle.command_words.specs.Items.{first_item, is_value, joined_item, lone_item, mark, parted_item};
+ghost use Rattle.command_words.specs.Items.{is_value, mark};
+ghost use Rattle.command_words.specs.Forms.{first_item, joined_item, lone_item, parted_item};
 ghost use Rattle.command_words.specs.Read.{first_of};
 
 use crate::table::{CommandName, OptionName};
