@@ -59,13 +59,13 @@ starts_at starts a = list_any (λ b. b == a) starts
 
 -- ---- what an instruction is
 
--- where its operands are evaluated, and the addresses of instructions
+-- where its operands are evaluated, and at which addresses instructions start
 pub record Setting : Type 0 where
   pub scope : Scope
-  pub starts : List ℕ
+  pub is_start : ℕ → Bool
 
 abbrev pub setting : List Row → Walk → Row → Setting
-setting rs end r = record { scope = operand_scope end r.before; starts = starts_in rs }
+setting rs end r = record { scope = operand_scope end r.before; is_start = starts_at (starts_in rs) }
 
 -- the value of an operand, which has one where the walks found no fault
 abbrev pub value : Setting → Operand → ℕ
@@ -76,11 +76,11 @@ abbrev pub byte : Setting → Operand → ℕ
 byte t a = value t a % 256
 
 -- the code address that an operand is: a place name or `$` alone whose address is the start of an instruction
-abbrev pub if_starts : List ℕ → ℕ → Option ℕ
-if_starts starts a = cond (starts_at starts a) (Some a) None
+abbrev pub if_starts : (ℕ → Bool) → ℕ → Option ℕ
+if_starts is_start a = cond (is_start a) (Some a) None
 
 abbrev pub code_address : Setting → Operand → Option ℕ
-code_address t a = option_and_then (if_starts t.starts) (operand_place t.scope a)
+code_address t a = option_and_then (if_starts t.is_start) (operand_place t.scope a)
 
 abbrev pub word_by : ℕ → Option ℕ → Word
 word_by n None = Number n

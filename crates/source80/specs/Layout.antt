@@ -96,7 +96,7 @@ operands_of r = operands_by r.statement.args (row_operation r)
 
 -- S2: a target is neither the start of an instruction nor 0 nor 5
 abbrev pub misses_by : Setting → Kind → Operand → Bool
-misses_by t Target a = not (starts_at t.starts (value t a) || (value t a == 0 || value t a == 5))
+misses_by t Target a = not (t.is_start (value t a) || (value t a == 0 || value t a == 5))
 misses_by t k a = false
 
 abbrev pub misses : Setting → Kind × Operand → Bool
@@ -104,7 +104,7 @@ misses t x = misses_by t x.0 x.1
 
 -- S4: the address of an instruction stands in a larger expression, where a byte, a word or the address of a cell is needed
 abbrev pub has_code_inside : Setting → Operand → Bool
-has_code_inside t a = list_any (starts_at t.starts) (operand_places_inside t.scope a)
+has_code_inside t a = list_any t.is_start (operand_places_inside t.scope a)
 
 abbrev pub computes_by : Setting → Kind → Operand → Bool
 computes_by t Byte a = has_code_inside t a
