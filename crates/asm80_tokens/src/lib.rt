@@ -22,3 +22,4 @@ pub use parser::{expression, expression_has_one_tree, first};
 pub use stmt::Stmt80;
 pub use token::Token;
 pub use tokens::{line_has_one_reading, tokens_of};
+pub use words::is_register;

@@ -2,6 +2,7 @@
 #![tactic(auto)]
 
 pub mod program;
+mod taken;
 
 pub use program::{Placed, Program80};
 

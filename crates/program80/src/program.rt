@@ -2,6 +2,7 @@
 ghost use Rattle.std.specs.Prelude.{◌≡◌, ◌+◌, ◌-◌, ◌<◌, ◌≤◌, length, All, IsTrue, IfOk, IfSome, MatchOption};
 ghost use Rattle.i80.specs.Columns.{length80, is_well_formed};
 
+use crate::taken::taken_of;
 use cells::Cell;
 use i80::Instr80;
 use std::alloc::{AllocError, Global};
@@ -21,6 +22,8 @@ pub struct Program80 {
     instrs: Vec<Placed>,
     // the addresses of the instructions, two bytes each, in which the emulators search
     starts: Vec<u16>,
+    // those of them that are taken
+    taken_starts: Vec<u16>,
     cells: Vec<(u16, Cell)>,
     top: u16,
 }
@@ -28,17 +31,20 @@ pub struct Program80 {
 impl Model for Program80 {
     ghost use Rattle.std.specs.Prelude.{◌≡◌};
     ghost use Rattle.program80.specs.Program.{Program, IsProgram, program_of, starts_of};
+    ghost use Rattle.program80.specs.Taken.{taken};
 
     ghost Value = { Program };
 
     ghost view = { λ p. program_of p.instrs.items p.cells.items p.top };
 
     ghost invariant = { λ p. IsProgram (program_of p.instrs.items p.cells.items p.top)
-        × (p.starts.items ≡ starts_of p.instrs.items) };
+        × (p.starts.items ≡ starts_of p.instrs.items)
+        × (p.taken_starts.items ≡ taken (program_of p.instrs.items p.cells.items p.top)) };
 }
 
 impl Program80 {
     ghost use Rattle.program80.specs.Program.{Program, IsProgram, program_of, instr_at, line_at, cell_at, is_code, starts, placed_in, last_from, IsLast, IsLaid};
+    ghost use Rattle.program80.specs.Taken.{taken};
 
     /// A program of these, from the instructions and the data cells in order and the top of the area.
     pub fn new(
@@ -50,10 +56,12 @@ impl Program80 {
         requires { IsProgram (program_of instrs.items cells.items top) }
         ensures { IfOk result (λ p. p ≡ program_of instrs.items cells.items top) }
     {
-        let starts = instrs.iter().map(|placed| placed.at).collect(alloc)?;
+        let starts: Vec<u16> = instrs.iter().map(|placed| placed.at).collect(alloc)?;
+        let taken_starts = taken_of(alloc, &instrs, &cells, &starts)?;
         Ok(Program80 {
             instrs,
             starts,
+            taken_starts,
             cells,
             top,
         })
@@ -151,6 +159,14 @@ impl Program80 {
         ensures { result.now ≡ starts self.now }
     {
         &self.starts
+    }
+
+    /// The places that are taken, ascending: the starts that stand behind a CALL or conditional call of an instruction, and
+    /// those whose code address an LXI or a data cell has.
+    pub fn taken(&self) -> &[u16]
+        ensures { result.now ≡ taken self.now }
+    {
+        &self.taken_starts
     }
 
     /// The instructions, ascending: at most 61,182, as many as there are cells from 100H up and below 0EFFEH.

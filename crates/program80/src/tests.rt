@@ -1,7 +1,7 @@
 // A small program with a data byte: `ORG 100H`, `MVI C,2`, `MVI E,41H`, `CALL 5`, `JMP 0`, `DB 41H`.
 use crate::{Placed, Program80};
-use cells::Cell;
-use i80::{Goal, Instr80, Reg, Src};
+use cells::{Cell, Cond, Place};
+use i80::{Goal, Instr80, Pair, Reg, Src, Word};
 use std::alloc::{AllocError, Global};
 use std::test::Fail;
 
@@ -50,5 +50,55 @@ fn a_program_answers_by_address(rt: HostRuntime) -> Result<(), Fail> {
     assert_eq!(rt; program.instrs().len(), 4);
     assert_eq!(rt; program.cells().len(), 1);
     assert_eq!(rt; program.top(), 0xF000);
+    Ok(())
+}
+
+// Behind calls of instructions, by LXI and by a data cell; no instruction stands behind the last call.
+#[test]
+fn places_are_taken(rt: HostRuntime) -> Result<(), Fail> {
+    let alloc = rt.alloc();
+    let instrs = [
+        Placed {
+            at: 0x100,
+            line: 1,
+            instr: Instr80::Call(Goal::At(0x106)),
+        },
+        Placed {
+            at: 0x103,
+            line: 2,
+            instr: Instr80::Lxi(Pair::H, Word::Num(0x10D)),
+        },
+        Placed {
+            at: 0x106,
+            line: 3,
+            instr: Instr80::Cif(Cond::Nz, Goal::At(0x100)),
+        },
+        Placed {
+            at: 0x109,
+            line: 4,
+            instr: Instr80::Lxi(Pair::D, Word::Code(0x106)),
+        },
+        Placed {
+            at: 0x10C,
+            line: 5,
+            instr: Instr80::Call(Goal::Bdos),
+        },
+        Placed {
+            at: 0x10F,
+            line: 6,
+            instr: Instr80::Ret,
+        },
+        Placed {
+            at: 0x110,
+            line: 7,
+            instr: Instr80::Call(Goal::At(0x100)),
+        },
+    ];
+    let cells = [
+        (0x113, Cell::Lo(Place::At(0x10F))),
+        (0x114, Cell::Hi(Place::At(0x10F))),
+    ];
+    let program = Program80::new(alloc, instrs.to_vec(alloc)?, cells.to_vec(alloc)?, 0xF000)?;
+    assert_eq!(rt; program.taken(), [0x103, 0x106, 0x109, 0x10F].as_slice());
     Ok(())
 }

@@ -1,0 +1,10 @@
+pub mod Operations
+pub mod Values
+pub mod Names
+pub mod Walk
+pub mod FirstFaults
+pub mod Operands
+pub mod Items
+pub mod Layout
+pub mod Assembly
+pub mod Source

@@ -1,0 +1,56 @@
+// The rules that a source's statements may break.
+use std::fmt;
+
+/// A rule of names and values (V), or of the layout and this project's profile (S).
+#[derive(Clone, Copy, Debug, PartialEq, Eq)]
+pub enum AsmRule {
+    /// A name that is not defined, or not yet where that is needed.
+    V1,
+    /// A name defined twice, SET after SET excepted.
+    V2,
+    /// A value that is no byte where a byte is needed, or an RST number above 7.
+    V3,
+    /// A divisor of `/` or `MOD` that is 0.
+    V4,
+    /// Operands of a number or kind that the operation lacks, or an EQU or SET without a label.
+    V5,
+    /// ENDIF without IF, IF nested above 8, IF without ENDIF.
+    V6,
+    /// The 8,193rd name.
+    V7,
+    /// HLT, EI, DI, IN, OUT, or RST 1 to 7.
+    S1,
+    /// A target of a jump or call is neither the start of an instruction nor 0 nor 5.
+    S2,
+    /// No instruction starts at 100H.
+    S3,
+    /// The address of an instruction in a larger expression.
+    S4,
+    /// The address of an instruction as that of a cell.
+    S5,
+    /// A cell belongs to an earlier statement too.
+    S6,
+    /// A cell is below 100H, or not below the top of the program area less 2.
+    S7,
+}
+
+impl fmt::Display for AsmRule {
+    fn fmt<W: fmt::Write>(&self, f: &mut fmt::Formatter<W>) -> fmt::Result {
+        match self {
+            AsmRule::V1 => write!(f, "V1"),
+            AsmRule::V2 => write!(f, "V2"),
+            AsmRule::V3 => write!(f, "V3"),
+            AsmRule::V4 => write!(f, "V4"),
+            AsmRule::V5 => write!(f, "V5"),
+            AsmRule::V6 => write!(f, "V6"),
+            AsmRule::V7 => write!(f, "V7"),
+            AsmRule::S1 => write!(f, "S1"),
+            AsmRule::S2 => write!(f, "S2"),
+            AsmRule::S3 => write!(f, "S3"),
+            AsmRule::S4 => write!(f, "S4"),
+            AsmRule::S5 => write!(f, "S5"),
+            AsmRule::S6 => write!(f, "S6"),
+            AsmRule::S7 => write!(f, "S7"),
+        }
+    }
+}
