@@ -1,0 +1,90 @@
+-- Where the walk is behind some of the statements, as the code holds it.
+use Rattle.std.specs.Prelude.{◌≡◌, ℕ, suc, nat_le, ◌&&◌, ◌||◌, Bool, true, false, cond, List, [], ◌∷◌, ◌++◌, length, map, filter, reverse, Option, Some, None, unwrap_or}
+use Rattle.std.specs.Option.{option_or}
+use Rattle.asm80_tokens.specs.declared.stmt.Stmt80.{Stmt80}
+use Rattle.asm80_tokens.specs.Tree.{Statement, statement_of}
+use Rattle.source80.specs.declared.operation.Operation.{Operation}
+use Rattle.source80.specs.declared.operation.Operation.TheVariants.{If, EndIf}
+use Rattle.source80.specs.declared.rule.AsmRule.{AsmRule}
+use Rattle.source80.specs.declared.rule.AsmRule.TheVariants.{V6}
+use Rattle.source80.specs.Names.{Name}
+use Rattle.source80.specs.Walk.{Walk, Row, operation_in, is_if, is_endif, is_taken, directive_meaning, after, ends, rows_from, walk_from, rows, walked, row_is_taken}
+use Rattle.source80.specs.FirstFaults.{Refusal, rule_if, most_ifs, is_closed, rule_of_taken, with_line, first_fault}
+use Rattle.asm80_walk.specs.declared.walked.Taken.{Taken}
+use Rattle.asm80_walk.specs.declared.ifs.OpenIf.{OpenIf}
+use Rattle.asm80_walk.specs.Walked.{Stand}
+
+-- the address, the names, the IFs that are open, the outermost first, the first fault that no later statement can undo, and
+-- the statements that were taken
+pub record State : Type 0 where
+  pub at : ℕ
+  pub names : List Name
+  pub ifs : List OpenIf
+  pub fault : Option Refusal
+  pub rows : List Taken
+
+abbrev pub taken_flags : List OpenIf → List Bool
+taken_flags ifs = map (λ (i : OpenIf). i.is_taken) ifs
+
+abbrev pub refusals : List OpenIf → List Refusal
+refusals ifs = map (λ (i : OpenIf). i.refusal) ifs
+
+abbrev pub walk_of : State → Walk
+walk_of s = record { at = s.at; names = s.names; ifs = reverse (taken_flags s.ifs) }
+
+-- ---- one statement more
+
+-- V6 that no later statement can undo: an IF too deep, or an ENDIF without IF
+abbrev pub breaks_nesting : Walk → Statement → Option Operation → Bool
+breaks_nesting w s o =
+    (is_if o && nat_le most_ifs (length w.ifs)) || (is_endif o && (is_taken w s && nat_le (length w.ifs) 0))
+
+abbrev pub sure_rule : Walk → Statement → Option AsmRule
+sure_rule w s =
+    rule_if (breaks_nesting w s (operation_in s)) V6 (cond (is_taken w s) (rule_of_taken w s) None)
+
+-- what the source is refused for if this IF stays open
+abbrev pub if_unclosed : Option Refusal → Statement → Refusal
+if_unclosed fault s = unwrap_or fault (s.line, V6)
+
+-- all but the innermost
+abbrev pub all_but_last : List Refusal → List Refusal
+all_but_last [] = []
+all_but_last (r ∷ []) = []
+all_but_last (r ∷ q ∷ rs) = r ∷ all_but_last (q ∷ rs)
+
+abbrev pub refusals_by : State → Statement → Option Operation → List Refusal
+refusals_by old s (Some If) = refusals old.ifs ++ if_unclosed old.fault s ∷ []
+refusals_by old s (Some EndIf) = all_but_last (refusals old.ifs)
+refusals_by old s o = refusals old.ifs
+
+abbrev pub taken_row : ℕ → Walk → Statement → Taken
+taken_row index w s =
+    record { statement = index; at = w.at; operation = operation_in s; meaning = directive_meaning w s }
+
+-- the state behind the statement of an index
+pub record Steps (index : ℕ) (s : Statement) (old new : State) : Type 0 where
+  pub walk : walk_of new ≡ after (walk_of old) s
+  pub refusals : refusals new.ifs ≡ refusals_by old s (operation_in s)
+  pub fault : new.fault ≡ option_or old.fault (with_line s.line (sure_rule (walk_of old) s))
+  pub rows : new.rows ≡ cond (is_taken (walk_of old) s) (old.rows ++ taken_row index (walk_of old) s ∷ []) old.rows
+
+-- ---- all statements
+
+-- The first of the IFs, of these depths, that stays open decides, and else the other fault.
+abbrev pub under : ℕ → List Refusal → Option Refusal → List Row → Walk → Option Refusal
+under depth [] other later end = other
+under depth (r ∷ rs) other later end =
+    cond (is_closed depth later end) (under (suc depth) rs other later end) (Some r)
+
+-- the first fault of all rows, by what the state holds of the earlier ones
+abbrev pub verdict : State → List Row → Walk → Option Refusal
+verdict s later end = under 0 (refusals s.ifs) (option_or s.fault (first_fault later end)) later end
+
+-- The state is reached, and these statements are left.
+pub record Reaches (statements : List Stmt80) (s : State) (left : List Statement) : Type 0 where
+  pub before : List Row
+  pub stand : Stand statements s.rows before
+  pub taken : filter row_is_taken (rows (map statement_of statements)) ≡ before ++ filter row_is_taken (rows_from (walk_of s) left)
+  pub end : walked (map statement_of statements) ≡ walk_from (walk_of s) left
+  pub fault : first_fault (rows (map statement_of statements)) (walked (map statement_of statements)) ≡ verdict s (rows_from (walk_of s) left) (walk_from (walk_of s) left)
