@@ -13,7 +13,7 @@ use Rattle.source80.specs.declared.rule.AsmRule.TheVariants.{V6}
 use Rattle.source80.specs.Walk.{Walk, Row, operation_in, is_if, is_endif, is_taken, rows_from, walk_from}
 use Rattle.source80.specs.FirstFaults.{Refusal, rule_if, most_ifs, is_closed, rule_of_taken, rule_of_row, with_line, first_fault}
 use Rattle.asm80_walk.specs.declared.ifs.OpenIf.{OpenIf}
-use Rattle.asm80_walk.specs.State.{State, taken_flags, refusals, walk_of, breaks_nesting, sure_rule, if_unclosed, all_but_last, refusals_by, Steps, under, verdict}
+use Rattle.asm80_walk.specs.State.{State, taken_flags, refusals, walk_of, breaks_nesting, sure_rule, if_unclosed, all_but_last, refusals_by, Steps, under, verdict, final}
 
 -- ---- the IFs that are open
 
@@ -65,3 +65,73 @@ of_if None line true true rule rest = refl
 of_if None line true false rule rest = refl
 of_if None line false true rule rest = refl
 of_if None line false false rule rest = refl
+
+-- ---- an IF, an ENDIF, or neither
+
+data Nests : Option Operation → Type 0 where
+  opens : Nests (Some If)
+  closes : Nests (Some EndIf)
+  plain : {o : Option Operation} → is_if o ≡ false → is_endif o ≡ false → ((old : State) (s : Statement) → refusals_by old s o ≡ refusals old.ifs) → Nests o
+
+nests : (o : Option Operation) → Nests o
+nests (Some If) = opens
+nests (Some EndIf) = closes
+nests o = plain refl refl (λ old s. refl)
+
+-- One row more leaves the verdict as it is.
+module _ (old : State) (s : Statement) (deep alone : Bool) (rule : Option AsmRule) (rest : Option Refusal) (n : ℕ) (same : n ≡ 0 + length (refusals old.ifs)) (later : List Row) (end : Walk) where
+  abbrev of_row : Option Operation → Option AsmRule
+  of_row o = rule_if ((is_if o && (deep || not (is_closed n later end))) || (is_endif o && alone)) V6 rule
+
+  abbrev of_state : Option Operation → Option AsmRule
+  of_state o = rule_if ((is_if o && deep) || (is_endif o && alone)) V6 rule
+
+  abbrev stands : Option Refusal → List Refusal → Option Refusal
+  stands other rs = under 0 rs other later end
+
+  row_step : {o : Option Operation} → Nests o → (is_endif o ≡ true → is_closed (0 + length (all_but_last (refusals old.ifs))) later end ≡ true) → stands (option_or old.fault (option_or (with_line s.line (of_row o)) rest)) (refusals old.ifs) ≡ stands (option_or (option_or old.fault (with_line s.line (of_state o))) rest) (refusals_by old s o)
+  row_step opens h =
+      rw same (ap (λ (x : Option Refusal). stands x (refusals old.ifs)) (of_if old.fault s.line deep (is_closed (0 + length (refusals old.ifs)) later end) rule rest)
+      ∙ sym (under_more 0 (refusals old.ifs) (if_unclosed old.fault s) (option_or (option_or old.fault (with_line s.line (of_state (Some If)))) rest) later end))
+  row_step closes h =
+      ap (λ (x : Option Refusal). stands x (refusals old.ifs)) (joined old.fault s.line (of_state (Some EndIf)) rest)
+      ∙ under_less 0 (refusals old.ifs) (option_or (option_or old.fault (with_line s.line (of_state (Some EndIf)))) rest) later end (h refl)
+  row_step {o} (plain p q r) h =
+      rw (p, q, r old s) (ap (λ (x : Option Refusal). stands x (refusals old.ifs)) (joined old.fault s.line rule rest))
+
+open_count : (s : State) → length (walk_of s).ifs ≡ length (refusals s.ifs)
+open_count s = length-reverse (taken_flags s.ifs) ∙ length-map s.ifs (λ (i : OpenIf). i.is_taken) ∙ sym (length-map s.ifs (λ (i : OpenIf). i.refusal))
+
+closes_one : {o : Option Operation} → Nests o → is_endif o ≡ true → (old : State) (s : Statement) → refusals_by old s o ≡ all_but_last (refusals old.ifs)
+closes_one opens e old s = absurd cc
+closes_one closes e old s = refl
+closes_one (plain p q r) e old s = absurd cc
+
+pub verdict_stays : (index : ℕ) (s : Statement) (old new : State) → Steps index s old new → (left : List Statement) → verdict old (record { statement = s; before = walk_of old } ∷ rows_from (walk_of new) left) (walk_from (walk_of new) left) ≡ verdict new (rows_from (walk_of new) left) (walk_from (walk_of new) left)
+verdict_stays index s old new h left =
+    let w = walk_of old in
+    let row : Row = record { statement = s; before = w } in
+    let later = rows_from (walk_of new) left in
+    let end = walk_from (walk_of new) left in
+    let rest = first_fault later end in
+    let alone = is_taken w s && nat_le (length w.ifs) 0 in
+    let rule = cond (is_taken w s) (rule_of_taken w s) None in
+    let closing = λ (e : is_endif (operation_in s) ≡ true). closed_here (0 + length (all_but_last (refusals old.ifs))) (walk_of new) left (omega (arith, open_count new, ap length (h.refusals ∙ closes_one (nests (operation_in s)) e old s))) in
+    under_pass 0 (refusals old.ifs) (option_or old.fault (first_fault (row ∷ later) end)) row later end (omega (arith, open_count old))
+    ∙ row_step old s (nat_le most_ifs (length w.ifs)) alone rule rest (length w.ifs) (omega (arith, open_count old)) later end (nests (operation_in s)) closing
+    ∙ sym (ap (λ (f : Option Refusal). under 0 (refusals new.ifs) (option_or f rest) later end) h.fault
+      ∙ ap (λ (rs : List Refusal). under 0 rs (option_or (option_or old.fault (with_line s.line (sure_rule w s))) rest) later end) h.refusals)
+
+-- ---- at the end
+
+or_none : (f : Option Refusal) → option_or f None ≡ f
+or_none None = refl
+or_none (Some x) = refl
+
+-- the outermost IF that is open decides, and else the other fault
+final_by : (s : State) (rs : List Refusal) → length (walk_of s).ifs ≡ length rs → under 0 rs (option_or s.fault None) [] (walk_of s) ≡ final rs s.fault
+final_by s [] e = or_none s.fault
+final_by s (r ∷ rs) e = rw (lt-leb (length (walk_of s).ifs) 0 (omega arith)) refl
+
+pub verdict_at_end : (s : State) → verdict s [] (walk_of s) ≡ final (refusals s.ifs) s.fault
+verdict_at_end s = final_by s (refusals s.ifs) (open_count s)

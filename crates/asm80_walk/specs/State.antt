@@ -88,3 +88,17 @@ pub record Reaches (statements : List Stmt80) (s : State) (left : List Statement
   pub taken : filter row_is_taken (rows (map statement_of statements)) ≡ before ++ filter row_is_taken (rows_from (walk_of s) left)
   pub end : walked (map statement_of statements) ≡ walk_from (walk_of s) left
   pub fault : first_fault (rows (map statement_of statements)) (walked (map statement_of statements)) ≡ verdict s (rows_from (walk_of s) left) (walk_from (walk_of s) left)
+
+-- the first fault where no statement is left
+abbrev pub final : List Refusal → Option Refusal → Option Refusal
+final [] fault = fault
+final (r ∷ rs) fault = Some r
+
+abbrev pub start : State
+start = record { at = 0; names = []; ifs = []; fault = None; rows = [] }
+
+-- The walk is done.
+pub record Done (statements : List Stmt80) (s : State) : Type 0 where
+  pub fault : first_fault (rows (map statement_of statements)) (walked (map statement_of statements)) ≡ final (refusals s.ifs) s.fault
+  pub names : s.names ≡ (walked (map statement_of statements)).names
+  pub taken : Stand statements s.rows (filter row_is_taken (rows (map statement_of statements)))
