@@ -92,7 +92,7 @@ module _ (old : State) (s : Statement) (deep alone : Bool) (rule : Option AsmRul
   row_step : {o : Option Operation} → Nests o → (is_endif o ≡ true → is_closed (0 + length (all_but_last (refusals old.ifs))) later end ≡ true) → stands (option_or old.fault (option_or (with_line s.line (of_row o)) rest)) (refusals old.ifs) ≡ stands (option_or (option_or old.fault (with_line s.line (of_state o))) rest) (refusals_by old s o)
   row_step opens h =
       rw same (ap (λ (x : Option Refusal). stands x (refusals old.ifs)) (of_if old.fault s.line deep (is_closed (0 + length (refusals old.ifs)) later end) rule rest)
-      ∙ sym (under_more 0 (refusals old.ifs) (if_unclosed old.fault s) (option_or (option_or old.fault (with_line s.line (of_state (Some If)))) rest) later end))
+      ∙ sym (under_more 0 (refusals old.ifs) (if_unclosed old.fault s.line) (option_or (option_or old.fault (with_line s.line (of_state (Some If)))) rest) later end))
   row_step closes h =
       ap (λ (x : Option Refusal). stands x (refusals old.ifs)) (joined old.fault s.line (of_state (Some EndIf)) rest)
       ∙ under_less 0 (refusals old.ifs) (option_or (option_or old.fault (with_line s.line (of_state (Some EndIf)))) rest) later end (h refl)

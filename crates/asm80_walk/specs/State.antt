@@ -1,15 +1,17 @@
 -- Where the walk is behind some of the statements, as the code holds it.
 use Rattle.std.specs.Prelude.{◌≡◌, ℕ, suc, nat_le, ◌&&◌, ◌||◌, Bool, true, false, cond, List, [], ◌∷◌, ◌++◌, length, map, filter, reverse, Option, Some, None, unwrap_or}
 use Rattle.std.specs.Option.{option_or}
+use Rattle.std.specs.List.{list_any}
 use Rattle.asm80_tokens.specs.declared.stmt.Stmt80.{Stmt80}
-use Rattle.asm80_tokens.specs.Tree.{Statement, statement_of}
+use Rattle.asm80_tokens.specs.Tree.{Operand, Statement, statement_of}
 use Rattle.source80.specs.declared.operation.Operation.{Operation}
-use Rattle.source80.specs.declared.operation.Operation.TheVariants.{If, EndIf}
+use Rattle.source80.specs.declared.operation.Operation.TheVariants.{Org, Equ, Set, If, EndIf, Ds}
 use Rattle.source80.specs.declared.rule.AsmRule.{AsmRule}
-use Rattle.source80.specs.declared.rule.AsmRule.TheVariants.{V6}
+use Rattle.source80.specs.declared.rule.AsmRule.TheVariants.{V1, V2, V4, V5, V6, V7}
+use Rattle.source80.specs.Values.{Scope, operand_has_unknown, operand_divides_by_zero}
 use Rattle.source80.specs.Names.{Name}
-use Rattle.source80.specs.Walk.{Walk, Row, operation_in, is_if, is_endif, is_taken, directive_meaning, after, ends, rows_from, walk_from, rows, walked, row_is_taken}
-use Rattle.source80.specs.FirstFaults.{Refusal, rule_if, most_ifs, is_closed, rule_of_taken, with_line, first_fault}
+use Rattle.source80.specs.Walk.{Walk, Row, operation_in, is_if, is_endif, is_end, is_taken, scope, meaning_in, directive_meaning, after, ends, rows_from, walk_from, rows, walked, row_is_taken}
+use Rattle.source80.specs.FirstFaults.{Refusal, rule_if, most_ifs, is_closed, label_clashes, label_overflows, breaks_v5, rule_of_taken, with_line, first_fault}
 use Rattle.asm80_walk.specs.declared.walked.Taken.{Taken}
 use Rattle.asm80_walk.specs.declared.ifs.OpenIf.{OpenIf}
 use Rattle.asm80_walk.specs.Walked.{Stand}
@@ -43,20 +45,55 @@ abbrev pub sure_rule : Walk → Statement → Option AsmRule
 sure_rule w s =
     rule_if (breaks_nesting w s (operation_in s)) V6 (cond (is_taken w s) (rule_of_taken w s) None)
 
--- what the source is refused for if this IF stays open
-abbrev pub if_unclosed : Option Refusal → Statement → Refusal
-if_unclosed fault s = unwrap_or fault (s.line, V6)
+-- what the source is refused for if an IF on this line stays open
+abbrev pub if_unclosed : Option Refusal → ℕ → Refusal
+if_unclosed fault line = unwrap_or fault (line, V6)
 
 -- all but the innermost
-abbrev pub all_but_last : List Refusal → List Refusal
+abbrev pub all_but_last : {X : Type 0} → List X → List X
 all_but_last [] = []
-all_but_last (r ∷ []) = []
-all_but_last (r ∷ q ∷ rs) = r ∷ all_but_last (q ∷ rs)
+all_but_last (x ∷ []) = []
+all_but_last (x ∷ y ∷ xs) = x ∷ all_but_last (y ∷ xs)
 
 abbrev pub refusals_by : State → Statement → Option Operation → List Refusal
-refusals_by old s (Some If) = refusals old.ifs ++ if_unclosed old.fault s ∷ []
+refusals_by old s (Some If) = refusals old.ifs ++ if_unclosed old.fault s.line ∷ []
 refusals_by old s (Some EndIf) = all_but_last (refusals old.ifs)
 refusals_by old s o = refusals old.ifs
+
+-- the IFs that are open after an operation; an IF is opened with a flag
+abbrev pub nested_ifs : List OpenIf → Option Refusal → ℕ → Bool → Option Operation → List OpenIf
+nested_ifs ifs fault line flag (Some If) = ifs ++ record { is_taken = flag; refusal = if_unclosed fault line } ∷ []
+nested_ifs ifs fault line flag (Some EndIf) = all_but_last ifs
+nested_ifs ifs fault line flag o = ifs
+
+-- ---- the rules of a statement that is taken, in two parts
+
+-- V1 and V4 of operands
+abbrev pub rule_of_values : Scope → List Operand → Option AsmRule
+rule_of_values sees args =
+    rule_if (list_any (operand_has_unknown sees) args) V1 (rule_if (list_any (operand_divides_by_zero sees) args) V4 None)
+
+-- the walk evaluates the operands of the operation with the names above its statement
+abbrev pub is_evaluated : Option Operation → Bool
+is_evaluated (Some Equ) = true
+is_evaluated (Some Set) = true
+is_evaluated (Some Org) = true
+is_evaluated (Some Ds) = true
+is_evaluated (Some If) = true
+is_evaluated o = false
+
+-- the rule by the names above
+abbrev pub rule_above : Walk → Statement → Option Operation → Option AsmRule
+rule_above w s o =
+    rule_if (breaks_nesting w s o) V6 (
+    rule_if (label_clashes w s s.label) V2 (
+    rule_if (label_overflows w s s.label) V7 (
+    rule_if (breaks_v5 s o) V5 (cond (is_evaluated o) (rule_of_values (scope w) s.args) None))))
+
+-- the rule of the operand of END, which sees its own label too
+abbrev pub rule_at_end : ℕ → List Name → List Operand → Option Operation → Option AsmRule
+rule_at_end at names args o =
+    cond (is_end o) (rule_of_values (record { here = at; find = meaning_in names }) args) None
 
 abbrev pub taken_row : ℕ → Walk → Statement → Taken
 taken_row index w s =
