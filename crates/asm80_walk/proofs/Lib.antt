@@ -2,3 +2,4 @@ pub mod Lists
 pub mod Verdicts
 pub mod Reaching
 pub mod Nesting
+pub mod Stepping
