@@ -1,14 +1,14 @@
 -- IFs that are opened and closed.
-use Rattle.std.proofs.Common.{◌≡◌, ℕ, List, [], ◌∷◌, ◌++◌, length, map, Bool, true, false, Option, Some, None, refl, sym, ap, ◌∙◌, drop, ◌⊎◌, inl, inr, arith}
-use Rattle.std.specs.Prelude.{cond, not, reverse, option_to_list, ◌||◌, ◌&&◌}
+use Rattle.std.proofs.Common.{◌≡◌, ℕ, List, [], ◌∷◌, ◌++◌, length, map, Bool, true, false, Option, Some, None, refl, sym, ap, ◌∙◌, drop, take, ◌-◌}
+use Rattle.std.specs.Prelude.{cond, not, reverse, option_to_list, ◌||◌, ◌&&◌, MatchOption}
 use Rattle.std.specs.List.{list_any}
 use Rattle.std.specs.Option.{option_or}
-use Rattle.std.proofs.lemmas.List.{map-append, reverse-append}
+use Rattle.std.proofs.lemmas.List.{map-append, reverse-append, append-nil}
 use Rattle.std.proofs.lemmas.List.Sorted.{list_any-IsPermutation, IsPermutation-reverse}
 use Rattle.asm80_tokens.specs.Tree.{Statement}
 use Rattle.source80.specs.declared.operation.Operation.{Operation}
 use Rattle.source80.specs.declared.operation.Operation.TheVariants.{If, EndIf}
-use Rattle.source80.specs.Walk.{Walk, directive_meaning, is_true, ifs_by, skipped_ifs}
+use Rattle.source80.specs.Walk.{Walk, operation_in, is_endif, is_taken, directive_meaning, is_true, ifs_by, skipped_ifs}
 use Rattle.source80.specs.FirstFaults.{Refusal}
 use Rattle.asm80_walk.specs.declared.ifs.OpenIf.{OpenIf}
 use Rattle.asm80_walk.specs.State.{State, taken_flags, refusals, all_but_last, if_unclosed, refusals_by, nested_ifs, walk_of}
@@ -19,6 +19,14 @@ pub without_last : {X : Type 0} (xs : List X) (x : X) → all_but_last (xs ++ x 
 without_last [] x = refl
 without_last (y ∷ []) x = refl
 without_last (y ∷ z ∷ xs) x = ap (λ (t : List _). y ∷ t) (without_last (z ∷ xs) x)
+
+-- what a pop leaves
+pub popped : {X : Type 0} (B : X → Type 0) (old new : List X) (found : Option X) (n m : ℕ) → old ≡ new ++ option_to_list found → MatchOption found ((n ≡ 0) × (m ≡ 0)) B → new ≡ take (n - 1) old → new ≡ all_but_last old
+popped B old new None n m e h t =
+    let none : new ≡ [] = rw h.0 at t in
+    let nothing : old ≡ [] = rw (none, append-nil) at e in
+    rw (none, nothing) refl
+popped B old new (Some x) n m e h t = sym (without_last new x) ∙ ap all_but_last (sym e)
 
 data Ending {X : Type 0} : List X → Type 0 where
   nothing : Ending []
@@ -66,7 +74,7 @@ refusals_nested old s flag o = refl
 
 -- ---- some IF skips
 
-any_mapped : {X Y : Type 0} (test : Y → Bool) (f : X → Y) (xs : List X) → list_any test (map f xs) ≡ list_any (λ (x : X). test (f x)) xs
+pub any_mapped : {X Y : Type 0} (test : Y → Bool) (f : X → Y) (xs : List X) → list_any test (map f xs) ≡ list_any (λ (x : X). test (f x)) xs
 any_mapped test f [] = refl
 any_mapped test f (x ∷ xs) = ap (λ (b : Bool). test (f x) || b) (any_mapped test f xs)
 
@@ -74,3 +82,26 @@ pub skips_reversed : (ifs : List OpenIf) → list_any not (reverse (taken_flags 
 skips_reversed ifs =
     sym (list_any-IsPermutation not (taken_flags ifs) (reverse (taken_flags ifs)) (IsPermutation-reverse (taken_flags ifs)))
     ∙ any_mapped not (λ (i : OpenIf). i.is_taken) ifs
+
+combined : (flag skips closes : Bool) → cond skips false (cond flag true closes) ≡ (not (not flag || skips) || (closes && not skips))
+combined true true true = refl
+combined true true false = refl
+combined true false true = refl
+combined true false false = refl
+combined false true true = refl
+combined false true false = refl
+combined false false true = refl
+combined false false false = refl
+
+flags_with : (ifs outer : List OpenIf) (i : OpenIf) → ifs ≡ outer ++ i ∷ [] → reverse (taken_flags ifs) ≡ i.is_taken ∷ reverse (taken_flags outer)
+flags_with ifs outer i e = ap (λ (k : List OpenIf). reverse (taken_flags k)) e ∙ flags_more outer i
+
+-- whether a statement is taken where an IF is open
+pub taken_with : (w : Walk) (ifs outer : List OpenIf) (i : OpenIf) (skips : Bool) (s : Statement) (o : Option Operation) → w.ifs ≡ reverse (taken_flags ifs) → ifs ≡ outer ++ i ∷ [] → skips ≡ list_any (λ (k : OpenIf). not k.is_taken) outer → operation_in s ≡ o → cond skips false (cond i.is_taken true (is_endif o)) ≡ is_taken w s
+taken_with w ifs outer i skips s o flags e k q =
+    let here = flags ∙ flags_with ifs outer i e in
+    let outside = k ∙ sym (skips_reversed outer) in
+    combined i.is_taken skips (is_endif o)
+    ∙ ap (λ (b : Bool). not (not i.is_taken || b) || (is_endif o && not b)) outside
+    ∙ ap (λ (b : Bool). not (not i.is_taken || list_any not (reverse (taken_flags outer))) || (b && not (list_any not (reverse (taken_flags outer))))) (ap is_endif (sym q))
+    ∙ ap (λ (fs : List Bool). not (list_any not fs) || (is_endif (operation_in s) && not (list_any not (drop 1 fs)))) (sym here)

@@ -8,6 +8,7 @@ use Rattle.source80.specs.declared.operation.Operation.{Operation}
 use Rattle.source80.specs.declared.operation.Operation.TheVariants.{Org, End, Equ, Set, If, EndIf, Ds}
 use Rattle.source80.specs.declared.rule.AsmRule.{AsmRule}
 use Rattle.source80.specs.declared.rule.AsmRule.TheVariants.{V1, V2, V4, V5, V6, V7}
+use Rattle.source80.specs.declared.meaning.Meaning.{Meaning}
 use Rattle.source80.specs.Names.{Name}
 use Rattle.source80.specs.Walk.{Walk, operation_in, is_taken, is_true, is_end, scope, directive_meaning, names_after, address_after, after_by}
 use Rattle.source80.specs.FirstFaults.{Refusal, rule_if, rule_of_taken, with_line, breaks_v1, breaks_v4, breaks_v5, label_clashes, label_overflows}
@@ -47,6 +48,12 @@ if_split : (b : Bool) (rule : AsmRule) (x y z : Option AsmRule) → x ≡ option
 if_split true rule x y z e = refl
 if_split false rule x y z e = e
 
+pub rules_joined : (deep clash full form : Bool) (rule : Option AsmRule) → option_or (option_or (rule_if deep V6 None) (rule_if clash V2 (rule_if full V7 None))) (rule_if form V5 rule) ≡ rule_if deep V6 (rule_if clash V2 (rule_if full V7 (rule_if form V5 rule)))
+rules_joined true clash full form rule = refl
+rules_joined false true full form rule = refl
+rules_joined false false true form rule = refl
+rules_joined false false false form rule = refl
+
 pub rules_split : (w : Walk) (s : Statement) → is_taken w s ≡ true → sure_rule w s ≡ option_or (rule_above w s (operation_in s)) (rule_at_end w.at (names_after w s) s.args (operation_in s))
 rules_split w s e =
     let o = operation_in s in
@@ -70,3 +77,19 @@ takes index s old new e is = rw is (record {
   fault = ap (λ (rule : Option AsmRule). option_or old.fault (with_line s.line rule)) (sym (rules_split (walk_of old) s e));
   rows = rw e refl;
 })
+
+-- ---- the code's changes, one after the other
+
+pub skips_through : (index : ℕ) (s : Statement) (old mid new : State) (rule : Option AsmRule) (o : Option Operation) → o ≡ operation_in s → is_taken (walk_of old) s ≡ false → rule ≡ rule_if (breaks_nesting (walk_of old) s o) V6 None → mid ≡ record old { ifs = nested_ifs old.ifs old.fault s.line false o } → new ≡ record mid { fault = option_or mid.fault (with_line s.line rule) } → Steps index s old new
+skips_through index s old mid new rule o e t r m n =
+    let all = n ∙ ap (λ (x : State). record x { fault = option_or x.fault (with_line s.line rule) }) m in
+    skips index s old new t (rw (r, e) at all)
+
+pub takes_through : (index : ℕ) (s : Statement) (old kept named nested noted new : State) (o : Option Operation) (rule rule_before rule_end : Option AsmRule) (m : Meaning) (next : ℕ) → o ≡ operation_in s → is_taken (walk_of old) s ≡ true → m ≡ directive_meaning (walk_of old) s → next ≡ address_after (walk_of old) s → rule ≡ option_or rule_before rule_end → rule_before ≡ rule_above (walk_of old) s o → rule_end ≡ rule_at_end named.at named.names s.args o → kept ≡ record old { rows = old.rows ++ record { statement = index; at = old.at; operation = o; meaning = m } ∷ [] } → named ≡ record kept { names = names_after (walk_of kept) s } → nested ≡ record named { ifs = nested_ifs named.ifs named.fault s.line (is_true m.value) o } → noted ≡ record nested { fault = option_or nested.fault (with_line s.line rule) } → new ≡ record noted { at = next } → Steps index s old new
+takes_through index s old kept named nested noted new o rule rule_before rule_end m next sameop t mean to both first second e1 e2 e3 e4 e5 =
+    let a = e2 ∙ ap (λ (x : State). record x { names = names_after (walk_of x) s }) e1 in
+    let b = e3 ∙ ap (λ (x : State). record x { ifs = nested_ifs x.ifs x.fault s.line (is_true m.value) o }) a in
+    let c = e4 ∙ ap (λ (x : State). record x { fault = option_or x.fault (with_line s.line rule) }) b in
+    let d = e5 ∙ ap (λ (x : State). record x { at = next }) c in
+    let last = second ∙ ap (λ (x : State). rule_at_end x.at x.names s.args o) a in
+    takes index s old new t (rw (to, both, first, last, mean, sameop) at d)

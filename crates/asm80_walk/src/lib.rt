@@ -2,6 +2,7 @@
 // labels and directives.
 #![tactic(auto)]
 
+mod directives;
 mod ifs;
 mod operations;
 mod size;
@@ -9,4 +10,4 @@ mod walked;
 
 pub use operations::operation_of;
 pub use size::size_of;
-pub use walked::{AsmFault, Taken};
+pub use walked::{AsmFault, Taken, Walked};

@@ -3,6 +3,7 @@
 ghost use Rattle.std.specs.Prelude.{◌≡◌};
 ghost use Rattle.asm80_walk.specs.declared.walked.AsmFault.TheVariants as fault;
 
+use asm80_names::Names;
 use source80::{AsmRule, Meaning, Operation};
 use std::alloc::{AllocError, AllocFailed};
 use thiserror::Error;
@@ -17,6 +18,13 @@ pub struct Taken {
     pub operation: Option<Operation>,
     /// What its one operand stands for, as that of a directive; None where it has none or more.
     pub meaning: Meaning,
+}
+
+/// The statements that are taken, in their order, and all names.
+#[derive(Drop)]
+pub struct Walked {
+    pub rows: Vec<Taken>,
+    pub names: Names,
 }
 
 /// Why statements are not assembled.
