@@ -22,7 +22,7 @@ use Rattle.lines86.specs.declared.line.Label.{Label}
 use Rattle.lines86.specs.declared.line.Label.TheVariants.{End}
 use Rattle.lines86.specs.declared.line.Stmt86.{Stmt86}
 use Rattle.lines86.specs.Layout.{place_of, code_of}
-use Rattle.lines86.specs.Image.{Image, cells_from, labels_from, image_of}
+use Rattle.lines86.specs.Image.{Image, cells_from, by_address, labels_from, image_of}
 use Rattle.machine.specs.Run.{Machine, Status, Going, Waiting, Over, Stopped, Run, IsNotStopped, choice_at, settle, turn, turns, start_run}
 use Rattle.machine.specs.Same.{SameDialogue}
 use Rattle.machine.proofs.FollowBlocks.{BothStill, Block, blocks_same}
@@ -232,10 +232,10 @@ image_is is first =
     ∙ ap (λ cs. image_cells cs) (first_no_cells is first)
   where
     image_with : List Stmt86 → Image
-    image_with xs = record { code = code_of xs; cells = cells_from (place_of xs) 0 xs; labels = labels_from 0 xs }
+    image_with xs = record { code = code_of xs; cells = by_address (cells_from (place_of xs) 0 xs); labels = labels_from 0 xs }
 
     image_cells : List (ℕ × ℕ) → Image
-    image_cells cs = record { code = code_of (plain_statements (first_program is)); cells = cs; labels = labels_from 0 (plain_statements (first_program is)) }
+    image_cells cs = record { code = code_of (plain_statements (first_program is)); cells = by_address cs; labels = labels_from 0 (plain_statements (first_program is)) }
 
 -- the headline for first programs
 pub first_same : (is : List Instr80) → AreFirst is → Same (first_program is) (image_of (plain (first_program is)))
