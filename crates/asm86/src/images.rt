@@ -15,6 +15,9 @@ use lines86::{Label, Line86, TextRule, code_size};
 use std::alloc::Global;
 use std::marker::Model;
 
+/// How many bytes of code a text has at most, so that the offset behind the last is a word.
+const MOST_CODE: usize = 65_535;
+
 /// The code of a text, its data cells in ascending order, and the offset of each label.
 #[derive(Drop)]
 pub struct Image86 {
@@ -88,7 +91,7 @@ fn checked_labels(alloc: Global, lines: &[Line86]) -> Result<Offsets, ImageFault
         return Err(ImageFault::Line(line, TextRule::M4));
     }
     let size = code_size(lines);
-    if size > 65_535 {
+    if size > MOST_CODE {
         return Err(ImageFault::CodeTooLarge(size as u32));
     }
     if let Some(line) = first_short(&labels, lines) {
