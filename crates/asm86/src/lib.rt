@@ -1,6 +1,16 @@
-// ASM-86 texts, and the images that they assemble to.
+// The image that an ASM-86 text assembles to.
 #![tactic(auto)]
 
+mod code;
+mod data;
+mod fault;
 mod images;
+mod laws;
+mod layout;
+mod offsets;
+#[cfg(test)]
+mod tests;
 
-pub use images::Image86;
+pub use fault::ImageFault;
+pub use images::{Image86, image};
+pub use laws::images_exclude_refusals;

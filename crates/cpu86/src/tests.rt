@@ -1,14 +1,18 @@
 // Worked examples.
-ghost use Rattle.std.specs.Prelude.{◌≡◌, IfOk, None};
+ghost use Rattle.std.specs.Prelude.{◌≡◌, ◌^◌, ◌<◌, true, length, IfOk, None};
+ghost use Rattle.lines86.specs.Image.{statements};
+ghost use Rattle.lines86.specs.Order.{at_start, in_order};
 ghost use Rattle.cpu86.specs.Standing.{standing};
 
 use crate::cpu::{Cpu86, Step86};
 use crate::run::{RunStatus, run};
 use crate::start::Start86;
-use asm86::Image86;
+use asm86::image;
 use dialogue::blocks::Blocks;
 use dialogue::request::{ArgWord, Event, Reply};
 use dialogue::start_page::Page;
+use i86::{Instr86, Operand8, Operand16, Reg8, Reg16, StackReg};
+use lines86::{Jump, Label, Line86, Stmt86};
 use std::alloc::{AllocError, Global};
 use std::process::Abort;
 use std::test::Fail;
@@ -26,21 +30,72 @@ const START: Start86 = Start86 {
     flags: 0,
 };
 
-/// Writes the letter A and ends: `MVI C,2`, `MVI E,41H`, `CALL 5`, `JMP 0` as an 8086 program.
-const ONE_LETTER: [u8; 44] = [
-    0xBE, 0x00, 0xF0, 0x89, 0x36, 0x06, 0x00, 0x8C, 0xD8, 0x8E, 0xD0, 0x8B, 0xE6, 0xBE, 0x26, 0x00,
-    0x56, 0xB1, 0x02, 0xB2, 0x41, 0xE8, 0x03, 0x00, 0xE9, 0x0B, 0x00, 0x0A, 0xC9, 0x74, 0x07, 0xCD,
-    0xE0, 0x8A, 0xD8, 0x8A, 0xEF, 0xC3, 0xB1, 0x00, 0xB2, 0x00, 0xCD, 0xE0,
+/// Writes the letter A and ends: the plain text of `MVI C,2`, `MVI E,41H`, `CALL 5`, `JMP 0`.
+const ONE_LETTER: [Stmt86; 31] = [
+    Stmt86::Cseg,
+    Stmt86::Run(Instr86::MovNum16(Reg16::Si, 0xF000)),
+    Stmt86::Run(Instr86::MovDirect16(6, Reg16::Si)),
+    Stmt86::Run(Instr86::MovAxDs),
+    Stmt86::Run(Instr86::MovSsAx),
+    Stmt86::Run(Instr86::MovReg16(Reg16::Sp, Operand16::Reg(Reg16::Si))),
+    Stmt86::MovOffset(Reg16::Si, Label::End),
+    Stmt86::Run(Instr86::Push(StackReg::Si)),
+    Stmt86::Mark(Label::At(0x100)),
+    Stmt86::Run(Instr86::MovNum8(Reg8::Cl, 2)),
+    Stmt86::Mark(Label::At(0x102)),
+    Stmt86::Run(Instr86::MovNum8(Reg8::Dl, 0x41)),
+    Stmt86::Mark(Label::At(0x104)),
+    Stmt86::Call(Label::Sys),
+    Stmt86::Mark(Label::At(0x107)),
+    Stmt86::Jmp(Label::End),
+    Stmt86::Mark(Label::Sys),
+    Stmt86::Run(Instr86::OrClCl),
+    Stmt86::Jcc(Jump::Jz, Label::End),
+    Stmt86::Run(Instr86::Int224),
+    Stmt86::Run(Instr86::MovReg8(Reg8::Bl, Operand8::Reg(Reg8::Al))),
+    Stmt86::Run(Instr86::MovReg8(Reg8::Ch, Operand8::Reg(Reg8::Bh))),
+    Stmt86::Run(Instr86::Ret),
+    Stmt86::Mark(Label::End),
+    Stmt86::Run(Instr86::MovNum8(Reg8::Cl, 0)),
+    Stmt86::Run(Instr86::MovNum8(Reg8::Dl, 0)),
+    Stmt86::Run(Instr86::Int224),
+    Stmt86::Dseg,
+    Stmt86::Org(0xEFFF),
+    Stmt86::Rb(1),
+    Stmt86::EndText,
 ];
 
-fn machine(alloc: Global, rt: &impl Abort, code: &[u8]) -> Result<Cpu86, AllocError>
+/// Pushes a word.
+const PUSHES: [Stmt86; 2] = [Stmt86::Cseg, Stmt86::Run(Instr86::Push(StackReg::Ax))];
+
+/// Goes past the end of its code.
+const FALLS_OFF: [Stmt86; 2] = [Stmt86::Cseg, Stmt86::Run(Instr86::Nop)];
+
+// The statements as lines with numbers from 1.
+fn numbered(alloc: Global, text: &[Stmt86]) -> Result<Vec<Line86>, AllocError>
+    requires { length text.now < 2 ^ 28 }
+    ensures statements { IfOk result (λ lines. statements lines.items ≡ text.now) }
+    ensures few { IfOk result (λ lines. length lines.items < 2 ^ 28) }
+{
+    let mut lines = Vec::new(alloc);
+    for (i, stmt) in text.iter().enumerate() {
+        lines.push(Line86 {
+            line: i as u32 + 1,
+            stmt: *stmt,
+        })?;
+    }
+    Ok(lines)
+}
+
+fn machine(alloc: Global, rt: &impl Abort, text: &[Stmt86]) -> Result<Cpu86, AllocError>
+    requires order { in_order at_start text.now ≡ true }
+    requires few { length text.now < 2 ^ 28 }
     ensures { IfOk result (λ c. (standing c).said ≡ None) }
 {
-    let image = Image86::new(
-        Vec::from_slice(alloc, code)?,
-        Vec::new(alloc),
-        Vec::new(alloc),
-    );
+    let lines = numbered(alloc, text)?;
+    let image = image(alloc, lines.as_slice())
+        .ok()
+        .expect(rt, "a text that assembles");
     let page = Page::of_tail(b"").expect(rt, "an empty tail");
     let fill = vec![in alloc; 0; 65536]?;
     Cpu86::new(alloc, &image, START, &page, fill.as_slice())
@@ -83,9 +138,9 @@ fn one_letter_is_written_and_the_program_ends(rt: HostRuntime) -> Result<(), Fai
 #[test]
 fn stops_say_where(rt: HostRuntime) -> Result<(), Fail> {
     let alloc = rt.alloc();
-    let mut pushes = machine(alloc, &rt, &[0x50])?;
+    let mut pushes = machine(alloc, &rt, &PUSHES)?;
     assert!(rt; pushes.step(0) == Step86::StackSegment(0));
-    let mut falls_off = machine(alloc, &rt, &[0x90])?;
+    let mut falls_off = machine(alloc, &rt, &FALLS_OFF)?;
     assert!(rt; falls_off.step(0) == Step86::Ran);
     assert!(rt; falls_off.step(0) == Step86::NoInstruction(1));
     assert_eq!(rt; falls_off.ip(), 1);

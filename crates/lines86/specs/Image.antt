@@ -1,5 +1,8 @@
 -- The image of a text: its code, its data cells, and the offset of each label.
 use Rattle.std.specs.Prelude.{◌≡◌, ℕ, ◌+◌, ◌/◌, ◌%◌, ◌<◌, ◌≤◌, nat_le, ◌&&◌, Bool, true, cond, List, [], ◌∷◌, map, Option, Some, None, is_some}
+use Rattle.std.specs.List.{fold}
+use Rattle.std.specs.Ordering.{nat_cmp}
+use Rattle.std.specs.BTreeMap.{insert_entry}
 use Rattle.lines86.specs.declared.line.Label.{Label}
 use Rattle.lines86.specs.declared.line.Value16.TheVariants.{Num, Offset}
 use Rattle.lines86.specs.declared.line.Stmt86.{Stmt86}
@@ -84,7 +87,7 @@ AllReach off at (x ∷ xs) = (short_reaches off at x ≡ true) × AllReach off (
 abbrev pub word_cells : ℕ → ℕ → List (ℕ × ℕ) → List (ℕ × ℕ)
 word_cells at w rest = (at, w % 256) ∷ ((at + 1, w / 256) ∷ rest)
 
--- the data cells, where `at` is the data address: 0 after DSEG, set by ORG, and moved on by RB, DB and DW
+-- the data cells in the text's order, where `at` is the data address: 0 after DSEG, set by ORG, and moved on by RB, DB and DW
 abbrev pub cells_from : (Label → ℕ) → ℕ → List Stmt86 → List (ℕ × ℕ)
 cells_from off at [] = []
 cells_from off at (Cseg ∷ xs) = cells_from off at xs
@@ -103,6 +106,14 @@ cells_from off at (JccTo j l ∷ xs) = cells_from off at xs
 cells_from off at (Call l ∷ xs) = cells_from off at xs
 cells_from off at (EndText ∷ xs) = cells_from off at xs
 
+-- a cell put to its place among cells whose addresses ascend
+abbrev pub put_cell : List (ℕ × ℕ) → ℕ × ℕ → List (ℕ × ℕ)
+put_cell cells c = insert_entry nat_cmp cells c.0 c.1
+
+-- cells in ascending order of their addresses
+abbrev pub by_address : List (ℕ × ℕ) → List (ℕ × ℕ)
+by_address cells = fold put_cell [] cells
+
 -- each label with its offset, in statements that begin at a place
 abbrev pub labels_before : Option Label → ℕ → List (Label × ℕ) → List (Label × ℕ)
 labels_before None at rest = rest
@@ -116,7 +127,7 @@ labels_from at (x ∷ xs) = labels_before (marked x) at (labels_from (at + size_
 abbrev pub image_of : List Line86 → Image
 image_of lines =
     let xs : List Stmt86 = statements lines in
-    record { code = code_of xs; cells = cells_from (place_of xs) 0 xs; labels = labels_from 0 xs }
+    record { code = code_of xs; cells = by_address (cells_from (place_of xs) 0 xs); labels = labels_from 0 xs }
 
 -- the text assembles: each statement stands in its group, no label is defined again, each label used is defined, the code
 -- has at most 65,535 bytes, and each short jump reaches

@@ -5,8 +5,8 @@ ghost use Rattle.lines86.specs.Image.{statements};
 
 use crate::line::{Line86, Stmt86};
 
-// The bytes of a statement in the code.
-fn size(stmt: Stmt86) -> usize
+/// How many bytes a statement has in the code: six at most.
+pub fn statement_size(stmt: Stmt86) -> usize
     ensures value { result ≡ size_of stmt }
     ensures most { result ≤ 6 }
 {
@@ -26,7 +26,7 @@ pub fn code_size(lines: &[Line86]) -> usize
 {
     let mut total = 0;
     for line in lines {
-        total += size(line.stmt);
+        total += statement_size(line.stmt);
     }
     total
 }

@@ -18,7 +18,7 @@ use Rattle.lines86.specs.declared.line.Label.{Label}
 use Rattle.lines86.specs.declared.line.Label.TheVariants.{At as Line, End}
 use Rattle.lines86.specs.declared.line.Stmt86.{Stmt86}
 use Rattle.lines86.specs.Layout.{place_of, code_of}
-use Rattle.lines86.specs.Image.{Image, cells_from, labels_from, image_of}
+use Rattle.lines86.specs.Image.{Image, cells_from, by_address, labels_from, image_of}
 use Rattle.machine.specs.Run.{Machine, Status, Going, Waiting, Over, Stopped, Run, IsNotStopped, choice_at, settle, turn, turns, start_run}
 use Rattle.machine.specs.Same.{SameDialogue}
 use Rattle.machine.proofs.FollowBlocks.{BothStill, Block, blocks_same}
@@ -257,10 +257,10 @@ module _ (xs : List Placed) (top : ℕ) (laid : AreLaid 0x100 (top - 2) xs) (beg
   image_is = ap image_with (statements-numbered 1 stmts) ∙ ap image_cells (body_cells off 0 xs (tail_of p))
     where
       image_with : List Stmt86 → Image
-      image_with xs = record { code = code_of xs; cells = cells_from (place_of xs) 0 xs; labels = labels_from 0 xs }
+      image_with xs = record { code = code_of xs; cells = by_address (cells_from (place_of xs) 0 xs); labels = labels_from 0 xs }
 
       image_cells : List (ℕ × ℕ) → Image
-      image_cells cells = record { code = code; cells = cells; labels = labels_from 0 stmts }
+      image_cells cells = record { code = code; cells = by_address cells; labels = labels_from 0 stmts }
 
   pub same_with_image : Reads (image_of (plain p)).code fetch → SameDialogue State80 Rule State86 Stop (run80 p page replies) (run86 fetch (image_of (plain p)) page fill start cs replies)
   same_with_image reads =
