@@ -47,3 +47,14 @@ pub struct Line86 {
     pub line: u32,
     pub stmt: Stmt86,
 }
+
+/// The rules of ASM-86 text.
+#[derive(Clone, Copy, PartialEq, Eq)]
+pub enum TextRule {
+    M1,
+    M2,
+    M3,
+    M4,
+    M5,
+    M6,
+}
