@@ -27,7 +27,7 @@ use Rattle.text_lines86.specs.declared.token.Token.{Token}
 use Rattle.text_lines86.specs.declared.token.Token.TheVariants as tokens
 use Rattle.text_lines86.specs.declared.token.Operand.{Operand}
 use Rattle.text_lines86.specs.declared.token.Operand.TheVariants.{Reg8 as Byte, Reg16 as Word, Ds, Ss, Number, Label as To, Offset, Mem, DirectByte, DirectWord}
-use Rattle.text_lines86.specs.Operands.{then_opt, operands_of}
+use Rattle.text_lines86.specs.Operands.{then_opt, each, operands_of}
 
 abbrev pub run : Instr86 → Option Stmt86
 run i = Some (Run i)
@@ -94,15 +94,14 @@ jumped (To l) = Some (Jmp l)
 jumped (Word r) = to_bx r
 jumped _ = None
 
--- a statement that names its label
-abbrev pub to_label : (Label → Stmt86) → Operand → Option Stmt86
-to_label f (To l) = Some (f l)
-to_label f _ = None
+-- an operand that is a label, and one that is a number
+abbrev pub label_in : Operand → Option Label
+label_in (To l) = Some l
+label_in _ = None
 
--- a statement of a number
-abbrev pub of_number : (ℕ → Stmt86) → Operand → Option Stmt86
-of_number f (Number n) = Some (f n)
-of_number f _ = None
+abbrev pub number_in : Operand → Option ℕ
+number_in (Number n) = Some n
+number_in _ = None
 
 abbrev pub with_one : Operation → Operand → Option Stmt86
 with_one (op.Count c) a = counted c a
@@ -111,11 +110,11 @@ with_one op.Pop a = popped a
 with_one op.Not a = inverted a
 with_one op.Int a = interrupt a
 with_one op.Jmp a = jumped a
-with_one op.Jmps a = to_label Jmps a
-with_one op.Call a = to_label Call a
-with_one (op.Jcc j) a = to_label (Jcc j) a
-with_one op.Org a = of_number Org a
-with_one op.Rb a = of_number Rb a
+with_one op.Jmps a = option_map Jmps (label_in a)
+with_one op.Call a = option_map Call (label_in a)
+with_one (op.Jcc j) a = option_map (Jcc j) (label_in a)
+with_one op.Org a = option_map Org (number_in a)
+with_one op.Rb a = option_map Rb (number_in a)
 with_one _ a = None
 
 -- ---- two operands
@@ -241,22 +240,17 @@ with_two _ a b = None
 
 -- an item of DB, and one of DW
 abbrev pub byte_item : Operand → Option Stmt86
-byte_item a = of_number Db a
+byte_item a = option_map Db (number_in a)
 
 abbrev pub word_item : Operand → Option Stmt86
 word_item (Number w) = Some (Dw (Num w))
 word_item (Offset l) = Some (Dw (OffsetOf l))
 word_item _ = None
 
--- one statement for each item
-unfoldable pub each_item : (Operand → Option Stmt86) → List Operand → Option (List Stmt86)
-each_item item [] = Some []
-each_item item (o ∷ os) = then_opt (item o) (λ s. option_map (λ ss. s ∷ ss) (each_item item os))
-
 -- one item or more
 abbrev pub items : (Operand → Option Stmt86) → List Operand → Option (List Stmt86)
 items item [] = None
-items item (o ∷ os) = each_item item (o ∷ os)
+items item (o ∷ os) = each item (o ∷ os)
 
 abbrev pub single : Operation → List Operand → Option Stmt86
 single o [] = bare o

@@ -5,3 +5,4 @@ pub mod Tokens
 pub mod Operands
 pub mod Forms
 pub mod Line
+pub mod Results

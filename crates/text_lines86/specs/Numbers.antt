@@ -4,9 +4,9 @@ use Rattle.std.specs.List.{list_all}
 use Rattle.std.specs.Char.{digit_value}
 use Rattle.std.specs.Str.Parse.{digits_value}
 
--- the number that digits of a base spell: one digit or more, each of that base, and the number at most 65,535
+-- the number that digits of a base spell: each is a digit of that base, there is one or more, and the number is at most 65,535
 unfoldable pub value_in : ℕ → List ℕ → Option ℕ
-value_in base ds = cond (nat_lt 0 (length ds) && (list_all (λ c. nat_lt (digit_value c) base) ds && nat_lt (digits_value base ds) 65536)) (Some (digits_value base ds)) None
+value_in base ds = cond (list_all (λ c. nat_lt (digit_value c) base) ds && (nat_lt 0 (length ds) && nat_lt (digits_value base ds) 65536)) (Some (digits_value base ds)) None
 
 -- the number that a word is which begins with a digit, if it is one
 unfoldable pub number_of : List ℕ → Option ℕ

@@ -79,12 +79,12 @@ abbrev pub is_comma : Token → Bool
 is_comma tokens.Comma = true
 is_comma _ = false
 
--- these lists of tokens are, each for itself, these operands
-unfoldable pub each_operand : List (List Token) → Option (List Operand)
-each_operand [] = Some []
-each_operand (part ∷ parts) = then_opt (operand_of part) (λ o. option_map (λ os. o ∷ os) (each_operand parts))
+-- what each element gives, where each gives something
+unfoldable pub each : {X Y : Type 0} → (X → Option Y) → List X → Option (List Y)
+each f [] = Some []
+each f (x ∷ xs) = then_opt (f x) (λ y. option_map (λ ys. y ∷ ys) (each f xs))
 
 -- the operands that tokens are, with commas between them; no tokens are no operands
 abbrev pub operands_of : List Token → Option (List Operand)
 operands_of [] = Some []
-operands_of (t ∷ ts) = each_operand (slice_split is_comma (t ∷ ts))
+operands_of (t ∷ ts) = each operand_of (slice_split is_comma (t ∷ ts))

@@ -1,6 +1,12 @@
 // One line of an ASM-86 text, as its statements.
 #![tactic(auto)]
 
+mod fault;
+mod letters;
+mod numbers;
 mod token;
 
+pub use fault::LineFault;
+pub use letters::{first_byte, in_capitals, inside_len, is_blank, is_inside, sign_of};
+pub use numbers::{number_of, value_in};
 pub use token::{Operand, Operation, Token};
