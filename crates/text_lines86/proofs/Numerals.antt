@@ -1,5 +1,5 @@
 -- Numerals, and the texts that std reads as numbers.
-use Rattle.std.proofs.Common.{◌≡◌, ◌≢◌, ℕ, zero, suc, ◌<◌, ◌≤◌, ◌^◌, List, [], ◌∷◌, Bool, true, false, ltb, ◌&&◌, cond, Option, Some, None, Result, Ok, Err, length, refl, sym, ap, ◌∙◌, arith, get_or, inl, inr, ◌⊎◌}
+use Rattle.std.proofs.Common.{◌≡◌, ◌≢◌, ℕ, zero, suc, ◌<◌, ◌≤◌, ◌^◌, List, [], ◌∷◌, Bool, true, false, ltb, ◌&&◌, Some, None, Result, Ok, Err, length, refl, ap, arith, get_or, inl, inr}
 use Rattle.std.specs.List.{list_all}
 use Rattle.std.specs.Char.{digit_value}
 use Rattle.std.specs.Result.{OkIff}
@@ -57,7 +57,7 @@ refused base ds r f le h p e =
     elim (cases_lt 0 (length ds)) [
       | inr none ↦ rw (h, le-ltb _ _ none) refl
       | inl some ↦ elim (cases_lt (digits_value base ds) 65536) [
-          | inr large ↦ rw (h, lt-ltb _ _ some, le-ltb _ _ large) refl
-          | inl small ↦ absurd (q ((some, digits base ds h), small))
-        ]
+        | inr large ↦ rw (h, lt-ltb _ _ some, le-ltb _ _ large) refl
+        | inl small ↦ absurd (q ((some, digits base ds h), small))
+      ]
     ]

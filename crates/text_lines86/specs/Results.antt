@@ -1,5 +1,5 @@
 -- What the functions return, by the definitions.
-use Rattle.std.specs.Prelude.{◌≡◌, ℕ, cond, List, Option, Some, None, Result, Ok, Err, nat_le}
+use Rattle.std.specs.Prelude.{ℕ, cond, List, Option, Some, None, Result, Ok, Err, nat_le}
 use Rattle.std.specs.List.{list_all}
 use Rattle.std.specs.Global.{Vec}
 use Rattle.lines86.specs.declared.line.Stmt86.{Stmt86}
@@ -8,7 +8,6 @@ use Rattle.lines86.specs.declared.line.TextRule.TheVariants as rules
 use Rattle.text_lines86.specs.declared.fault.LineFault.{LineFault}
 use Rattle.text_lines86.specs.declared.fault.LineFault.TheVariants.{Rule, Memory}
 use Rattle.text_lines86.specs.Forms.{is_small}
-use Rattle.text_lines86.specs.Line.{LineGives}
 
 -- a byte, unless the number is above 255
 abbrev pub byte_or_m1 : ℕ → Result ℕ TextRule

@@ -1,6 +1,7 @@
 -- The words that mean something in a line: operations, registers, the words of operands, and labels (Intel 8086 Family User's Manual,
 -- "Instruction set"; CP/M-86 Programmer's Guide, "Identifiers" and "Directives"; the choice of them is this project's).
 use Rattle.std.specs.Prelude.{ℕ, ◌==◌, cond, codes, List, [], ◌∷◌, Option, Some, None, option_map, length, slice_index}
+use Rattle.std.specs.List.{find}
 use Rattle.std.specs.Str.{bytes_eq}
 use Rattle.i86.specs.declared.Reg8.TheVariants.{Al, Cl, Dl, Bl, Ah, Ch, Dh, Bh}
 use Rattle.i86.specs.declared.Reg16.TheVariants.{Ax, Cx, Dx, Bx, Sp, Si}
@@ -17,9 +18,8 @@ use Rattle.text_lines86.specs.Letters.{is_digit}
 use Rattle.text_lines86.specs.Numbers.{value_in, number_of}
 
 -- the entry of a table under a word
-unfoldable pub look : {X : Type 0} → List (List ℕ × X) → List ℕ → Option X
-look [] word = None
-look (e ∷ es) word = cond (bytes_eq e.0 word) (Some e.1) (look es word)
+abbrev pub look : List (List ℕ × Token) → List ℕ → Option Token
+look table word = option_map (λ (e : List ℕ × Token). e.1) (find (λ (e : List ℕ × Token). bytes_eq e.0 word) table)
 
 -- the words of instructions
 unfoldable pub operations : List (List ℕ × Token)

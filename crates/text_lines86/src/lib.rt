@@ -5,8 +5,10 @@ mod fault;
 mod letters;
 mod numbers;
 mod token;
+mod words;
 
 pub use fault::LineFault;
 pub use letters::{first_byte, in_capitals, inside_len, is_blank, is_inside, sign_of};
 pub use numbers::{number_of, value_in};
 pub use token::{Operand, Operation, Token};
+pub use words::word_token;

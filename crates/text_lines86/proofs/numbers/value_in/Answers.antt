@@ -1,4 +1,4 @@
-use Rattle.std.proofs.Common.{◌≡◌, ◌≤◌, true, false, sym, ◌∙◌, arith}
+use Rattle.std.proofs.Common.{sym, ◌∙◌, arith}
 use Rattle.text_lines86.proofs.Numerals.{no_digits, is_utf8, parsed, refused}
 use Rattle.text_lines86.proofs.numbers.value_in.Goals as goal
 
