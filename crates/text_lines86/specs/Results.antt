@@ -1,13 +1,20 @@
 -- What the functions return, by the definitions.
-use Rattle.std.specs.Prelude.{ℕ, cond, List, Option, Some, None, Result, Ok, Err, nat_le}
+use Rattle.std.specs.Prelude.{ℕ, cond, List, Option, Some, None, true, false, Result, Ok, Err, nat_le}
 use Rattle.std.specs.List.{list_all}
 use Rattle.std.specs.Global.{Vec}
+use Rattle.text_lines86.specs.declared.token.Token.{Token}
+use Rattle.text_lines86.specs.Tokens.{Lexes}
 use Rattle.lines86.specs.declared.line.Stmt86.{Stmt86}
 use Rattle.lines86.specs.declared.line.TextRule.{TextRule}
 use Rattle.lines86.specs.declared.line.TextRule.TheVariants as rules
 use Rattle.text_lines86.specs.declared.fault.LineFault.{LineFault}
 use Rattle.text_lines86.specs.declared.fault.LineFault.TheVariants.{Rule, Memory}
 use Rattle.text_lines86.specs.Forms.{is_small}
+
+-- the tokens of bytes, or that there is a place without one
+abbrev pub LexesTo : List ℕ → Option (Vec Token) → Type 0
+LexesTo bytes (Some v) = Lexes bytes v.items true
+LexesTo bytes None = (ts : List Token) × Lexes bytes ts false
 
 -- a byte, unless the number is above 255
 abbrev pub byte_or_m1 : ℕ → Result ℕ TextRule

@@ -11,8 +11,9 @@ found_before rest (Some t) = Some (t, rest)
 
 -- What stands at the front of bytes that begin with no blank and no comment: the longest word, or a sign, and what is
 -- behind it. There is none where a byte may not stand there, or where a word that begins with a digit is no number.
-unfoldable pub token_at : ℕ → List ℕ → Option (Token × List ℕ)
-token_at b bytes =
+unfoldable pub token_at : List ℕ → Option (Token × List ℕ)
+token_at [] = None
+token_at (b ∷ bytes) =
     cond (is_inside b)
     (found_before (drop (inside_len (b ∷ bytes)) (b ∷ bytes)) (word_token (take (inside_len (b ∷ bytes)) (b ∷ bytes))))
     (found_before bytes (sign_of b))
@@ -23,5 +24,5 @@ pub data Lexes : List ℕ → List Token → Bool → Type 0 where
   ends : Lexes [] [] true
   comment : {bytes : List ℕ} → Lexes (0x3B ∷ bytes) [] true
   blank : {b : ℕ} {bytes : List ℕ} {ts : List Token} {sound : Bool} → is_blank b ≡ true → Lexes bytes ts sound → Lexes (b ∷ bytes) ts sound
-  token : {b : ℕ} {bytes rest : List ℕ} {t : Token} {ts : List Token} {sound : Bool} → is_blank b ≡ false → b ≢ 0x3B → token_at b bytes ≡ Some (t, rest) → Lexes rest ts sound → Lexes (b ∷ bytes) (t ∷ ts) sound
-  faulty : {b : ℕ} {bytes : List ℕ} → is_blank b ≡ false → b ≢ 0x3B → token_at b bytes ≡ None → Lexes (b ∷ bytes) [] false
+  token : {b : ℕ} {bytes rest : List ℕ} {t : Token} {ts : List Token} {sound : Bool} → is_blank b ≡ false → b ≢ 0x3B → token_at (b ∷ bytes) ≡ Some (t, rest) → Lexes rest ts sound → Lexes (b ∷ bytes) (t ∷ ts) sound
+  faulty : {b : ℕ} {bytes : List ℕ} → is_blank b ≡ false → b ≢ 0x3B → token_at (b ∷ bytes) ≡ None → Lexes (b ∷ bytes) [] false
