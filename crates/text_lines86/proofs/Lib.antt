@@ -1,2 +1,4 @@
+mod Each
 mod Numerals
+mod Parts
 mod Tables

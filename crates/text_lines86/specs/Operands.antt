@@ -1,6 +1,6 @@
 -- The operands that tokens are (CP/M-86 Programmer's Guide, "Expressions"; the choice of them is this project's): a register, a number, a
 -- label, `OFFSET label`, `BYTE PTR [BX]`, `BYTE PTR [SI]`, `BYTE PTR .a`, `WORD PTR .a`.
-use Rattle.std.specs.Prelude.{ℕ, List, [], ◌∷◌, Bool, true, false, Option, Some, None, option_map}
+use Rattle.std.specs.Prelude.{ℕ, List, [], ◌∷◌, Bool, true, false, cond, Option, Some, None, option_map}
 use Rattle.std.specs.List.{slice_split}
 use Rattle.i86.specs.declared.Reg16.{Reg16}
 use Rattle.i86.specs.declared.Reg16.TheVariants.{Bx, Si}
@@ -32,9 +32,14 @@ pointer Bx = Some PtrBx
 pointer Si = Some PtrSi
 pointer _ = None
 
+-- `]` and nothing more
+abbrev pub is_closing : List Token → Bool
+is_closing (tokens.Close ∷ []) = true
+is_closing _ = false
+
 -- such a register, `]`, and nothing more
 abbrev pub pointer_alone : List Token → Option Ptr
-pointer_alone (tokens.Reg16 r ∷ tokens.Close ∷ []) = pointer r
+pointer_alone (tokens.Reg16 r ∷ ts) = cond (is_closing ts) (pointer r) None
 pointer_alone _ = None
 
 -- what stands behind PTR
