@@ -1,18 +1,20 @@
 // One line of an ASM-86 text, as its statements.
 #![tactic(auto)]
 
+mod bytes;
+mod computations;
 mod fault;
 mod letters;
+mod moves;
 mod numbers;
 mod operands;
 mod token;
 mod tokens;
 mod words;
 
+pub use computations::{computed, counted, exchanged, inverted, popped, pushed, rotated};
 pub use fault::LineFault;
-pub use letters::{first_byte, in_capitals, inside_len, is_blank, is_inside, sign_of};
-pub use numbers::{number_of, value_in};
+pub use moves::moved;
 pub use operands::operands_of;
 pub use token::{Operand, Operation, Token};
 pub use tokens::tokens_of;
-pub use words::word_token;
