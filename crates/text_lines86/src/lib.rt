@@ -4,6 +4,7 @@
 mod bytes;
 mod computations;
 mod fault;
+mod forms;
 mod letters;
 mod moves;
 mod numbers;
@@ -12,9 +13,8 @@ mod token;
 mod tokens;
 mod words;
 
-pub use computations::{computed, counted, exchanged, inverted, popped, pushed, rotated};
 pub use fault::LineFault;
-pub use moves::moved;
+pub use forms::single;
 pub use operands::operands_of;
 pub use token::{Operand, Operation, Token};
 pub use tokens::tokens_of;
