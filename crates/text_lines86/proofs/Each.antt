@@ -3,20 +3,18 @@ use Rattle.std.proofs.Common.{◌≡◌, ℕ, zero, suc, ◌+◌, ◌<◌, List,
 use Rattle.std.proofs.lemmas.List.{take_more}
 use Rattle.text_lines86.specs.Operands.{then_opt, each}
 
-both : {Y : Type 0} → Option Y → Option (List Y) → Option (List Y)
+abbrev pub both : {Y : Type 0} → Option Y → Option (List Y) → Option (List Y)
 both a b = then_opt a (λ y. option_map (λ ys. y ∷ ys) b)
 
 pub each_none : {X Y : Type 0} (f : X → Option Y) → each f [] ≡ Some []
 unfolding each
 each_none f = refl
 
-both_no : {Y : Type 0} (a : Option Y) → both a None ≡ None
-unfolding both
+pub both_no : {Y : Type 0} (a : Option Y) → both a None ≡ None
 both_no None = refl
 both_no (Some y) = refl
 
 both_more : {Y : Type 0} (a : Option Y) (b : Option (List Y)) (ys : List Y) (z : Y) → both a b ≡ Some ys → both a (option_map (λ zs. zs ++ z ∷ []) b) ≡ Some (ys ++ z ∷ [])
-unfolding both
 both_more None b ys z e = absurd cc
 both_more (Some y) None ys z e = absurd cc
 both_more (Some y) (Some zs) ys z e = let same : y ∷ zs ≡ ys = cc in rw (← same) refl
@@ -30,13 +28,13 @@ some_of a b ys e n = absurd (let h = rw (n, both_no a) at e in cc)
 
 -- one more element
 pub each_more : {X Y : Type 0} (f : X → Option Y) (xs : List X) (x : X) (ys : List Y) (y : Y) → each f xs ≡ Some ys → f x ≡ Some y → each f (xs ++ x ∷ []) ≡ Some (ys ++ y ∷ [])
-unfolding each both
+unfolding each
 each_more f [] x ys y e h = let none : [] ≡ ys = cc in rw (h, ← none) refl
 each_more f (a ∷ xs) x ys y e h = rw (mapped (each f xs) (each f (xs ++ x ∷ [])) y (λ zs p. each_more f xs x zs y p h) (some_of (f a) (each f xs) ys e)) (both_more (f a) (each f xs) ys y e)
 
 -- an element that gives nothing
 pub each_fails : {X Y : Type 0} (f : X → Option Y) (xs : List X) (i : ℕ) (d : X) → i < length xs → f (get_or xs i d) ≡ None → each f xs ≡ None
-unfolding each both
+unfolding each
 each_fails f [] i d lt e = absurd (omega arith)
 each_fails f (x ∷ xs) zero d lt e = rw e refl
 each_fails f (x ∷ xs) (suc i) d lt e = rw (each_fails f xs i d (omega arith) e) (both_no (f x))

@@ -9,7 +9,10 @@ use Rattle.lines86.specs.declared.line.TextRule.{TextRule}
 use Rattle.lines86.specs.declared.line.TextRule.TheVariants as rules
 use Rattle.text_lines86.specs.declared.fault.LineFault.{LineFault}
 use Rattle.text_lines86.specs.declared.fault.LineFault.TheVariants.{Rule, Memory}
-use Rattle.text_lines86.specs.Forms.{is_small}
+use Rattle.text_lines86.specs.declared.items.Size.{Size}
+use Rattle.text_lines86.specs.declared.items.Size.TheVariants.{Byte, Word}
+use Rattle.text_lines86.specs.declared.token.Operand.{Operand}
+use Rattle.text_lines86.specs.Forms.{is_small, byte_item, word_item}
 
 -- the tokens of bytes, or that there is a place without one
 abbrev pub LexesTo : List ℕ → Option (Vec Token) → Type 0
@@ -40,3 +43,8 @@ abbrev pub Answers : (Result (List Stmt86) TextRule → Type 0) → Result (Vec 
 Answers gives (Ok v) = gives (Ok v.items)
 Answers gives (Err Memory) = Unit {0}
 Answers gives (Err (Rule rule)) = gives (Err rule)
+
+-- the item of a size
+abbrev pub item_of : Size → Operand → Option Stmt86
+item_of Byte o = byte_item o
+item_of Word o = word_item o

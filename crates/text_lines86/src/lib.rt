@@ -5,7 +5,9 @@ mod bytes;
 mod computations;
 mod fault;
 mod forms;
+mod items;
 mod letters;
+mod line;
 mod moves;
 mod numbers;
 mod operands;
@@ -14,7 +16,4 @@ mod tokens;
 mod words;
 
 pub use fault::LineFault;
-pub use forms::single;
-pub use operands::operands_of;
-pub use token::{Operand, Operation, Token};
-pub use tokens::tokens_of;
+pub use line::{line_has_one_reading, read_line};
