@@ -1,6 +1,7 @@
 mod Checked
 mod Each
 mod Given
+mod Labels
 mod Lines
 mod Numerals
 mod Parts

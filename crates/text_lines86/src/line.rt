@@ -1,12 +1,13 @@
 //! One line.
 
-ghost use Rattle.std.specs.Prelude.{◌≡◌, ◌≢◌, ◌∷◌, ℕ, List, MatchOption, Result};
+ghost use Rattle.std.specs.Prelude.{◌≡◌, ◌≢◌, ◌∷◌, ℕ, List, IsTrue, MatchOption, Ok, Result};
+ghost use Rattle.std.specs.List.{list_all};
 ghost use Rattle.lines86.specs.declared.line.Label.{Label};
 ghost use Rattle.lines86.specs.declared.line.Stmt86.{Stmt86};
 ghost use Rattle.lines86.specs.declared.line.TextRule.{TextRule};
 ghost use Rattle.text_lines86.specs.declared.token.Operation.{Operation};
 ghost use Rattle.text_lines86.specs.declared.token.Token.{Token};
-ghost use Rattle.text_lines86.specs.Forms.{body_of, statements_of};
+ghost use Rattle.text_lines86.specs.Forms.{body_of, names_labels, statements_of};
 ghost use Rattle.text_lines86.specs.Line.{LineGives};
 ghost use Rattle.text_lines86.specs.Results.{Answers, all_checked};
 
@@ -22,8 +23,7 @@ use std::alloc::Global;
 /// The most bytes of a line, its LF or CR LF not counted.
 const LONGEST_LINE: usize = 255;
 
-/// The statements of a line, which comes without its LF or CR LF, or the rule that it breaks: M1 or M2. No statement holds a
-/// jump or a call with a displacement.
+/// The statements of a line, which comes without its LF or CR LF, or the rule that it breaks: M1 or M2.
 pub fn read_line(alloc: Global, line: &[u8]) -> Result<Vec<Stmt86>, LineFault>
     ensures { Answers (LineGives line.now) result }
 {
@@ -40,6 +40,11 @@ pub fn read_line(alloc: Global, line: &[u8]) -> Result<Vec<Stmt86>, LineFault>
 /// A law: a line gives one thing.
 pub fn line_has_one_reading()
     ensures { (line : List ℕ) (r s : Result (List Stmt86) TextRule) → LineGives line r → LineGives line s → r ≡ s }
+{}
+
+/// A law: no statement of a line is a jump or a call with a displacement.
+pub fn lines_name_labels()
+    ensures { (line : List ℕ) (ss : List Stmt86) → LineGives line (Ok ss) → IsTrue (list_all names_labels ss) }
 {}
 
 // The statements of tokens: a label, if there is one, and what follows it.
