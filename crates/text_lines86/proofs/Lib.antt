@@ -5,4 +5,6 @@ mod Labels
 mod Lines
 mod Numerals
 mod Parts
+mod Pieces
 mod Tables
+mod WrittenWords

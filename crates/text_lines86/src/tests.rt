@@ -343,7 +343,7 @@ fn faults_are_found(rt: HostRuntime) {
 #[test]
 fn long_lines_are_refused(rt: HostRuntime) -> Result<(), Fail> {
     let mut line = Vec::from_slice(rt.alloc(), b"NOP;")?;
-    while line.len() < 255 {
+    for _ in 4..255 {
         line.push(b'x')?;
     }
     match read_line(rt.alloc(), &line) {
