@@ -7,7 +7,6 @@ use Rattle.i86.specs.declared.Reg16.{Reg16}
 use Rattle.i86.specs.declared.Reg16.TheVariants.{Ax, Bx}
 use Rattle.i86.specs.declared.AluOp.{AluOp}
 use Rattle.i86.specs.declared.AluOp.TheVariants.{Add, Or}
-use Rattle.i86.specs.declared.Ptr.{Ptr}
 use Rattle.i86.specs.declared.Count.{Count}
 use Rattle.i86.specs.declared.Rotate.{Rotate}
 use Rattle.lines86.specs.declared.line.Stmt86.{Stmt86}
@@ -17,7 +16,7 @@ use Rattle.text_lines86.specs.declared.token.Operation.TheVariants as op
 use Rattle.text_lines86.specs.declared.token.Token.{Token}
 use Rattle.text_lines86.specs.declared.token.Token.TheVariants as tokens
 use Rattle.text_lines86.specs.declared.token.Operand.{Operand}
-use Rattle.text_lines86.specs.declared.token.Operand.TheVariants.{Reg8 as Byte, Reg16 as Word, Ds, Ss, Number, Label as To, Offset, Mem, DirectByte, DirectWord}
+use Rattle.text_lines86.specs.declared.token.Operand.TheVariants.{Reg8 as Byte, Reg16 as Word, Ds, Ss, Number, Label as To, Mem, DirectByte, DirectWord}
 use Rattle.text_lines86.specs.Forms as forms
 use Rattle.text_lines86.specs.Forms.{names_labels}
 use Rattle.lines86.specs.declared.line.Label.{Label}

@@ -6,5 +6,6 @@ mod Lines
 mod Numerals
 mod Parts
 mod Pieces
+mod ReadBack
 mod Tables
 mod WrittenWords

@@ -1,5 +1,5 @@
 -- Which statements have a written line: their numbers are within their ranges, and they name the labels that they go to.
-use Rattle.std.specs.Prelude.{ℕ, nat_lt, Bool, true, false}
+use Rattle.std.specs.Prelude.{nat_lt, Bool, true, false}
 use Rattle.i86.specs.declared.Operand16.TheVariants.{Direct}
 use Rattle.i86.specs.declared.Instr86.{Instr86}
 use Rattle.i86.specs.declared.Instr86.TheVariants.{MovAlDirect, MovDirectAl, MovNum8, MovNum16, MovMemNum, MovReg16, MovDirect16, AluNum, Jcc as JccBy, JmpNear, JmpShort, CallNear}

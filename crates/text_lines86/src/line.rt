@@ -1,14 +1,16 @@
 //! One line.
 
-ghost use Rattle.std.specs.Prelude.{◌≡◌, ◌≢◌, ◌∷◌, ℕ, List, IsTrue, MatchOption, Ok, Result};
+ghost use Rattle.std.specs.Prelude.{◌≡◌, ◌≢◌, ◌∷◌, ◌++◌, [], codes, ℕ, List, IsTrue, MatchOption, Ok, Result};
 ghost use Rattle.std.specs.List.{list_all};
 ghost use Rattle.lines86.specs.declared.line.Label.{Label};
 ghost use Rattle.lines86.specs.declared.line.Stmt86.{Stmt86};
 ghost use Rattle.lines86.specs.declared.line.TextRule.{TextRule};
+ghost use Rattle.lines86.specs.Written.{line_of};
 ghost use Rattle.text_lines86.specs.declared.token.Operation.{Operation};
 ghost use Rattle.text_lines86.specs.declared.token.Token.{Token};
 ghost use Rattle.text_lines86.specs.Forms.{body_of, names_labels, statements_of};
 ghost use Rattle.text_lines86.specs.Line.{LineGives};
+ghost use Rattle.text_lines86.specs.ReadBack.{has_line};
 ghost use Rattle.text_lines86.specs.Results.{Answers, all_checked};
 
 use crate::fault::LineFault;
@@ -45,6 +47,12 @@ pub fn line_has_one_reading()
 /// A law: no statement of a line is a jump or a call with a displacement.
 pub fn lines_name_labels()
     ensures { (line : List ℕ) (ss : List Stmt86) → LineGives line (Ok ss) → IsTrue (list_all names_labels ss) }
+{}
+
+/// A law: the written line of a statement, without its CR LF, gives that statement alone, where its numbers are within their
+/// ranges and it names the label that it goes to.
+pub fn written_lines_read_back()
+    ensures { (stmt : Stmt86) (line : List ℕ) → IsTrue (has_line stmt) → line_of stmt ≡ line ++ codes "\r\n" → LineGives line (Ok (stmt ∷ [])) }
 {}
 
 // The statements of tokens: a label, if there is one, and what follows it.
