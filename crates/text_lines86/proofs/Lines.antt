@@ -9,7 +9,7 @@ use Rattle.text_lines86.specs.declared.fault.LineFault.TheVariants.{Rule, Memory
 use Rattle.text_lines86.specs.Letters.{upper}
 use Rattle.text_lines86.specs.Forms.{statements_of, is_small}
 use Rattle.text_lines86.specs.Results.{Answers, all_checked}
-use Rattle.text_lines86.proofs.Checked.{two_cases, marked_fails}
+use Rattle.text_lines86.proofs.Checked.{marked_fails}
 use Rattle.lines86.specs.declared.line.Label.{Label}
 use Rattle.text_lines86.specs.declared.token.Token.TheVariants as tokens
 use Rattle.std.proofs.Common.{◌≢◌}
@@ -20,6 +20,7 @@ use Rattle.text_lines86.specs.declared.token.Token.{Token}
 use Rattle.text_lines86.specs.Tokens.{Lexes, ends, comment, blank, token, faulty}
 use Rattle.text_lines86.specs.Line.{LineGives, long, large, senseless, sensible}
 use Rattle.text_lines86.specs.Line as line
+use Rattle.std.proofs.lemmas.Bool.{cases_Bool}
 
 found_same : (a b : Token) (r s : List ℕ) → ◌≡◌ {A = Option (Token × List ℕ)} (Some (a, r)) (Some (b, s)) → (a ≡ b) × (r ≡ s)
 found_same a b r s e = let p : ◌≡◌ {A = Token × List ℕ} (a, r) (b, s) = cc in (ap (λ (q : Token × List ℕ). q.0) p, ap (λ (q : Token × List ℕ). q.1) p)
@@ -83,7 +84,7 @@ one_reading x y = elim (told_of x) [
 
 given_by : (line : List ℕ) (ts : List Token) (x : Option (List Stmt86)) (r : Result (List Stmt86) TextRule) → length line ≤ 255 → Lexes (map upper line) ts true → statements_of ts ≡ x → r ≡ all_checked x → LineGives line r
 given_by line ts None r l x e h = rw h (senseless l x e)
-given_by line ts (Some ss) r l x e h = elim (two_cases (list_all is_small ss)) [
+given_by line ts (Some ss) r l x e h = elim (cases_Bool (list_all is_small ss)) [
   | inl k ↦ let same : r ≡ Ok ss = rw k at h in rw same (sensible l x e k)
   | inr k ↦ let same : r ≡ Err M1 = rw k at h in rw same (large l x e k)
 ]

@@ -1,5 +1,5 @@
 -- Numerals, and the texts that std reads as numbers.
-use Rattle.std.proofs.Common.{◌≡◌, ◌≢◌, ℕ, zero, suc, ◌<◌, ◌≤◌, ◌^◌, List, [], ◌∷◌, Bool, true, false, ltb, ◌&&◌, Some, None, Result, Ok, Err, length, refl, ap, arith, get_or, inl, inr}
+use Rattle.std.proofs.Common.{◌≡◌, ◌≢◌, ℕ, zero, suc, ◌<◌, ◌≤◌, ◌^◌, List, [], ◌∷◌, true, false, ltb, Some, None, Result, Ok, Err, length, refl, ap, arith, get_or, inl, inr}
 use Rattle.std.specs.List.{list_all}
 use Rattle.std.specs.Char.{digit_value}
 use Rattle.std.specs.Result.{OkIff}
@@ -10,26 +10,19 @@ use Rattle.std.proofs.lemmas.Bool.Decides.{nat_tests}
 use Rattle.std.proofs.lemmas.Str.{IsUtf8-from_ascii}
 use Rattle.std.proofs.lemmas.Str.Parse.{without_leading_plus_none}
 use Rattle.text_lines86.specs.Numbers.{value_in}
+use Rattle.std.proofs.lemmas.Bool.{and_parts}
 
 low_digit : (base c : ℕ) → base ≤ 36 → ltb (digit_value c) base ≡ true → (c < 128) × (c ≢ 43)
 low_digit base c le h = (grind (arith, nat_tests), λ e. grind (arith, nat_tests))
 
-first_of : (a b : Bool) → (a && b) ≡ true → a ≡ true
-first_of true b h = refl
-first_of false b h = h
-
-second_of : (a b : Bool) → (a && b) ≡ true → b ≡ true
-second_of true b h = h
-second_of false b h = absurd cc
-
 digits : (base : ℕ) (ds : List ℕ) → list_all (λ c. ltb (digit_value c) base) ds ≡ true → AllDigits base ds
 digits base [] h = tt
-digits base (c ∷ cs) h = (ltb-true _ _ (first_of _ _ h), digits base cs (second_of _ _ h))
+digits base (c ∷ cs) h = (ltb-true _ _ (and_parts _ _ h).0, digits base cs (and_parts _ _ h).1)
 
 at_each : (base : ℕ) (ds : List ℕ) → base ≤ 36 → list_all (λ c. ltb (digit_value c) base) ds ≡ true → (i : ℕ) → (get_or ds i 0 < 128) × (get_or ds i 0 ≢ 43)
 at_each base [] le h i = (omega arith, λ e. absurd cc)
-at_each base (c ∷ cs) le h zero = low_digit base c le (first_of _ _ h)
-at_each base (c ∷ cs) le h (suc i) = at_each base cs le (second_of _ _ h) i
+at_each base (c ∷ cs) le h zero = low_digit base c le (and_parts _ _ h).0
+at_each base (c ∷ cs) le h (suc i) = at_each base cs le (and_parts _ _ h).1 i
 
 pub is_utf8 : (base : ℕ) (ds : List ℕ) → base ≤ 36 → list_all (λ c. ltb (digit_value c) base) ds ≡ true → IsUtf8 ds
 is_utf8 base ds le h = IsUtf8-from_ascii ds (λ i. (at_each base ds le h i).0)

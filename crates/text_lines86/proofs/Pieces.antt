@@ -1,5 +1,5 @@
 -- Pieces of lines that read as tokens wherever they stand, before anything that does not go on a word.
-use Rattle.std.proofs.Common.{◌≡◌, ◌≢◌, ℕ, ◌+◌, ◌<◌, ◌≤◌, List, [], ◌∷◌, ◌++◌, map, take, drop, length, Bool, true, false, eqb, ◌&&◌, cond, Option, Some, Ok, codes, inl, inr, refl, ap, ◌∙◌, append_assoc, arith}
+use Rattle.std.proofs.Common.{◌≡◌, ◌≢◌, ℕ, ◌+◌, ◌<◌, ◌≤◌, List, [], ◌∷◌, ◌++◌, map, take, drop, length, Bool, true, false, eqb, cond, Option, Some, Ok, codes, inl, inr, refl, ap, ◌∙◌, append_assoc, arith}
 use Rattle.std.specs.List.{list_all, prefix_len}
 use Rattle.std.proofs.Math.Seq.{take-append_seam, drop-append_seam}
 use Rattle.std.proofs.lemmas.Bool.Decides.{nat_tests}
@@ -9,12 +9,12 @@ use Rattle.lines86.specs.declared.line.Stmt86.{Stmt86}
 use Rattle.lines86.specs.Written.{alone, with_one, with_two}
 use Rattle.text_lines86.specs.declared.token.Token.{Token}
 use Rattle.text_lines86.specs.declared.token.Token.TheVariants.{Colon, Comma}
-use Rattle.text_lines86.proofs.Checked.{two_cases}
 use Rattle.text_lines86.specs.Letters.{upper, is_inside, is_blank, sign_of, inside_len}
 use Rattle.text_lines86.specs.Words.{word_token}
 use Rattle.text_lines86.specs.Tokens.{found_before, token_at, Lexes, ends, blank, token}
 use Rattle.text_lines86.specs.Forms.{statements_of, is_small}
 use Rattle.text_lines86.specs.Line.{LineGives, sensible}
+use Rattle.std.proofs.lemmas.Bool.{and_parts, cases_Bool}
 
 pub record Piece (most : ℕ) (p : List ℕ) (us : List Token) : Type 0 where
   pub same : map upper p ≡ p
@@ -28,26 +28,18 @@ pub record IsWord (w : List ℕ) (t : Token) : Type 0 where
   pub short : length w ≤ 6
   pub means : word_token w ≡ Some t
 
-first_of : (a b : Bool) → (a && b) ≡ true → a ≡ true
-first_of true b h = refl
-first_of false b h = h
-
-second_of : (a b : Bool) → (a && b) ≡ true → b ≡ true
-second_of true b h = h
-second_of false b h = absurd cc
-
 stays : (b : ℕ) → is_inside b ≡ true → upper b ≡ b
 stays b h = grind (arith, nat_tests)
 
 all_stay : (w : List ℕ) → list_all is_inside w ≡ true → map upper w ≡ w
 all_stay [] h = refl
-all_stay (b ∷ w) h = rw (stays b (first_of (is_inside b) (list_all is_inside w) h), all_stay w (second_of (is_inside b) (list_all is_inside w) h)) refl
+all_stay (b ∷ w) h = rw (stays b (and_parts (is_inside b) (list_all is_inside w) h).0, all_stay w (and_parts (is_inside b) (list_all is_inside w) h).1) refl
 
 all_inside : (w : List ℕ) → list_all is_inside w ≡ true → prefix_len is_inside w ≡ length w
 all_inside [] h = refl
 all_inside (b ∷ w) h =
-    let e : prefix_len is_inside w ≡ length w = all_inside w (second_of (is_inside b) (list_all is_inside w) h) in
-    rw (first_of (is_inside b) (list_all is_inside w) h) (omega arith)
+    let e : prefix_len is_inside w ≡ length w = all_inside w (and_parts (is_inside b) (list_all is_inside w) h).1 in
+    rw (and_parts (is_inside b) (list_all is_inside w) h).0 (omega arith)
 
 starts : (b : ℕ) → is_inside b ≡ true → (is_blank b ≡ false) × (b ≢ 0x3B)
 starts b h = (grind (arith, nat_tests), λ e. grind (arith, nat_tests))
@@ -75,12 +67,12 @@ word [] t i = absurd (omega (arith, i.some))
 word (b ∷ w) t i = record {
   same = all_stay (b ∷ w) i.inside;
   short = i.short;
-  reads = λ rest ts sound z x. let s = starts b (first_of (is_inside b) (list_all is_inside w) i.inside) in token s.0 s.1 (at_front b (w ++ rest) (b ∷ w) rest (length (b ∷ w)) t (first_of (is_inside b) (list_all is_inside w) i.inside) (word_ends (b ∷ w) rest i.inside z) (take-append_seam (b ∷ w) rest) (drop-append_seam (b ∷ w) rest) i.means) x;
+  reads = λ rest ts sound z x. let s = starts b (and_parts (is_inside b) (list_all is_inside w) i.inside).0 in token s.0 s.1 (at_front b (w ++ rest) (b ∷ w) rest (length (b ∷ w)) t (and_parts (is_inside b) (list_all is_inside w) i.inside).0 (word_ends (b ∷ w) rest i.inside z) (take-append_seam (b ∷ w) rest) (drop-append_seam (b ∷ w) rest) i.means) x;
 }
 
 stops : (q rest : List ℕ) → inside_len q ≡ 0 → inside_len rest ≡ 0 → inside_len (q ++ rest) ≡ 0
 stops [] rest z y = y
-stops (b ∷ q) rest z y = elim (two_cases (is_inside b)) [
+stops (b ∷ q) rest z y = elim (cases_Bool (is_inside b)) [
   | inl e ↦ absurd (let k = rw e at z in omega arith)
   | inr e ↦ rw e refl
 ]
