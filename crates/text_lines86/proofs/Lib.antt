@@ -1,0 +1,11 @@
+mod Checked
+mod Each
+mod Given
+mod Labels
+mod Lines
+mod Numerals
+mod Parts
+mod Pieces
+mod ReadBack
+mod Tables
+mod WrittenWords
