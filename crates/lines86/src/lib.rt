@@ -7,7 +7,7 @@ mod operands;
 mod size;
 mod write;
 
-pub use line::{Jump, Label, Line86, Stmt86, Value16};
+pub use line::{Jump, Label, Line86, Stmt86, TextRule, Value16};
 pub use line_text::LineText;
 pub use size::code_size;
 pub use write::write_line;

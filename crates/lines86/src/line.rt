@@ -1,9 +1,10 @@
 // Statements of an ASM-86 text (CP/M-86 Programmer's Guide, "ASM-86"; the forms are this project's profile).
 pub use i86::Jump;
 use i86::{Instr86, Reg16};
+use std::fmt;
 
 /// A label: `Lhhhh` of an 8080 address, `Khhhh` past a conditional jump, `Uhhhh` of a user, `X_SYS`, `X_END`.
-#[derive(Clone, Copy, PartialEq, Eq)]
+#[derive(Clone, Copy, PartialEq, Eq, Hash)]
 pub enum Label {
     At(u16),
     Skip(u16),
@@ -46,4 +47,34 @@ pub enum Stmt86 {
 pub struct Line86 {
     pub line: u32,
     pub stmt: Stmt86,
+}
+
+/// The rules of ASM-86 text.
+#[derive(Clone, Copy, Debug, PartialEq, Eq)]
+pub enum TextRule {
+    /// A byte or a number that may not stand in a text, or a line above 255 bytes.
+    M1,
+    /// The words of a line form no statement.
+    M2,
+    /// A label is defined again.
+    M3,
+    /// A label is used and not defined.
+    M4,
+    /// A statement outside its group, or a data cell below 100H, past memory or filled before.
+    M5,
+    /// No END.
+    M6,
+}
+
+impl fmt::Display for TextRule {
+    fn fmt<W: fmt::Write>(&self, f: &mut fmt::Formatter<W>) -> fmt::Result {
+        match self {
+            TextRule::M1 => write!(f, "M1"),
+            TextRule::M2 => write!(f, "M2"),
+            TextRule::M3 => write!(f, "M3"),
+            TextRule::M4 => write!(f, "M4"),
+            TextRule::M5 => write!(f, "M5"),
+            TextRule::M6 => write!(f, "M6"),
+        }
+    }
 }
