@@ -1,0 +1,7 @@
+mod Checked
+mod Each
+mod Given
+mod Lines
+mod Numerals
+mod Parts
+mod Tables

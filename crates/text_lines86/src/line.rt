@@ -1,0 +1,91 @@
+//! One line.
+
+ghost use Rattle.std.specs.Prelude.{◌≡◌, ◌≢◌, ◌∷◌, ℕ, List, MatchOption, Result};
+ghost use Rattle.lines86.specs.declared.line.Label.{Label};
+ghost use Rattle.lines86.specs.declared.line.Stmt86.{Stmt86};
+ghost use Rattle.lines86.specs.declared.line.TextRule.{TextRule};
+ghost use Rattle.text_lines86.specs.declared.token.Operation.{Operation};
+ghost use Rattle.text_lines86.specs.declared.token.Token.{Token};
+ghost use Rattle.text_lines86.specs.Forms.{body_of, statements_of};
+ghost use Rattle.text_lines86.specs.Line.{LineGives};
+ghost use Rattle.text_lines86.specs.Results.{Answers, all_checked};
+
+use crate::fault::LineFault;
+use crate::items::formed;
+use crate::letters::in_capitals;
+use crate::operands::operands_of;
+use crate::token::{Operation, Token};
+use crate::tokens::tokens_of;
+use lines86::{Label, Stmt86, TextRule};
+use std::alloc::Global;
+
+/// The most bytes of a line, its LF or CR LF not counted.
+const LONGEST_LINE: usize = 255;
+
+/// The statements of a line, which comes without its LF or CR LF, or the rule that it breaks: M1 or M2. No statement holds a
+/// jump or a call with a displacement.
+pub fn read_line(alloc: Global, line: &[u8]) -> Result<Vec<Stmt86>, LineFault>
+    ensures { Answers (LineGives line.now) result }
+{
+    if line.len() > LONGEST_LINE {
+        return Err(LineFault::Rule(TextRule::M1));
+    }
+    let capitals = in_capitals(alloc, line)?;
+    let Some(tokens) = tokens_of(alloc, &capitals)? else {
+        return Err(LineFault::Rule(TextRule::M1));
+    };
+    statements_of(alloc, &tokens)
+}
+
+/// A law: a line gives one thing.
+pub fn line_has_one_reading()
+    ensures { (line : List ℕ) (r s : Result (List Stmt86) TextRule) → LineGives line r → LineGives line s → r ≡ s }
+{}
+
+// The statements of tokens: a label, if there is one, and what follows it.
+fn statements_of(alloc: Global, tokens: &[Token]) -> Result<Vec<Stmt86>, LineFault>
+    ensures { Answers (λ r. r ≡ all_checked (statements_of tokens.now)) result }
+{
+    let Some((label, rest)) = marked(tokens) else {
+        return body_of(alloc, tokens);
+    };
+    let mut statements = body_of(alloc, rest)?;
+    statements.insert(0, Stmt86::Mark(label))?;
+    Ok(statements)
+}
+
+// The label with its colon at the front, and the tokens after it.
+fn marked(tokens: &[Token]) -> Option<(Label, &[Token])>
+    ensures { MatchOption result ((l : Label) (rest : List Token) → tokens.now ≢ Token.Label l ∷ (Token.Colon ∷ rest)) (λ p. tokens.now ≡ Token.Label p.0 ∷ (Token.Colon ∷ p.1.now)) }
+{
+    match tokens {
+        [Token::Label(label), Token::Colon, rest @ ..] => Some((*label, rest)),
+        _ => None,
+    }
+}
+
+// What follows the label: nothing, or an operation with its operands.
+fn body_of(alloc: Global, tokens: &[Token]) -> Result<Vec<Stmt86>, LineFault>
+    ensures { Answers (λ r. r ≡ all_checked (body_of tokens.now)) result }
+{
+    if tokens.is_empty() {
+        return Ok(Vec::new(alloc));
+    }
+    let Some((operation, rest)) = operation_of(tokens) else {
+        return Err(LineFault::Rule(TextRule::M2));
+    };
+    let Some(operands) = operands_of(alloc, rest)? else {
+        return Err(LineFault::Rule(TextRule::M2));
+    };
+    formed(alloc, operation, &operands)
+}
+
+// The operation at the front, and the tokens after it.
+fn operation_of(tokens: &[Token]) -> Option<(Operation, &[Token])>
+    ensures { MatchOption result ((o : Operation) (rest : List Token) → tokens.now ≢ Token.Operation o ∷ rest) (λ p. tokens.now ≡ Token.Operation p.0 ∷ p.1.now) }
+{
+    match tokens {
+        [Token::Operation(operation), rest @ ..] => Some((*operation, rest)),
+        _ => None,
+    }
+}
