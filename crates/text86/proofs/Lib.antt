@@ -1,1 +1,7 @@
 pub mod Orders
+pub mod Listings
+pub mod Cuts
+pub mod Lines
+pub mod Steps
+pub mod Whole
+pub mod Back

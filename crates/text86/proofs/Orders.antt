@@ -15,7 +15,7 @@ one_step false e f i t a v h k = absurd cc
 one_step true true f i t a v h k = refl
 one_step true false f i t a v h k = k
 
-rest_in_order : (m e f i : Bool) → (m && ((not e || f) && i)) ≡ true → i ≡ true
+pub rest_in_order : (m e f i : Bool) → (m && ((not e || f) && i)) ≡ true → i ≡ true
 rest_in_order false e f i h = absurd cc
 rest_in_order true true false i h = absurd cc
 rest_in_order true true true i h = h

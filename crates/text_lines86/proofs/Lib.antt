@@ -1,7 +1,7 @@
 mod Checked
 mod Each
 mod Given
-mod Lines
+pub mod Lines
 mod Numerals
 mod Parts
 mod Tables
