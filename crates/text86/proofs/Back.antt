@@ -10,6 +10,7 @@ use Rattle.lines86.specs.Order.{Reading, after, at_start, in_order, is_end, is_e
 use Rattle.lines86.specs.Written.{text_of}
 use Rattle.text86.specs.Stream.{IsNotLf, ended, without_cr, numbered, are_in_order, has_end, Adds, Ended, LinesGive, next, ends, TextGives}
 use Rattle.text86.specs.Back.{AllReadBack}
+use Rattle.text86.proofs.Ends.{body_plain}
 use Rattle.text86.proofs.Lines.{true_false}
 use Rattle.text86.proofs.Listings.{not_in_order_on}
 use Rattle.text86.proofs.Orders.{rest_in_order}
@@ -39,7 +40,7 @@ with_cr (b ∷ body) h = (h.0, with_cr body h.1)
 all_lines : (n : ℕ) (xs : List Line86) (h : AllReadBack n xs) → AllByRecursion (AllByRecursion IsNotLf) (raw_of n xs h)
 unfolding raw_of
 all_lines n [] h = tt
-all_lines n (x ∷ xs) h = (with_cr h.1.body h.1.one_line, all_lines (suc n) xs h.2)
+all_lines n (x ∷ xs) h = (with_cr h.1.body (body_plain x.stmt h.1.body h.1.written), all_lines (suc n) xs h.2)
 
 length_cr : (body : List ℕ) → length (body ++ 13 ∷ []) - 1 ≡ length body
 length_cr body = omega (arith, length-append body (13 ∷ []))

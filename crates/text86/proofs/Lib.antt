@@ -4,4 +4,5 @@ pub mod Cuts
 pub mod Lines
 pub mod Steps
 pub mod Whole
+pub mod Ends
 pub mod Back

@@ -1,17 +1,14 @@
 -- Lines that are written and read back.
 use Rattle.std.specs.Prelude.{◌≡◌, ℕ, suc, List, [], ◌∷◌, ◌++◌, Ok}
-use Rattle.std.specs.List.{AllByRecursion}
 use Rattle.lines86.specs.declared.line.Line86.{Line86}
 use Rattle.lines86.specs.declared.line.Stmt86.{Stmt86}
 use Rattle.lines86.specs.Written.{line_of}
 use Rattle.text_lines86.specs.Line.{LineGives}
-use Rattle.text86.specs.Stream.{IsNotLf}
 
--- the written line of a statement is a line of a text, with CR and LF, and gives the statement alone
+-- the written line of a statement, without its CR and LF, gives the statement alone
 pub record ReadsBack (s : Stmt86) : Type 0 where
   pub body : List ℕ
   pub written : line_of s ≡ body ++ 13 ∷ (10 ∷ [])
-  pub one_line : AllByRecursion IsNotLf body
   pub reads : LineGives body (Ok (s ∷ []))
 
 -- the lines are numbered one after the other, and the written line of each reads back
