@@ -1,7 +1,11 @@
 mod Checked
 mod Each
 mod Given
+mod Labels
 pub mod Lines
 mod Numerals
 mod Parts
+mod Pieces
+pub mod ReadBack
 mod Tables
+mod WrittenWords

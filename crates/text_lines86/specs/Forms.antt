@@ -1,7 +1,7 @@
 -- The forms of a statement: an operation with its operands, and the statement that they make (Intel 8086 Family User's Manual,
--- "Instruction set"; CP/M-86 Programmer's Guide, "Directives"; the choice of forms is this project's). What is in no row is no statement.
+-- "Instruction set"; CP/M-86 Programmer's Guide, "Assembler Directives"; the choice of forms is this project's). What is in no row is no statement.
 -- A number may be above 255 here where a byte is needed: `is_small` says where none is.
-use Rattle.std.specs.Prelude.{ℕ, ◌==◌, nat_le, cond, List, [], ◌∷◌, Bool, true, Option, Some, None, option_map}
+use Rattle.std.specs.Prelude.{ℕ, ◌==◌, nat_le, cond, List, [], ◌∷◌, Bool, true, false, Option, Some, None, option_map}
 use Rattle.i86.specs.declared.Reg8.{Reg8}
 use Rattle.i86.specs.declared.Reg8.TheVariants.{Al, Cl}
 use Rattle.i86.specs.declared.Reg16.{Reg16}
@@ -16,7 +16,7 @@ use Rattle.i86.specs.declared.AluOp.TheVariants.{Add, Or}
 use Rattle.i86.specs.declared.Count.{Count}
 use Rattle.i86.specs.declared.Rotate.{Rotate}
 use Rattle.i86.specs.declared.Instr86.{Instr86}
-use Rattle.i86.specs.declared.Instr86.TheVariants.{MovReg8, MovMem8, MovAlDirect, MovDirectAl, MovNum8, MovNum16, MovMemNum, MovReg16, MovDirect16, MovAxDs, MovSsAx, Alu, AluNum, OrClCl, Add16, Count8, Count16, Push, Pop, Xchg8, Xchg16, Rotate8, Rotate16, Not8, Daa, Sahf, Lahf, Cmc, Stc, Nop, JmpBx, Ret, Int224}
+use Rattle.i86.specs.declared.Instr86.TheVariants.{MovReg8, MovMem8, MovAlDirect, MovDirectAl, MovNum8, MovNum16, MovMemNum, MovReg16, MovDirect16, MovAxDs, MovSsAx, Alu, AluNum, OrClCl, Add16, Count8, Count16, Push, Pop, Xchg8, Xchg16, Rotate8, Rotate16, Not8, Daa, Sahf, Lahf, Cmc, Stc, Nop, Jcc as JccBy, JmpNear, JmpShort, JmpBx, CallNear, Ret, Int224}
 use Rattle.lines86.specs.declared.line.Label.{Label}
 use Rattle.lines86.specs.declared.line.Value16.TheVariants.{Num, Offset as OffsetOf}
 use Rattle.lines86.specs.declared.line.Stmt86.{Stmt86}
@@ -290,3 +290,17 @@ abbrev pub is_small : Stmt86 → Bool
 is_small (Db n) = nat_le n 255
 is_small (Run i) = is_small_instr i
 is_small _ = true
+
+-- ---- labels
+
+-- a jump or a call with a displacement stands in no text: a statement names the label that it goes to
+abbrev pub is_plain : Instr86 → Bool
+is_plain (JccBy j d) = false
+is_plain (JmpNear d) = false
+is_plain (JmpShort d) = false
+is_plain (CallNear d) = false
+is_plain _ = true
+
+abbrev pub names_labels : Stmt86 → Bool
+names_labels (Run i) = is_plain i
+names_labels _ = true

@@ -1,4 +1,4 @@
--- The bytes of a line (CP/M-86 Programmer's Guide, "Elements of ASM-86 Assembly Language"; the set is this project's).
+-- The bytes of a line (CP/M-86 Programmer's Guide, "ASM-86 Character Set"; the choice of them is this project's).
 use Rattle.std.specs.Prelude.{ℕ, ◌-◌, List, Bool, nat_le, ◌==◌, ◌&&◌, ◌||◌, cond, Option, Some, None}
 use Rattle.std.specs.List.{prefix_len}
 use Rattle.text_lines86.specs.declared.token.Token.{Token}

@@ -6,3 +6,4 @@ pub mod Operands
 pub mod Forms
 pub mod Line
 pub mod Results
+pub mod ReadBack

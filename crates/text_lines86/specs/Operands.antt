@@ -1,4 +1,4 @@
--- The operands that tokens are (CP/M-86 Programmer's Guide, "Expressions"; the choice of them is this project's): a register, a number, a
+-- The operands that tokens are (CP/M-86 Programmer's Guide, "Operators"; the choice of them is this project's): a register, a number, a
 -- label, `OFFSET label`, `BYTE PTR [BX]`, `BYTE PTR [SI]`, `BYTE PTR .a`, `WORD PTR .a`.
 use Rattle.std.specs.Prelude.{ℕ, List, [], ◌∷◌, Bool, true, false, cond, Option, Some, None, option_map}
 use Rattle.std.specs.List.{slice_split}

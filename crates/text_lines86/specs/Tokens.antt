@@ -1,4 +1,4 @@
--- The tokens of a line in capitals.
+-- The tokens of a line in capitals (CP/M-86 Programmer's Guide, "Tokens and Separators").
 use Rattle.std.specs.Prelude.{◌≡◌, ◌≢◌, ℕ, cond, List, [], ◌∷◌, Bool, true, false, Option, Some, None, take, drop}
 use Rattle.text_lines86.specs.declared.token.Token.{Token}
 use Rattle.text_lines86.specs.Letters.{is_blank, is_inside, sign_of, inside_len}

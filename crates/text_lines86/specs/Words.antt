@@ -1,5 +1,5 @@
 -- The words that mean something in a line: operations, registers, the words of operands, and labels (Intel 8086 Family User's Manual,
--- "Instruction set"; CP/M-86 Programmer's Guide, "Identifiers" and "Directives"; the choice of them is this project's).
+-- "Instruction set"; CP/M-86 Programmer's Guide, "Identifiers" and "Assembler Directives"; the choice of them is this project's).
 use Rattle.std.specs.Prelude.{ℕ, ◌==◌, cond, codes, List, [], ◌∷◌, Option, Some, None, option_map, length, slice_index}
 use Rattle.std.specs.List.{find}
 use Rattle.std.specs.Str.{bytes_eq}

@@ -15,7 +15,7 @@ use std::alloc::Global;
 
 /// What an item fills.
 #[derive(Clone, Copy)]
-pub enum Size {
+enum Size {
     Byte,
     Word,
 }

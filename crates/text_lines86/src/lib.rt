@@ -16,4 +16,7 @@ mod tokens;
 mod words;
 
 pub use fault::LineFault;
-pub use line::{line_has_one_reading, read_line};
+pub use line::{line_has_one_reading, lines_name_labels, read_line, written_lines_read_back};
+
+#[cfg(test)]
+mod tests;

@@ -1,13 +1,16 @@
 //! One line.
 
-ghost use Rattle.std.specs.Prelude.{◌≡◌, ◌≢◌, ◌∷◌, ℕ, List, MatchOption, Result};
+ghost use Rattle.std.specs.Prelude.{◌≡◌, ◌≢◌, ◌∷◌, ◌++◌, [], codes, ℕ, List, IsTrue, MatchOption, Ok, Result};
+ghost use Rattle.std.specs.List.{list_all};
 ghost use Rattle.lines86.specs.declared.line.Label.{Label};
 ghost use Rattle.lines86.specs.declared.line.Stmt86.{Stmt86};
 ghost use Rattle.lines86.specs.declared.line.TextRule.{TextRule};
+ghost use Rattle.lines86.specs.Written.{line_of};
 ghost use Rattle.text_lines86.specs.declared.token.Operation.{Operation};
 ghost use Rattle.text_lines86.specs.declared.token.Token.{Token};
-ghost use Rattle.text_lines86.specs.Forms.{body_of, statements_of};
+ghost use Rattle.text_lines86.specs.Forms.{body_of, names_labels, statements_of};
 ghost use Rattle.text_lines86.specs.Line.{LineGives};
+ghost use Rattle.text_lines86.specs.ReadBack.{has_line};
 ghost use Rattle.text_lines86.specs.Results.{Answers, all_checked};
 
 use crate::fault::LineFault;
@@ -22,8 +25,7 @@ use std::alloc::Global;
 /// The most bytes of a line, its LF or CR LF not counted.
 const LONGEST_LINE: usize = 255;
 
-/// The statements of a line, which comes without its LF or CR LF, or the rule that it breaks: M1 or M2. No statement holds a
-/// jump or a call with a displacement.
+/// The statements of a line, which comes without its LF or CR LF, or the rule that it breaks: M1 or M2.
 pub fn read_line(alloc: Global, line: &[u8]) -> Result<Vec<Stmt86>, LineFault>
     ensures { Answers (LineGives line.now) result }
 {
@@ -40,6 +42,17 @@ pub fn read_line(alloc: Global, line: &[u8]) -> Result<Vec<Stmt86>, LineFault>
 /// A law: a line gives one thing.
 pub fn line_has_one_reading()
     ensures { (line : List ℕ) (r s : Result (List Stmt86) TextRule) → LineGives line r → LineGives line s → r ≡ s }
+{}
+
+/// A law: no statement of a line is a jump or a call with a displacement.
+pub fn lines_name_labels()
+    ensures { (line : List ℕ) (ss : List Stmt86) → LineGives line (Ok ss) → IsTrue (list_all names_labels ss) }
+{}
+
+/// A law: the written line of a statement, without its CR LF, gives that statement alone, where its numbers are within their
+/// ranges and it names the label that it goes to.
+pub fn written_lines_read_back()
+    ensures { (stmt : Stmt86) (line : List ℕ) → IsTrue (has_line stmt) → line_of stmt ≡ line ++ codes "\r\n" → LineGives line (Ok (stmt ∷ [])) }
 {}
 
 // The statements of tokens: a label, if there is one, and what follows it.

@@ -9,8 +9,8 @@ use i86::{Ptr, Reg16};
 use lines86::Label;
 use std::alloc::{AllocError, Global};
 
-/// The first token, and those after it.
-pub fn first(tokens: &[Token]) -> Option<(Token, &[Token])>
+// The first token, and those after it.
+fn first(tokens: &[Token]) -> Option<(Token, &[Token])>
     ensures { MatchOption result (tokens.now ≡ []) (λ p. tokens.now ≡ p.0 ∷ p.1.now) }
 {
     let (token, rest) = tokens.split_first()?;
