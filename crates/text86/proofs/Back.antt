@@ -7,14 +7,37 @@ use Rattle.lines86.specs.declared.line.Line86.{Line86}
 use Rattle.lines86.specs.declared.line.Stmt86.{Stmt86}
 use Rattle.lines86.specs.Image.{statements}
 use Rattle.lines86.specs.Order.{Reading, after, at_start, in_order, is_end, is_empty, may_stand}
-use Rattle.lines86.specs.Written.{text_of}
+use Rattle.lines86.specs.Written.{line_of, text_of}
 use Rattle.text86.specs.Stream.{IsNotLf, ended, without_cr, numbered, are_in_order, has_end, Adds, Ended, LinesGive, next, ends, TextGives}
-use Rattle.text86.specs.Back.{AllReadBack}
-use Rattle.text86.proofs.Ends.{body_plain}
+use Rattle.text86.specs.Back.{AreWritten}
+use Rattle.text_lines86.specs.Line.{LineGives}
+use Rattle.text_lines86.specs.ReadBack.{has_line}
+use Rattle.text_lines86.proofs.ReadBack.{read_back}
+use Rattle.text86.proofs.Ends.{line_ends}
 use Rattle.text86.proofs.Lines.{true_false}
 use Rattle.text86.proofs.Listings.{not_in_order_on}
 use Rattle.text86.proofs.Orders.{rest_in_order}
 use Rattle.text86.proofs.Steps.{two_cases}
+
+-- ---- the written lines
+
+-- the written line of a statement is a line without LF, and CR and LF, and gives the statement alone
+record ReadsBack (s : Stmt86) : Type 0 where
+  body : List ℕ
+  written : line_of s ≡ body ++ 13 ∷ (10 ∷ [])
+  one_line : AllByRecursion IsNotLf body
+  reads : LineGives body (Ok (s ∷ []))
+
+reads_back_of : (s : Stmt86) → has_line s ≡ true → ReadsBack s
+reads_back_of s h = let e = line_ends s h in record { body = e.front; written = e.is; one_line = e.each; reads = read_back s e.front h e.is }
+
+abbrev AllReadBack : ℕ → List Line86 → Type 0
+AllReadBack n [] = Unit {0}
+AllReadBack n (x ∷ xs) = (x.line ≡ n) × ReadsBack x.stmt × AllReadBack (suc n) xs
+
+all_back : (n : ℕ) (xs : List Line86) → AreWritten n xs → AllReadBack n xs
+all_back n [] h = tt
+all_back n (x ∷ xs) h = (h.0, reads_back_of x.stmt h.1, all_back (suc n) xs h.2)
 
 -- ---- the cut
 
@@ -40,7 +63,7 @@ with_cr (b ∷ body) h = (h.0, with_cr body h.1)
 all_lines : (n : ℕ) (xs : List Line86) (h : AllReadBack n xs) → AllByRecursion (AllByRecursion IsNotLf) (raw_of n xs h)
 unfolding raw_of
 all_lines n [] h = tt
-all_lines n (x ∷ xs) h = (with_cr h.1.body (body_plain x.stmt h.1.body h.1.written), all_lines (suc n) xs h.2)
+all_lines n (x ∷ xs) h = (with_cr h.1.body h.1.one_line, all_lines (suc n) xs h.2)
 
 length_cr : (body : List ℕ) → length (body ++ 13 ∷ []) - 1 ≡ length body
 length_cr body = omega (arith, length-append body (13 ∷ []))
@@ -111,8 +134,8 @@ gives_back n before (x ∷ xs) h b o e =
       | inr k ↦ rw whole (next adds (none_comes before x b k) (gives_back (suc n) (before ++ x ∷ []) xs h.2 (none_comes before x b k) (rw whole at o) (rw k at e)))
     ]
 
-pub reads_back : (xs : List Line86) → AllReadBack 1 xs → are_in_order xs ≡ true → has_end xs ≡ true → TextGives (text_of xs) (Ok xs)
-reads_back xs h o e = record {
+pub reads_back : (xs : List Line86) → AreWritten 1 xs → are_in_order xs ≡ true → has_end xs ≡ true → TextGives (text_of xs) (Ok xs)
+reads_back xs w o e = let h = all_back 1 xs w in record {
   raw = raw_of 1 xs h;
   rest = [];
   found = xs;

@@ -1,8 +1,7 @@
 -- Written lines end with CR and LF, and have no other LF.
-use Rattle.std.proofs.Common.{◌≡◌, ℕ, ◌==◌, ◌&&◌, ◌/◌, ◌%◌, ◌⊎◌, List, [], ◌∷◌, ◌++◌, Bool, true, false, not, codes, refl, sym, ap, ◌∙◌, append_assoc, arith, inl, inr}
+use Rattle.std.proofs.Common.{◌≡◌, ℕ, ◌==◌, ◌&&◌, ◌/◌, ◌%◌, List, [], ◌∷◌, ◌++◌, Bool, true, false, not, codes, refl, sym, ap, ◌∙◌, append_assoc, arith, inl, inr}
 use Rattle.std.specs.List.{list_all, AllByRecursion}
 use Rattle.std.proofs.lemmas.Bool.{cases_lt, lt-ltb, le-ltb}
-use Rattle.std.proofs.lemmas.List.{append_cancel_right}
 use Rattle.i86.specs.declared.Reg8.{Reg8}
 use Rattle.i86.specs.declared.Reg8.TheVariants.{Al, Cl, Dl, Bl, Ah, Ch, Dh, Bh}
 use Rattle.i86.specs.declared.Reg16.{Reg16}
@@ -31,6 +30,7 @@ use Rattle.lines86.specs.declared.line.Value16.TheVariants.{Num, Offset}
 use Rattle.lines86.specs.declared.line.Stmt86.{Stmt86}
 use Rattle.lines86.specs.declared.line.Stmt86.TheVariants.{Cseg, Dseg, Org, Rb, Db, Dw, Mark, Run, MovOffset, Jmp, Jmps, Jcc as JccTo, Call, EndText}
 use Rattle.lines86.specs.Written.{digit, four_digits, byte_text, word_text, reg8_text, reg16_text, ptr_text, operand8_text, direct8_text, direct16_text, operand16_text, alu_text, count_text, rotate_text, jump_text, label_text, offset_text, value_text, alone, with_one, with_two, instr_line, line_of}
+use Rattle.text_lines86.specs.ReadBack.{instr_fits, has_line}
 use Rattle.text86.specs.Stream.{IsNotLf}
 use Rattle.text86.proofs.Lines.{true_false}
 
@@ -153,10 +153,10 @@ value_plain (Offset l) = offset_plain l
 -- ---- lines
 
 -- a line is a front without LF, and then CR and LF
-record EndsOnce (line : List ℕ) : Type 0 where
-  front : List ℕ
-  is : line ≡ front ++ 13 ∷ (10 ∷ [])
-  each : AllByRecursion IsNotLf front
+pub record EndsOnce (line : List ℕ) : Type 0 where
+  pub front : List ℕ
+  pub is : line ≡ front ++ 13 ∷ (10 ∷ [])
+  pub each : AllByRecursion IsNotLf front
 
 tab_plain : IsNotLf 9
 tab_plain e = omega (arith, e)
@@ -191,73 +191,58 @@ word_two w a b p q r = two_ends w a b (tested w p) q r
 mark_ends : (l : List ℕ) → AllByRecursion IsNotLf l → EndsOnce (l ++ codes ":\r\n")
 mark_ends l p = record { front = l ++ codes ":"; is = sym (append_assoc l (codes ":") (13 ∷ (10 ∷ []))); each = both l (codes ":") p (tested (codes ":") refl) }
 
--- what a line is, if it is one
-LineIs : List ℕ → Type 0
-LineIs line = (line ≡ []) ⊎ EndsOnce line
+instr_ends : (i : Instr86) → instr_fits i ≡ true → EndsOnce (instr_line i)
+instr_ends (MovReg8 r o) h = word_two (codes "MOV") (reg8_text r) (operand8_text o) refl (reg8_plain r) (operand8_plain o)
+instr_ends (MovMem8 p r) h = word_two (codes "MOV") (ptr_text p) (reg8_text r) refl (ptr_plain p) (reg8_plain r)
+instr_ends (MovAlDirect a) h = word_two (codes "MOV") (codes "AL") (direct8_text a) refl (tested (codes "AL") refl) (direct8_plain a)
+instr_ends (MovDirectAl a) h = word_two (codes "MOV") (direct8_text a) (codes "AL") refl (direct8_plain a) (tested (codes "AL") refl)
+instr_ends (MovNum8 r n) h = word_two (codes "MOV") (reg8_text r) (byte_text n) refl (reg8_plain r) (byte_plain n)
+instr_ends (MovNum16 r w) h = word_two (codes "MOV") (reg16_text r) (word_text w) refl (reg16_plain r) (word_plain w)
+instr_ends (MovMemNum p n) h = word_two (codes "MOV") (ptr_text p) (byte_text n) refl (ptr_plain p) (byte_plain n)
+instr_ends (MovReg16 r o) h = word_two (codes "MOV") (reg16_text r) (operand16_text o) refl (reg16_plain r) (operand16_plain o)
+instr_ends (MovDirect16 a r) h = word_two (codes "MOV") (direct16_text a) (reg16_text r) refl (direct16_plain a) (reg16_plain r)
+instr_ends MovAxDs h = word_two (codes "MOV") (codes "AX") (codes "DS") refl (tested (codes "AX") refl) (tested (codes "DS") refl)
+instr_ends MovSsAx h = word_two (codes "MOV") (codes "SS") (codes "AX") refl (tested (codes "SS") refl) (tested (codes "AX") refl)
+instr_ends (Alu op o) h = two_ends (alu_text op) (codes "AL") (operand8_text o) (alu_plain op) (tested (codes "AL") refl) (operand8_plain o)
+instr_ends (AluNum op n) h = two_ends (alu_text op) (codes "AL") (byte_text n) (alu_plain op) (tested (codes "AL") refl) (byte_plain n)
+instr_ends OrClCl h = word_two (codes "OR") (codes "CL") (codes "CL") refl (tested (codes "CL") refl) (tested (codes "CL") refl)
+instr_ends (Add16 r q) h = word_two (codes "ADD") (reg16_text r) (reg16_text q) refl (reg16_plain r) (reg16_plain q)
+instr_ends (Count8 c o) h = one_ends (count_text c) (operand8_text o) (count_plain c) (operand8_plain o)
+instr_ends (Count16 c r) h = one_ends (count_text c) (reg16_text r) (count_plain c) (reg16_plain r)
+instr_ends (Push r) h = word_one (codes "PUSH") (reg16_text (reg_of_stack r)) refl (reg16_plain (reg_of_stack r))
+instr_ends (Pop r) h = word_one (codes "POP") (reg16_text (reg_of_stack r)) refl (reg16_plain (reg_of_stack r))
+instr_ends (Xchg8 r q) h = word_two (codes "XCHG") (reg8_text r) (reg8_text q) refl (reg8_plain r) (reg8_plain q)
+instr_ends (Xchg16 r q) h = word_two (codes "XCHG") (reg16_text r) (reg16_text q) refl (reg16_plain r) (reg16_plain q)
+instr_ends (Rotate8 t r) h = two_ends (rotate_text t) (reg8_text r) (codes "1") (rotate_plain t) (reg8_plain r) (tested (codes "1") refl)
+instr_ends (Rotate16 t r) h = two_ends (rotate_text t) (reg16_text r) (codes "1") (rotate_plain t) (reg16_plain r) (tested (codes "1") refl)
+instr_ends (Not8 r) h = word_one (codes "NOT") (reg8_text r) refl (reg8_plain r)
+instr_ends Daa h = alone_ends (codes "DAA") refl
+instr_ends Sahf h = alone_ends (codes "SAHF") refl
+instr_ends Lahf h = alone_ends (codes "LAHF") refl
+instr_ends Cmc h = alone_ends (codes "CMC") refl
+instr_ends Stc h = alone_ends (codes "STC") refl
+instr_ends Nop h = alone_ends (codes "NOP") refl
+instr_ends (Jcc j d) h = absurd cc
+instr_ends (JmpNear d) h = absurd cc
+instr_ends (JmpShort d) h = absurd cc
+instr_ends JmpBx h = word_one (codes "JMP") (codes "BX") refl (tested (codes "BX") refl)
+instr_ends (CallNear d) h = absurd cc
+instr_ends Ret h = alone_ends (codes "RET") refl
+instr_ends Int224 h = word_one (codes "INT") (codes "224") refl (tested (codes "224") refl)
 
-instr_is : (i : Instr86) → LineIs (instr_line i)
-unfolding LineIs
-instr_is (MovReg8 r o) = inr (word_two (codes "MOV") (reg8_text r) (operand8_text o) refl (reg8_plain r) (operand8_plain o))
-instr_is (MovMem8 p r) = inr (word_two (codes "MOV") (ptr_text p) (reg8_text r) refl (ptr_plain p) (reg8_plain r))
-instr_is (MovAlDirect a) = inr (word_two (codes "MOV") (codes "AL") (direct8_text a) refl (tested (codes "AL") refl) (direct8_plain a))
-instr_is (MovDirectAl a) = inr (word_two (codes "MOV") (direct8_text a) (codes "AL") refl (direct8_plain a) (tested (codes "AL") refl))
-instr_is (MovNum8 r n) = inr (word_two (codes "MOV") (reg8_text r) (byte_text n) refl (reg8_plain r) (byte_plain n))
-instr_is (MovNum16 r w) = inr (word_two (codes "MOV") (reg16_text r) (word_text w) refl (reg16_plain r) (word_plain w))
-instr_is (MovMemNum p n) = inr (word_two (codes "MOV") (ptr_text p) (byte_text n) refl (ptr_plain p) (byte_plain n))
-instr_is (MovReg16 r o) = inr (word_two (codes "MOV") (reg16_text r) (operand16_text o) refl (reg16_plain r) (operand16_plain o))
-instr_is (MovDirect16 a r) = inr (word_two (codes "MOV") (direct16_text a) (reg16_text r) refl (direct16_plain a) (reg16_plain r))
-instr_is MovAxDs = inr (word_two (codes "MOV") (codes "AX") (codes "DS") refl (tested (codes "AX") refl) (tested (codes "DS") refl))
-instr_is MovSsAx = inr (word_two (codes "MOV") (codes "SS") (codes "AX") refl (tested (codes "SS") refl) (tested (codes "AX") refl))
-instr_is (Alu op o) = inr (two_ends (alu_text op) (codes "AL") (operand8_text o) (alu_plain op) (tested (codes "AL") refl) (operand8_plain o))
-instr_is (AluNum op n) = inr (two_ends (alu_text op) (codes "AL") (byte_text n) (alu_plain op) (tested (codes "AL") refl) (byte_plain n))
-instr_is OrClCl = inr (word_two (codes "OR") (codes "CL") (codes "CL") refl (tested (codes "CL") refl) (tested (codes "CL") refl))
-instr_is (Add16 r q) = inr (word_two (codes "ADD") (reg16_text r) (reg16_text q) refl (reg16_plain r) (reg16_plain q))
-instr_is (Count8 c o) = inr (one_ends (count_text c) (operand8_text o) (count_plain c) (operand8_plain o))
-instr_is (Count16 c r) = inr (one_ends (count_text c) (reg16_text r) (count_plain c) (reg16_plain r))
-instr_is (Push r) = inr (word_one (codes "PUSH") (reg16_text (reg_of_stack r)) refl (reg16_plain (reg_of_stack r)))
-instr_is (Pop r) = inr (word_one (codes "POP") (reg16_text (reg_of_stack r)) refl (reg16_plain (reg_of_stack r)))
-instr_is (Xchg8 r q) = inr (word_two (codes "XCHG") (reg8_text r) (reg8_text q) refl (reg8_plain r) (reg8_plain q))
-instr_is (Xchg16 r q) = inr (word_two (codes "XCHG") (reg16_text r) (reg16_text q) refl (reg16_plain r) (reg16_plain q))
-instr_is (Rotate8 t r) = inr (two_ends (rotate_text t) (reg8_text r) (codes "1") (rotate_plain t) (reg8_plain r) (tested (codes "1") refl))
-instr_is (Rotate16 t r) = inr (two_ends (rotate_text t) (reg16_text r) (codes "1") (rotate_plain t) (reg16_plain r) (tested (codes "1") refl))
-instr_is (Not8 r) = inr (word_one (codes "NOT") (reg8_text r) refl (reg8_plain r))
-instr_is Daa = inr (alone_ends (codes "DAA") refl)
-instr_is Sahf = inr (alone_ends (codes "SAHF") refl)
-instr_is Lahf = inr (alone_ends (codes "LAHF") refl)
-instr_is Cmc = inr (alone_ends (codes "CMC") refl)
-instr_is Stc = inr (alone_ends (codes "STC") refl)
-instr_is Nop = inr (alone_ends (codes "NOP") refl)
-instr_is (Jcc j d) = inl refl
-instr_is (JmpNear d) = inl refl
-instr_is (JmpShort d) = inl refl
-instr_is JmpBx = inr (word_one (codes "JMP") (codes "BX") refl (tested (codes "BX") refl))
-instr_is (CallNear d) = inl refl
-instr_is Ret = inr (alone_ends (codes "RET") refl)
-instr_is Int224 = inr (word_one (codes "INT") (codes "224") refl (tested (codes "224") refl))
-
-line_is : (s : Stmt86) → LineIs (line_of s)
-unfolding LineIs
-line_is Cseg = inr (alone_ends (codes "CSEG") refl)
-line_is Dseg = inr (alone_ends (codes "DSEG") refl)
-line_is (Org w) = inr (word_one (codes "ORG") (word_text w) refl (word_plain w))
-line_is (Rb w) = inr (word_one (codes "RB") (word_text w) refl (word_plain w))
-line_is (Db n) = inr (word_one (codes "DB") (byte_text n) refl (byte_plain n))
-line_is (Dw v) = inr (word_one (codes "DW") (value_text v) refl (value_plain v))
-line_is (Mark l) = inr (mark_ends (label_text l) (label_plain l))
-line_is (Run i) = instr_is i
-line_is (MovOffset r l) = inr (word_two (codes "MOV") (reg16_text r) (offset_text l) refl (reg16_plain r) (offset_plain l))
-line_is (Jmp l) = inr (word_one (codes "JMP") (label_text l) refl (label_plain l))
-line_is (Jmps l) = inr (word_one (codes "JMPS") (label_text l) refl (label_plain l))
-line_is (JccTo j l) = inr (one_ends (jump_text j) (label_text l) (jump_plain j) (label_plain l))
-line_is (Call l) = inr (word_one (codes "CALL") (label_text l) refl (label_plain l))
-line_is EndText = inr (alone_ends (codes "END") refl)
-
-front_plain : (line body : List ℕ) → LineIs line → line ≡ body ++ 13 ∷ (10 ∷ []) → AllByRecursion IsNotLf body
-unfolding LineIs
-front_plain line [] (inl e) h = tt
-front_plain line (b ∷ body) (inl e) h = absurd cc
-front_plain line body (inr r) h = rw (append_cancel_right body r.front (13 ∷ (10 ∷ [])) (sym h ∙ r.is)) r.each
-
--- the written line of a statement, without its CR and LF, has no LF
-pub body_plain : (s : Stmt86) (body : List ℕ) → line_of s ≡ body ++ 13 ∷ (10 ∷ []) → AllByRecursion IsNotLf body
-body_plain s body h = front_plain (line_of s) body (line_is s) h
+-- the written line of a statement
+pub line_ends : (s : Stmt86) → has_line s ≡ true → EndsOnce (line_of s)
+line_ends Cseg h = alone_ends (codes "CSEG") refl
+line_ends Dseg h = alone_ends (codes "DSEG") refl
+line_ends (Org w) h = word_one (codes "ORG") (word_text w) refl (word_plain w)
+line_ends (Rb w) h = word_one (codes "RB") (word_text w) refl (word_plain w)
+line_ends (Db n) h = word_one (codes "DB") (byte_text n) refl (byte_plain n)
+line_ends (Dw v) h = word_one (codes "DW") (value_text v) refl (value_plain v)
+line_ends (Mark l) h = mark_ends (label_text l) (label_plain l)
+line_ends (Run i) h = instr_ends i h
+line_ends (MovOffset r l) h = word_two (codes "MOV") (reg16_text r) (offset_text l) refl (reg16_plain r) (offset_plain l)
+line_ends (Jmp l) h = word_one (codes "JMP") (label_text l) refl (label_plain l)
+line_ends (Jmps l) h = word_one (codes "JMPS") (label_text l) refl (label_plain l)
+line_ends (JccTo j l) h = one_ends (jump_text j) (label_text l) (jump_plain j) (label_plain l)
+line_ends (Call l) h = word_one (codes "CALL") (label_text l) refl (label_plain l)
+line_ends EndText h = alone_ends (codes "END") refl
