@@ -38,6 +38,15 @@ fn read(alloc: Global, text: &[u8], at: usize) -> Result<String, AllocError>
     ending(alloc, reader)
 }
 
+// What a text gives byte by byte.
+fn read_bytes(alloc: Global, text: &[u8]) -> Result<String, AllocError> {
+    let mut reader = Text86::new(alloc)?;
+    for b in text {
+        let _ = reader.feed(&[*b]);
+    }
+    ending(alloc, reader)
+}
+
 // Texts with a fault: bytes and words, of the line alone.
 const UNREAD: [(&str, &[&[u8]]); 5] = [
     (
@@ -142,7 +151,7 @@ fn faults_are_found(rt: HostRuntime) -> Result<(), Fail> {
     Ok(())
 }
 
-// Whole, and cut at each place.
+// Whole, cut at each place, and byte by byte.
 #[test]
 fn cuts_change_nothing(rt: HostRuntime) -> Result<(), Fail> {
     let rows: [(&[u8], &str); 4] = [
@@ -162,6 +171,8 @@ fn cuts_change_nothing(rt: HostRuntime) -> Result<(), Fail> {
             let found = read(rt.alloc(), text, at)?;
             assert_eq!(rt; found.as_str(), want, "cut at {at}");
         }
+        let found = read_bytes(rt.alloc(), text)?;
+        assert_eq!(rt; found.as_str(), want);
     }
     Ok(())
 }
