@@ -2,10 +2,10 @@ mod Checked
 mod Each
 mod Given
 mod Labels
-mod Lines
+pub mod Lines
 mod Numerals
 mod Parts
 mod Pieces
-mod ReadBack
+pub mod ReadBack
 mod Tables
 mod WrittenWords

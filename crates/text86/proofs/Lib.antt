@@ -1,0 +1,8 @@
+pub mod Orders
+pub mod Listings
+pub mod Cuts
+pub mod Lines
+pub mod Steps
+pub mod Whole
+pub mod Ends
+pub mod Back

@@ -1,0 +1,5 @@
+pub mod Place
+pub mod Held
+pub mod Stream
+pub mod Reader
+pub mod Back

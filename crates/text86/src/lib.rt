@@ -1,0 +1,17 @@
+// The reader of an ASM-86 text: a stream of bytes in any pieces, as statements with their lines.
+#![tactic(auto)]
+
+mod fault;
+mod held;
+mod laws;
+mod listing;
+mod order;
+mod reader;
+
+pub use fault::TextFault;
+pub use laws::{text_has_one_reading, written_text_reads_back};
+pub use lines86::{Line86, Stmt86, TextRule};
+pub use reader::Text86;
+
+#[cfg(test)]
+mod tests;
