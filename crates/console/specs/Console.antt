@@ -83,7 +83,7 @@ taking_none a input = record { answer = a; left = input }
 
 -- the answer to a call and the input that is left, function by function. Output (2 and 9), reset disks (13) and set DMA
 -- address (26) do nothing here that a program sees; the version (12) is 22H; the current disk (25) is A, 0. All others of
--- the call table are for files
+-- the call table are for files, but for 0, which ends a program and is never asked
 abbrev pub console_answer : List ℕ → Request → Answered
 console_answer input q =
     cond (q.shape.function == 1) (read_byte input)

@@ -1,5 +1,5 @@
 // The console and its answers (CP/M 2.2 Operating System Manual, section 5.3, "BDOS functions").
-ghost use Rattle.std.specs.Prelude.{◌≡◌, ◌≢◌, ◌+◌, ◌<◌, [], ◌∷◌, length, IfOk, OnErr};
+ghost use Rattle.std.specs.Prelude.{◌≡◌, ◌+◌, ◌<◌, [], ◌∷◌, length, IfOk, OnErr};
 ghost use Rattle.dialogue.specs.Shape.{address_of};
 ghost use Rattle.dialogue.specs.Lawful.{first_byte, IsLawful};
 ghost use Rattle.console.specs.Console.{disk_selected, place_in};
@@ -51,8 +51,7 @@ impl Console {
 
     /// The answer to a call. Only a reply takes input.
     pub fn answer(&mut self, alloc: Global, request: &Request) -> Result<Answer, AllocError>
-        requires lawful { IsLawful request.now }
-        requires no_reset { request.now.shape.function ≢ 0 }
+        requires { IsLawful request.now }
         ensures answer { IfOk result (λ a. ◌≡◌ {A = Answered} (record { answer = a; left = self.new }) (console_answer self.old request.now)) }
         ensures fits { IfOk result (λ a. FitsRequest request.now a) }
         ensures takes { IfOk result (λ a. TakesByReply a self.old self.new) }

@@ -81,9 +81,6 @@ fn answers(
     let Some(request) = request(alloc, call)? else {
         return Ok(false);
     };
-    if request.shape.function == 0 {
-        return Ok(false);
-    }
     let answer = console.answer(alloc, &request)?;
     Ok(is_told(&answer, told))
 }

@@ -39,14 +39,14 @@ module _ (before mid : Course) (answered : Request → Reply → Course) (input 
       record {
         events = Call q ∷ [];
         taken = y ∷ [];
-        next = λ t. after_asked t q;
+        next = λ t. after_ran (after_asked t q);
         dialogue = λ t. refl;
         goes = λ t ys n.
             let e : 1 + n ≡ suc n = omega arith in
             ap (before t (y ∷ ys)) e
             ∙ h t (y ∷ ys) n
-            ∙ ap (λ b. cond b (answered q y (after_asked t q) ys n) (standing Waiting (after_asked t q).dialogue)) a.2
-            ∙ ap (λ c. c (after_asked t q) ys n) (sym a.3);
+            ∙ ap (λ b. cond b (answered q y (after_ran (after_asked t q)) ys n) (standing Waiting (after_asked t q).dialogue)) a.2
+            ∙ ap (λ c. c (after_ran (after_asked t q)) ys n) (sym a.3);
         replies = λ es. ap (λ x. reply_then x.answer (console_replies x.left es)) a.1;
         refuses = λ es. ap (λ x. refusal_then x.answer q (refusal x.left es)) a.1;
         says = said ∙ ap (said_more old.said) (event_lines-one (Call q));
@@ -121,8 +121,8 @@ module _ (before mid : Course) (answered : Request → Reply → Course) (input 
     asked_dialogue t [] = ap (λ (v : Seen). v.dialogue) (h t [] 0)
     asked_dialogue t (y ∷ ys) = ap (λ (v : Seen). v.dialogue) (h t (y ∷ ys) 0) ∙ by_fit (fits q y)
       where
-        by_fit : (b : Bool) → (let v : Seen = cond b (answered q y (after_asked t q) ys 0) (standing Waiting (after_asked t q).dialogue) in v.dialogue) ≡ t.dialogue ++ Call q ∷ []
-        by_fit true = ap (λ (v : Seen). v.dialogue) (begins y (after_asked t q) ys)
+        by_fit : (b : Bool) → (let v : Seen = cond b (answered q y (after_ran (after_asked t q)) ys 0) (standing Waiting (after_asked t q).dialogue) in v.dialogue) ≡ t.dialogue ++ Call q ∷ []
+        by_fit true = ap (λ (v : Seen). v.dialogue) (begins y (after_ran (after_asked t q)) ys)
         by_fit false = refl
 
     pub part_call : (k : ℕ) × Says old new (take k (call_line q)) → Part before old new

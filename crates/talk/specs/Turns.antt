@@ -1,5 +1,5 @@
 -- Machines that talk, one turn at a time.
-use Rattle.std.specs.Prelude.{◌≡◌, ◌≢◌, ℕ, suc, cond, List, [], ◌∷◌, ◌++◌}
+use Rattle.std.specs.Prelude.{◌≡◌, ℕ, suc, cond, List, [], ◌∷◌, ◌++◌}
 use Rattle.dialogue.specs.declared.request.Request.{Request}
 use Rattle.dialogue.specs.declared.request.Reply.{Reply}
 use Rattle.dialogue.specs.declared.request.Event.{Event}
@@ -21,7 +21,7 @@ pub record Past : Type 0 where
 abbrev pub nothing : Past
 nothing = record { used = 0; dialogue = [] }
 
--- after a turn that ran, after one that asked, and after its reply
+-- after a turn that ran, or a reply; after a turn that asked
 abbrev pub after_ran : Past → Past
 after_ran t = record t { used = suc t.used }
 
@@ -39,7 +39,7 @@ Course = Past → List Reply → ℕ → Seen
 -- a run that has asked takes its reply, if one comes and it fits; else it waits
 abbrev pub taken : Request → (Reply → Course) → Past → List Reply → ℕ → Seen
 taken q answered t [] n = standing Waiting t.dialogue
-taken q answered t (y ∷ ys) n = cond (fits q y) (answered y t ys n) (standing Waiting t.dialogue)
+taken q answered t (y ∷ ys) n = cond (fits q y) (answered y (after_ran t) ys n) (standing Waiting t.dialogue)
 
 -- a turn tells how the run goes: `before` is its course before the turn, `after` its course where it ran, and `answered` its
 -- course after a reply where it asks
@@ -52,10 +52,10 @@ IsTurn before after answered Ended =
 IsTurn before after answered (HasStopped why) =
     (t : Past) (ys : List Reply) (n : ℕ) → before t ys (suc n) ≡ standing (Stopped why) t.dialogue
 
--- what is asked is lawful, and no reset
+-- what is asked is lawful
 abbrev pub AsksLawfully : Turn → Type 0
 AsksLawfully Ran = Unit {0}
-AsksLawfully (Asks q) = IsLawful q × (q.shape.function ≢ 0)
+AsksLawfully (Asks q) = IsLawful q
 AsksLawfully Ended = Unit {0}
 AsksLawfully (HasStopped why) = Unit {0}
 
@@ -70,7 +70,7 @@ IsReady runs waits (HasStopped why) = Unit {0}
 abbrev pub Begins : Course → Type 0
 Begins course = (t : Past) (ys : List Reply) → course t ys 0 ≡ standing Going t.dialogue
 
--- the course of a machine in a state, and of one that gets a reply in a state
+-- the course of a machine in a state
 abbrev pub course_from : {S X : Type 0} → Machine S X → List ℕ → (S → X → Why) → S → Course
 course_from m cs why s t ys n =
     seen why (turns m cs n (record { state = s; status = Going; dialogue = t.dialogue; replies = ys; used = t.used }))

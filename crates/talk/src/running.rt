@@ -1,5 +1,5 @@
 // The loop that runs a machine over a console.
-ghost use Rattle.std.specs.Prelude.{◌≡◌, ◌≢◌, None, IfOk, OnOk, OnErr};
+ghost use Rattle.std.specs.Prelude.{◌≡◌, None, IfOk, OnOk, OnErr};
 ghost use Rattle.dialogue.specs.Lawful.{IsLawful};
 ghost use Rattle.host.specs.Host.{SameFaults, OnlySays, WriteFailed};
 ghost use Rattle.talk.specs.Talk.{SaysRun, SaysPart};
@@ -90,7 +90,6 @@ fn answer<E: Emulator>(
 ) -> Result<Option<RunEnd>, AllocError>
     requires waits { E.waits machine.old request.now }
     requires lawful { IsLawful request.now }
-    requires no_reset { request.now.shape.function ≢ 0 }
     ensures answered { IfOk result (λ o. IsAnswered request.now (E.answered machine.old request.now) (E.course machine.new) console.old console.new o) }
     ensures ready { result ≡ Ok None → E.runs machine.new }
 {
