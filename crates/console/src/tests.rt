@@ -1,0 +1,138 @@
+// Calls one after the other, with the answers that the manual gives.
+ghost use Rattle.std.specs.Prelude.{IfOk, IfSome};
+ghost use Rattle.dialogue.specs.Lawful.{IsLawful};
+
+use crate::{Answer, Console};
+use dialogue::request::{Request, View};
+use dialogue::shape::{request_of, shape_of};
+use std::alloc::{AllocError, Global};
+
+/// Memory with one byte everywhere, but for a `$` at 205H.
+#[derive(Drop)]
+struct Cells {
+    fill: u8,
+}
+
+impl View for Cells {
+    ghost use Rattle.std.specs.Prelude.{◌==◌, cond, true, Some};
+
+    ghost byte_at = { λ v at. Some (cond (at == 0x205) 0x24 v.fill) };
+
+    ghost is_writable = { λ v at. true };
+
+    fn byte(&self, at: u16) -> Option<u8> {
+        if at == 0x205 {
+            Some(b'$')
+        } else {
+            Some(self.fill)
+        }
+    }
+
+    fn writable(&self, _at: u16) -> bool {
+        true
+    }
+}
+
+/// What is answered: an answer with no writes, a line that is written at 201H, or none of them.
+enum Told {
+    Answer(u16),
+    Line(&'static [u8]),
+    InputEnded,
+    NoDrive,
+}
+
+/// A function, what is in E, and the byte in memory, which is the room for a line.
+type Call = (u8, u8, u8);
+
+/// The request of a call with 2 in D.
+fn request(alloc: Global, call: Call) -> Result<Option<Request>, AllocError>
+    ensures { IfOk result (λ r. IfSome r (λ q. IsLawful q)) }
+{
+    let (function, e, fill) = call;
+    let view = Cells { fill };
+    match shape_of(Some(function), Some(2), Some(e), 0x80, &view) {
+        Ok(shape) => Ok(Some(request_of(alloc, shape, &view)?)),
+        Err(_) => Ok(None),
+    }
+}
+
+/// Whether an answer is the one that is told.
+fn is_told(answer: &Answer, told: &Told) -> bool {
+    match (answer, told) {
+        (Answer::InputEnded, Told::InputEnded) | (Answer::NoDrive, Told::NoDrive) => true,
+        (Answer::Reply(reply), Told::Answer(answer)) => {
+            reply.answer == *answer && reply.writes.as_slice().is_empty()
+        }
+        (Answer::Reply(reply), Told::Line(line)) => match reply.writes.as_slice() {
+            [block] => { reply.answer == 0 && block.at == 0x201 && block.bytes.as_slice() == *line }
+            _ => false,
+        },
+        _ => false,
+    }
+}
+
+/// Whether the console answers a call so.
+fn answers(
+    alloc: Global,
+    console: &mut Console,
+    call: Call,
+    told: &Told,
+) -> Result<bool, AllocError> {
+    let Some(request) = request(alloc, call)? else {
+        return Ok(false);
+    };
+    let answer = console.answer(alloc, &request)?;
+    Ok(is_told(&answer, told))
+}
+
+#[rattlefmt::skip]
+static CALLS: [(&str, Call, Told); 17] = [
+    ("input waits", (11, 0, 5), Told::Answer(0xFF)),
+    ("a byte", (1, 0, 5), Told::Answer(0x41)),
+    ("a line with a CR", (10, 0, 5), Told::Line(b"\x01B")),
+    ("a line that fills its room", (10, 0, 3), Told::Line(b"\x03xyz")),
+    ("its LF was left", (10, 0, 3), Told::Line(b"\0")),
+    ("a line that is cut", (10, 0, 2), Told::Line(b"\x02pq")),
+    ("its rest", (10, 0, 2), Told::Line(b"\x01r")),
+    ("output takes none", (2, 0x41, 5), Told::Answer(0)),
+    ("nor does a text", (9, 0, 5), Told::Answer(0)),
+    ("an empty line", (10, 0, 5), Told::Line(b"\0")),
+    ("a CR is a byte", (1, 0, 5), Told::Answer(0x0D)),
+    ("a line without its LF", (10, 0, 255), Told::Line(b"\x01s")),
+    ("no line is left", (10, 0, 5), Told::InputEnded),
+    ("no byte is left", (1, 0, 5), Told::InputEnded),
+    ("no input waits", (11, 0, 5), Told::Answer(0)),
+    ("the version", (12, 0, 5), Told::Answer(0x22)),
+    ("the current disk", (25, 0, 5), Told::Answer(0)),
+];
+
+#[test]
+fn a_console_takes_its_input_in_order(rt: HostRuntime) -> Result<(), AllocError> {
+    let alloc = rt.alloc();
+    let input = Vec::from_slice(alloc, b"AB\r\nxyz\npqr\n\n\rs\r")?;
+    let mut console = Console::new(input);
+    for (name, call, told) in &CALLS {
+        assert!(rt; answers(alloc, &mut console, *call, told)?, "{name}");
+    }
+    Ok(())
+}
+
+#[test]
+fn files_need_a_drive(rt: HostRuntime) -> Result<(), AllocError> {
+    let alloc = rt.alloc();
+    let mut console = Console::new(Vec::new(alloc));
+    for function in [15, 16, 17, 18, 19, 20, 21, 22, 23, 33, 34, 35, 36] {
+        assert!(rt;
+            answers(alloc, &mut console, (function, 0, 5), &Told::NoDrive)?,
+            "function {function}"
+        );
+    }
+    assert!(rt; answers(alloc, &mut console, (14, 1, 5), &Told::NoDrive)?);
+    for function in [13, 14, 26] {
+        assert!(rt;
+            answers(alloc, &mut console, (function, 0, 5), &Told::Answer(0))?,
+            "function {function}"
+        );
+    }
+    Ok(())
+}

@@ -1,0 +1,139 @@
+-- What one turn comes to.
+use Rattle.std.proofs.Common.{◌≡◌, ℕ, suc, ◌+◌, Bool, true, false, cond, codes, List, [], ◌∷◌, ◌++◌, length, take, refl, sym, ap, ◌∙◌, subst, arith, Option, Some, None}
+use Rattle.std.proofs.lemmas.List.{append-nil}
+use Rattle.dialogue.specs.declared.request.Request.{Request}
+use Rattle.dialogue.specs.declared.request.Reply.{Reply}
+use Rattle.dialogue.specs.declared.request.Event.TheVariants.{Call, End}
+use Rattle.dialogue.specs.Fits.{fits}
+use Rattle.console.specs.declared.answers.Answer.{Answer}
+use Rattle.console.specs.declared.answers.Answer.TheVariants.{Reply as Replies, InputEnded as NoInput, NoDrive as Refuses}
+use Rattle.console.specs.Console.{console_answer}
+use Rattle.machine.specs.Run.{Waiting, Over}
+use Rattle.host.specs.Host.{HostState, said_more, Says}
+use Rattle.talk.specs.declared.emulator.Turn.TheVariants.{Ran, Asks, Ended}
+use Rattle.talk.specs.declared.running.RunEnd.{RunEnd}
+use Rattle.talk.specs.declared.running.RunEnd.TheVariants.{Ended as HasEnded, InputEnded, NoDrive}
+use Rattle.talk.specs.Lines.{call_line}
+use Rattle.talk.specs.Talk.{Seen, reply_then, console_replies, refusal_then, refusal}
+use Rattle.talk.specs.Turns.{Past, Course, after_ran, after_asked, standing, IsTurn, Begins}
+use Rattle.talk.specs.Advance.{Advance, Rest, Part, IsTurnDone, IsAnswered}
+use Rattle.talk.proofs.Said.{event_lines-one, says_nothing, take_whole}
+
+module _ (before mid : Course) (answered : Request → Reply → Course) (input : List ℕ) (old new : HostState) where
+  pub advance_ran : IsTurn before mid answered Ran → Advance 1 before mid input input old old
+  advance_ran h = record {
+    events = [];
+    taken = [];
+    next = after_ran;
+    dialogue = λ t. sym (append-nil t.dialogue);
+    goes = λ t ys n. let e : 1 + n ≡ suc n = omega arith in ap (before t ys) e ∙ h t ys n;
+    replies = λ es. refl;
+    refuses = λ es. refl;
+    says = says_nothing old;
+  }
+
+  -- a reply
+  advance_replied : (after : Course) (q : Request) (left : List ℕ) → IsTurn before mid answered (Asks q) → IsAnswered q (answered q) after input left None → Says old new (call_line q) → Advance 1 before after input left old new
+  advance_replied after q left h a said =
+      let y = a.0 in
+      record {
+        events = Call q ∷ [];
+        taken = y ∷ [];
+        next = λ t. after_ran (after_asked t q);
+        dialogue = λ t. refl;
+        goes = λ t ys n.
+            let e : 1 + n ≡ suc n = omega arith in
+            ap (before t (y ∷ ys)) e
+            ∙ h t (y ∷ ys) n
+            ∙ ap (λ b. cond b (answered q y (after_ran (after_asked t q)) ys n) (standing Waiting (after_asked t q).dialogue)) a.2
+            ∙ ap (λ c. c (after_ran (after_asked t q)) ys n) (sym a.3);
+        replies = λ es. ap (λ x. reply_then x.answer (console_replies x.left es)) a.1;
+        refuses = λ es. ap (λ x. refusal_then x.answer q (refusal x.left es)) a.1;
+        says = said ∙ ap (said_more old.said) (event_lines-one (Call q));
+      }
+
+  -- no reply
+  module _ (q : Request) (count : ℕ) (h : IsTurn before mid answered (Asks q)) (said : Says old new (call_line q)) where
+    rest_no_input : (console_answer input q).answer ≡ NoInput → Rest InputEnded count before input old new
+    rest_no_input e = record {
+      events = Call q ∷ [];
+      status = Waiting;
+      goes = λ t n. h t [] n;
+      none = ap (λ a. reply_then a (console_replies (console_answer input q).left [])) e;
+      end = (refl, ap (λ a. refusal_then a q None) e);
+      says = said ∙ ap (said_more old.said) (event_lines-one (Call q));
+    }
+
+    rest_no_drive : (console_answer input q).answer ≡ Refuses → Rest (NoDrive q.shape.function) count before input old new
+    rest_no_drive e = record {
+      events = Call q ∷ [];
+      status = Waiting;
+      goes = λ t n. h t [] n;
+      none = ap (λ a. reply_then a (console_replies (console_answer input q).left [])) e;
+      end = (refl, ap (λ a. refusal_then a q None) e);
+      says = said ∙ ap (said_more old.said) (event_lines-one (Call q));
+    }
+
+    rest_by : (a : Answer) (o : RunEnd) → (console_answer input q).answer ≡ a → refusal_then a q None ≡ Some o → Rest o count before input old new
+    rest_by (Replies y) o e f = cc
+    rest_by NoInput o e f = let same : InputEnded ≡ o = cc in subst (λ o. Rest o count before input old new) same (rest_no_input e)
+    rest_by Refuses o e f =
+        let same : NoDrive q.shape.function ≡ o = cc in
+        subst (λ o. Rest o count before input old new) same (rest_no_drive e)
+
+    pub turn_answered : (after : Course) (left : List ℕ) (o : Option RunEnd) → IsAnswered q (answered q) after input left o → IsTurnDone count before after input left old new o
+    turn_answered after left None a = advance_replied after q left h a said
+    turn_answered after left (Some o) a = rest_by (console_answer input q).answer o refl a
+
+  pub rest_ended : (count : ℕ) → IsTurn before mid answered Ended → Says old new (codes "end\n") → Rest (HasEnded count) count before input old new
+  rest_ended count h said = record {
+    events = End ∷ [];
+    status = Over;
+    goes = λ t n. h t [] n;
+    none = refl;
+    end = (refl, refl);
+    says = said ∙ ap (said_more old.said) (event_lines-one End);
+  }
+
+  -- faults: before anything is said, in the line of the end, in the line of a call, and after it
+  pub part_none : Begins before → Part before old old
+  part_none begins = record {
+    events = [];
+    turns = 0;
+    few = omega arith;
+    dialogue = λ t ys. ap (λ (v : Seen). v.dialogue) (begins t ys) ∙ sym (append-nil t.dialogue);
+    count = 0;
+    says = says_nothing old;
+  }
+
+  pub part_end : IsTurn before mid answered Ended → (k : ℕ) × Says old new (take k (codes "end\n")) → Part before old new
+  part_end h said = record {
+    events = End ∷ [];
+    turns = 1;
+    few = omega arith;
+    dialogue = λ t ys. ap (λ (v : Seen). v.dialogue) (h t ys 0);
+    count = said.0;
+    says = said.1 ∙ ap (λ l. said_more old.said (take said.0 l)) (event_lines-one End);
+  }
+
+  module _ (q : Request) (h : IsTurn before mid answered (Asks q)) (begins : (y : Reply) → Begins (answered q y)) where
+    asked_dialogue : (t : Past) (ys : List Reply) → (before t ys 1).dialogue ≡ t.dialogue ++ Call q ∷ []
+    asked_dialogue t [] = ap (λ (v : Seen). v.dialogue) (h t [] 0)
+    asked_dialogue t (y ∷ ys) = ap (λ (v : Seen). v.dialogue) (h t (y ∷ ys) 0) ∙ by_fit (fits q y)
+      where
+        by_fit : (b : Bool) → (let v : Seen = cond b (answered q y (after_ran (after_asked t q)) ys 0) (standing Waiting (after_asked t q).dialogue) in v.dialogue) ≡ t.dialogue ++ Call q ∷ []
+        by_fit true = ap (λ (v : Seen). v.dialogue) (begins y (after_ran (after_asked t q)) ys)
+        by_fit false = refl
+
+    pub part_call : (k : ℕ) × Says old new (take k (call_line q)) → Part before old new
+    part_call said = record {
+      events = Call q ∷ [];
+      turns = 1;
+      few = omega arith;
+      dialogue = asked_dialogue;
+      count = said.0;
+      says = said.1 ∙ ap (λ l. said_more old.said (take said.0 l)) (event_lines-one (Call q));
+    }
+
+    pub part_called : Says old new (call_line q) → Part before old new
+    part_called said = part_call (length (call_line q), said ∙ ap (said_more old.said) (sym (take_whole (call_line q))))

@@ -1,0 +1,71 @@
+use Rattle.std.proofs.Common.{subst}
+use Rattle.talk.specs.declared.emulator.Turn.TheVariants.{Ran, Asks, Ended}
+use Rattle.talk.specs.Turns.{IsTurn}
+use Rattle.talk.proofs.Said.{on_err}
+use Rattle.talk.proofs.Advances.{advance_ran, turn_answered, rest_ended, part_none, part_end, part_call, part_called}
+use Rattle.talk.proofs.running.turn.Goals as goal
+
+-- an instruction ran
+pub returns-in-Ran-clause-done : goal.returns-in-Ran-clause-done
+returns-in-Ran-clause-done g c =
+    let before = g.E.Emulator.course c.args.machine.now in
+    let after = g.E.Emulator.course c.turn.new.self in
+    let answered = g.E.Emulator.answered c.turn.new.self in
+    let host = g.H.Host.state c.args.host.now in
+    let turned : IsTurn before after answered Ran = subst (IsTurn before after answered) c.in-Ran.is c.in_ok-turn.ensures.turn in
+    advance_ran before after answered c.args.console.now host host turned
+
+-- the program ended
+pub returns-in_ok-say_end-in-Ended-clause-done : goal.returns-in_ok-say_end-in-Ended-clause-done
+returns-in_ok-say_end-in-Ended-clause-done g c =
+    let before = g.E.Emulator.course c.args.machine.now in
+    let after = g.E.Emulator.course c.turn.new.self in
+    let answered = g.E.Emulator.answered c.turn.new.self in
+    let turned : IsTurn before after answered Ended = subst (IsTurn before after answered) c.in-Ended.is c.in_ok-turn.ensures.turn in
+    rest_ended before after answered c.args.console.now (g.H.Host.state c.args.host.now) (g.H.Host.state c.say_end.new.host) c.args.count turned c.in_ok-say_end-in-Ended.ensures.ok
+
+-- it asked, and the console answered
+pub returns-in_ok-answer-in-Asks-clause-done : goal.returns-in_ok-answer-in-Asks-clause-done
+returns-in_ok-answer-in-Asks-clause-done g c =
+    let before = g.E.Emulator.course c.args.machine.now in
+    let after = g.E.Emulator.course c.turn.new.self in
+    let answered = g.E.Emulator.answered c.turn.new.self in
+    let q = c.in-Asks.request in
+    let turned : IsTurn before after answered (Asks q) = subst (IsTurn before after answered) c.in-Asks.is c.in_ok-turn.ensures.turn in
+    turn_answered before after answered c.args.console.now (g.H.Host.state c.args.host.now) (g.H.Host.state c.say_call.new.host) q c.args.count turned c.in_ok-say_call-in-Asks.ensures.ok (g.E.Emulator.course c.answer.new.machine) c.answer.new.console c.in_ok-answer-in-Asks.field-0 c.in_ok-answer-in-Asks.ensures.answered
+
+-- want of memory before anything is said
+pub returns-in_err-turn-clause-part : goal.returns-in_err-turn-clause-part
+returns-in_err-turn-clause-part g c =
+    let before = g.E.Emulator.course c.args.machine.now in
+    let host = g.H.Host.state c.args.host.now in
+    on_err c.from_residual.result (part_none before before (g.E.Emulator.answered c.args.machine.now) c.args.console.now host host (g.met.E.Emulator.begins c.args.machine.now))
+
+-- a fault in the line of the end
+pub returns-in_err-say_end-in-Ended-clause-part : goal.returns-in_err-say_end-in-Ended-clause-part
+returns-in_err-say_end-in-Ended-clause-part g c =
+    let before = g.E.Emulator.course c.args.machine.now in
+    let after = g.E.Emulator.course c.turn.new.self in
+    let answered = g.E.Emulator.answered c.turn.new.self in
+    let turned : IsTurn before after answered Ended = subst (IsTurn before after answered) c.in-Ended.is c.in_ok-turn.ensures.turn in
+    on_err c.from_residual-in_err-say_end-in-Ended.result (part_end before after answered c.args.console.now (g.H.Host.state c.args.host.now) (g.H.Host.state c.say_end.new.host) turned c.in_err-say_end-in-Ended.ensures.fault)
+
+-- a fault in the line of a call
+pub returns-in_err-say_call-in-Asks-clause-part : goal.returns-in_err-say_call-in-Asks-clause-part
+returns-in_err-say_call-in-Asks-clause-part g c =
+    let before = g.E.Emulator.course c.args.machine.now in
+    let after = g.E.Emulator.course c.turn.new.self in
+    let answered = g.E.Emulator.answered c.turn.new.self in
+    let q = c.in-Asks.request in
+    let turned : IsTurn before after answered (Asks q) = subst (IsTurn before after answered) c.in-Asks.is c.in_ok-turn.ensures.turn in
+    on_err c.from_residual-in_err-say_call-in-Asks.result (part_call before after answered c.args.console.now (g.H.Host.state c.args.host.now) (g.H.Host.state c.say_call.new.host) q turned (λ y. g.met.E.Emulator.takes c.turn.new.self q y) c.in_err-say_call-in-Asks.ensures.fault)
+
+-- want of memory for the answer
+pub returns-in_err-answer-in-Asks-clause-part : goal.returns-in_err-answer-in-Asks-clause-part
+returns-in_err-answer-in-Asks-clause-part g c =
+    let before = g.E.Emulator.course c.args.machine.now in
+    let after = g.E.Emulator.course c.turn.new.self in
+    let answered = g.E.Emulator.answered c.turn.new.self in
+    let q = c.in-Asks.request in
+    let turned : IsTurn before after answered (Asks q) = subst (IsTurn before after answered) c.in-Asks.is c.in_ok-turn.ensures.turn in
+    on_err c.from_residual-in_err-answer-in-Asks.result (part_called before after answered c.args.console.now (g.H.Host.state c.args.host.now) (g.H.Host.state c.say_call.new.host) q turned (λ y. g.met.E.Emulator.takes c.turn.new.self q y) c.in_ok-say_call-in-Asks.ensures.ok)

@@ -1,0 +1,64 @@
+-- How far a run over a console has come, in a form that can be put together turn by turn.
+use Rattle.std.specs.Prelude.{◌≡◌, ℕ, ◌+◌, ◌≤◌, suc, List, [], ◌++◌, take, Option, Some, None, true}
+use Rattle.dialogue.specs.declared.request.Request.{Request}
+use Rattle.dialogue.specs.declared.request.Reply.{Reply}
+use Rattle.dialogue.specs.declared.request.Event.{Event}
+use Rattle.dialogue.specs.Fits.{fits}
+use Rattle.console.specs.declared.answers.Answer.TheVariants.{Reply as Replies}
+use Rattle.console.specs.Console.{Answered, console_answer}
+use Rattle.machine.specs.Run.{Status, Waiting, Over, Stopped}
+use Rattle.host.specs.Host.{HostState, Says}
+use Rattle.talk.specs.declared.emulator.Why.{Why}
+use Rattle.talk.specs.declared.running.RunEnd.{RunEnd}
+use Rattle.talk.specs.declared.running.RunEnd.TheVariants.{Ended, Stopped as HasStopped, StepLimit, InputEnded, NoDrive}
+use Rattle.talk.specs.Lines.{event_lines}
+use Rattle.talk.specs.Talk.{console_replies, refusal_then, refusal}
+use Rattle.talk.specs.Turns.{Past, Course, standing}
+
+-- after k more turns, in which the console took a part of its input, the run goes on; the events of these turns were said
+pub record Advance (k : ℕ) (before after : Course) (input left : List ℕ) (old new : HostState) : Type 0 where
+  pub events : List Event
+  pub taken : List Reply
+  pub next : Past → Past
+  pub dialogue : (t : Past) → (next t).dialogue ≡ t.dialogue ++ events
+  pub goes : (t : Past) (ys : List Reply) (n : ℕ) → before t (taken ++ ys) (k + n) ≡ after (next t) ys n
+  pub replies : (es : List Event) → console_replies input (events ++ es) ≡ taken ++ console_replies left es
+  pub refuses : (es : List Event) → refusal input (events ++ es) ≡ refusal left es
+  pub says : Says old new (event_lines events)
+
+-- the end of a run, by its status, the number of its last turn, and what the console refuses
+abbrev pub IsEnd : RunEnd → ℕ → Status Why → Option RunEnd → Type 0
+IsEnd (Ended steps) count status refused = (status ≡ Over) × (steps ≡ count)
+IsEnd (HasStopped why) count status refused = status ≡ Stopped why
+IsEnd StepLimit count status refused = ⊥
+IsEnd InputEnded count status refused = (status ≡ Waiting) × (refused ≡ Some InputEnded)
+IsEnd (NoDrive function) count status refused = (status ≡ Waiting) × (refused ≡ Some (NoDrive function))
+
+-- after one more turn, the one of this number, the run goes on no more; its events were said
+pub record Rest (o : RunEnd) (count : ℕ) (before : Course) (input : List ℕ) (old new : HostState) : Type 0 where
+  pub events : List Event
+  pub status : Status Why
+  pub goes : (t : Past) (n : ℕ) → before t [] (suc n) ≡ standing status (t.dialogue ++ events)
+  pub none : console_replies input events ≡ []
+  pub end : IsEnd o count status (refusal input events)
+  pub says : Says old new (event_lines events)
+
+-- of the events of the next turn, if there are any, some first bytes were said
+pub record Part (before : Course) (old new : HostState) : Type 0 where
+  pub events : List Event
+  pub turns : ℕ
+  pub few : turns ≤ 1
+  pub dialogue : (t : Past) (ys : List Reply) → (before t ys turns).dialogue ≡ t.dialogue ++ events
+  pub count : ℕ
+  pub says : Says old new (take count (event_lines events))
+
+-- what a turn comes to: the end of the run, if it is its last
+abbrev pub IsTurnDone : ℕ → Course → Course → List ℕ → List ℕ → HostState → HostState → Option RunEnd → Type 0
+IsTurnDone count before after input left old new None = Advance 1 before after input left old new
+IsTurnDone count before after input left old new (Some o) = Rest o count before input old new
+
+-- what the console's answer comes to, of a machine that waits
+abbrev pub IsAnswered : Request → (Reply → Course) → Course → List ℕ → List ℕ → Option RunEnd → Type 0
+IsAnswered q answered after input left None =
+    (y : Reply) × (◌≡◌ {A = Answered} (console_answer input q) (record { answer = Replies y; left = left })) × (fits q y ≡ true) × (after ≡ answered y)
+IsAnswered q answered after input left (Some o) = refusal_then (console_answer input q).answer q None ≡ Some o

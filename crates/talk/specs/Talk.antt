@@ -1,0 +1,96 @@
+-- A run over a console: its replies are the console's to its own calls. What it comes to, and what it says meanwhile.
+use Rattle.std.specs.Prelude.{◌≡◌, ℕ, suc, ◌≤◌, List, [], ◌∷◌, take, Option, Some, None}
+use Rattle.dialogue.specs.declared.request.Request.{Request}
+use Rattle.dialogue.specs.declared.request.Reply.{Reply}
+use Rattle.dialogue.specs.declared.request.Event.{Event}
+use Rattle.dialogue.specs.declared.request.Event.TheVariants.{Call, End}
+use Rattle.console.specs.declared.answers.Answer.TheVariants.{Reply as Replies, InputEnded as Ends, NoDrive as Refuses}
+use Rattle.console.specs.declared.answers.Answer.{Answer}
+use Rattle.console.specs.Console.{console_answer}
+use Rattle.machine.specs.Run.{Status, Going, Waiting, Over, Stopped, Run}
+use Rattle.host.specs.Host.{HostState, Says}
+use Rattle.talk.specs.declared.emulator.Why.{Why}
+use Rattle.talk.specs.declared.running.RunEnd.{RunEnd}
+use Rattle.talk.specs.declared.running.RunEnd.TheVariants.{Ended, Stopped as HasStopped, StepLimit, InputEnded, NoDrive}
+use Rattle.talk.specs.Lines.{event_lines}
+
+-- a run as it is seen from outside: whether it goes on, or else why not, and its dialogue
+pub record Seen : Type 0 where
+  pub status : Status Why
+  pub dialogue : List Event
+
+-- why a run does not go on, told by its state
+abbrev pub told_status : {X : Type 0} → (X → Why) → Status X → Status Why
+told_status why Going = Going
+told_status why Waiting = Waiting
+told_status why Over = Over
+told_status why (Stopped x) = Stopped (why x)
+
+abbrev pub seen : {S X : Type 0} → (S → X → Why) → Run S X → Seen
+seen why r = record { status = told_status (why r.state) r.status; dialogue = r.dialogue }
+
+-- the replies of a console to the calls of a dialogue, up to the first call that gets none
+abbrev pub reply_then : Answer → List Reply → List Reply
+reply_then (Replies y) rest = y ∷ rest
+reply_then Ends rest = []
+reply_then Refuses rest = []
+
+abbrev pub console_replies : List ℕ → List Event → List Reply
+console_replies input [] = []
+console_replies input (End ∷ es) = []
+console_replies input (Call q ∷ es) =
+    reply_then (console_answer input q).answer (console_replies (console_answer input q).left es)
+
+-- what a run comes to by the first call of its dialogue that gets no reply
+abbrev pub refusal_then : Answer → Request → Option RunEnd → Option RunEnd
+refusal_then (Replies y) q rest = rest
+refusal_then Ends q rest = Some InputEnded
+refusal_then Refuses q rest = Some (NoDrive q.shape.function)
+
+abbrev pub refusal : List ℕ → List Event → Option RunEnd
+refusal input [] = None
+refusal input (End ∷ es) = None
+refusal input (Call q ∷ es) =
+    refusal_then (console_answer input q).answer q (refusal (console_answer input q).left es)
+
+-- the run over a console after n turns: given the console's replies to its own dialogue, it is so
+abbrev pub IsAt : (List Reply → ℕ → Seen) → List ℕ → ℕ → Seen → Type 0
+IsAt course input n v = v ≡ course (console_replies input v.dialogue) n
+
+module _ (course : List Reply → ℕ → Seen) (input : List ℕ) (limit : ℕ) where
+  -- so many instructions ran, the last of them ended the program, and this is within the limit
+  pub record EndsAfter (steps : ℕ) (v : Seen) : Type 0 where
+    pub before : ℕ
+    pub count : steps ≡ suc before
+    pub within : steps ≤ limit
+    pub was : Seen
+    pub was_at : IsAt course input before was
+    pub went_on : was.status ≡ Going
+    pub at : IsAt course input steps v
+
+  -- what the run over a console comes to, by how it stands at the limit
+  abbrev pub IsCause : RunEnd → Seen → Type 0
+  IsCause (Ended steps) v = (v.status ≡ Over) × EndsAfter steps v
+  IsCause (HasStopped why) v = v.status ≡ Stopped why
+  IsCause StepLimit v = v.status ≡ Going
+  IsCause InputEnded v = (v.status ≡ Waiting) × (refusal input v.dialogue ≡ Some InputEnded)
+  IsCause (NoDrive function) v = (v.status ≡ Waiting) × (refusal input v.dialogue ≡ Some (NoDrive function))
+
+  pub record IsOutcome (o : RunEnd) (v : Seen) : Type 0 where
+    pub at : IsAt course input limit v
+    pub cause : IsCause o v
+
+  -- the run comes to this, and its whole dialogue was said
+  pub record SaysRun (o : RunEnd) (old new : HostState) : Type 0 where
+    pub run : Seen
+    pub outcome : IsOutcome o run
+    pub says : Says old new (event_lines run.dialogue)
+
+  -- some first bytes were said of the dialogue that the run has at some turn within the limit
+  pub record SaysPart (old new : HostState) : Type 0 where
+    pub turns : ℕ
+    pub within : turns ≤ limit
+    pub run : Seen
+    pub at : IsAt course input turns run
+    pub count : ℕ
+    pub says : Says old new (take count (event_lines run.dialogue))

@@ -1,0 +1,9 @@
+// A machine that talks to a console: one loop runs it, and each event of its dialogue is said as it comes.
+#![tactic(auto)]
+
+mod emulator;
+mod lines;
+mod running;
+
+pub use emulator::{Emulator, Turn, Why};
+pub use running::{RunEnd, converse};
