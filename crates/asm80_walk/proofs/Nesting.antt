@@ -1,8 +1,7 @@
 -- IFs that are opened and closed.
-use Rattle.std.proofs.Common.{◌≡◌, ℕ, List, [], ◌∷◌, ◌++◌, length, map, Bool, true, false, Option, Some, None, refl, sym, ap, ◌∙◌, drop, take, ◌-◌}
+use Rattle.std.proofs.Common.{◌≡◌, ℕ, List, [], ◌∷◌, ◌++◌, map, Bool, true, false, Option, Some, None, refl, sym, ap, ◌∙◌, drop, take, ◌-◌}
 use Rattle.std.specs.Prelude.{cond, not, reverse, option_to_list, ◌||◌, ◌&&◌, MatchOption}
 use Rattle.std.specs.List.{list_any}
-use Rattle.std.specs.Option.{option_or}
 use Rattle.std.proofs.lemmas.List.{map-append, reverse-append, append-nil}
 use Rattle.std.proofs.lemmas.List.Sorted.{list_any-IsPermutation, IsPermutation-reverse}
 use Rattle.asm80_tokens.specs.Tree.{Statement}
@@ -11,7 +10,7 @@ use Rattle.source80.specs.declared.operation.Operation.TheVariants.{If, EndIf}
 use Rattle.source80.specs.Walk.{Walk, operation_in, is_endif, is_taken, directive_meaning, is_true, ifs_by, skipped_ifs}
 use Rattle.source80.specs.FirstFaults.{Refusal}
 use Rattle.asm80_walk.specs.declared.ifs.OpenIf.{OpenIf}
-use Rattle.asm80_walk.specs.State.{State, taken_flags, refusals, all_but_last, if_unclosed, refusals_by, nested_ifs, walk_of}
+use Rattle.asm80_walk.specs.State.{State, taken_flags, refusals, all_but_last, refusals_by, nested_ifs, walk_of}
 
 -- ---- all but the last
 

@@ -1,6 +1,6 @@
 -- The state behind one statement more.
-use Rattle.std.proofs.Common.{◌≡◌, ℕ, ◌+◌, ◌<◌, ◌≤◌, ◌⊎◌, inl, inr, drop, drop-cons, add-one, arith, List, [], ◌∷◌, ◌++◌, length, map, get_or, Bool, true, false, Option, Some, None, refl, sym, ap, subst, ◌∙◌, append_assoc}
-use Rattle.std.specs.Prelude.{cond, filter}
+use Rattle.std.proofs.Common.{◌≡◌, ℕ, ◌+◌, ◌<◌, ◌≤◌, ◌⊎◌, inl, inr, drop, drop-cons, add-one, arith, List, [], ◌∷◌, ◌++◌, length, map, get_or, Bool, true, false, refl, sym, ap, subst, ◌∙◌, append_assoc}
+use Rattle.std.specs.Prelude.{filter}
 use Rattle.std.proofs.lemmas.List.{append-nil, length-map, get_or-map, get_or_default, drop_all}
 use Rattle.asm80_tokens.specs.declared.stmt.Stmt80.{Stmt80}
 use Rattle.asm80_tokens.specs.Tree.{Statement, statement_of}
@@ -8,7 +8,7 @@ use Rattle.source80.specs.Walk.{Walk, Row, is_taken, after, ends, rows_from, wal
 use Rattle.source80.specs.FirstFaults.{first_fault}
 use Rattle.asm80_walk.specs.declared.walked.Taken.{Taken}
 use Rattle.asm80_walk.specs.Walked.{StandsFor, Stand}
-use Rattle.asm80_walk.specs.State.{State, walk_of, taken_row, Steps, verdict, Reaches, refusals, final, start, Done}
+use Rattle.asm80_walk.specs.State.{State, walk_of, taken_row, Steps, verdict, Reaches, start, Done}
 use Rattle.asm80_walk.proofs.Verdicts.{verdict_stays, verdict_at_end}
 
 stand_more : (statements : List Stmt80) (ts : List Taken) (rs : List Row) (t : Taken) (r : Row) → Stand statements ts rs → StandsFor statements t r → Stand statements (ts ++ t ∷ []) (rs ++ r ∷ [])

@@ -1,18 +1,18 @@
 -- What a step of the code leaves is the state behind its statement.
 use Rattle.std.proofs.Common.{◌≡◌, ℕ, List, [], ◌∷◌, ◌++◌, Bool, true, false, Option, Some, None, refl, sym, ap, ◌∙◌}
-use Rattle.std.specs.Prelude.{cond, nat_le, ◌&&◌, reverse, is_some}
+use Rattle.std.specs.Prelude.{cond, reverse}
 use Rattle.std.specs.Option.{option_or}
-use Rattle.std.specs.List.{list_any}
-use Rattle.asm80_tokens.specs.Tree.{Operand, Statement}
+use Rattle.asm80_tokens.specs.Tree.{Statement}
 use Rattle.source80.specs.declared.operation.Operation.{Operation}
-use Rattle.source80.specs.declared.operation.Operation.TheVariants.{Org, End, Equ, Set, If, EndIf, Ds}
+use Rattle.source80.specs.declared.operation.Operation.TheVariants.{Org, End, Equ, Set, If, Ds}
 use Rattle.source80.specs.declared.rule.AsmRule.{AsmRule}
 use Rattle.source80.specs.declared.rule.AsmRule.TheVariants.{V1, V2, V4, V5, V6, V7}
 use Rattle.source80.specs.declared.meaning.Meaning.{Meaning}
-use Rattle.source80.specs.Names.{Name}
-use Rattle.source80.specs.Walk.{Walk, operation_in, is_taken, is_true, is_end, scope, directive_meaning, names_after, address_after, after_by}
-use Rattle.source80.specs.FirstFaults.{Refusal, rule_if, rule_of_taken, with_line, breaks_v1, breaks_v4, breaks_v5, label_clashes, label_overflows}
-use Rattle.asm80_walk.specs.State.{State, taken_flags, walk_of, refusals, refusals_by, nested_ifs, breaks_nesting, sure_rule, taken_row, Steps, rule_of_values, is_evaluated, rule_above, rule_at_end}
+use Rattle.source80.specs.declared.meaning.NameKind.{NameKind}
+use Rattle.source80.specs.Names.{Name, clashes, overflows}
+use Rattle.source80.specs.Walk.{Walk, operation_in, is_taken, is_true, scope, directive_meaning, names_after, address_after, after_by, kind_of_label, label_meaning_by}
+use Rattle.source80.specs.FirstFaults.{rule_if, rule_of_taken, with_line, breaks_v1, breaks_v4, breaks_v5, label_clashes, label_overflows}
+use Rattle.asm80_walk.specs.State.{State, taken_flags, walk_of, nested_ifs, breaks_nesting, sure_rule, taken_row, Steps, rule_of_values, is_evaluated, rule_above, rule_at_end}
 use Rattle.asm80_walk.proofs.Nesting.{flags_skipped, flags_taken, refusals_nested}
 
 -- ---- a statement that is skipped
@@ -48,13 +48,18 @@ if_split : (b : Bool) (rule : AsmRule) (x y z : Option AsmRule) → x ≡ option
 if_split true rule x y z e = refl
 if_split false rule x y z e = e
 
-pub rules_joined : (deep clash full form : Bool) (rule : Option AsmRule) → option_or (option_or (rule_if deep V6 None) (rule_if clash V2 (rule_if full V7 None))) (rule_if form V5 rule) ≡ rule_if deep V6 (rule_if clash V2 (rule_if full V7 (rule_if form V5 rule)))
+rules_joined : (deep clash full form : Bool) (rule : Option AsmRule) → option_or (option_or (rule_if deep V6 None) (rule_if clash V2 (rule_if full V7 None))) (rule_if form V5 rule) ≡ rule_if deep V6 (rule_if clash V2 (rule_if full V7 (rule_if form V5 rule)))
 rules_joined true clash full form rule = refl
 rules_joined false true full form rule = refl
 rules_joined false false true form rule = refl
 rules_joined false false false form rule = refl
 
-pub rules_split : (w : Walk) (s : Statement) → is_taken w s ≡ true → sure_rule w s ≡ option_or (rule_above w s (operation_in s)) (rule_at_end w.at (names_after w s) s.args (operation_in s))
+pub above_joined : (w : Walk) (s : Statement) (o : Option Operation) (nesting label operand either all : Option AsmRule) → nesting ≡ rule_if (breaks_nesting w s o) V6 None → label ≡ rule_if (label_clashes w s s.label) V2 (rule_if (label_overflows w s s.label) V7 None) → operand ≡ rule_if (breaks_v5 s o) V5 (cond (is_evaluated o) (rule_of_values (scope w) s.args) None) → either ≡ option_or nesting label → all ≡ option_or either operand → all ≡ rule_above w s o
+above_joined w s o nesting label operand either all a b c d e =
+    let joined = rules_joined (breaks_nesting w s o) (label_clashes w s s.label) (label_overflows w s s.label) (breaks_v5 s o) (cond (is_evaluated o) (rule_of_values (scope w) s.args) None) in
+    (rw (d, a, b, c) at e) ∙ joined
+
+rules_split : (w : Walk) (s : Statement) → is_taken w s ≡ true → sure_rule w s ≡ option_or (rule_above w s (operation_in s)) (rule_at_end w.at (names_after w s) s.args (operation_in s))
 rules_split w s e =
     let o = operation_in s in
     let z = rule_at_end w.at (names_after w s) s.args o in
@@ -93,3 +98,8 @@ takes_through index s old kept named nested noted new o rule rule_before rule_en
     let d = e5 ∙ ap (λ (x : State). record x { at = next }) c in
     let last = second ∙ ap (λ (x : State). rule_at_end x.at x.names s.args o) a in
     takes index s old new t (rw (to, both, first, last, mean, sameop) at d)
+
+pub rule_of_label : (names : List Name) (w : Walk) (s : Statement) (text : List ℕ) (kind : NameKind) (rule : Option AsmRule) → names ≡ w.names → s.label ≡ Some text → kind ≡ kind_of_label (operation_in s) → ((m : Meaning) → rule ≡ rule_if (clashes names (record { text = text; kind = kind; meaning = m })) V2 (rule_if (overflows names (record { text = text; kind = kind; meaning = m })) V7 None)) → rule ≡ rule_if (label_clashes w s s.label) V2 (rule_if (label_overflows w s s.label) V7 None)
+rule_of_label names w s text kind rule same label kinds h =
+    let k = h (label_meaning_by w s (operation_in s)) in
+    rw label (rw (same, kinds) at k)

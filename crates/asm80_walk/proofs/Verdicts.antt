@@ -1,19 +1,18 @@
 -- The first fault, by what the state holds of the statements so far.
-use Rattle.std.proofs.Common.{◌≡◌, ℕ, suc, ◌+◌, ◌<◌, ◌≤◌, List, [], ◌∷◌, ◌++◌, length, map, Bool, true, false, Option, Some, None, refl, sym, ap, subst, ◌∙◌, add-zero, arith}
-use Rattle.std.specs.Prelude.{cond, not, ◌&&◌, ◌||◌, nat_le, reverse, unwrap_or}
+use Rattle.std.proofs.Common.{◌≡◌, ℕ, suc, ◌+◌, ◌<◌, ◌≤◌, List, [], ◌∷◌, ◌++◌, length, Bool, true, false, Option, Some, None, refl, sym, ap, subst, ◌∙◌, add-zero, arith}
+use Rattle.std.specs.Prelude.{cond, not, ◌&&◌, ◌||◌, nat_le, unwrap_or}
 use Rattle.std.specs.Option.{option_or}
 use Rattle.std.proofs.lemmas.Bool.{le-leb, lt-leb}
 use Rattle.std.proofs.lemmas.List.{length-map, length-reverse}
-use Rattle.std.proofs.Math.Nat.{add-suc, suc-add, zero-add}
 use Rattle.asm80_tokens.specs.Tree.{Statement}
 use Rattle.source80.specs.declared.operation.Operation.{Operation}
 use Rattle.source80.specs.declared.operation.Operation.TheVariants.{If, EndIf}
 use Rattle.source80.specs.declared.rule.AsmRule.{AsmRule}
 use Rattle.source80.specs.declared.rule.AsmRule.TheVariants.{V6}
 use Rattle.source80.specs.Walk.{Walk, Row, operation_in, is_if, is_endif, is_taken, rows_from, walk_from}
-use Rattle.source80.specs.FirstFaults.{Refusal, rule_if, most_ifs, is_closed, rule_of_taken, rule_of_row, with_line, first_fault}
+use Rattle.source80.specs.FirstFaults.{Refusal, rule_if, most_ifs, is_closed, rule_of_taken, with_line, first_fault}
 use Rattle.asm80_walk.specs.declared.ifs.OpenIf.{OpenIf}
-use Rattle.asm80_walk.specs.State.{State, taken_flags, refusals, walk_of, breaks_nesting, sure_rule, if_unclosed, all_but_last, refusals_by, Steps, under, verdict, final}
+use Rattle.asm80_walk.specs.State.{State, taken_flags, refusals, walk_of, sure_rule, if_unclosed, all_but_last, refusals_by, Steps, under, verdict, final}
 
 -- ---- the IFs that are open
 
@@ -120,7 +119,7 @@ verdict_stays index s old new h left =
     under_pass 0 (refusals old.ifs) (option_or old.fault (first_fault (row ∷ later) end)) row later end (omega (arith, open_count old))
     ∙ row_step old s (nat_le most_ifs (length w.ifs)) alone rule rest (length w.ifs) (omega (arith, open_count old)) later end (nests (operation_in s)) closing
     ∙ sym (ap (λ (f : Option Refusal). under 0 (refusals new.ifs) (option_or f rest) later end) h.fault
-      ∙ ap (λ (rs : List Refusal). under 0 rs (option_or (option_or old.fault (with_line s.line (sure_rule w s))) rest) later end) h.refusals)
+    ∙ ap (λ (rs : List Refusal). under 0 rs (option_or (option_or old.fault (with_line s.line (sure_rule w s))) rest) later end) h.refusals)
 
 -- ---- at the end
 

@@ -10,7 +10,7 @@ use Rattle.source80.specs.declared.rule.AsmRule.{AsmRule}
 use Rattle.source80.specs.declared.rule.AsmRule.TheVariants.{V1, V2, V4, V5, V6, V7}
 use Rattle.source80.specs.Values.{Scope, operand_has_unknown, operand_divides_by_zero}
 use Rattle.source80.specs.Names.{Name}
-use Rattle.source80.specs.Walk.{Walk, Row, operation_in, is_if, is_endif, is_end, is_taken, scope, meaning_in, directive_meaning, after, ends, rows_from, walk_from, rows, walked, row_is_taken}
+use Rattle.source80.specs.Walk.{Walk, Row, operation_in, is_if, is_endif, is_end, is_taken, scope, meaning_in, directive_meaning, after, rows_from, walk_from, rows, walked, row_is_taken}
 use Rattle.source80.specs.FirstFaults.{Refusal, rule_if, most_ifs, is_closed, label_clashes, label_overflows, breaks_v5, rule_of_taken, with_line, first_fault}
 use Rattle.asm80_walk.specs.declared.walked.Taken.{Taken}
 use Rattle.asm80_walk.specs.declared.ifs.OpenIf.{OpenIf}

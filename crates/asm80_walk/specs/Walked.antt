@@ -1,5 +1,5 @@
 -- What the first walk gives, by the definitions.
-use Rattle.std.specs.Prelude.{◌≡◌, ◌<◌, ℕ, List, [], ◌∷◌, length, map, filter, get_or, Some, None, Result, Ok, Err}
+use Rattle.std.specs.Prelude.{◌≡◌, ◌<◌, List, [], ◌∷◌, length, map, filter, get_or, Some, None, Result, Ok, Err}
 use Rattle.asm80_tokens.specs.declared.stmt.Stmt80.{Stmt80}
 use Rattle.asm80_tokens.specs.Tree.{statement_of}
 use Rattle.source80.specs.Walk.{Row, rows, walked, row_is_taken, row_operation, directive_meaning}

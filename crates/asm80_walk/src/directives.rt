@@ -12,9 +12,7 @@ ghost use Rattle.asm80_walk.specs.State.{rule_of_values, is_evaluated};
 
 use crate::operations::operation_of;
 use crate::size::size_of;
-use asm80_names::{
-    Scope, is_no_value, meaning_of, operand_divides_by_zero, operand_has_unknown,
-};
+use asm80_names::{Scope, is_no_value, meaning_of, operand_divides_by_zero, operand_has_unknown};
 use asm80_tokens::{Arg, Stmt80};
 use source80::{AsmRule, Meaning, NameKind, Operation};
 
@@ -93,12 +91,7 @@ pub fn label_meaning(at: u16, operation: Option<Operation>, meaning: Meaning) ->
 // ---- the address
 
 /// The address after a statement, by its own and what its operand stands for.
-pub fn address_after(
-    at: u16,
-    operation: Option<Operation>,
-    meaning: Meaning,
-    args: &[Arg],
-) -> u16
+pub fn address_after(at: u16, operation: Option<Operation>, meaning: Meaning, args: &[Arg]) -> u16
     ensures { (w : Walk) (s : Statement) → w.at ≡ at → directive_meaning w s ≡ meaning → s.args ≡ map operand_of args.now → result ≡ address_by w s operation }
 {
     let next = next_address(at, operation, args);

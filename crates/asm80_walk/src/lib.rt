@@ -3,11 +3,14 @@
 #![tactic(auto)]
 
 mod directives;
+mod first_walk;
 mod ifs;
 mod operations;
 mod size;
 mod walked;
+mod walker;
 
+pub use first_walk::walk;
 pub use operations::operation_of;
 pub use size::size_of;
 pub use walked::{AsmFault, Taken, Walked};

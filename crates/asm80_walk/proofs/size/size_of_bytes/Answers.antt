@@ -1,8 +1,7 @@
-use Rattle.std.proofs.Common.{◌∙◌, sym, ap, map, arith, take}
-use Rattle.std.specs.Prelude.{sum_by}
+use Rattle.std.proofs.Common.{◌∙◌, sym, ap, map, arith}
 use Rattle.std.proofs.lemmas.List.{get_or-map, length-map, take_all}
 use Rattle.std.proofs.lemmas.List.Sums.{sum_by_more}
-use Rattle.asm80_tokens.specs.Tree.{Operand, operand_of}
+use Rattle.asm80_tokens.specs.Tree.{operand_of}
 use Rattle.source80.specs.Walk.{bytes_of_item}
 use Rattle.asm80_walk.proofs.size.size_of_bytes.Goals as goal
 
