@@ -7,7 +7,7 @@ ghost use Rattle.asm80_walk.specs.declared.ifs.OpenIf.{OpenIf};
 use source80::AsmRule;
 
 /// An IF that is open.
-#[derive(Clone, Copy, Drop)]
+#[derive(Clone, Copy)]
 pub struct OpenIf {
     /// Whether its statements are taken.
     pub is_taken: bool,

@@ -113,10 +113,11 @@ pub fn operation_of(word: &[u8]) -> Option<Operation>
 fn find_in(table: &[(&[u8], Operation)], word: &[u8]) -> Option<Operation>
     ensures { (entries : List (List ℕ × Operation)) → map (λ (x : Bor (List ℕ) × Operation). (x.0.now, x.1)) table.now ≡ entries → result ≡ option_map (λ (x : List ℕ × Operation). x.1) (find (λ (x : List ℕ × Operation). bytes_eq x.0 word.now) entries) }
 {
-    operation_in(table, word)
+    operation_among(table, word)
 }
 
-fn operation_in(table: &[(&[u8], Operation)], word: &[u8]) -> Option<Operation>
+// The same, by the table as it lies in memory.
+fn operation_among(table: &[(&[u8], Operation)], word: &[u8]) -> Option<Operation>
     ensures { result ≡ option_map (λ (x : Bor (List ℕ) × Operation). x.1) (find (λ (x : Bor (List ℕ) × Operation). bytes_eq x.0.now word.now) table.now) }
 {
     let entry = table.iter().find(|entry| entry.0 == word)?;
