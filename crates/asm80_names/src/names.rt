@@ -1,9 +1,10 @@
 //! The names of a source.
 
-ghost use Rattle.std.specs.Prelude.{◌≡◌, [], OnOk, OnErr, not, filter, option_map};
+ghost use Rattle.std.specs.Prelude.{◌≡◌, ◌||◌, [], Some, None, MatchOption, OnOk, OnErr, not, filter, option_map};
 ghost use Rattle.source80.specs.declared.meaning.NameKind.{NameKind};
 ghost use Rattle.source80.specs.Names.{Name, named, clashes, overflows, defined, is_settable};
 ghost use Rattle.source80.specs.Walk.{meaning_in};
+ghost use Rattle.asm80_names.specs.Entries.{name_of};
 
 use asm80_tokens::Name80;
 use indexmap::IndexMap;
@@ -48,11 +49,18 @@ impl Names {
         }
     }
 
+    // What the map has of a name.
+    fn entry(&self, name: &Name80) -> Option<Entry>
+        ensures { MatchOption result (named self.now name.now ≡ None) (λ e. named self.now name.now ≡ Some (name_of (name.now, e))) }
+    {
+        self.entries.get(name).copied()
+    }
+
     /// What a name stands for.
     pub fn meaning(&self, name: &Name80) -> Option<Meaning>
         ensures { result ≡ meaning_in self.now name.now }
     {
-        let entry = self.entries.get(name)?;
+        let entry = self.entry(name)?;
         Some(entry.meaning)
     }
 
@@ -60,7 +68,7 @@ impl Names {
     pub fn kind(&self, name: &Name80) -> Option<NameKind>
         ensures { result ≡ option_map (λ (n : Name). n.kind) (named self.now name.now) }
     {
-        let entry = self.entries.get(name)?;
+        let entry = self.entry(name)?;
         Some(entry.kind)
     }
 
@@ -81,6 +89,13 @@ impl Names {
         self.kind(name).is_none() && self.entries.len() >= MOST_NAMES
     }
 
+    // Whether a definition of this kind clashes or has no room.
+    fn is_refused(&self, name: &Name80, kind: NameKind) -> bool
+        ensures { (meaning : Meaning) → result ≡ (clashes self.now (record { text = name.now; kind = kind; meaning = meaning }) || overflows self.now (record { text = name.now; kind = kind; meaning = meaning })) }
+    {
+        self.clashes(name, kind) || self.overflows(name)
+    }
+
     /// Defines a name, or sets it again; one that clashes or has no room is not made.
     pub fn define(
         &mut self,
@@ -91,7 +106,7 @@ impl Names {
         ensures made { OnOk result (self.new ≡ defined self.old (record { text = name; kind = kind; meaning = meaning })) }
         ensures unchanged { OnErr result (self.new ≡ self.old) }
     {
-        if self.clashes(&name, kind) || self.overflows(&name) {
+        if self.is_refused(&name, kind) {
             return Ok(());
         }
         self.entries.insert(name, Entry { kind, meaning })?;
