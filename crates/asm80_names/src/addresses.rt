@@ -1,7 +1,7 @@
 //! Sets of addresses.
 
-ghost use Rattle.std.specs.Prelude.{◌≡◌, ◌==◌, ◌||◌, ℕ, false, length, IfOk};
-ghost use Rattle.asm80_names.specs.Addresses.{has_address};
+ghost use Rattle.std.specs.Prelude.{◌≡◌, ◌==◌, ◌||◌, ◌∷◌, [], ℕ, List, false, length, IfOk};
+ghost use Rattle.asm80_names.specs.Addresses.{has_address, StandsFor};
 
 use std::alloc::{AllocError, Global};
 use std::marker::Model;
@@ -25,7 +25,7 @@ impl Model for AddressSet {
 impl AddressSet {
     /// The set of no address.
     pub fn new(alloc: Global) -> Result<AddressSet, AllocError>
-        ensures { IfOk result (λ set. (a : ℕ) → has_address set a ≡ false) }
+        ensures { IfOk result (λ set. StandsFor set []) }
     {
         Ok(AddressSet {
             flags: flags(alloc, 65_536)?,
@@ -34,7 +34,8 @@ impl AddressSet {
 
     /// Adds an address.
     pub fn insert(&mut self, at: u16)
-        ensures { (a : ℕ) → has_address self.new a ≡ ((at == a) || has_address self.old a) }
+        ensures value { (a : ℕ) → has_address self.new a ≡ ((at == a) || has_address self.old a) }
+        ensures stands { (addresses : List ℕ) → StandsFor self.old addresses → StandsFor self.new (at ∷ addresses) }
     {
         self.flags[usize::from(at)] = true;
     }

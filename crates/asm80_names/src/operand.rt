@@ -1,9 +1,9 @@
 //! The values of operands.
 
-ghost use Rattle.std.specs.Prelude.{◌≡◌};
+ghost use Rattle.std.specs.Prelude.{◌≡◌, ℕ, List};
 ghost use Rattle.std.specs.List.{list_any};
 ghost use Rattle.asm80_tokens.specs.Tree.{operand_of};
-ghost use Rattle.asm80_names.specs.Addresses.{has_address};
+ghost use Rattle.asm80_names.specs.Addresses.{has_address, is_among, StandsFor};
 ghost use Rattle.asm80_names.specs.Scopes.{scope_of};
 ghost use Rattle.source80.specs.Values.{is_no_value, operand_has_unknown, operand_divides_by_zero, operand_number, operand_place, operand_places_inside};
 
@@ -66,7 +66,8 @@ pub fn operand_place(scope: &Scope<'_>, arg: &Arg) -> Option<u16>
 
 /// Whether the address of some place name or `$` inside a larger expression is in a set.
 pub fn has_place_inside(scope: &Scope<'_>, arg: &Arg, set: &AddressSet) -> bool
-    ensures { result ≡ list_any (has_address set.now) (operand_places_inside (scope_of scope.now) (operand_of arg.now)) }
+    ensures value { result ≡ list_any (has_address set.now) (operand_places_inside (scope_of scope.now) (operand_of arg.now)) }
+    ensures stands { (addresses : List ℕ) → StandsFor set.now addresses → result ≡ list_any (is_among addresses) (operand_places_inside (scope_of scope.now) (operand_of arg.now)) }
 {
     match arg {
         Arg::Text(_) => false,
