@@ -11,6 +11,8 @@ mod profile;
 mod registers;
 mod rules;
 mod setting;
+#[cfg(test)]
+mod tests;
 
 pub use fault::FormFault;
 pub use form::{Data, Form, Instruction, form_of};
