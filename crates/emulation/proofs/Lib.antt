@@ -1,3 +1,2 @@
-pub mod Turning
 pub mod Machine80
 pub mod Machine86

@@ -15,7 +15,7 @@ use Rattle.talk.specs.declared.emulator.Why.TheVariants.{Left}
 use Rattle.talk.specs.declared.emulator.Turn.TheVariants.{Ran as HasRun, Asks as HasAsked, Ended, Stopped as HasStopped}
 use Rattle.talk.specs.Turns.{Course, IsTurn}
 use Rattle.emulation.specs.Courses.{why80, course80_from}
-use Rattle.emulation.proofs.Turning.{turn_ran, turn_ended, turn_stopped, turn_asked}
+use Rattle.talk.proofs.Turning.{turn_ran, turn_ended, turn_stopped, turn_asked}
 
 module _ (p : Program) (s t : State80) (answered : Request → Reply → Course) where
   pub ran80 : IsStep (step80 p s) DidRun s t → IsTurn (course80_from p s) (course80_from p t) answered HasRun

@@ -18,7 +18,7 @@ use Rattle.step86.specs.Step.{step86, machine86}
 use Rattle.talk.specs.declared.emulator.Turn.TheVariants.{Ran as HasRun, Asks as HasAsked, Ended, Stopped as HasStopped}
 use Rattle.talk.specs.Turns.{nothing, Course, taken, after_asked, IsTurn}
 use Rattle.emulation.specs.Courses.{why86, course86, course86_from}
-use Rattle.emulation.proofs.Turning.{turn_ran, turn_ended, turn_stopped, turn_asked}
+use Rattle.talk.proofs.Turning.{turn_ran, turn_ended, turn_stopped, turn_asked}
 
 -- the one choice is every choice
 one_choice : (c k : ℕ) → choice_at (c ∷ []) k ≡ c

@@ -4,6 +4,8 @@
 mod commands;
 mod plain;
 mod tagged;
+#[cfg(test)]
+mod tests;
 
 pub use commands::{run_80, run_86};
 pub use plain::Plain86;

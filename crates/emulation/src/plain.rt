@@ -52,7 +52,10 @@ impl Emulator for Plain86 {
     ghost use Rattle.dialogue.specs.declared.request.Event.TheVariants.{Call};
     ghost use Rattle.step86.specs.Call.{replied86};
     ghost use Rattle.cpu86.specs.Standing.{standing, code_of};
-    ghost use Rattle.emulation.specs.Courses.{course86_from, Runs86, Waits86};
+    ghost use Rattle.i86.specs.Decoder.{decoded};
+    ghost use Rattle.step86.specs.Step.{machine86};
+    ghost use Rattle.emulation.specs.Courses.{why86, course86_from, Runs86, Waits86};
+    ghost use Rattle.talk.proofs.OneRun.{one_run};
 
     ghost runs = { λ m. Runs86 m.cpu };
 
@@ -85,4 +88,6 @@ impl Emulator for Plain86 {
     ghost begins = { λ m t ys. refl };
 
     ghost takes = { λ m q y t ys. refl };
+
+    ghost single = { λ m. one_run (machine86 (decoded (code_of m.cpu))) (m.choice ∷ []) why86 (standing m.cpu).state };
 }

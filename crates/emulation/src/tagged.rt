@@ -36,12 +36,13 @@ impl<'a> Tagged80<'a> {
 }
 
 impl<'a> Emulator for Tagged80<'a> {
-    ghost use Rattle.std.specs.Prelude.{refl};
+    ghost use Rattle.std.specs.Prelude.{refl, []};
     ghost use Rattle.dialogue.specs.declared.request.Event.TheVariants.{Call};
-    ghost use Rattle.step80.specs.Step.{replied80};
+    ghost use Rattle.step80.specs.Step.{machine80, replied80};
     ghost use Rattle.cpu80.specs.State.{state_of};
     ghost use Rattle.cpu80.specs.Machine.{IsMachineOf};
-    ghost use Rattle.emulation.specs.Courses.{course80_from, Waits80};
+    ghost use Rattle.emulation.specs.Courses.{why80, course80_from, Waits80};
+    ghost use Rattle.talk.proofs.OneRun.{one_run};
 
     ghost runs = { λ m. IsMachineOf m.program.now m.cpu };
 
@@ -70,4 +71,6 @@ impl<'a> Emulator for Tagged80<'a> {
     ghost begins = { λ m t ys. refl };
 
     ghost takes = { λ m q y t ys. refl };
+
+    ghost single = { λ m. one_run (machine80 m.program.now) [] why80 (state_of m.cpu) };
 }

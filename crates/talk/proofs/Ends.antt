@@ -1,16 +1,16 @@
 -- Turns put together to a run over a console.
 use Rattle.std.proofs.Common.{◌≡◌, ℕ, suc, ◌+◌, ◌-◌, ◌≤◌, List, [], ◌++◌, length, take, refl, sym, ap, ◌∙◌, subst, arith, append_assoc}
 use Rattle.std.proofs.lemmas.List.{append-nil}
-use Rattle.dialogue.specs.declared.request.Event.{Event}
 use Rattle.machine.specs.Run.{Going}
-use Rattle.host.specs.Host.{HostState, said_more}
+use Rattle.host.specs.Host.{HostState, said_more, Says}
 use Rattle.talk.specs.declared.running.RunEnd.{RunEnd}
 use Rattle.talk.specs.declared.running.RunEnd.TheVariants.{Ended, Stopped as HasStopped, StepLimit, InputEnded, NoDrive}
 use Rattle.talk.specs.Lines.{event_lines}
-use Rattle.talk.specs.Talk.{Seen, console_replies, refusal, IsAt, IsCause, SaysRun, SaysPart}
+use Rattle.talk.specs.Talk.{Seen, console_replies, refusal, IsAt, HasOneRun, IsCause, IsOutcome, SaysRun, SaysPart}
 use Rattle.talk.specs.Turns.{Course, nothing, standing, Begins}
 use Rattle.talk.specs.Advance.{Advance, IsEnd, Rest, Part}
 use Rattle.talk.proofs.Said.{event_lines-append, says_nothing, says_then, says_part}
+use Rattle.talk.proofs.Exact.{outcome_one, part_at_limit}
 
 pub advance_none : (c : Course) (input : List ℕ) (h : HostState) → Advance 0 c c input input h h
 advance_none c input h = record {
@@ -45,7 +45,7 @@ advance_then j a b c i l r f g h x y = record {
   says = says_then f g h (event_lines x.events) (event_lines y.events) x.says y.says ∙ ap (said_more f.said) (sym (event_lines-append x.events y.events));
 }
 
-module _ (c b : Course) (input left : List ℕ) (old mid new : HostState) (j : ℕ) (x : Advance j c b input left old mid) where
+module _ (c b : Course) (one : HasOneRun (c nothing)) (input left : List ℕ) (old mid new : HostState) (j : ℕ) (x : Advance j c b input left old mid) where
   -- where it goes on
   pub reached : Begins b → IsAt (c nothing) input j (standing Going x.events)
   reached begins =
@@ -62,14 +62,12 @@ module _ (c b : Course) (input left : List ℕ) (old mid new : HostState) (j : �
   says_limit begins = record {
     run = standing Going x.events;
     outcome = record { at = reached begins; cause = refl };
+    only = outcome_one (c nothing) one input j StepLimit (standing Going x.events) (record { at = reached begins; cause = refl });
     says = x.says;
   }
 
   -- where it comes to an end
   module _ (o : RunEnd) (count limit : ℕ) (begins : Begins b) (within : suc j ≤ limit) (is : count ≡ suc j) (y : Rest o count b left mid new) where
-    events : List Event
-    events = x.events ++ y.events
-
     rests : (m : ℕ) → standing y.status (x.events ++ y.events) ≡ c nothing (console_replies input (x.events ++ y.events)) (j + suc m)
     rests m =
         let ys : console_replies input (x.events ++ y.events) ≡ x.taken ++ [] = x.replies y.events ∙ ap (λ zs. x.taken ++ zs) y.none in
@@ -100,15 +98,19 @@ module _ (c b : Course) (input left : List ℕ) (old mid new : HostState) (j : �
     cause InputEnded e = (e.0, x.refuses y.events ∙ e.1)
     cause (NoDrive function) e = (e.0, x.refuses y.events ∙ e.1)
 
-    pub says_end : SaysRun (c nothing) input limit o old new
-    says_end =
+    outcome : IsOutcome (c nothing) input limit o (standing y.status (x.events ++ y.events))
+    outcome =
         let m = limit - suc j in
         let all : j + suc m ≡ limit = omega arith in
-        record {
-          run = standing y.status (x.events ++ y.events);
-          outcome = record { at = rests_at limit m all; cause = cause o y.end };
-          says = says_then old mid new (event_lines x.events) (event_lines y.events) x.says y.says ∙ ap (said_more old.said) (sym (event_lines-append x.events y.events));
-        }
+        record { at = rests_at limit m all; cause = cause o y.end }
+
+    pub says_end : SaysRun (c nothing) input limit o old new
+    says_end = record {
+      run = standing y.status (x.events ++ y.events);
+      outcome = outcome;
+      only = outcome_one (c nothing) one input limit o (standing y.status (x.events ++ y.events)) outcome;
+      says = says_then old mid new (event_lines x.events) (event_lines y.events) x.says y.says ∙ ap (said_more old.said) (sym (event_lines-append x.events y.events));
+    }
 
   -- where a fault comes
   pub says_fault : (limit : ℕ) → suc j ≤ limit → Part b mid new → SaysPart (c nothing) input limit old new
@@ -118,13 +120,8 @@ module _ (c b : Course) (input left : List ℕ) (old mid new : HostState) (j : �
       let goes : run ≡ b (x.next nothing) (console_replies left y.events) y.turns = ap (λ zs. c nothing zs (j + y.turns)) (x.replies y.events) ∙ x.goes nothing (console_replies left y.events) y.turns in
       let is : run.dialogue ≡ x.events ++ y.events = ap (λ (v : Seen). v.dialogue) goes ∙ y.dialogue (x.next nothing) (console_replies left y.events) ∙ ap (λ d. d ++ y.events) (x.dialogue nothing) in
       let count : ℕ = length (event_lines x.events) + y.count in
-      record {
-        turns = j + y.turns;
-        within = omega arith;
-        run = run;
-        at = ap (λ d. c nothing (console_replies input d) (j + y.turns)) (sym is);
-        count = count;
-        says =
-            says_part old mid new (event_lines x.events) (event_lines y.events) y.count x.says y.says
-            ∙ ap (λ l. said_more old.said (take count l)) (sym (event_lines-append x.events y.events) ∙ ap event_lines (sym is));
-      }
+      let says : Says old new (take count (event_lines run.dialogue)) =
+      says_part old mid new (event_lines x.events) (event_lines y.events) y.count x.says y.says
+      ∙ ap (λ l. said_more old.said (take count l)) (sym (event_lines-append x.events y.events) ∙ ap event_lines (sym is)) in
+      let within : j + y.turns ≤ limit = omega arith in
+      part_at_limit (c nothing) one input limit old new (j + y.turns) within run (ap (λ d. c nothing (console_replies input d) (j + y.turns)) (sym is)) count says

@@ -1,5 +1,5 @@
 -- What is said line by line.
-use Rattle.std.proofs.Common.{◌≡◌, ℕ, suc, ◌+◌, List, [], ◌∷◌, ◌++◌, length, take, refl, sym, ap, ◌∙◌, arith, append_assoc, Result, Ok, Err, OnErr}
+use Rattle.std.proofs.Common.{◌≡◌, ℕ, zero, suc, ◌+◌, List, [], ◌∷◌, ◌++◌, length, take, refl, sym, ap, ◌∙◌, arith, append_assoc, Result, Ok, Err, OnErr}
 use Rattle.std.proofs.lemmas.List.{append-nil}
 use Rattle.dialogue.specs.declared.request.Event.{Event}
 use Rattle.host.specs.Host.{HostState, said_more, Says}
@@ -37,3 +37,10 @@ says_part a b c x y k p q = says_then a b c x (take k y) p q ∙ ap (said_more a
 pub on_err : {T E P : Type 0} (r : Result T E) → P → OnErr r P
 on_err (Ok x) p = tt
 on_err (Err e) p = p
+
+-- what begins a list begins each longer one
+pub take_front : {X : Type 0} (a b : List X) (k : ℕ) → take (length (take k a)) (a ++ b) ≡ take k a
+take_front [] b zero = refl
+take_front [] b (suc k) = refl
+take_front (x ∷ a) b zero = refl
+take_front (x ∷ a) b (suc k) = ap (λ l. x ∷ l) (take_front a b k)

@@ -7,7 +7,7 @@ use Rattle.dialogue.specs.declared.request.Event.TheVariants.{Call, End}
 use Rattle.console.specs.declared.answers.Answer.TheVariants.{Reply as Replies, InputEnded as Ends, NoDrive as Refuses}
 use Rattle.console.specs.declared.answers.Answer.{Answer}
 use Rattle.console.specs.Console.{console_answer}
-use Rattle.machine.specs.Run.{Status, Going, Waiting, Over, Stopped, Run}
+use Rattle.machine.specs.Run.{Status, Going, Waiting, Over, Stopped, Run, IsFrontOf}
 use Rattle.host.specs.Host.{HostState, Says}
 use Rattle.talk.specs.declared.emulator.Why.{Why}
 use Rattle.talk.specs.declared.running.RunEnd.{RunEnd}
@@ -57,6 +57,14 @@ refusal input (Call q ∷ es) =
 abbrev pub IsAt : (List Reply → ℕ → Seen) → List ℕ → ℕ → Seen → Type 0
 IsAt course input n v = v ≡ course (console_replies input v.dialogue) n
 
+-- over any console there is one run: it is one after each number of turns, its dialogues grow, and once it is over it stays
+-- as it is
+pub record HasOneRun (course : List Reply → ℕ → Seen) : Type 0 where
+  pub some : (input : List ℕ) (n : ℕ) → (v : Seen) × IsAt course input n v
+  pub one : (input : List ℕ) (n : ℕ) (v w : Seen) → IsAt course input n v → IsAt course input n w → v ≡ w
+  pub grows : (input : List ℕ) (i n : ℕ) (v w : Seen) → i ≤ n → IsAt course input i v → IsAt course input n w → IsFrontOf v.dialogue w.dialogue
+  pub over : (ys : List Reply) (i n : ℕ) → i ≤ n → (course ys i).status ≡ Over → course ys n ≡ course ys i
+
 module _ (course : List Reply → ℕ → Seen) (input : List ℕ) (limit : ℕ) where
   -- so many instructions ran, the last of them ended the program, and this is within the limit
   pub record EndsAfter (steps : ℕ) (v : Seen) : Type 0 where
@@ -80,17 +88,17 @@ module _ (course : List Reply → ℕ → Seen) (input : List ℕ) (limit : ℕ)
     pub at : IsAt course input limit v
     pub cause : IsCause o v
 
-  -- the run comes to this, and its whole dialogue was said
+  -- the run comes to this and no run over the console to anything else, and its whole dialogue was said
   pub record SaysRun (o : RunEnd) (old new : HostState) : Type 0 where
     pub run : Seen
     pub outcome : IsOutcome o run
+    pub only : (e : RunEnd) (v : Seen) → IsOutcome e v → (e ≡ o) × (v ≡ run)
     pub says : Says old new (event_lines run.dialogue)
 
-  -- some first bytes were said of the dialogue that the run has at some turn within the limit
+  -- some first bytes were said of the dialogue that the run has at the limit
   pub record SaysPart (old new : HostState) : Type 0 where
-    pub turns : ℕ
-    pub within : turns ≤ limit
     pub run : Seen
-    pub at : IsAt course input turns run
+    pub at : IsAt course input limit run
+    pub only : (v : Seen) → IsAt course input limit v → v ≡ run
     pub count : ℕ
     pub says : Says old new (take count (event_lines run.dialogue))

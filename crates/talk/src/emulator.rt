@@ -34,8 +34,8 @@ pub trait Emulator {
     ghost use Rattle.dialogue.specs.Fits.{fits};
     ghost use Rattle.dialogue.specs.declared.request.Request.{Request};
     ghost use Rattle.dialogue.specs.declared.request.Reply.{Reply};
-    ghost use Rattle.talk.specs.Talk.{Seen};
-    ghost use Rattle.talk.specs.Turns.{Past, IsTurn, AsksLawfully, IsReady, Begins};
+    ghost use Rattle.talk.specs.Talk.{Seen, HasOneRun};
+    ghost use Rattle.talk.specs.Turns.{Past, nothing, IsTurn, AsksLawfully, IsReady, Begins};
 
     // It may take a turn; it waits for the reply to a request.
     ghost runs: { Self → Type 0 };
@@ -66,4 +66,7 @@ pub trait Emulator {
     ghost begins: { (m : Self) → Begins (course m) };
 
     ghost takes: { (m : Self) (q : Request) (y : Reply) → Begins (answered m q y) };
+
+    // Over any console it has one run.
+    ghost single: { (m : Self) → HasOneRun (course m nothing) };
 }

@@ -4,10 +4,14 @@ use Rattle.i86.specs.declared.Instr86.{Instr86}
 use Rattle.i86.specs.Code.{Reads}
 use Rattle.dialogue.specs.declared.request.Reply.{Reply}
 use Rattle.step86.specs.Start.{start86}
+use Rattle.step86.specs.Step.{machine86}
 use Rattle.cpu86.specs.Standing.{standing, code_of}
 use Rattle.talk.specs.Talk.{Seen, SaysRun, SaysPart}
 use Rattle.talk.specs.Turns.{nothing}
-use Rattle.emulation.specs.Courses.{course86, course86_from}
+use Rattle.talk.proofs.OneRun.{one_run}
+use Rattle.talk.proofs.Exact.{part_unsaid}
+use Rattle.talk.proofs.Said.{on_err}
+use Rattle.emulation.specs.Courses.{why86, course86, course86_from}
 use Rattle.emulation.specs.Starts.{start_by}
 use Rattle.emulation.proofs.Machine86.{course86_is}
 use Rattle.emulation.proofs.commands.run_86.Goals as goal
@@ -47,3 +51,11 @@ returns-clause-part g c =
     on_err_weaker c.converse.result (λ (h : SaysPart first c.new-console.result limit old new). λ (fetch : ℕ → Option Instr86) (reads : Reads image.code fetch).
     let is = course86_is fetch image page fill (start_by choice) choice m.choice (code_of m.cpu) (standing m.cpu).state c.in_ok-machine.ensures.choice c.in_ok-machine.ensures.code state c.new.ensures.reader reads in
     subst (λ i. SaysPart (run fetch) i limit old new) input (subst (λ course. SaysPart course c.new-console.result limit old new) is h)) c.converse.ensures.part
+
+pub returns-in_err-machine-clause-part : goal.returns-in_err-machine-clause-part
+returns-in_err-machine-clause-part g c =
+    let image = c.args.image.now in
+    let page = c.args.page.now in
+    let fill = c.args.fill.now in
+    let choice = c.args.choice in
+    on_err c.from_residual.result (λ (fetch : ℕ → Option Instr86) (reads : Reads image.code fetch). part_unsaid (course86 fetch image page fill (start_by choice) (choice ∷ [])) (one_run (machine86 fetch) (choice ∷ []) why86 (start86 image page fill (start_by choice))) c.args.input.items c.args.limit (g.H.Host.state c.args.host.now))

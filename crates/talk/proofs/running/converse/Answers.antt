@@ -52,7 +52,7 @@ returns-in-Some-clause-run g c =
     let input = c.args.console.now in
     let left = c.loop-count.console in
     let done : Rest end (j + 1) before left mid new = subst (IsTurnDone (j + 1) before after left c.turn.new.console mid new) c.in-Some.is c.in_ok-end.ensures.done in
-    says_end first before input left old mid new j c.loop-count.invariant.advance end (j + 1) c.args.limit (g.met.E.Emulator.begins c.loop-count.machine) (omega arith) (omega arith) done
+    says_end first before (g.met.E.Emulator.single c.args.machine.now) input left old mid new j c.loop-count.invariant.advance end (j + 1) c.args.limit (g.met.E.Emulator.begins c.loop-count.machine) (omega arith) (omega arith) done
 
 -- no turn is left
 pub returns-clause-run : goal.returns-clause-run
@@ -62,7 +62,7 @@ returns-clause-run g c =
     let old = g.H.Host.state c.args.host.now in
     let mid = g.H.Host.state c.loop-count.host in
     let all : c.loop-count.count ≡ c.args.limit = omega arith in
-    subst (λ n. SaysRun (first nothing) c.args.console.now n StepLimit old mid) all (says_limit first before c.args.console.now c.loop-count.console old mid mid c.loop-count.count c.loop-count.invariant.advance (g.met.E.Emulator.begins c.loop-count.machine))
+    subst (λ n. SaysRun (first nothing) c.args.console.now n StepLimit old mid) all (says_limit first before (g.met.E.Emulator.single c.args.machine.now) c.args.console.now c.loop-count.console old mid mid c.loop-count.count c.loop-count.invariant.advance (g.met.E.Emulator.begins c.loop-count.machine))
 
 -- a fault
 pub returns-in_err-end-clause-part : goal.returns-in_err-end-clause-part
@@ -72,4 +72,4 @@ returns-in_err-end-clause-part g c =
     let old = g.H.Host.state c.args.host.now in
     let mid = g.H.Host.state c.loop-count.host in
     let new = g.H.Host.state c.turn.new.host in
-    on_err c.from_residual.result (says_fault first before c.args.console.now c.loop-count.console old mid new c.loop-count.count c.loop-count.invariant.advance c.args.limit (omega arith) c.in_err-end.ensures.part)
+    on_err c.from_residual.result (says_fault first before (g.met.E.Emulator.single c.args.machine.now) c.args.console.now c.loop-count.console old mid new c.loop-count.count c.loop-count.invariant.advance c.args.limit (omega arith) c.in_err-end.ensures.part)

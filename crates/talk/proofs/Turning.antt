@@ -11,9 +11,6 @@ use Rattle.talk.specs.Talk.{seen}
 use Rattle.talk.specs.Turns.{Past, after_ran, after_asked, standing, taken, course_from}
 
 module _ {S X : Type 0} (m : Machine S X) (cs : List ℕ) (why : S → X → Why) (s : S) (t : Past) (ys : List Reply) (n : ℕ) where
-  run_from : Run S X
-  run_from = record { state = s; status = Going; dialogue = t.dialogue; replies = ys; used = t.used }
-
   -- by what the step answers
   settled : (a : Answer S X) → m.step s (choice_at cs t.used) ≡ a → course_from m cs why s t ys (suc n) ≡ seen why (turns m cs n (settle m cs (record { state = s; status = Going; dialogue = t.dialogue; replies = ys; used = t.used }) a))
   settled a e = ap (λ a. seen why (turns m cs n (settle m cs (record { state = s; status = Going; dialogue = t.dialogue; replies = ys; used = t.used }) a))) e
@@ -40,9 +37,15 @@ module _ {S X : Type 0} (m : Machine S X) (cs : List ℕ) (why : S → X → Why
   turn_asked t [] n e = settled m cs why s t [] n (Asks (Call q) u) e ∙ waiting t [] n
   turn_asked t (y ∷ ys) n e = settled m cs why s t (y ∷ ys) n (Asks (Call q) u) e ∙ by_fit (fits q y)
     where
-      replied : Run S X
-      replied = record { state = m.replied u (Call q) y (choice_at cs (suc t.used)); status = Going; dialogue = (after_asked t q).dialogue; replies = ys; used = suc (suc t.used) }
-
       by_fit : (b : Bool) → seen why (turns m cs n (cond b (record { state = m.replied u (Call q) y (choice_at cs (suc t.used)); status = Going; dialogue = (after_asked t q).dialogue; replies = ys; used = suc (suc t.used) }) (record { state = u; status = Waiting; dialogue = (after_asked t q).dialogue; replies = y ∷ ys; used = suc t.used }))) ≡ cond b (course_from m cs why (m.replied u (Call q) y (choice_at cs (suc t.used))) (after_ran (after_asked t q)) ys n) (standing Waiting (after_asked t q).dialogue)
       by_fit true = refl
       by_fit false = waiting t (y ∷ ys) n
+
+-- the end, if it were asked, would get no reply
+pub turn_asked_end : {S X : Type 0} → (m : Machine S X) (cs : List ℕ) (why : S → X → Why) (s u : S) (t : Past) (ys : List Reply) (n : ℕ) → m.step s (choice_at cs t.used) ≡ Asks End u → course_from m cs why s t ys (suc n) ≡ standing Waiting (t.dialogue ++ End ∷ [])
+turn_asked_end {S} {X} m cs why s u t [] n e =
+    let r : Run S X = record { state = u; status = Waiting; dialogue = t.dialogue ++ End ∷ []; replies = []; used = suc t.used } in
+    settled m cs why s t [] n (Asks End u) e ∙ ap (seen why) (still_turns m cs n r tt)
+turn_asked_end {S} {X} m cs why s u t (y ∷ ys) n e =
+    let r : Run S X = record { state = u; status = Waiting; dialogue = t.dialogue ++ End ∷ []; replies = y ∷ ys; used = suc t.used } in
+    settled m cs why s t (y ∷ ys) n (Asks End u) e ∙ ap (seen why) (still_turns m cs n r tt)
