@@ -1,0 +1,5 @@
+pub mod Lists
+pub mod Verdicts
+pub mod Reaching
+pub mod Nesting
+pub mod Stepping

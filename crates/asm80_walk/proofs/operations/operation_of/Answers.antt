@@ -1,0 +1,7 @@
+use Rattle.std.proofs.Common.{refl}
+use Rattle.source80.specs.Operations.{operations}
+use Rattle.asm80_walk.proofs.operations.operation_of.Goals as goal
+
+pub returns : goal.returns
+unfolding operations
+returns c = c.find_in.ensures operations refl
