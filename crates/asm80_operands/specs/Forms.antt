@@ -1,0 +1,33 @@
+-- What the form of a statement's operands is, by the definition of the assembler.
+use Rattle.std.specs.Prelude.{◌≡◌, List, true, false, Some, None, Result, Ok, Err}
+use Rattle.std.specs.List.{list_any}
+use Rattle.asm80_tokens.specs.Tree.{Operand}
+use Rattle.asm80_operands.specs.declared.fault.FormFault.{FormFault}
+use Rattle.asm80_operands.specs.declared.fault.FormFault.TheVariants.{Rule, Memory}
+use Rattle.asm80_operands.specs.declared.form.Form.{Form}
+use Rattle.asm80_operands.specs.declared.form.Form.TheVariants.{Nothing, Instruction, Data}
+use Rattle.source80.specs.declared.operation.Operation.{Operation}
+use Rattle.source80.specs.Items.{Setting, instruction, data_by, is_instruction_op, is_data_op}
+use Rattle.source80.specs.Layout.{is_foreign_by, operands_by, misses, computes, loads_code}
+use Rattle.source80.specs.Operands.{rule_of_operands}
+
+-- the operands' instruction or cells, and the rules of the layout that they break
+abbrev pub IsForm : Setting → Operation → List Operand → Form → Type 0
+IsForm t o args Nothing = (is_instruction_op (Some o) ≡ false) × (is_data_op (Some o) ≡ false)
+IsForm t o args (Instruction i) =
+    (is_instruction_op (Some o) ≡ true)
+    × (i.instr ≡ instruction t o args)
+    × (i.is_foreign ≡ is_foreign_by t args (Some o))
+    × (i.misses ≡ list_any (misses t) (operands_by args (Some o)))
+    × (i.computes ≡ list_any (computes t) (operands_by args (Some o)))
+    × (i.loads_code ≡ list_any (loads_code t) (operands_by args (Some o)))
+IsForm t o args (Data d) =
+    (is_data_op (Some o) ≡ true)
+    × (d.cells.items ≡ data_by t args (Some o))
+    × (d.computes ≡ list_any (computes t) (operands_by args (Some o)))
+
+-- what is answered for operands: their form where they break no rule, else the first rule that they break
+abbrev pub GivesForm : Setting → Operation → List Operand → Result Form FormFault → Type 0
+GivesForm t o args (Ok f) = (rule_of_operands t.scope args (Some o) ≡ None) × IsForm t o args f
+GivesForm t o args (Err (Rule rule)) = rule_of_operands t.scope args (Some o) ≡ Some rule
+GivesForm t o args (Err Memory) = Unit {0}

@@ -1,0 +1,123 @@
+// Registers as operands.
+ghost use Rattle.std.specs.Prelude.{◌≡◌, option_map};
+ghost use Rattle.asm80_tokens.specs.Tree.{operand_of};
+ghost use Rattle.source80.specs.Operands.{register_name, src_named, pair_named, indirect_named, stack_named, src_of, pair_of, indirect_of, stack_of};
+
+use asm80_tokens::{Arg, Expr, Name80};
+use i80::{Pair, Reg, Src, StackPair};
+
+// The name that an operand is.
+fn register_name(arg: &Arg) -> Option<&[u8]>
+    ensures { option_map (λ name. name.now) result ≡ register_name (operand_of arg.now) }
+{
+    match arg {
+        Arg::Text(_) => None,
+        Arg::Value(e) => name_alone(e),
+    }
+}
+
+// The name that an expression is.
+fn name_alone(e: &Expr) -> Option<&[u8]>
+    ensures { option_map (λ name. name.now) result ≡ register_name (Rattle.asm80_tokens.specs.Tree.Whole (Rattle.asm80_tokens.specs.Tree.tree_of e.now)) }
+{
+    match e {
+        Expr::Name(name) => Some(name.as_slice()),
+        _ => None,
+    }
+}
+
+fn src_named(name: &[u8]) -> Option<Src>
+    ensures { result ≡ src_named name.now }
+{
+    if name == b"A".as_slice() {
+        Some(Src::Reg(Reg::A))
+    } else if name == b"B".as_slice() {
+        Some(Src::Reg(Reg::B))
+    } else if name == b"C".as_slice() {
+        Some(Src::Reg(Reg::C))
+    } else if name == b"D".as_slice() {
+        Some(Src::Reg(Reg::D))
+    } else if name == b"E".as_slice() {
+        Some(Src::Reg(Reg::E))
+    } else if name == b"H".as_slice() {
+        Some(Src::Reg(Reg::H))
+    } else if name == b"L".as_slice() {
+        Some(Src::Reg(Reg::L))
+    } else if name == b"M".as_slice() {
+        Some(Src::Mem)
+    } else {
+        None
+    }
+}
+
+fn pair_named(name: &[u8]) -> Option<Pair>
+    ensures { result ≡ pair_named name.now }
+{
+    if name == b"B".as_slice() {
+        Some(Pair::B)
+    } else if name == b"D".as_slice() {
+        Some(Pair::D)
+    } else if name == b"H".as_slice() {
+        Some(Pair::H)
+    } else if name == b"SP".as_slice() {
+        Some(Pair::Sp)
+    } else {
+        None
+    }
+}
+
+fn indirect_named(name: &[u8]) -> Option<Pair>
+    ensures { result ≡ indirect_named name.now }
+{
+    if name == b"B".as_slice() {
+        Some(Pair::B)
+    } else if name == b"D".as_slice() {
+        Some(Pair::D)
+    } else {
+        None
+    }
+}
+
+fn stack_named(name: &[u8]) -> Option<StackPair>
+    ensures { result ≡ stack_named name.now }
+{
+    if name == b"B".as_slice() {
+        Some(StackPair::B)
+    } else if name == b"D".as_slice() {
+        Some(StackPair::D)
+    } else if name == b"H".as_slice() {
+        Some(StackPair::H)
+    } else if name == b"PSW".as_slice() {
+        Some(StackPair::Psw)
+    } else {
+        None
+    }
+}
+
+/// The register that an operand names, or M.
+pub fn src_of(arg: &Arg) -> Option<Src>
+    ensures { result ≡ src_of (operand_of arg.now) }
+{
+    src_named(register_name(arg)?)
+}
+
+/// The pair that an operand names, or SP.
+pub fn pair_of(arg: &Arg) -> Option<Pair>
+    ensures { result ≡ pair_of (operand_of arg.now) }
+{
+    pair_named(register_name(arg)?)
+}
+
+/// The pair of LDAX and STAX that an operand names.
+pub fn indirect_of(arg: &Arg) -> Option<Pair>
+    ensures { result ≡ indirect_of (operand_of arg.now) }
+{
+    indirect_named(register_name(arg)?)
+}
+
+/// The pair of PUSH and POP that an operand names.
+pub fn stack_of(arg: &Arg) -> Option<StackPair>
+    ensures { result ≡ stack_of (operand_of arg.now) }
+{
+    stack_named(register_name(arg)?)
+}
