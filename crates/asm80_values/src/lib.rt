@@ -1,0 +1,10 @@
+// The program that statements stand for, or the first rule of names, values and layout that they break.
+#![tactic(auto)]
+
+mod item;
+mod layout;
+mod program;
+
+pub use item::Item;
+pub use layout::layout_fault;
+pub use program::program_of_items;
