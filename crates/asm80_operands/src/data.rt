@@ -13,11 +13,10 @@ use std::alloc::{AllocError, Global};
 fn push_numbers(cells: &mut Vec<Cell>, bytes: &[u8]) -> Result<(), AllocError>
     ensures { OnOk result (cells.new.items ≡ cells.old.items ++ numbers bytes.now) }
 {
-    let Some((first, rest)) = bytes.split_first() else {
-        return Ok(());
-    };
-    cells.push(Cell::Num(*first))?;
-    push_numbers(cells, rest)
+    for byte in bytes {
+        cells.push(Cell::Num(*byte))?;
+    }
+    Ok(())
 }
 
 // Adds an item of DB: a string's bytes, or a byte.
@@ -56,28 +55,6 @@ fn push_word(cells: &mut Vec<Cell>, setting: &Setting<'_>, arg: &Arg) -> Result<
     Ok(())
 }
 
-// Adds the items of DB.
-fn push_bytes(cells: &mut Vec<Cell>, setting: &Setting<'_>, args: &[Arg]) -> Result<(), AllocError>
-    ensures { OnOk result (cells.new.items ≡ cells.old.items ++ flat_map (cells_of_byte (setting_of setting.now)) (map operand_of args.now)) }
-{
-    let Some((arg, args)) = args.split_first() else {
-        return Ok(());
-    };
-    push_byte(cells, setting, arg)?;
-    push_bytes(cells, setting, args)
-}
-
-// Adds the items of DW.
-fn push_words(cells: &mut Vec<Cell>, setting: &Setting<'_>, args: &[Arg]) -> Result<(), AllocError>
-    ensures { OnOk result (cells.new.items ≡ cells.old.items ++ flat_map (cells_of_word (setting_of setting.now)) (map operand_of args.now)) }
-{
-    let Some((arg, args)) = args.split_first() else {
-        return Ok(());
-    };
-    push_word(cells, setting, arg)?;
-    push_words(cells, setting, args)
-}
-
 /// The cells of DB.
 pub fn cells_of_bytes(
     alloc: Global,
@@ -87,7 +64,9 @@ pub fn cells_of_bytes(
     ensures { IfOk result (λ cells. cells.items ≡ flat_map (cells_of_byte (setting_of setting.now)) (map operand_of args.now)) }
 {
     let mut cells = Vec::new(alloc);
-    push_bytes(&mut cells, setting, args)?;
+    for arg in args {
+        push_byte(&mut cells, setting, arg)?;
+    }
     Ok(cells)
 }
 
@@ -100,6 +79,8 @@ pub fn cells_of_words(
     ensures { IfOk result (λ cells. cells.items ≡ flat_map (cells_of_word (setting_of setting.now)) (map operand_of args.now)) }
 {
     let mut cells = Vec::new(alloc);
-    push_words(&mut cells, setting, args)?;
+    for arg in args {
+        push_word(&mut cells, setting, arg)?;
+    }
     Ok(cells)
 }
