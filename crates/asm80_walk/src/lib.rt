@@ -14,3 +14,6 @@ pub use first_walk::walk;
 pub use operations::operation_of;
 pub use size::size_of;
 pub use walked::{AsmFault, Taken, Walked};
+
+#[cfg(test)]
+mod tests;
