@@ -7,7 +7,7 @@ use Rattle.std.proofs.lemmas.List.Elements.{filter_map-append}
 use Rattle.cells.specs.declared.Cell.{Cell}
 use Rattle.source80.specs.Items.{laid_from}
 
-cons_option-one : {X : Type 0} (o : Option X) → cons_option o [] ≡ option_to_list o
+pub cons_option-one : {X : Type 0} (o : Option X) → cons_option o [] ≡ option_to_list o
 cons_option-one None = refl
 cons_option-one (Some x) = refl
 

@@ -4,3 +4,10 @@ pub mod Breaches
 pub mod Laying
 pub mod Times
 pub mod Placing
+pub mod Sizes
+pub mod Rows
+pub mod Starts
+pub mod SetNames
+pub mod SetAgain
+pub mod Chain
+pub mod Along
