@@ -12,12 +12,12 @@ use Rattle.source80.specs.declared.rule.AsmRule.{AsmRule}
 use Rattle.source80.specs.declared.meaning.Meaning.{Meaning}
 use Rattle.source80.specs.Names.{Name}
 use Rattle.source80.specs.Walk.{Walk, Row, rows, walked, meaning_in, row_is_taken, row_operation}
-use Rattle.source80.specs.FirstFaults.{Refusal, with_line, first_fault}
+use Rattle.source80.specs.FirstFaults.{with_line, first_fault}
 use Rattle.source80.specs.Operands.{operand_scope, meaning_seen, rule_of_operands, second_rule, second_fault}
 use Rattle.source80.specs.Items.{Setting, setting, is_instruction_op, is_data_op, fills_cells, items as rows_that_fill, starts_in, starts_at}
 use Rattle.asm80_values.specs.declared.item.Item.{Item}
 use Rattle.asm80_values.specs.Items.{IsItem, AreItems}
-use Rattle.asm80_values.specs.Second.{taken_rows, fills, seen_in, names_set, IsItemOf, GivesItem}
+use Rattle.asm80_values.specs.Second.{taken_rows, seen_in, names_set, IsItemOf, GivesItem}
 use Rattle.asm80_values.proofs.Chain.{Sees, sees_all}
 use Rattle.asm80_values.proofs.SetAgain.{fixed}
 

@@ -7,8 +7,8 @@ use Rattle.source80.specs.declared.operation.Operation.TheVariants.{Equ, Set}
 use Rattle.source80.specs.declared.rule.AsmRule.{AsmRule}
 use Rattle.source80.specs.declared.rule.AsmRule.TheVariants.{V1, V2, V4, V5, V6, V7}
 use Rattle.source80.specs.Names.{Name, named, is_settable, defined}
-use Rattle.source80.specs.Walk.{Walk, Row, operation_in, is_taken, meaning_in, kind_of_label, definition, names_by, names_after, after_by, after, ends, rows_from, walk_from, at_start, rows, walked, row_is_taken}
-use Rattle.source80.specs.FirstFaults.{Refusal, breaks_v6, label_clashes, label_overflows, breaks_v5, breaks_v1, breaks_v4, rule_of_taken, rule_of_row, with_line, first_fault, rule_if}
+use Rattle.source80.specs.Walk.{Walk, Row, operation_in, is_taken, meaning_in, kind_of_label, definition, names_by, after_by, after, ends, rows_from, walk_from, at_start, rows, walked, row_is_taken}
+use Rattle.source80.specs.FirstFaults.{breaks_v6, label_clashes, label_overflows, breaks_v5, breaks_v1, breaks_v4, rule_of_taken, rule_of_row, with_line, first_fault, rule_if}
 use Rattle.source80.specs.Operands.{meaning_by, meaning_seen}
 use Rattle.asm80_values.specs.Second.{set_by, names_set}
 use Rattle.asm80_values.proofs.SetNames.{Made, made, Distinct, distinct_made}

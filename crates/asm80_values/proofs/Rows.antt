@@ -1,6 +1,6 @@
 -- The items of rows, from the forms of their operands.
-use Rattle.std.proofs.Common.{◌≡◌, ℕ, Bool, true, false, ◌||◌, List, Option, Some, None, Result, Ok, Err, refl, sym, ap, subst, ◌∙◌}
-use Rattle.asm80_tokens.specs.Tree.{Operand, Statement}
+use Rattle.std.proofs.Common.{◌≡◌, ℕ, Bool, true, false, ◌||◌, List, Option, Some, Result, Ok, Err, refl, subst}
+use Rattle.asm80_tokens.specs.Tree.{Operand}
 use Rattle.asm80_operands.specs.declared.fault.FormFault.{FormFault}
 use Rattle.asm80_operands.specs.declared.fault.FormFault.TheVariants.{Rule, Memory}
 use Rattle.asm80_operands.specs.declared.form.Form.{Form}
@@ -9,8 +9,7 @@ use Rattle.asm80_operands.specs.declared.form.Instruction.{Instruction as Instr}
 use Rattle.asm80_operands.specs.declared.form.Data.{Data as Cells}
 use Rattle.asm80_operands.specs.Forms.{IsForm, GivesForm}
 use Rattle.source80.specs.declared.operation.Operation.{Operation}
-use Rattle.source80.specs.Operands.{rule_of_operands}
-use Rattle.source80.specs.Items.{Setting, is_instruction_op, is_data_op}
+use Rattle.source80.specs.Items.{Setting, is_instruction_op}
 use Rattle.source80.specs.Walk.{Row, row_operation}
 use Rattle.asm80_values.specs.declared.item.Item.{Item}
 use Rattle.asm80_values.specs.Second.{GivesItem, IsItemOf, fault_on, fills}

@@ -1,6 +1,6 @@
 -- The addresses of instructions, among the rows that are taken.
-use Rattle.std.proofs.Common.{◌≡◌, ℕ, ◌+◌, ◌<◌, ◌==◌, ◌&&◌, ◌||◌, Bool, true, false, cond, List, [], ◌∷◌, ◌++◌, length, get_or, take, map, filter, Option, Some, None, refl, sym, ap, ◌∙◌}
-use Rattle.std.specs.List.{list_any, filter_map, cons_option}
+use Rattle.std.proofs.Common.{◌≡◌, ℕ, ◌+◌, ◌<◌, ◌==◌, ◌&&◌, ◌||◌, Bool, true, false, cond, List, [], ◌∷◌, ◌++◌, length, get_or, take, map, filter, Some, None, refl, sym, ap, ◌∙◌}
+use Rattle.std.specs.List.{filter_map, cons_option}
 use Rattle.std.specs.Option.{option_to_list}
 use Rattle.std.proofs.lemmas.List.{take_more}
 use Rattle.std.proofs.lemmas.List.Elements.{filter_map-append}
@@ -8,7 +8,7 @@ use Rattle.std.proofs.lemmas.List.Folds.{list_any-append}
 use Rattle.asm80_tokens.specs.declared.stmt.Stmt80.{Stmt80}
 use Rattle.asm80_names.specs.Addresses.{is_among}
 use Rattle.asm80_walk.specs.declared.walked.Taken.{Taken}
-use Rattle.asm80_walk.specs.Walked.{Stand, StandsFor}
+use Rattle.asm80_walk.specs.Walked.{Stand}
 use Rattle.source80.specs.Walk.{Row, row_is_taken, row_operation}
 use Rattle.source80.specs.Items.{is_instruction_op, is_instruction, address, starts_in}
 use Rattle.asm80_values.specs.Second.{start_of}

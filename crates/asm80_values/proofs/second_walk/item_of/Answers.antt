@@ -1,7 +1,7 @@
-use Rattle.std.proofs.Common.{◌≡◌, List, map, Some, Ok, ap, sym, ◌∙◌, refl}
-use Rattle.asm80_tokens.specs.Tree.{Operand, Statement, operand_of}
+use Rattle.std.proofs.Common.{◌≡◌, map, Some, Ok, ap, sym, ◌∙◌}
+use Rattle.asm80_tokens.specs.Tree.{Statement, operand_of}
 use Rattle.source80.specs.Walk.{row_operation, meaning_in}
-use Rattle.source80.specs.Items.{Setting, address}
+use Rattle.source80.specs.Items.{Setting}
 use Rattle.asm80_names.specs.Addresses.{has_address}
 use Rattle.asm80_operands.specs.Forms.{GivesForm}
 use Rattle.asm80_values.specs.Second.{seen_in}

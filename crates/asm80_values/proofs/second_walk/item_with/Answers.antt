@@ -1,4 +1,4 @@
-use Rattle.std.proofs.Common.{◌≡◌, ◌^◌, ◌<◌, ap, sym, ◌∙◌, refl}
+use Rattle.std.proofs.Common.{ap, sym, ◌∙◌}
 use Rattle.source80.specs.Walk.{row_operation, size_by}
 use Rattle.asm80_values.proofs.second_walk.item_with.Goals as goal
 use Rattle.asm80_values.proofs.Rows.{form_fills}

@@ -1,4 +1,4 @@
-use Rattle.std.proofs.Common.{List, length, sym, ap, ◌∙◌}
+use Rattle.std.proofs.Common.{List, length, ap, ◌∙◌}
 use Rattle.cells.specs.declared.Cell.{Cell}
 use Rattle.asm80_values.proofs.second_walk.size_of_form.Goals as goal
 use Rattle.asm80_values.proofs.Sizes.{data_size}
