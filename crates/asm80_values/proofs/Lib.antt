@@ -1,0 +1,13 @@
+pub mod Cells
+pub mod Overlaps
+pub mod Breaches
+pub mod Laying
+pub mod Times
+pub mod Placing
+pub mod Sizes
+pub mod Rows
+pub mod Starts
+pub mod SetNames
+pub mod SetAgain
+pub mod Chain
+pub mod Along

@@ -1,0 +1,8 @@
+use Rattle.std.proofs.Common.{◌≡◌, ◌==◌, ◌||◌, ℕ}
+use Rattle.std.specs.List.{list_any}
+use Rattle.asm80_names.specs.Addresses.{has_address}
+use Rattle.source80.specs.Layout.{counted_from}
+use Rattle.asm80_values.proofs.layout.fill.Given as goal
+
+abbrev pub invariant-loop-k : goal.invariant-loop-k
+invariant-loop-k l = (a : ℕ) → has_address l.filled a ≡ (list_any (λ b. b == a) (counted_from l.item.at l.k) || has_address l.initial.filled a)

@@ -1,0 +1,12 @@
+// The program that statements stand for, or the first rule of names, values and layout that they break.
+#![tactic(auto)]
+
+mod item;
+mod layout;
+mod program;
+mod second_walk;
+
+pub use item::Item;
+pub use layout::layout_fault;
+pub use program::program_of_items;
+pub use second_walk::{item_of, set_again, starts_of};

@@ -1,0 +1,114 @@
+// The program of items.
+ghost use Rattle.std.specs.Prelude.{◌≡◌, ◌++◌, option_to_list, IfOk, OnOk};
+ghost use Rattle.std.specs.List.{filter_map, flat_map};
+ghost use Rattle.std.specs.List.Sorted.{IsPermutation, IsNonDecreasingBy};
+ghost use Rattle.program80.specs.Program.{Program};
+ghost use Rattle.source80.specs.Items.{laid_from};
+ghost use Rattle.asm80_values.specs.Programs.{AreLawful, placed_item, data_item};
+
+use crate::item::{Item, address_of_cell};
+use asm80_operands::Form;
+use cells::Cell;
+use program80::{Placed, Program80};
+use std::alloc::{AllocError, Global};
+
+// The instruction of an item, at its address.
+fn placed_item(item: &Item) -> Option<Placed>
+    ensures { result ≡ placed_item item.now }
+{
+    match &item.form {
+        Form::Instruction(instruction) => match instruction.instr {
+            Some(instr) => Some(Placed {
+                at: item.at,
+                line: item.line,
+                instr,
+            }),
+            None => None,
+        },
+        _ => None,
+    }
+}
+
+// Adds the instruction of an item.
+fn push_placed(placed: &mut Vec<Placed>, item: &Item) -> Result<(), AllocError>
+    ensures { OnOk result (placed.new.items ≡ placed.old.items ++ option_to_list (placed_item item.now)) }
+{
+    if let Some(found) = placed_item(item) {
+        placed.push(found)?;
+    }
+    Ok(())
+}
+
+// The instructions of items.
+fn placed_items(alloc: Global, items: &[Item]) -> Result<Vec<Placed>, AllocError>
+    ensures { IfOk result (λ v. v.items ≡ filter_map placed_item items.now) }
+{
+    let mut placed = Vec::new(alloc);
+    for item in items {
+        push_placed(&mut placed, item)?;
+    }
+    Ok(placed)
+}
+
+// Adds data cells from an address up.
+fn push_cells(laid: &mut Vec<(u16, Cell)>, at: u16, cells: &[Cell]) -> Result<(), AllocError>
+    ensures { OnOk result (laid.new.items ≡ laid.old.items ++ laid_from at cells.now) }
+{
+    for (k, cell) in cells.iter().enumerate() {
+        laid.push((address_of_cell(at, k), *cell))?;
+    }
+    Ok(())
+}
+
+// Adds the data cells of an item.
+fn push_data(laid: &mut Vec<(u16, Cell)>, item: &Item) -> Result<(), AllocError>
+    ensures { OnOk result (laid.new.items ≡ laid.old.items ++ data_item item.now) }
+{
+    match &item.form {
+        Form::Data(data) => push_cells(laid, item.at, &data.cells),
+        _ => Ok(()),
+    }
+}
+
+// The data cells of items.
+fn data_items(alloc: Global, items: &[Item]) -> Result<Vec<(u16, Cell)>, AllocError>
+    ensures { IfOk result (λ v. v.items ≡ flat_map data_item items.now) }
+{
+    let mut cells = Vec::new(alloc);
+    for item in items {
+        push_data(&mut cells, item)?;
+    }
+    Ok(cells)
+}
+
+// Puts instructions in the order of their addresses.
+fn sort_placed(placed: &mut Vec<Placed>) -> Result<(), AllocError>
+    ensures same { IsPermutation placed.old.items placed.new.items }
+    ensures rising { OnOk result (IsNonDecreasingBy (λ x. x.at) placed.new.items) }
+{
+    placed.sort_by_key(|placed| placed.at)?;
+    Ok(())
+}
+
+// Puts data cells in the order of their addresses.
+fn sort_data(cells: &mut Vec<(u16, Cell)>) -> Result<(), AllocError>
+    ensures same { IsPermutation cells.old.items cells.new.items }
+    ensures rising { OnOk result (IsNonDecreasingBy (λ c. c.0) cells.new.items) }
+{
+    cells.sort_by_key(|cell| cell.0)?;
+    Ok(())
+}
+
+/// The program of items that break no rule of the layout, for a top of the program area.
+pub fn program_of_items(alloc: Global, items: &[Item], top: u16) -> Result<Program80, AllocError>
+    requires { AreLawful top items.now }
+    ensures top { IfOk result (λ p. p.top ≡ top) }
+    ensures instrs { IfOk result (λ p. IsPermutation (filter_map placed_item items.now) p.instrs) }
+    ensures cells { IfOk result (λ p. IsPermutation (flat_map data_item items.now) p.cells) }
+{
+    let mut placed = placed_items(alloc, items)?;
+    sort_placed(&mut placed)?;
+    let mut cells = data_items(alloc, items)?;
+    sort_data(&mut cells)?;
+    Program80::new(alloc, placed, cells, top)
+}

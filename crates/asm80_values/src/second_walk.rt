@@ -1,0 +1,120 @@
+// The second walk: the operands of instructions, DB and DW.
+ghost use Rattle.std.specs.Prelude.{◌≡◌, ◌||◌, ℕ, List, option_to_list, map, Some, OnOk, IfOk};
+ghost use Rattle.asm80_names.specs.Addresses.{has_address, is_among, StandsFor};
+ghost use Rattle.asm80_tokens.specs.declared.stmt.Stmt80.{Stmt80};
+ghost use Rattle.asm80_tokens.specs.Tree.{Statement, operand_of, statement_of};
+ghost use Rattle.asm80_operands.specs.Forms.{IsForm};
+ghost use Rattle.asm80_walk.specs.Walked.{StandsFor as StandsForRow, Stand};
+ghost use Rattle.source80.specs.Walk.{Row, row_operation, size_by, rows};
+ghost use Rattle.source80.specs.Items.{Setting as Seen, address, is_instruction_op, starts_in};
+ghost use Rattle.asm80_values.specs.Second.{taken_rows, start_of, seen_in, names_set, fault_on, IsItemOf, GivesItem};
+
+use crate::item::Item;
+use asm80_names::{AddressSet, Names, Scope};
+use asm80_operands::{Form, FormFault, Setting, form_of, kinds_of};
+use asm80_tokens::{Arg, Stmt80};
+use asm80_walk::{AsmFault, Taken, size_of};
+use source80::{NameKind, Operation};
+use std::alloc::{AllocError, Global};
+
+fn is_instruction(operation: Option<Operation>) -> bool
+    ensures { result ≡ is_instruction_op operation }
+{
+    match operation {
+        Some(operation) => kinds_of(operation).is_some(),
+        None => false,
+    }
+}
+
+// Adds the address of an instruction.
+fn mark_start(starts: &mut AddressSet, row: &Taken)
+    ensures { (a : ℕ) → has_address starts.new a ≡ (is_among (option_to_list (start_of row.now)) a || has_address starts.old a) }
+{
+    if is_instruction(row.operation) {
+        starts.insert(row.at);
+    }
+}
+
+/// The addresses at which instructions start.
+pub fn starts_of(alloc: Global, taken: &[Taken]) -> Result<AddressSet, AllocError>
+    ensures { (statements : List Stmt80) → Stand statements taken.now (taken_rows statements) → IfOk result (λ set. StandsFor set (starts_in (rows (map statement_of statements)))) }
+{
+    let mut starts = AddressSet::new(alloc)?;
+    for row in taken {
+        mark_start(&mut starts, row);
+    }
+    Ok(starts)
+}
+
+// The cells that a form fills.
+fn size_of_form(operation: Operation, args: &[Arg], form: &Form) -> usize
+    ensures { (t : Seen) (s : Statement) → s.args ≡ map operand_of args.now → IsForm t operation s.args form.now → result ≡ size_by s (Some operation) }
+{
+    match form {
+        Form::Data(data) => data.cells.as_slice().len(),
+        _ => usize::from(size_of(Some(operation), args)),
+    }
+}
+
+// The item of a form; none where it fills no cells.
+fn item_with(line: u32, at: u16, operation: Operation, args: &[Arg], form: Form) -> Option<Item>
+    ensures { (t : Seen) (r : Row) → line ≡ r.statement.line → at ≡ address r → r.statement.args ≡ map operand_of args.now → row_operation r ≡ Some operation → IsForm t operation r.statement.args form → IsItemOf t r result }
+{
+    match form {
+        Form::Nothing => None,
+        _ => Some(Item {
+            line,
+            at,
+            size: size_of_form(operation, args, &form),
+            form,
+        }),
+    }
+}
+
+/// The item of a row that is taken, or the first rule that its operands break.
+pub fn item_of(
+    alloc: Global,
+    statement: &Stmt80,
+    row: &Taken,
+    names: &Names,
+    starts: &AddressSet,
+) -> Result<Option<Item>, AsmFault>
+    ensures { (statements : List Stmt80) (r : Row) → StandsForRow statements row.now r → statement_of statement.now ≡ r.statement → GivesItem (seen_in names.now starts.now r) r result }
+{
+    let Some(operation) = row.operation else {
+        return Ok(None);
+    };
+    let scope = Scope {
+        here: row.at,
+        names,
+    };
+    let setting = Setting { scope, starts };
+    let args = statement.args.as_slice();
+    match form_of(alloc, &setting, operation, args) {
+        Ok(form) => Ok(item_with(statement.line, row.at, operation, args, form)),
+        Err(fault) => Err(refused(statement.line, fault)),
+    }
+}
+
+// The fault of operands on a line.
+fn refused(line: u32, fault: FormFault) -> AsmFault
+    ensures { result ≡ fault_on line fault }
+{
+    match fault {
+        FormFault::Rule(rule) => AsmFault::Refused(line, rule),
+        FormFault::Memory => AsmFault::Memory,
+    }
+}
+
+/// Sets the name of a SET again.
+pub fn set_again(names: &mut Names, statement: &Stmt80, row: &Taken) -> Result<(), AllocError>
+    ensures { (statements : List Stmt80) (r : Row) → StandsForRow statements row.now r → statement_of statement.now ≡ r.statement → OnOk result (names.new ≡ names_set r names.old) }
+{
+    if row.operation != Some(Operation::Set) {
+        return Ok(());
+    }
+    match statement.label {
+        Some(label) => names.define(label, NameKind::Settable, row.meaning),
+        None => Ok(()),
+    }
+}
