@@ -1,0 +1,3 @@
+pub mod Turning
+pub mod Machine80
+pub mod Machine86
