@@ -1,0 +1,11 @@
+// The ends of a command's work, each with its status and its last line, and the saying of that line.
+#![tactic(auto)]
+
+mod done;
+mod rules;
+mod say;
+mod stop;
+
+pub use done::{ended_line, translated_line};
+pub use say::{say_done, say_stop, words_refused};
+pub use stop::Stop;

@@ -1,0 +1,37 @@
+-- What the end of a run over a console is to a command.
+use Rattle.std.specs.Prelude.{ℕ, Result, Ok, Err}
+use Rattle.host.specs.declared.HostFault.{HostFault}
+use Rattle.host.specs.declared.HostFault.TheVariants.{Failed, Memory}
+use Rattle.talk.specs.declared.emulator.Why.{Why}
+use Rattle.talk.specs.declared.emulator.Why.TheVariants.{Left, NoInstruction as None86, StackSegment as Segment86, OddCall as Odd86}
+use Rattle.talk.specs.declared.running.RunEnd.{RunEnd}
+use Rattle.talk.specs.declared.running.RunEnd.TheVariants.{Ended, Stopped, StepLimit as Limit, InputEnded as NoInput, NoDrive as Drive}
+use Rattle.reports.specs.declared.stop.Stop.{Stop}
+use Rattle.reports.specs.declared.stop.Stop.TheVariants.{OutOfMemory, LeftProfile, StepLimit, InputEnded, NoInstruction, StackSegment, OddCall, NoDrive}
+use Rattle.run_parts.specs.declared.halt.Halt.{Halt}
+use Rattle.run_parts.specs.declared.halt.Halt.TheVariants.{By, Unsaid}
+
+-- why a machine stopped; an 8080 does so at the instruction of a line
+abbrev pub stop_of_why : ℕ → Why → Stop
+stop_of_why line (Left place rule) = LeftProfile line rule
+stop_of_why line (None86 offset) = NoInstruction offset
+stop_of_why line (Segment86 offset) = StackSegment offset
+stop_of_why line (Odd86 offset function) = OddCall offset function
+
+-- how many instructions ran, where the last of them ended the program
+abbrev pub steps_of : ℕ → ℕ → RunEnd → Result ℕ Stop
+steps_of limit line (Ended steps) = Ok steps
+steps_of limit line (Stopped why) = Err (stop_of_why line why)
+steps_of limit line Limit = Err (StepLimit limit)
+steps_of limit line NoInput = Err InputEnded
+steps_of limit line (Drive function) = Err (NoDrive function)
+
+-- after a line of the run that was not said nothing more is said
+abbrev pub halt_of_host : HostFault → Halt
+halt_of_host Failed = Unsaid
+halt_of_host Memory = By OutOfMemory
+
+-- a command halts by a stop for this cause, or without a line for that
+abbrev pub Halts : (Stop → Type 0) → Type 0 → Halt → Type 0
+Halts stops unsaid (By stop) = stops stop
+Halts stops unsaid Unsaid = unsaid

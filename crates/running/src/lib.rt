@@ -1,0 +1,6 @@
+// The work of the commands that run a program: its files, its run over a console, and what is said of it.
+#![tactic(auto)]
+
+mod run_text;
+
+pub use run_text::run86;
