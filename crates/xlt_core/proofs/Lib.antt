@@ -9,4 +9,5 @@ pub mod FirstTurn
 pub mod Assembling
 pub mod FirstLayout
 pub mod FirstStart
+pub mod FirstText
 pub mod Rows

@@ -1,3 +1,4 @@
+use Rattle.xlt_core.proofs.FirstText.{first_reads_back}
 use Rattle.xlt_core.proofs.FirstLayout.{first_assembles}
 use Rattle.xlt_core.proofs.FirstStart.{first_same}
 use Rattle.xlt_core.proofs.first_is_same.Goals as goal
@@ -7,3 +8,6 @@ returns-clause-assembles c = first_assembles
 
 pub returns-clause-same : goal.returns-clause-same
 returns-clause-same c = first_same
+
+pub returns-clause-reads_back : goal.returns-clause-reads_back
+returns-clause-reads_back c = first_reads_back
