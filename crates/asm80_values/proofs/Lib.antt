@@ -11,3 +11,4 @@ pub mod SetNames
 pub mod SetAgain
 pub mod Chain
 pub mod Along
+pub mod AlongIndex

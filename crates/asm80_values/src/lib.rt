@@ -9,4 +9,4 @@ mod second_walk;
 pub use item::Item;
 pub use layout::layout_fault;
 pub use program::program_of_items;
-pub use second_walk::{item_of, set_again, starts_of};
+pub use second_walk::{items_of, starts_of};
