@@ -11,3 +11,5 @@ pub mod SetNames
 pub mod SetAgain
 pub mod Chain
 pub mod Along
+pub mod Accepted
+pub mod Sound
