@@ -12,3 +12,5 @@ pub mod SetAgain
 pub mod Chain
 pub mod Along
 pub mod AlongIndex
+pub mod Accepted
+pub mod Sound
