@@ -14,3 +14,4 @@ pub mod Along
 pub mod AlongIndex
 pub mod Accepted
 pub mod Sound
+pub mod Held

@@ -1,11 +1,14 @@
 // The program that statements stand for, or the first rule of names, values and layout that they break.
 #![tactic(auto)]
 
+mod assembly;
 mod item;
 mod layout;
 mod program;
 mod second_walk;
 
+pub use asm80_walk::AsmFault;
+pub use assembly::assemble;
 pub use item::Item;
 pub use layout::layout_fault;
 pub use program::program_of_items;
