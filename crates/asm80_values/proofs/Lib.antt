@@ -15,3 +15,4 @@ pub mod AlongIndex
 pub mod Accepted
 pub mod Sound
 pub mod Held
+pub mod OneProgram
