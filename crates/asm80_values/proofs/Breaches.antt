@@ -26,7 +26,7 @@ no_foreign t args Port h = cc
 no_foreign t args Rst h = cc
 no_foreign t args o h = refl
 
-data_alone : (o : Operation) → is_data_op (Some o) ≡ true → is_instruction_op (Some o) ≡ false
+pub data_alone : (o : Operation) → is_data_op (Some o) ≡ true → is_instruction_op (Some o) ≡ false
 data_alone Db h = refl
 data_alone Dw h = refl
 data_alone o h = cc

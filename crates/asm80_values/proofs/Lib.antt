@@ -11,3 +11,8 @@ pub mod SetNames
 pub mod SetAgain
 pub mod Chain
 pub mod Along
+pub mod AlongIndex
+pub mod Accepted
+pub mod Sound
+pub mod Held
+pub mod OneProgram

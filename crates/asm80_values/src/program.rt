@@ -2,7 +2,7 @@
 ghost use Rattle.std.specs.Prelude.{◌≡◌, ◌++◌, option_to_list, IfOk, OnOk};
 ghost use Rattle.std.specs.List.{filter_map, flat_map};
 ghost use Rattle.std.specs.List.Sorted.{IsPermutation, IsNonDecreasingBy};
-ghost use Rattle.program80.specs.Program.{Program};
+ghost use Rattle.program80.specs.Program.{Program, IsProgram};
 ghost use Rattle.source80.specs.Items.{laid_from};
 ghost use Rattle.asm80_values.specs.Programs.{AreLawful, placed_item, data_item};
 
@@ -102,6 +102,7 @@ fn sort_data(cells: &mut Vec<(u16, Cell)>) -> Result<(), AllocError>
 /// The program of items that break no rule of the layout, for a top of the program area.
 pub fn program_of_items(alloc: Global, items: &[Item], top: u16) -> Result<Program80, AllocError>
     requires { AreLawful top items.now }
+    ensures program { IfOk result (λ p. IsProgram p) }
     ensures top { IfOk result (λ p. p.top ≡ top) }
     ensures instrs { IfOk result (λ p. IsPermutation (filter_map placed_item items.now) p.instrs) }
     ensures cells { IfOk result (λ p. IsPermutation (flat_map data_item items.now) p.cells) }

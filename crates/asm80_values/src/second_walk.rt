@@ -1,19 +1,19 @@
 // The second walk: the operands of instructions, DB and DW.
-ghost use Rattle.std.specs.Prelude.{◌≡◌, ◌||◌, ℕ, List, option_to_list, map, Some, OnOk, IfOk};
+ghost use Rattle.std.specs.Prelude.{◌≡◌, ◌||◌, ℕ, List, option_to_list, map, Some, OnOk, IfOk, MatchResult};
 ghost use Rattle.asm80_names.specs.Addresses.{has_address, is_among, StandsFor};
 ghost use Rattle.asm80_tokens.specs.declared.stmt.Stmt80.{Stmt80};
 ghost use Rattle.asm80_tokens.specs.Tree.{Statement, operand_of, statement_of};
 ghost use Rattle.asm80_operands.specs.Forms.{IsForm};
-ghost use Rattle.asm80_walk.specs.Walked.{StandsFor as StandsForRow, Stand};
+ghost use Rattle.asm80_walk.specs.Walked.{StandsFor as StandsForRow, Stand, IsWalked};
 ghost use Rattle.source80.specs.Walk.{Row, row_operation, size_by, rows};
 ghost use Rattle.source80.specs.Items.{Setting as Seen, address, is_instruction_op, starts_in};
-ghost use Rattle.asm80_values.specs.Second.{taken_rows, start_of, seen_in, names_set, fault_on, IsItemOf, GivesItem};
+ghost use Rattle.asm80_values.specs.Second.{taken_rows, start_of, seen_in, names_set, fault_on, IsItemOf, GivesItem, AreItemsOf, AreRefused};
 
 use crate::item::Item;
 use asm80_names::{AddressSet, Names, Scope};
 use asm80_operands::{Form, FormFault, Setting, form_of, kinds_of};
 use asm80_tokens::{Arg, Stmt80};
-use asm80_walk::{AsmFault, Taken, size_of};
+use asm80_walk::{AsmFault, Taken, Walked, size_of};
 use source80::{NameKind, Operation};
 use std::alloc::{AllocError, Global};
 
@@ -71,8 +71,8 @@ fn item_with(line: u32, at: u16, operation: Operation, args: &[Arg], form: Form)
     }
 }
 
-/// The item of a row that is taken, or the first rule that its operands break.
-pub fn item_of(
+// The item of a row that is taken, or the first rule that its operands break.
+fn item_of(
     alloc: Global,
     statement: &Stmt80,
     row: &Taken,
@@ -106,8 +106,8 @@ fn refused(line: u32, fault: FormFault) -> AsmFault
     }
 }
 
-/// Sets the name of a SET again.
-pub fn set_again(names: &mut Names, statement: &Stmt80, row: &Taken) -> Result<(), AllocError>
+// Sets the name of a SET again.
+fn set_again(names: &mut Names, statement: &Stmt80, row: &Taken) -> Result<(), AllocError>
     ensures { (statements : List Stmt80) (r : Row) → StandsForRow statements row.now r → statement_of statement.now ≡ r.statement → OnOk result (names.new ≡ names_set r names.old) }
 {
     if row.operation != Some(Operation::Set) {
@@ -117,4 +117,28 @@ pub fn set_again(names: &mut Names, statement: &Stmt80, row: &Taken) -> Result<(
         Some(label) => names.define(label, NameKind::Settable, row.meaning),
         None => Ok(()),
     }
+}
+
+/// The items of the rows that are taken, or the first fault of their operands.
+pub fn items_of(
+    alloc: Global,
+    statements: &[Stmt80],
+    walked: Walked,
+    starts: &AddressSet,
+) -> Result<Vec<Item>, AsmFault>
+    requires walked { IsWalked statements.now walked }
+    requires starts { StandsFor starts.now (starts_in (rows (map statement_of statements.now))) }
+    ensures { MatchResult result (λ v. AreItemsOf statements.now v.items) (λ fault. AreRefused statements.now fault) }
+{
+    let Walked { rows, names } = walked;
+    let mut names = names.without_settable();
+    let mut items = Vec::new(alloc);
+    for row in &rows {
+        let statement = &statements[row.statement];
+        if let Some(item) = item_of(alloc, statement, row, &names, starts)? {
+            items.push(item)?;
+        }
+        set_again(&mut names, statement, row)?;
+    }
+    Ok(items)
 }

@@ -1,0 +1,30 @@
+// From the statements of a source to its program.
+ghost use Rattle.std.specs.Prelude.{◌≡◌, ℕ, true, map, IfOk, Err};
+ghost use Rattle.asm80_tokens.specs.Tree.{statement_of};
+ghost use Rattle.program80.specs.Program.{is_top};
+ghost use Rattle.source80.specs.declared.rule.AsmRule.{AsmRule};
+ghost use Rattle.source80.specs.Assembly.{IsAssembled, IsRefused};
+
+use crate::layout::layout_fault;
+use crate::program::program_of_items;
+use crate::second_walk::{items_of, starts_of};
+use asm80_tokens::Stmt80;
+use asm80_walk::{AsmFault, walk};
+use program80::Program80;
+use std::alloc::Global;
+
+/// The program of the statements of a source, for a top of the program area, which is 4000H, 8000H, 0C000H or 0F000H. A refusal
+/// names the line, and the first rule that is broken: of the first walk, else of the second, else of the layout.
+pub fn assemble(alloc: Global, statements: &[Stmt80], top: u16) -> Result<Program80, AsmFault>
+    requires { is_top top ≡ true }
+    ensures assembled { IfOk result (λ p. IsAssembled (map statement_of statements.now) top p) }
+    ensures refused { (line : ℕ) (rule : AsmRule) → result ≡ Err (AsmFault.Refused line rule) → IsRefused (map statement_of statements.now) top line rule }
+{
+    let walked = walk(alloc, statements)?;
+    let starts = starts_of(alloc, walked.rows.as_slice())?;
+    let items = items_of(alloc, statements, walked, &starts)?;
+    if let Some((line, rule)) = layout_fault(alloc, items.as_slice(), &starts, top)? {
+        return Err(AsmFault::Refused(line, rule));
+    }
+    Ok(program_of_items(alloc, items.as_slice(), top)?)
+}
