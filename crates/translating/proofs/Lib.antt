@@ -1,0 +1,5 @@
+pub mod Firsts
+pub mod Verdicts
+pub mod Finish
+pub mod Working
+pub mod Tops

@@ -1,0 +1,74 @@
+-- The top of a command that words give is one that a program area may have.
+use Rattle.std.proofs.Common.{◌≡◌, ℕ, ◌⊎◌, inl, inr, ⊎_elim, List, refl, ap, subst}
+use Rattle.std.specs.Prelude.{Bool, true, false, ◌==◌, ◌||◌, Option, Some, None, option_map, option_and_then, if◌then◌else◌}
+use Rattle.std.proofs.lemmas.Bool.{eqb-true}
+use Rattle.program80.specs.Program.{is_top}
+use Rattle.command_words.specs.declared.table.CommandName.{CommandName}
+use Rattle.command_words.specs.declared.table.CommandName.TheVariants as named
+use Rattle.command_words.specs.Table.{Word}
+use Rattle.command_words.specs.Values.{top_among, top_value, number_in}
+use Rattle.command_words.specs.Given.{Gathered}
+use Rattle.command_words.specs.Words.{Translate, Translates, Runs80, Runs86, IsCommand, command_of, translate_of, run80_of, run86_of, once, two_files, top_of, text_or}
+
+if_some : (b : Bool) (x y : ℕ) → (if b then Some x else None) ≡ Some y → (b ≡ true) × (x ≡ y)
+if_some true x y e = (refl, cc)
+if_some false x y e = absurd (cc)
+
+if_then : (b : Bool) (o : Option ℕ) (y : ℕ) → (if b then o else None) ≡ Some y → o ≡ Some y
+if_then true o y e = e
+if_then false o y e = absurd (cc)
+
+-- what comes first, and then what comes of it
+taken : {A B : Type 0} (o : Option A) (f : A → Option B) (y : B) → option_and_then f o ≡ Some y → (x : A) × (o ≡ Some x) × (f x ≡ Some y)
+taken None f y e = absurd (cc)
+taken (Some x) f y e = (x, refl, e)
+
+mapped : {A B : Type 0} (o : Option A) (f : A → B) (y : B) → option_map f o ≡ Some y → (x : A) × (o ≡ Some x) × (f x ≡ y)
+mapped None f y e = absurd (cc)
+mapped (Some x) f y e = (x, refl, cc)
+
+same_top : (t n : ℕ) → (t == n) ≡ true → is_top t ≡ true → is_top n ≡ true
+same_top t n e top = subst (λ m. is_top m ≡ true) (eqb-true t n e) top
+
+one_of : (a b : Bool) → (a || b) ≡ true → (a ≡ true) ⊎ (b ≡ true)
+one_of true b e = inl refl
+one_of false b e = inr e
+
+among : (n m : ℕ) → top_among n ≡ Some m → is_top m ≡ true
+among n m e =
+    let h = if_some _ n m e in
+    subst (λ k. is_top k ≡ true) h.1
+    (⊎_elim (λ a. same_top 0x4000 n a refl)
+    (λ r. ⊎_elim (λ a. same_top 0x8000 n a refl)
+    (λ s. ⊎_elim (λ a. same_top 0xC000 n a refl)
+    (λ t. ⊎_elim (λ a. same_top 0xF000 n a refl) (λ u. absurd (cc)) (one_of (0xF000 == n) false t))
+    (one_of (0xC000 == n) ((0xF000 == n) || false) s))
+    (one_of (0x8000 == n) ((0xC000 == n) || ((0xF000 == n) || false)) r))
+    (one_of (0x4000 == n) ((0x8000 == n) || ((0xC000 == n) || ((0xF000 == n) || false))) h.0))
+
+top_is : (text : Word) (m : ℕ) → top_value text ≡ Some m → is_top m ≡ true
+top_is text m e = let h = taken (number_in 16 4 text) top_among m (if_then _ (option_and_then top_among (number_in 16 4 text)) m e) in among h.0 m h.2
+
+pub top_of_is : (g : Gathered) (m : ℕ) → top_of g ≡ Some m → is_top m ≡ true
+top_of_is g m e = let h = taken (text_or _ g.top) top_value m e in top_is h.0 m h.2
+
+top_in : Option Translate → ℕ
+top_in None = 0
+top_in (Some c) = c.top
+
+translate_top : (g : Gathered) (c : Translate) → translate_of g ≡ Some c → is_top c.top ≡ true
+unfolding top_in taken
+translate_top g c e =
+    let a = taken (once g.plain) _ c e in
+    let b = taken (two_files g.names) _ c a.2 in
+    let d = taken (top_of g) _ c b.2 in
+    subst (λ n. is_top n ≡ true) (ap top_in d.2) (top_of_is g d.0 d.1)
+
+by_name : (name : CommandName) (g : Gathered) (c : Translate) → command_of name g ≡ Some (Translates c) → is_top c.top ≡ true
+by_name named.Translate g c e = let h = mapped (translate_of g) Translates (Translates c) e in let same : h.0 ≡ c = cc in subst (λ (x : Translate). is_top x.top ≡ true) same (translate_top g h.0 h.1)
+by_name named.Run80 g c e = let h = mapped (run80_of g) Runs80 (Translates c) e in let e = h.2 in absurd (cc)
+by_name named.Run86 g c e = let h = mapped (run86_of g) Runs86 (Translates c) e in let e = h.2 in absurd (cc)
+
+-- so `translate` may be called with each command that words are
+pub command_has_top : (words : List Word) (c : Translate) → IsCommand words (Translates c) → is_top c.top ≡ true
+command_has_top words c is = by_name is.name is.given c is.command

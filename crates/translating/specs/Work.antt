@@ -1,0 +1,68 @@
+-- What the work of `translate` comes to, before its last line is said.
+use Rattle.std.specs.Prelude.{◌≡◌, ℕ, List, All, Option, Some, None}
+use Rattle.host.specs.declared.HostFault.{HostFault}
+use Rattle.host.specs.declared.HostFault.TheVariants.{Failed, Memory}
+use Rattle.host.specs.Host.{HostState, SameSaid, SameFaults, OnlyReads}
+use Rattle.host.specs.Host.{WriteFailed as WriteFails}
+use Rattle.program80.specs.declared.program.Placed.{Placed}
+use Rattle.program80.specs.Program.{Program}
+use Rattle.source80.specs.Source.{SourceRule, OfLine, OfProgram}
+use Rattle.transfer.specs.Transfer.{IsBeforeOrPrefix}
+use Rattle.command_words.specs.Words.{Translate}
+use Rattle.xlt_core.specs.First.{HoldsFirst}
+use Rattle.reports.specs.declared.stop.Stop.{Stop}
+use Rattle.reports.specs.declared.stop.Stop.TheVariants.{SourceLine, SourceProgram, WriteFailed, OutOfMemory}
+use Rattle.run_parts.specs.Files.{ReadStops, input_limit}
+use Rattle.translating.specs.Firsts.{IsOtherLine, IsRefused}
+use Rattle.translating.specs.Translates.{line_of_program, Accepts, Refuses, Writes, WritesSome}
+
+-- the stop of a refusal
+abbrev pub stop_of_rule : ℕ → SourceRule → Stop
+stop_of_rule line (OfLine rule) = SourceLine line rule
+stop_of_rule line (OfProgram rule) = SourceProgram line rule
+
+-- a stop is a refusal of the bytes, or want of memory
+pub data FirstStops (bytes : List ℕ) (top : ℕ) : Stop → Type 0 where
+  is_refused : {stop : Stop} (line : ℕ) (rule : SourceRule) → IsRefused bytes top line rule → stop ≡ stop_of_rule line rule → FirstStops bytes top stop
+  no_room : FirstStops bytes top OutOfMemory
+
+abbrev pub stop_of_write : HostFault → Stop
+stop_of_write Failed = WriteFailed
+stop_of_write Memory = OutOfMemory
+
+-- the source was read and the plain text of its program written; the line says how much it was
+pub record Works (c : Translate) (old new : HostState) (text : List ℕ) : Type 0 where
+  pub program : Program
+  pub accepts : Accepts c old program
+  pub writes : Writes c old new program
+  pub quiet : SameSaid old new
+  pub faults : SameFaults old new
+  pub line : text ≡ line_of_program program
+
+module _ (c : Translate) (old new : HostState) where
+  -- a write of the text failed
+  pub record WritesPart : Type 0 where
+    pub program : Program
+    pub accepts : Accepts c old program
+    pub some : WritesSome c old new program
+    pub quiet : SameSaid old new
+    pub failed : WriteFails old new
+
+  -- why the work ended early
+  pub data StopsBy : Stop → Type 0 where
+    unread : {stop : Stop} → ReadStops c.input input_limit old new stop → OnlyReads old new → StopsBy stop
+    refused : {stop : Stop} (line : ℕ) (rule : SourceRule) → Refuses c old line rule → stop ≡ stop_of_rule line rule → OnlyReads old new → SameFaults old new → StopsBy stop
+    no_memory : OnlyReads old new → StopsBy OutOfMemory
+    unwritten : {stop : Stop} (fault : HostFault) → WritesPart → stop ≡ stop_of_write fault → StopsBy stop
+
+-- the least line of instructions of another kind; None where there are none
+abbrev pub IsLeastOther : List Placed → Option ℕ → Type 0
+IsLeastOther xs None = All HoldsFirst xs
+IsLeastOther xs (Some line) = IsOtherLine xs line
+
+-- a write of a text failed, for the host or for want of its memory
+pub record WriteStops (old new : HostState) (name text : List ℕ) (stop : Stop) : Type 0 where
+  pub fault : HostFault
+  pub is : stop ≡ stop_of_write fault
+  pub part : IsBeforeOrPrefix old new name text
+  pub failed : WriteFails old new
