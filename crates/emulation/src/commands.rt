@@ -2,6 +2,7 @@
 ghost use Rattle.std.specs.Prelude.{◌≡◌, ◌∷◌, [], ℕ, length, Option, IfOk, OnOk, OnErr};
 ghost use Rattle.i86.specs.declared.Instr86.{Instr86};
 ghost use Rattle.i86.specs.Code.{Reads};
+ghost use Rattle.host.specs.declared.HostFault.{HostFault};
 ghost use Rattle.host.specs.Host.{SameFaults, OnlySays, WriteFailed};
 ghost use Rattle.talk.specs.Talk.{SaysRun, SaysPart};
 ghost use Rattle.emulation.specs.Courses.{course80, course86};
@@ -14,10 +15,10 @@ use asm86::Image86;
 use console::Console;
 use cpu86::Start86;
 use dialogue::start_page::Page;
-use host::{Host, HostFault};
+use host::Host;
 use program80::Program80;
 use std::alloc::Global;
-use talk::{RunEnd, converse};
+use talk::{RunEnd, TalkFault, converse};
 
 /// Runs an 8080 program over a console with this input for up to `limit` instructions, and says each event of its dialogue.
 pub fn run_80<H: Host>(
@@ -27,12 +28,12 @@ pub fn run_80<H: Host>(
     input: Vec<u8>,
     limit: u32,
     host: &mut H,
-) -> Result<RunEnd, HostFault>
+) -> Result<RunEnd, TalkFault>
     ensures run { IfOk result (λ o. SaysRun (course80 program.now page.now) input.items limit o (H.state host.old) (H.state host.new)) }
     ensures part { OnErr result (SaysPart (course80 program.now page.now) input.items limit (H.state host.old) (H.state host.new)) }
     ensures only { OnlySays (H.state host.old) (H.state host.new) }
     ensures counted { OnOk result (SameFaults (H.state host.old) (H.state host.new)) }
-    ensures failed { result ≡ Err HostFault.Failed → WriteFailed (H.state host.old) (H.state host.new) }
+    ensures unsaid { (fault : HostFault) → result ≡ Err (TalkFault.Unsaid fault) → WriteFailed (H.state host.old) (H.state host.new) }
 {
     let mut machine = Tagged80::new(alloc, program, page)?;
     let mut console = Console::new(input);
@@ -51,13 +52,13 @@ pub fn run_86<H: Host>(
     input: Vec<u8>,
     limit: u32,
     host: &mut H,
-) -> Result<RunEnd, HostFault>
+) -> Result<RunEnd, TalkFault>
     requires { length fill.now ≡ 0x10000 }
     ensures run { IfOk result (λ o. (fetch : ℕ → Option Instr86) → Reads image.now.code fetch → SaysRun (course86 fetch image.now page.now fill.now (start_by choice) (choice ∷ [])) input.items limit o (H.state host.old) (H.state host.new)) }
     ensures part { OnErr result ((fetch : ℕ → Option Instr86) → Reads image.now.code fetch → SaysPart (course86 fetch image.now page.now fill.now (start_by choice) (choice ∷ [])) input.items limit (H.state host.old) (H.state host.new)) }
     ensures only { OnlySays (H.state host.old) (H.state host.new) }
     ensures counted { OnOk result (SameFaults (H.state host.old) (H.state host.new)) }
-    ensures failed { result ≡ Err HostFault.Failed → WriteFailed (H.state host.old) (H.state host.new) }
+    ensures unsaid { (fault : HostFault) → result ≡ Err (TalkFault.Unsaid fault) → WriteFailed (H.state host.old) (H.state host.new) }
 {
     let start = start_by(choice);
     let mut machine = Plain86::new(alloc, image, start, page, fill, choice)?;

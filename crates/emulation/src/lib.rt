@@ -10,4 +10,4 @@ mod tests;
 pub use commands::{run_80, run_86};
 pub use plain::Plain86;
 pub use tagged::Tagged80;
-pub use talk::{RunEnd, Why};
+pub use talk::{RunEnd, TalkFault, Why};

@@ -3,7 +3,7 @@ ghost use Rattle.std.specs.Prelude.{◌≡◌, ◌^◌, ◌<◌, true, length, I
 ghost use Rattle.lines86.specs.Image.{statements};
 ghost use Rattle.lines86.specs.Order.{at_start, in_order};
 
-use crate::{RunEnd, Why, run_80, run_86};
+use crate::{RunEnd, TalkFault, Why, run_80, run_86};
 use asm86::image;
 use cells::{Cell, Place, Rule};
 use dialogue::start_page::Page;
@@ -113,7 +113,7 @@ fn comes_to(
     input: &str,
     limit: u32,
     fails: u64,
-    end: Result<RunEnd, HostFault>,
+    end: Result<RunEnd, TalkFault>,
     said: &str,
 ) -> Result<bool, Fail> {
     let page = Page::of_tail(b"").ok_or("a page")?;
@@ -156,7 +156,7 @@ fn files_need_a_drive(rt: HostRuntime) -> Result<(), Fail> {
 }
 
 /// The end of a run that leaves the profile at an address.
-fn left(at: u16, rule: Rule) -> Result<RunEnd, HostFault> {
+fn left(at: u16, rule: Rule) -> Result<RunEnd, TalkFault> {
     Ok(RunEnd::Stopped(Why::Left(Place::At(at), rule)))
 }
 
@@ -185,7 +185,7 @@ fn runs_leave_the_profile(rt: HostRuntime) -> Result<(), Fail> {
 fn a_say_that_fails_ends_the_run(rt: HostRuntime) -> Result<(), Fail> {
     let alloc = rt.alloc();
     let program = one_letter(alloc)?;
-    let failed = Err(HostFault::Failed);
+    let failed = Err(TalkFault::Unsaid(HostFault::Failed));
     assert!(rt; comes_to(alloc, &program, "", 10, 1, failed, "")?);
     assert!(rt; comes_to(alloc, &program, "", 10, 2, failed, "02 41\n")?);
     assert!(rt;

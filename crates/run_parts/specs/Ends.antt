@@ -4,6 +4,8 @@ use Rattle.host.specs.declared.HostFault.{HostFault}
 use Rattle.host.specs.declared.HostFault.TheVariants.{Failed, Memory}
 use Rattle.talk.specs.declared.emulator.Why.{Why}
 use Rattle.talk.specs.declared.emulator.Why.TheVariants.{Left, NoInstruction as None86, StackSegment as Segment86, OddCall as Odd86}
+use Rattle.talk.specs.declared.fault.TalkFault.{TalkFault}
+use Rattle.talk.specs.declared.fault.TalkFault.TheVariants.{Unsaid as Untold, Memory as NoMemory}
 use Rattle.talk.specs.declared.running.RunEnd.{RunEnd}
 use Rattle.talk.specs.declared.running.RunEnd.TheVariants.{Ended, Stopped, StepLimit as Limit, InputEnded as NoInput, NoDrive as Drive}
 use Rattle.reports.specs.declared.stop.Stop.{Stop}
@@ -27,11 +29,16 @@ steps_of limit line NoInput = Err InputEnded
 steps_of limit line (Drive function) = Err (NoDrive function)
 
 -- after a line of the run that was not said nothing more is said
-abbrev pub halt_of_host : HostFault → Halt
-halt_of_host Failed = Unsaid
-halt_of_host Memory = By OutOfMemory
+abbrev pub halt_of_talk : TalkFault → Halt
+halt_of_talk (Untold fault) = Unsaid fault
+halt_of_talk NoMemory = By OutOfMemory
+
+-- the status then
+abbrev pub unsaid_status : HostFault → ℕ
+unsaid_status Failed = 4
+unsaid_status Memory = 5
 
 -- a command halts by a stop for this cause, or without a line for that
 abbrev pub Halts : (Stop → Type 0) → Type 0 → Halt → Type 0
 Halts stops unsaid (By stop) = stops stop
-Halts stops unsaid Unsaid = unsaid
+Halts stops unsaid (Unsaid fault) = unsaid

@@ -11,6 +11,9 @@ use transfer::{ReadFault, read_file};
 /// The most bytes of a text.
 pub const TEXT_LIMIT: usize = 16_777_216;
 
+/// The most bytes of a source.
+pub const SOURCE_LIMIT: usize = 1_048_576;
+
 /// The most bytes of a console's input.
 const INPUT_LIMIT: usize = 1_048_576;
 

@@ -1,18 +1,20 @@
 // Why a command's run did not come to status 0, and whether a line says so.
 ghost use Rattle.std.specs.Prelude.{◌≡◌};
+ghost use Rattle.run_parts.specs.Ends.{unsaid_status};
 
 use asm86::ImageFault;
 use host::HostFault;
 use reports::Stop;
 use std::alloc::AllocError;
+use talk::TalkFault;
 
 /// Why a command ends early.
 #[derive(Clone, Copy)]
 pub enum Halt<'a> {
     /// The line of the stop is said.
     By(Stop<'a>),
-    /// A line of the run was not said, and nothing more is.
-    Unsaid,
+    /// A line of the run was not said whole, for this fault of the host, and nothing more is.
+    Unsaid(HostFault),
 }
 
 impl<'a> From<Stop<'a>> for Halt<'a> {
@@ -41,15 +43,15 @@ impl<'a> From<ImageFault> for Halt<'a> {
     }
 }
 
-impl<'a> From<HostFault> for Halt<'a> {
-    ghost use Rattle.run_parts.specs.Ends.{halt_of_host};
+impl<'a> From<TalkFault> for Halt<'a> {
+    ghost use Rattle.run_parts.specs.Ends.{halt_of_talk};
 
-    ghost from_gives = { λ fault halt. halt ≡ halt_of_host fault };
+    ghost from_gives = { λ fault halt. halt ≡ halt_of_talk fault };
 
-    fn from(fault: HostFault) -> Halt<'a> {
+    fn from(fault: TalkFault) -> Halt<'a> {
         match fault {
-            HostFault::Failed => Halt::Unsaid,
-            HostFault::Memory => Halt::By(Stop::OutOfMemory),
+            TalkFault::Unsaid(fault) => Halt::Unsaid(fault),
+            TalkFault::Memory => Halt::By(Stop::OutOfMemory),
         }
     }
 }
@@ -62,5 +64,15 @@ impl<'a> From<AllocError> for Halt<'a> {
 
     fn from(_error: AllocError) -> Halt<'a> {
         Halt::By(Stop::OutOfMemory)
+    }
+}
+
+/// The status where a line of the run was not said whole.
+pub fn unsaid_status(fault: HostFault) -> u8
+    ensures { result ≡ unsaid_status fault }
+{
+    match fault {
+        HostFault::Failed => 4,
+        HostFault::Memory => 5,
     }
 }

@@ -7,6 +7,6 @@ mod halt;
 mod text;
 
 pub use ends::steps_of;
-pub use files::{TEXT_LIMIT, read_input, read_named};
-pub use halt::Halt;
+pub use files::{SOURCE_LIMIT, TEXT_LIMIT, read_input, read_named};
+pub use halt::{Halt, unsaid_status};
 pub use text::text_image;

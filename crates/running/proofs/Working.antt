@@ -2,17 +2,18 @@
 use Rattle.std.proofs.Common.{◌≡◌, ℕ, ◌<◌, List, refl, ◌∙◌, subst, arith, length}
 use Rattle.std.specs.Prelude.{Ok, IfOk}
 use Rattle.host.specs.declared.HostFault.{HostFault}
-use Rattle.host.specs.declared.HostFault.TheVariants.{Failed, Memory}
 use Rattle.host.specs.Host.{HostState, HasRisen, SameFiles, OnlyReads, OnlySays, SameFaults}
 use Rattle.host.specs.Host.{WriteFailed as WriteFails}
 use Rattle.lines86.specs.Image.{Image}
 use Rattle.command_words.specs.Words.{Run86}
+use Rattle.talk.specs.declared.fault.TalkFault.{TalkFault}
+use Rattle.talk.specs.declared.fault.TalkFault.TheVariants.{Unsaid as Untold, Memory as NoMemory}
 use Rattle.talk.specs.declared.running.RunEnd.{RunEnd}
 use Rattle.talk.specs.declared.running.RunEnd.TheVariants.{Ended, Stopped, StepLimit, InputEnded, NoDrive}
 use Rattle.reports.specs.Lines.{ended_line}
 use Rattle.run_parts.specs.declared.halt.Halt.{Halt}
 use Rattle.run_parts.specs.declared.halt.Halt.TheVariants.{By, Unsaid}
-use Rattle.run_parts.specs.Ends.{steps_of, Halts, halt_of_host}
+use Rattle.run_parts.specs.Ends.{steps_of, Halts, halt_of_talk}
 use Rattle.running.specs.Runs86.{Loads, LoadStops, RunsTo, RunsPart, HasRun, IsHalted, unloaded, no_memory}
 
 -- a line of steps is not empty
@@ -33,7 +34,7 @@ ended_is limit line o steps e = subst (λ r. IfOk r (λ n. o ≡ Ended n)) e (en
 -- where nothing was loaded, the command halts
 pub unloaded_halts : (c : Run86) (old new : HostState) (halt : Halt) → OnlyReads old new → Halts (LoadStops c old new) ⊥ halt → IsHalted c old new halt
 unloaded_halts c old new (By stop) only s = unloaded only s
-unloaded_halts c old new Unsaid only s = absurd s
+unloaded_halts c old new (Unsaid fault) only s = absurd s
 
 module _ (c : Run86) (old mid new : HostState) (image : Image) (input : List ℕ) (loads : Loads c old image input) (reads : OnlyReads old mid) (counted : SameFaults old mid) (says : OnlySays mid new) where
   pub same_files : SameFiles old new
@@ -53,10 +54,10 @@ module _ (c : Run86) (old mid new : HostState) (image : Image) (input : List ℕ
   }
 
   -- or a line of it was not said, or memory ran out
-  pub part_halts : RunsPart c image input mid new → (fault : HostFault) → (fault ≡ Failed → WriteFails mid new) → IsHalted c old new (halt_of_host fault)
-  part_halts runs Failed failed = (
+  pub part_halts : RunsPart c image input mid new → (fault : TalkFault) → ((f : HostFault) → fault ≡ Untold f → WriteFails mid new) → IsHalted c old new (halt_of_talk fault)
+  part_halts runs (Untold f) failed = (
     record { image = image; input = input; loads = loads; start = mid; reads = reads; runs = runs; says = says },
-    subst (λ n. HasRisen n new.write_faults) counted.writes (failed refl),
+    subst (λ n. HasRisen n new.write_faults) counted.writes (failed f refl),
   )
-  part_halts runs Memory failed =
+  part_halts runs NoMemory failed =
       no_memory (record { image = image; input = input; loads = loads; start = mid; reads = reads; runs = runs; says = says })

@@ -3,8 +3,10 @@
 use Rattle.std.specs.Prelude.{◌≡◌, ℕ, ◌%◌, List, [], ◌∷◌, replicate, Option, Err}
 use Rattle.i86.specs.declared.Instr86.{Instr86}
 use Rattle.i86.specs.Code.{Reads}
+use Rattle.i86.specs.Decode.{IsOnlyReader}
 use Rattle.dialogue.specs.declared.request.Reply.{Reply}
 use Rattle.lines86.specs.Image.{Image}
+use Rattle.host.specs.declared.HostFault.{HostFault}
 use Rattle.host.specs.Host.{HostState, SameFaults, OnlyReads, OnlySays}
 use Rattle.host.specs.Host.{WriteFailed as WriteFails}
 use Rattle.command_words.specs.Words.{Run86}
@@ -21,7 +23,7 @@ use Rattle.reports.specs.Said.{IsDone, Closes}
 use Rattle.run_parts.specs.declared.halt.Halt.{Halt}
 use Rattle.run_parts.specs.Files.{text_limit, IsWhole, IsInput, ReadStops, InputStops}
 use Rattle.run_parts.specs.Texts.{HasImage, IsNoImage, stop_of_image}
-use Rattle.run_parts.specs.Ends.{steps_of, Halts}
+use Rattle.run_parts.specs.Ends.{steps_of, unsaid_status, Halts}
 
 unfoldable pub fill_by : ℕ → List ℕ
 fill_by choice = replicate 0x10000 (choice % 256)
@@ -40,11 +42,12 @@ RunsPart c image input old new =
     (fetch : ℕ → Option Instr86) → Reads image.code fetch → SaysPart (course_of c image fetch) input c.run.steps old new
 
 module _ (c : Run86) (old : HostState) where
-  -- the text's file has an image, and this is the console's input
+  -- the text's file has an image, whose code has one reader, and this is the console's input
   pub record Loads (image : Image) (input : List ℕ) : Type 0 where
     pub text : List ℕ
     pub file : IsWhole old c.text text_limit text
     pub assembled : HasImage text image
+    pub reader : (fetch : ℕ → Option Instr86) × IsOnlyReader image.code fetch
     pub given : IsInput old c.run.input input
 
   -- why there is nothing to run: the text or the input was not read, or the text has no image, or memory ran out
@@ -94,5 +97,5 @@ module _ (c : Run86) (old : HostState) where
   -- nothing more is; or the command stops, and the line of the stop is said
   pub data Gives (new : HostState) : ℕ → Type 0 where
     ended : {status : ℕ} (steps : ℕ) (mid : HostState) → HasRun mid (Ended steps) → IsDone (ended_line steps) mid new status → Gives new status
-    unsaid : HasPart new → WriteFails old new → Gives new 4
+    unsaid : {status : ℕ} (fault : HostFault) → status ≡ unsaid_status fault → HasPart new → WriteFails old new → Gives new status
     stopped : {status : ℕ} (mid : HostState) (stop : Stop) → Stops mid stop → Closes stop mid new status → Gives new status

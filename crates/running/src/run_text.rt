@@ -1,18 +1,22 @@
 // The work of `run86`: a text's image runs over a console, by a choice.
 ghost use Rattle.std.specs.Prelude.{◌≡◌, IfOk, IfErr, OnOk, OnErr, length};
 ghost use Rattle.std.specs.String.{string_bytes};
+ghost use Rattle.host.specs.declared.HostFault.{HostFault};
 ghost use Rattle.host.specs.Host.{SameFiles, SameFaults, OnlyReads, OnlySays, WriteFailed};
 ghost use Rattle.command_words.specs.ReadCommands.{run86_read};
 ghost use Rattle.run_parts.specs.Ends.{Halts};
+ghost use Rattle.running.specs.Completes86.{Completes};
 ghost use Rattle.running.specs.Runs86.{fill_by, Loads, LoadStops, RunsTo, RunsPart, HasEnded, IsHalted, Gives};
 
-use asm86::Image86;
+use asm86::{Image86, images_exclude_refusals};
 use command_words::Run86;
-use emulation::{RunEnd, run_86};
-use host::{Host, HostFault};
+use emulation::{RunEnd, TalkFault, run_86};
+use host::Host;
+use i86::decode_at;
 use reports::{ended_line, say_done, say_stop};
-use run_parts::{Halt, TEXT_LIMIT, read_input, read_named, steps_of, text_image};
+use run_parts::{Halt, TEXT_LIMIT, read_input, read_named, steps_of, text_image, unsaid_status};
 use std::alloc::{AllocError, Global};
+use text86::text_has_one_reading;
 
 // What is there before the run: the image, the bytes that fill the memory, and the console's input.
 #[derive(Drop)]
@@ -27,11 +31,22 @@ struct Loaded {
 pub fn run86<H: Host>(alloc: Global, host: &mut H, command: &Run86<'_>) -> u8
     ensures gives { Gives (run86_read command.now) (H.state host.old) (H.state host.new) result }
     ensures files { SameFiles (H.state host.old) (H.state host.new) }
+    ensures completes { Completes (run86_read command.now) (H.state host.old) (H.state host.new) result }
+{
+    text_has_one_reading();
+    images_exclude_refusals();
+    carry_out(alloc, host, command)
+}
+
+// The work, and what is said last.
+fn carry_out<H: Host>(alloc: Global, host: &mut H, command: &Run86<'_>) -> u8
+    ensures gives { Gives (run86_read command.now) (H.state host.old) (H.state host.new) result }
+    ensures files { SameFiles (H.state host.old) (H.state host.new) }
 {
     match work(alloc, host, command) {
         Ok(line) => say_done(host, line.as_str()),
         Err(Halt::By(stop)) => say_stop(alloc, host, stop),
-        Err(Halt::Unsaid) => 4,
+        Err(Halt::Unsaid(fault)) => unsaid_status(fault),
     }
 }
 
@@ -59,6 +74,8 @@ fn load<'a, H: Host>(alloc: Global, host: &mut H, command: &Run86<'a>) -> Result
     let text = read_named(alloc, host, command.text, TEXT_LIMIT)?;
     let input = read_input(alloc, host, command.run.input)?;
     let image = text_image(alloc, text.as_slice())?;
+    // that the code has one reader
+    let _ = decode_at(image.code(), 0);
     let fill = fill_of(alloc, command.choice)?;
     Ok(Loaded { image, fill, input })
 }
@@ -79,14 +96,14 @@ fn run<H: Host>(
     host: &mut H,
     command: &Run86<'_>,
     loaded: Loaded,
-) -> Result<RunEnd, HostFault>
+) -> Result<RunEnd, TalkFault>
     requires fill { loaded.fill.items ≡ fill_by command.now.choice }
     requires fill_len { length loaded.fill.items ≡ 0x10000 }
     ensures run { IfOk result (λ o. RunsTo (run86_read command.now) loaded.image loaded.input.items o (H.state host.old) (H.state host.new)) }
     ensures part { OnErr result (RunsPart (run86_read command.now) loaded.image loaded.input.items (H.state host.old) (H.state host.new)) }
     ensures only { OnlySays (H.state host.old) (H.state host.new) }
     ensures counted { OnOk result (SameFaults (H.state host.old) (H.state host.new)) }
-    ensures failed { result ≡ Err HostFault.Failed → WriteFailed (H.state host.old) (H.state host.new) }
+    ensures unsaid { (fault : HostFault) → result ≡ Err (TalkFault.Unsaid fault) → WriteFailed (H.state host.old) (H.state host.new) }
 {
     let Loaded { image, fill, input } = loaded;
     let choice = command.choice;

@@ -2,8 +2,10 @@
 #![tactic(auto)]
 
 mod emulator;
+mod fault;
 mod lines;
 mod running;
 
 pub use emulator::{Emulator, Turn, Why};
+pub use fault::TalkFault;
 pub use running::{RunEnd, converse};

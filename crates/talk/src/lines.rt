@@ -1,9 +1,11 @@
 // The lines of events.
 ghost use Rattle.std.specs.Prelude.{◌≡◌, ◌<◌, ◌++◌, [], ◌∷◌, length, take, ℕ, IfOk, OnOk, OnErr, codes};
+ghost use Rattle.host.specs.declared.HostFault.{HostFault};
 ghost use Rattle.host.specs.Host.{Says, SameFaults, OnlySays, WriteFailed};
 ghost use Rattle.hex.specs.Hex.{encode_lower};
 ghost use Rattle.talk.specs.Lines.{blank_then, arg_text, bytes_text, blocks_text, call_line};
 
+use crate::fault::TalkFault;
 use dialogue::blocks::Block;
 use dialogue::request::{ArgWord, Request};
 use host::{Host, HostFault};
@@ -11,16 +13,16 @@ use std::alloc::{AllocError, Global};
 use transfer::say_line;
 
 /// Says a call of the system.
-pub fn say_call<H: Host>(alloc: Global, host: &mut H, request: &Request) -> Result<(), HostFault>
+pub fn say_call<H: Host>(alloc: Global, host: &mut H, request: &Request) -> Result<(), TalkFault>
     ensures only { OnlySays (H.state host.old) (H.state host.new) }
     ensures ok { OnOk result (Says (H.state host.old) (H.state host.new) (call_line request.now)) }
     ensures counted { OnOk result (SameFaults (H.state host.old) (H.state host.new)) }
     ensures fault { OnErr result ((k : ℕ)
         × Says (H.state host.old) (H.state host.new) (take k (call_line request.now))) }
-    ensures failed { result ≡ Err HostFault.Failed → WriteFailed (H.state host.old) (H.state host.new) }
+    ensures unsaid { (fault : HostFault) → result ≡ Err (TalkFault.Unsaid fault) → WriteFailed (H.state host.old) (H.state host.new) }
 {
     let line = call_line(alloc, request)?;
-    say_line(host, line.as_slice())
+    Ok(say_line(host, line.as_slice())?)
 }
 
 /// Says that the program has ended.

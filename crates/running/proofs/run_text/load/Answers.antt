@@ -1,12 +1,15 @@
-use Rattle.std.proofs.Common.{◌≡◌, sym, subst}
+use Rattle.std.proofs.Common.{◌≡◌, ℕ, sym, subst, Option}
+use Rattle.i86.specs.declared.Instr86.{Instr86}
+use Rattle.i86.specs.Decode.{IsOnlyReader}
+use Rattle.i86.specs.Decoder.{decoded}
 use Rattle.command_words.specs.ReadCommands.{run86_read}
 use Rattle.reports.specs.declared.stop.Stop.TheVariants.{OutOfMemory}
 use Rattle.run_parts.specs.declared.halt.Halt.TheVariants.{By}
 use Rattle.run_parts.specs.Ends.{Halts}
-use Rattle.run_parts.specs.Texts.{stop_of_image}
+use Rattle.run_parts.specs.Texts.{HasImage, stop_of_image}
 use Rattle.std.specs.Prelude.{option_copied}
 use Rattle.running.specs.Runs86.{LoadStops, no_text, no_input, no_memory}
-use Rattle.running.proofs.Loading.{halts, input_stops_before, image_stops}
+use Rattle.running.proofs.Loading.{halts, input_before, input_stops_before, image_stops}
 use Rattle.running.proofs.run_text.load.Goals as goal
 
 pub returns-in_err-text-clause-stopped : goal.returns-in_err-text-clause-stopped
@@ -43,3 +46,19 @@ returns-in_err-fill-clause-stopped g c =
     let new = g.H.Host.state c.read_input.new.host in
     halts c.from_residual-in_err-fill.result (λ h. h ≡ By OutOfMemory) (Halts (LoadStops (run86_read c.args.command.now) old new) ⊥) c.from_residual-in_err-fill.ensures.1
     (λ h is. subst (Halts (LoadStops (run86_read c.args.command.now) old new) ⊥) (sym is) no_memory)
+
+pub returns-clause-loaded : goal.returns-clause-loaded
+returns-clause-loaded g c =
+    let old = g.H.Host.state c.args.host.now in
+    let mid = g.H.Host.state c.read_named.new.host in
+    let new = g.H.Host.state c.read_input.new.host in
+    let first = c.in_ok-text.ensures in
+    let second = c.in_ok-input.ensures in
+    let image = c.in_ok-image.image in
+    record {
+      text = c.in_ok-text.text.items;
+      file = first.read;
+      assembled = subst (λ b. HasImage b image) c.as_slice.ensures.value c.in_ok-image.ensures.image;
+      reader = subst (λ k. (fetch : ℕ → Option Instr86) × IsOnlyReader k fetch) c.code.ensures (decoded c.code.result.now, c.decode_at.ensures.reader);
+      given = input_before old mid new first.only first.counted (option_copied c.args.command.now.run.input) c.in_ok-input.input.items second.read;
+    }
