@@ -21,16 +21,13 @@ use host::{Host, HostFault};
 use lines86::{Line86, code_size};
 use program80::Program80;
 use reports::{Stop, say_done, say_stop, translated_line};
-use run_parts::read_named;
+use run_parts::{SOURCE_LIMIT, read_named};
 use source_program::read_source;
 use source80::AsmRule;
 use std::alloc::{AllocError, Global};
 use templates::plain_text;
 use transfer::write_out;
 use xlt_core::first_is_same;
-
-/// The most bytes of a source.
-const SOURCE_LIMIT: usize = 1_048_576;
 
 // The plain text of a program, and the line that says how much it is.
 #[derive(Drop)]
