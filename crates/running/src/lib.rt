@@ -6,3 +6,6 @@ mod run_text;
 
 pub use run_source::run80;
 pub use run_text::run86;
+
+#[cfg(test)]
+mod tests;
