@@ -2,4 +2,3 @@ pub mod Firsts
 pub mod Verdicts
 pub mod Finish
 pub mod Working
-pub mod Tops

@@ -1,5 +1,3 @@
 pub mod Outcomes
-pub mod Sources
-pub mod Finish
-pub mod Said
-pub mod Working
+pub mod Statuses
+pub mod Tops

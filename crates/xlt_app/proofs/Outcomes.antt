@@ -1,130 +1,136 @@
--- Each status with all that the program says of its statuses.
-use Rattle.std.proofs.Common.{◌≡◌, ℕ, ◌<◌, ⊎_elim, List, length, refl, sym, ap, ◌∙◌, subst, arith}
-use Rattle.first_source.specs.Source.{IsSource}
-use Rattle.host.specs.Host.{HostState, Holds, IsFile, HasRisen, last_count}
-use Rattle.xlt_app.specs.Words.{Translate, IsTranslate}
-use Rattle.xlt_app.specs.Top.{IsStatus, IsNoCommand, IsTranslated, IsSourceRefused, AreWordsRefused, IsReadFailed, IsWriteFailed, IsOutOfMemory, IsFileTooLong, Completes}
+-- What a command's answer is among the clauses of the program: words are one command at most.
+use Rattle.std.proofs.Common.{◌≡◌, ℕ, List, Ok, refl, sym, subst, arith}
+use Rattle.host.specs.Host.{HostState, SameFiles}
+use Rattle.lines86.specs.Written.{text_of}
+use Rattle.program80.specs.Program.{Program, IsProgram}
+use Rattle.templates.specs.Plain.{plain}
+use Rattle.text86.specs.Stream.{TextGives}
+use Rattle.command_words.specs.Words.{Translate, Run80, Run86, Translates, Runs80, Runs86, IsCommand, IsNoCommand}
+use Rattle.command_words.proofs.Commands.{one_command}
+use Rattle.reports.specs.Said.{IsRefusedWords}
+use Rattle.xlt_core.specs.First.{IsFirst}
+use Rattle.translating.specs.Translates as translation
+use Rattle.running.specs.Runs80 as source
+use Rattle.running.specs.Completes80 as source_completes
+use Rattle.running.specs.Runs86 as text
+use Rattle.running.specs.Completes86 as text_completes
+use Rattle.xlt_app.specs.Top.{Headline, IsStatus, Outcomes}
+use Rattle.xlt_app.proofs.Statuses.{of_translation, of_run80, of_run86}
 
--- what is said of a status
-pub record Outcomes (words : List (List ℕ)) (old new : HostState) (status : ℕ) : Type 0 where
-  pub number : IsStatus status
-  pub translated : status ≡ 0 → IsTranslated words old new
-  pub source_refused : status ≡ 1 → IsSourceRefused words old new
-  pub words_refused : status ≡ 2 → AreWordsRefused words old new
-  pub read_failed : status ≡ 3 → IsReadFailed words old new
-  pub write_failed : status ≡ 4 → IsWriteFailed words old new
-  pub memory : status ≡ 5 → IsOutOfMemory words old new
-  pub too_long : status ≡ 14 → IsFileTooLong words old new
-  pub no_command : IsNoCommand words → status ≡ 2
-  pub completes : Completes words old new status
+-- commands of two kinds are never one, and one kind holds its command
+same_translation : (c d : Translate) → Translates c ≡ Translates d → c ≡ d
+same_translation c d e = cc
 
--- the words are one command at most
-input_one : (words : List (List ℕ)) (c d : Translate) → IsTranslate words c → IsTranslate words d → c.input ≡ d.input
-input_one words c d h g = let e = sym h.words ∙ g.words in cc
+same_run80 : (c d : Run80) → Runs80 c ≡ Runs80 d → c ≡ d
+same_run80 c d e = cc
 
--- no count that rose is as it was
-not_risen : (old new : ℕ) → HasRisen old new → new ≡ old → old < last_count → ⊥
-not_risen old new h e lt = ⊎_elim (λ r. absurd (omega (arith, r, e))) (λ l. absurd (omega (arith, l, e, lt))) h
+same_run86 : (c d : Run86) → Runs86 c ≡ Runs86 d → c ≡ d
+same_run86 c d e = cc
 
-module _ (words : List (List ℕ)) (old new : HostState) where
-  -- the file of the command is the one of these words, where the host tells it
-  same_file : (c d : Translate) (bytes other : List ℕ) → IsTranslate words c → IsTranslate words d → old.file d.input ≡ Holds other → IsFile (old.file c.input) bytes → other ≡ bytes
-  same_file c d bytes other h g told f = subst (λ t. IsFile t bytes) (ap old.file (input_one words c d h g) ∙ told) f
+no_translation80 : (c : Translate) (d : Run80) → Translates c ≡ Runs80 d → ⊥
+no_translation80 c d e = absurd cc
 
-  pub outcomes_0 : IsTranslated words old new → Outcomes words old new 0
-  outcomes_0 t = record {
-    number = (0, omega arith, refl);
-    translated = λ e. t;
-    source_refused = λ e. absurd (omega arith);
-    words_refused = λ e. absurd (omega arith);
-    read_failed = λ e. absurd (omega arith);
-    write_failed = λ e. absurd (omega arith);
-    memory = λ e. absurd (omega arith);
-    too_long = λ e. absurd (omega arith);
-    no_command = λ n. absurd (n t.command t.words);
-    completes = λ c bytes p w told le s f no. refl;
-  }
+no_translation86 : (c : Translate) (d : Run86) → Translates c ≡ Runs86 d → ⊥
+no_translation86 c d e = absurd cc
 
-  pub outcomes_1 : IsSourceRefused words old new → Outcomes words old new 1
-  outcomes_1 t = record {
-    number = (1, omega arith, refl);
-    translated = λ e. absurd (omega arith);
-    source_refused = λ e. t;
-    words_refused = λ e. absurd (omega arith);
-    read_failed = λ e. absurd (omega arith);
-    write_failed = λ e. absurd (omega arith);
-    memory = λ e. absurd (omega arith);
-    too_long = λ e. absurd (omega arith);
-    no_command = λ n. absurd (n t.command t.words);
-    completes = λ c bytes p w told le s f no. absurd (t.refused p (subst (λ b. IsSource b p) (same_file t.command c t.bytes bytes t.words w told t.file) s));
-  }
+no_run : (c : Run80) (d : Run86) → Runs80 c ≡ Runs86 d → ⊥
+no_run c d e = absurd cc
 
-  pub outcomes_2 : AreWordsRefused words old new → Outcomes words old new 2
-  outcomes_2 t = record {
-    number = (2, omega arith, refl);
-    translated = λ e. absurd (omega arith);
-    source_refused = λ e. absurd (omega arith);
-    words_refused = λ e. t;
-    read_failed = λ e. absurd (omega arith);
-    write_failed = λ e. absurd (omega arith);
-    memory = λ e. absurd (omega arith);
-    too_long = λ e. absurd (omega arith);
-    no_command = λ n. refl;
-    completes = λ c bytes p w told le s f no. absurd (t.refused c w);
-  }
+-- the plain text of a program that is translated reads back
+abbrev ReadsBack : Type 0
+ReadsBack = (p : Program) → IsProgram p → IsFirst p → TextGives (text_of (plain p)) (Ok (plain p))
 
-  pub outcomes_3 : IsReadFailed words old new → Outcomes words old new 3
-  outcomes_3 t = record {
-    number = (3, omega arith, refl);
-    translated = λ e. absurd (omega arith);
-    source_refused = λ e. absurd (omega arith);
-    words_refused = λ e. absurd (omega arith);
-    read_failed = λ e. t;
-    write_failed = λ e. absurd (omega arith);
-    memory = λ e. absurd (omega arith);
-    too_long = λ e. absurd (omega arith);
-    no_command = λ n. absurd (n t.command t.words);
-    completes = λ c bytes p w told le s f no. absurd (⊎_elim (λ r. not_risen old.read_faults new.read_faults r f.faults.reads f.reads) (λ m. f.there (ap old.file (input_one words c t.command w t.words) ∙ m)) t.failed);
-  }
+headline_by : (c : Translate) (old new : HostState) → ReadsBack → (status : ℕ) → translation.Gives c old new status → status ≡ 0 → Headline c old new
+headline_by c old new back _ (translation.translated p a w s l) e = record {
+  source = a.bytes;
+  program = p;
+  text = text_of (plain p);
+  image = s.image;
+  given = a.file.0;
+  is_source = a.source;
+  written = w.text;
+  has_image = record { lines = plain p; reads = back p a.source.program.program.lawful a.first; assembled = s.assembled };
+  same = s.same;
+}
+headline_by c old new back _ (translation.refused line rule r f l) e = absurd (omega (arith, e))
+headline_by c old new back _ (translation.unread r f l) e = absurd (omega (arith, e))
+headline_by c old new back _ (translation.unwritten p a w s) e = absurd (omega (arith, e))
+headline_by c old new back _ (translation.unsaid p a w f s) e = absurd (omega (arith, e))
+headline_by c old new back _ (translation.no_memory f l) e = absurd (omega (arith, e))
+headline_by c old new back _ (translation.no_memory_to_write p a w s) e = absurd (omega (arith, e))
+headline_by c old new back _ (translation.no_memory_to_say p a w f s) e = absurd (omega (arith, e))
+headline_by c old new back _ (translation.too_long l f s) e = absurd (omega (arith, e))
 
-  pub outcomes_4 : IsWriteFailed words old new → Outcomes words old new 4
-  outcomes_4 t = record {
-    number = (4, omega arith, refl);
-    translated = λ e. absurd (omega arith);
-    source_refused = λ e. absurd (omega arith);
-    words_refused = λ e. absurd (omega arith);
-    read_failed = λ e. absurd (omega arith);
-    write_failed = λ e. t;
-    memory = λ e. absurd (omega arith);
-    too_long = λ e. absurd (omega arith);
-    no_command = λ n. absurd (n t.command t.words);
-    completes = λ c bytes p w told le s f no. absurd (not_risen old.write_faults new.write_faults t.failed f.faults.writes f.writes);
-  }
+module _ (words : List (List ℕ)) (old new : HostState) (status : ℕ) where
+  pub by_translation : ReadsBack → (c : Translate) → IsCommand words (Translates c) → translation.Gives c old new status → translation.Completes c old new status → Outcomes words old new status
+  by_translation back c h gives completes =
+      let of = of_translation c old new status gives in
+      let one : (d : Translate) → IsCommand words (Translates d) → c ≡ d = λ d g. same_translation c d (one_command words (Translates c) (Translates d) h g) in
+      record {
+        headline = λ d g e. subst (λ d. Headline d old new) (one d g) (headline_by c old new back status gives e);
+        number = of.number;
+        no_command = λ none. absurd (none (Translates c) h);
+        words_refused = λ e. absurd (of.other e);
+        translated = λ d g. subst (λ d. translation.Gives d old new status) (one d g) gives;
+        translation_completes = λ d g. subst (λ d. translation.Completes d old new status) (one d g) completes;
+        ran80 = λ d g. absurd (no_translation80 c d (one_command words (Translates c) (Runs80 d) h g));
+        run80_completes = λ d g. absurd (no_translation80 c d (one_command words (Translates c) (Runs80 d) h g));
+        run80_changes_no_file = λ d g. absurd (no_translation80 c d (one_command words (Translates c) (Runs80 d) h g));
+        ran86 = λ d g. absurd (no_translation86 c d (one_command words (Translates c) (Runs86 d) h g));
+        run86_completes = λ d g. absurd (no_translation86 c d (one_command words (Translates c) (Runs86 d) h g));
+        run86_changes_no_file = λ d g. absurd (no_translation86 c d (one_command words (Translates c) (Runs86 d) h g));
+      }
 
-  pub outcomes_5 : IsOutOfMemory words old new → Outcomes words old new 5
-  outcomes_5 t = record {
-    number = (5, omega arith, refl);
-    translated = λ e. absurd (omega arith);
-    source_refused = λ e. absurd (omega arith);
-    words_refused = λ e. absurd (omega arith);
-    read_failed = λ e. absurd (omega arith);
-    write_failed = λ e. absurd (omega arith);
-    memory = λ e. t;
-    too_long = λ e. absurd (omega arith);
-    no_command = λ n. absurd (n t.command t.words);
-    completes = λ c bytes p w told le s f no. absurd (no refl);
-  }
+  pub by_run80 : (c : Run80) → IsCommand words (Runs80 c) → source.Gives c old new status → source_completes.Completes c old new status → SameFiles old new → Outcomes words old new status
+  by_run80 c h gives completes files =
+      let of = of_run80 c old new status gives in
+      let one : (d : Run80) → IsCommand words (Runs80 d) → c ≡ d = λ d g. same_run80 c d (one_command words (Runs80 c) (Runs80 d) h g) in
+      record {
+        headline = λ d g e. absurd (no_translation80 d c (one_command words (Translates d) (Runs80 c) g h));
+        number = of.number;
+        no_command = λ none. absurd (none (Runs80 c) h);
+        words_refused = λ e. absurd (of.other e);
+        translated = λ d g. absurd (no_translation80 d c (one_command words (Translates d) (Runs80 c) g h));
+        translation_completes = λ d g. absurd (no_translation80 d c (one_command words (Translates d) (Runs80 c) g h));
+        ran80 = λ d g. subst (λ d. source.Gives d old new status) (one d g) gives;
+        run80_completes = λ d g. subst (λ d. source_completes.Completes d old new status) (one d g) completes;
+        run80_changes_no_file = λ d g. files;
+        ran86 = λ d g. absurd (no_run c d (one_command words (Runs80 c) (Runs86 d) h g));
+        run86_completes = λ d g. absurd (no_run c d (one_command words (Runs80 c) (Runs86 d) h g));
+        run86_changes_no_file = λ d g. files;
+      }
 
-  pub outcomes_14 : IsFileTooLong words old new → Outcomes words old new 14
-  outcomes_14 t = record {
-    number = (6, omega arith, refl);
-    translated = λ e. absurd (omega arith);
-    source_refused = λ e. absurd (omega arith);
-    words_refused = λ e. absurd (omega arith);
-    read_failed = λ e. absurd (omega arith);
-    write_failed = λ e. absurd (omega arith);
-    memory = λ e. absurd (omega arith);
-    too_long = λ e. t;
-    no_command = λ n. absurd (n t.command t.words);
-    completes = λ c bytes p w told le s f no. let e = ap length (same_file t.command c t.bytes bytes t.words w told t.file) in let more = t.longer in absurd (omega (arith, e, more, le));
+  pub by_run86 : (c : Run86) → IsCommand words (Runs86 c) → text.Gives c old new status → text_completes.Completes c old new status → SameFiles old new → Outcomes words old new status
+  by_run86 c h gives completes files =
+      let of = of_run86 c old new status gives in
+      let one : (d : Run86) → IsCommand words (Runs86 d) → c ≡ d = λ d g. same_run86 c d (one_command words (Runs86 c) (Runs86 d) h g) in
+      record {
+        headline = λ d g e. absurd (no_translation86 d c (one_command words (Translates d) (Runs86 c) g h));
+        number = of.number;
+        no_command = λ none. absurd (none (Runs86 c) h);
+        words_refused = λ e. absurd (of.other e);
+        translated = λ d g. absurd (no_translation86 d c (one_command words (Translates d) (Runs86 c) g h));
+        translation_completes = λ d g. absurd (no_translation86 d c (one_command words (Translates d) (Runs86 c) g h));
+        ran80 = λ d g. absurd (no_run d c (one_command words (Runs80 d) (Runs86 c) g h));
+        run80_completes = λ d g. absurd (no_run d c (one_command words (Runs80 d) (Runs86 c) g h));
+        run80_changes_no_file = λ d g. files;
+        ran86 = λ d g. subst (λ d. text.Gives d old new status) (one d g) gives;
+        run86_completes = λ d g. subst (λ d. text_completes.Completes d old new status) (one d g) completes;
+        run86_changes_no_file = λ d g. files;
+      }
+
+  pub by_no_command : IsNoCommand words → IsRefusedWords old new status → Outcomes words old new status
+  by_no_command none refused = record {
+    headline = λ c h e. absurd (none (Translates c) h);
+    number = subst IsStatus (sym refused.0) (2, omega arith, refl);
+    no_command = λ n. refused;
+    words_refused = λ e. none;
+    translated = λ c h. absurd (none (Translates c) h);
+    translation_completes = λ c h. absurd (none (Translates c) h);
+    ran80 = λ c h. absurd (none (Runs80 c) h);
+    run80_completes = λ c h. absurd (none (Runs80 c) h);
+    run80_changes_no_file = λ c h. absurd (none (Runs80 c) h);
+    ran86 = λ c h. absurd (none (Runs86 c) h);
+    run86_completes = λ c h. absurd (none (Runs86 c) h);
+    run86_changes_no_file = λ c h. absurd (none (Runs86 c) h);
   }

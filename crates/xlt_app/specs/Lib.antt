@@ -1,5 +1,1 @@
-pub mod Words
-pub mod Report
 pub mod Top
-pub mod Work
-pub mod Closing

@@ -1,57 +1,38 @@
-// The program `xlt`: its words, its files, and what it says.
+// The program `xlt`: which command its words are, and what that comes to.
 #![tactic(auto)]
 
-mod command;
-mod report;
 #[cfg(test)]
 mod tests;
-mod translate;
 
-ghost use Rattle.std.specs.Prelude.{◌≡◌, ◌↔◌, map};
+ghost use Rattle.std.specs.Prelude.{◌≡◌, map};
 ghost use Rattle.std.specs.String.{string_bytes};
-ghost use Rattle.xlt_app.specs.Top.{IsStatus, IsNoCommand, IsTranslated, IsSourceRefused, AreWordsRefused, IsReadFailed, IsWriteFailed, IsOutOfMemory, IsFileTooLong, Completes};
+ghost use Rattle.command_words.specs.Words.{Translate, Translates, IsCommand};
+ghost use Rattle.xlt_app.specs.Top.{Headline, Outcomes};
 
-use crate::command::Translate;
-use crate::report::{said, say_of, words_refused};
-use crate::translate::translate;
+use command_words::{Command, read_words};
 use host::Host;
+use reports::words_refused;
+use running::{run80, run86};
 use std::alloc::Global;
-pub use transfer::write_out;
+use translating::translate;
 use xlt_core::first_is_same;
 
 /// What the program does with the words after its name: it answers the status that the process ends with. The files of the
-/// command are those of the host, and the last line goes to it.
+/// command are those of the host, and what is said goes to it.
 pub fn xlt<H: Host>(alloc: Global, words: Vec<String>, host: &mut H) -> u8
-    ensures number { IsStatus result }
-
-    // The headline is a part of what status 0 says.
-    ensures translated { result ≡ 0
-        → IsTranslated (map string_bytes words.items) (H.state host.old) (H.state host.new) }
-    ensures source_refused { result ≡ 1
-        → IsSourceRefused (map string_bytes words.items) (H.state host.old) (H.state host.new) }
-    ensures words_refused { result ≡ 2
-        → AreWordsRefused (map string_bytes words.items) (H.state host.old) (H.state host.new) }
-    ensures read_failed { result ≡ 3
-        → IsReadFailed (map string_bytes words.items) (H.state host.old) (H.state host.new) }
-    ensures write_failed { result ≡ 4
-        → IsWriteFailed (map string_bytes words.items) (H.state host.old) (H.state host.new) }
-    ensures memory { result ≡ 5
-        → IsOutOfMemory (map string_bytes words.items) (H.state host.old) (H.state host.new) }
-    ensures too_long { result ≡ 14
-        → IsFileTooLong (map string_bytes words.items) (H.state host.old) (H.state host.new) }
-
-    // In the other direction.
-    ensures no_command { IsNoCommand (map string_bytes words.items) → result ≡ 2 }
-    ensures completes { Completes (map string_bytes words.items) (H.state host.old) (H.state host.new) result }
+    ensures headline { (c : Translate) → IsCommand (map string_bytes words.items) (Translates c)
+        → result ≡ 0 → Headline c (H.state host.old) (H.state host.new) }
+    ensures outcomes { Outcomes (map string_bytes words.items) (H.state host.old) (H.state host.new) result }
 {
-    let Some(command) = Translate::of_words(words.as_slice()) else {
+    let Some(command) = read_words(words.as_slice()) else {
         return words_refused(host);
     };
-    match translate(alloc, host, command) {
-        Ok(line) => {
+    match command {
+        Command::Translate(command) => {
             first_is_same();
-            said(host, line.as_str())
+            translate(alloc, host, &command)
         }
-        Err(stop) => say_of(alloc, host, stop, command.input),
+        Command::Run80(command) => run80(alloc, host, &command),
+        Command::Run86(command) => run86(alloc, host, &command),
     }
 }

@@ -1,84 +1,67 @@
-use Rattle.std.proofs.Common.{sym, subst, map}
+use Rattle.std.proofs.Common.{map, subst}
 use Rattle.std.specs.String.{string_bytes}
-use Rattle.xlt_app.specs.Words.{Translate, IsTranslate}
-use Rattle.xlt_app.specs.Work.{Works}
-use Rattle.xlt_app.proofs.Outcomes.{Outcomes}
-use Rattle.xlt_app.proofs.Finish.{worked, stopped, sources_hold}
+use Rattle.command_words.specs.declared.command.Command.TheVariants as read
+use Rattle.command_words.specs.ReadCommands.{command_read, translate_read, run80_read, run86_read}
+use Rattle.command_words.specs.Words.{IsCommand, IsNoCommand}
+use Rattle.xlt_app.specs.Top.{Outcomes}
+use Rattle.xlt_app.proofs.Outcomes.{by_translation, by_run80, by_run86, by_no_command}
+use Rattle.xlt_app.proofs.Tops.{translation_has_top, run80_has_top}
 use Rattle.xlt_app.proofs.xlt.Given.{Over}
 use Rattle.xlt_app.proofs.xlt.Goals as goal
 
-out-in-Ok : (g : Over) (c : goal.After-drop-words-in-Ok g) → Outcomes (map string_bytes c.args.words.items) (g.H.Host.state c.args.host.now) (g.H.Host.state c.said.new.host) c.said.result
-out-in-Ok g c =
-    let command : Translate = record { input = c.in-Some.command.input.now; output = c.in-Some.command.output.now } in
-    let old = g.H.Host.state c.args.host.now in
-    let mid = g.H.Host.state c.translate.new.host in
-    worked (map string_bytes c.args.words.items) command (subst (λ words. IsTranslate (map string_bytes words) command) c.as_slice.ensures.value c.in-Some.ensures)
-    old mid (g.H.Host.state c.said.new.host)
-    (sources_hold c.first_is_same.ensures.assembles c.first_is_same.ensures.same)
-    c.as_str.result.now (subst (Works command old mid) (sym c.as_str.ensures.value) c.in-Ok.ensures)
-    c.said.result c.said.ensures
+pub returns-in_default-clause-outcomes : goal.returns-in_default-clause-outcomes
+returns-in_default-clause-outcomes g c =
+    by_no_command (map string_bytes c.args.words.items) (g.H.Host.state c.args.host.now) (g.H.Host.state c.words_refused.new.host) c.words_refused.result
+    (subst (λ w. IsNoCommand (map string_bytes w)) c.as_slice.ensures.value c.in_default.ensures) c.words_refused.ensures
 
-out : (g : Over) (c : goal.After-drop-words-2 g) → Outcomes (map string_bytes c.args.words.items) (g.H.Host.state c.args.host.now) (g.H.Host.state c.say_of.new.host) c.say_of.result
-out g c =
-    let command : Translate = record { input = c.in-Some.command.input.now; output = c.in-Some.command.output.now } in
-    stopped (map string_bytes c.args.words.items) command (subst (λ words. IsTranslate (map string_bytes words) command) c.as_slice.ensures.value c.in-Some.ensures)
-    (g.H.Host.state c.args.host.now) (g.H.Host.state c.translate.new.host) (g.H.Host.state c.say_of.new.host)
-    c.in-Err.stop c.in-Err.ensures
-    c.say_of.result c.say_of.ensures
+pub translate-requires : goal.translate-requires
+translate-requires g c =
+    let words = map string_bytes c.as_slice.result.now in
+    translation_has_top words (translate_read c.in-Translate.command) (subst (λ k. IsCommand words (command_read k)) c.in-Translate.is c.in-Some.ensures)
 
-pub returns-in-Ok-clause-number : goal.returns-in-Ok-clause-number
-returns-in-Ok-clause-number g c = (out-in-Ok g c).number
+by_translate : (g : Over) (c : goal.After-drop-words-in-Translate g) → Outcomes (map string_bytes c.args.words.items) (g.H.Host.state c.args.host.now) (g.H.Host.state c.translate.new.host) c.translate.result
+by_translate g c =
+    by_translation (map string_bytes c.args.words.items) (g.H.Host.state c.args.host.now) (g.H.Host.state c.translate.new.host) c.translate.result
+    c.first_is_same.ensures.reads_back (translate_read c.in-Translate.command)
+    (subst (λ w. IsCommand (map string_bytes w) (command_read (read.Translate c.in-Translate.command))) c.as_slice.ensures.value
+    (subst (λ k. IsCommand (map string_bytes c.as_slice.result.now) (command_read k)) c.in-Translate.is c.in-Some.ensures))
+    c.translate.ensures.gives c.translate.ensures.completes
 
-pub returns-in-Ok-clause-translated : goal.returns-in-Ok-clause-translated
-returns-in-Ok-clause-translated g c = (out-in-Ok g c).translated
+pub returns-in-Translate-clause-headline : goal.returns-in-Translate-clause-headline
+returns-in-Translate-clause-headline g c = (by_translate g c).headline
 
-pub returns-in-Ok-clause-source_refused : goal.returns-in-Ok-clause-source_refused
-returns-in-Ok-clause-source_refused g c = (out-in-Ok g c).source_refused
+pub returns-in-Translate-clause-outcomes : goal.returns-in-Translate-clause-outcomes
+returns-in-Translate-clause-outcomes g c = by_translate g c
 
-pub returns-in-Ok-clause-words_refused : goal.returns-in-Ok-clause-words_refused
-returns-in-Ok-clause-words_refused g c = (out-in-Ok g c).words_refused
+pub run80-requires : goal.run80-requires
+run80-requires g c =
+    let words = map string_bytes c.as_slice.result.now in
+    run80_has_top words (run80_read c.in-Run80.command) (subst (λ k. IsCommand words (command_read k)) c.in-Run80.is c.in-Some.ensures)
 
-pub returns-in-Ok-clause-read_failed : goal.returns-in-Ok-clause-read_failed
-returns-in-Ok-clause-read_failed g c = (out-in-Ok g c).read_failed
+by_80 : (g : Over) (c : goal.After-drop-words-in-Run80 g) → Outcomes (map string_bytes c.args.words.items) (g.H.Host.state c.args.host.now) (g.H.Host.state c.run80.new.host) c.run80.result
+by_80 g c =
+    by_run80 (map string_bytes c.args.words.items) (g.H.Host.state c.args.host.now) (g.H.Host.state c.run80.new.host) c.run80.result
+    (run80_read c.in-Run80.command)
+    (subst (λ w. IsCommand (map string_bytes w) (command_read (read.Run80 c.in-Run80.command))) c.as_slice.ensures.value
+    (subst (λ k. IsCommand (map string_bytes c.as_slice.result.now) (command_read k)) c.in-Run80.is c.in-Some.ensures))
+    c.run80.ensures.gives c.run80.ensures.completes c.run80.ensures.files
 
-pub returns-in-Ok-clause-write_failed : goal.returns-in-Ok-clause-write_failed
-returns-in-Ok-clause-write_failed g c = (out-in-Ok g c).write_failed
+pub returns-in-Run80-clause-headline : goal.returns-in-Run80-clause-headline
+returns-in-Run80-clause-headline g c = (by_80 g c).headline
 
-pub returns-in-Ok-clause-memory : goal.returns-in-Ok-clause-memory
-returns-in-Ok-clause-memory g c = (out-in-Ok g c).memory
+pub returns-in-Run80-clause-outcomes : goal.returns-in-Run80-clause-outcomes
+returns-in-Run80-clause-outcomes g c = by_80 g c
 
-pub returns-in-Ok-clause-too_long : goal.returns-in-Ok-clause-too_long
-returns-in-Ok-clause-too_long g c = (out-in-Ok g c).too_long
+by_86 : (g : Over) (c : goal.After-drop-words-2 g) → Outcomes (map string_bytes c.args.words.items) (g.H.Host.state c.args.host.now) (g.H.Host.state c.run86.new.host) c.run86.result
+by_86 g c =
+    by_run86 (map string_bytes c.args.words.items) (g.H.Host.state c.args.host.now) (g.H.Host.state c.run86.new.host) c.run86.result
+    (run86_read c.in-Run86.command)
+    (subst (λ w. IsCommand (map string_bytes w) (command_read (read.Run86 c.in-Run86.command))) c.as_slice.ensures.value
+    (subst (λ k. IsCommand (map string_bytes c.as_slice.result.now) (command_read k)) c.in-Run86.is c.in-Some.ensures))
+    c.run86.ensures.gives c.run86.ensures.completes c.run86.ensures.files
 
-pub returns-in-Ok-clause-no_command : goal.returns-in-Ok-clause-no_command
-returns-in-Ok-clause-no_command g c = (out-in-Ok g c).no_command
+pub returns-clause-headline : goal.returns-clause-headline
+returns-clause-headline g c = (by_86 g c).headline
 
-pub returns-clause-number : goal.returns-clause-number
-returns-clause-number g c = (out g c).number
-
-pub returns-clause-translated : goal.returns-clause-translated
-returns-clause-translated g c = (out g c).translated
-
-pub returns-clause-source_refused : goal.returns-clause-source_refused
-returns-clause-source_refused g c = (out g c).source_refused
-
-pub returns-clause-words_refused : goal.returns-clause-words_refused
-returns-clause-words_refused g c = (out g c).words_refused
-
-pub returns-clause-read_failed : goal.returns-clause-read_failed
-returns-clause-read_failed g c = (out g c).read_failed
-
-pub returns-clause-write_failed : goal.returns-clause-write_failed
-returns-clause-write_failed g c = (out g c).write_failed
-
-pub returns-clause-memory : goal.returns-clause-memory
-returns-clause-memory g c = (out g c).memory
-
-pub returns-clause-too_long : goal.returns-clause-too_long
-returns-clause-too_long g c = (out g c).too_long
-
-pub returns-clause-no_command : goal.returns-clause-no_command
-returns-clause-no_command g c = (out g c).no_command
-
-pub returns-clause-completes : goal.returns-clause-completes
-returns-clause-completes g c = (out g c).completes
+pub returns-clause-outcomes : goal.returns-clause-outcomes
+returns-clause-outcomes g c = by_86 g c

@@ -8,7 +8,7 @@ use Rattle.command_words.specs.declared.table.CommandName.TheVariants as named
 use Rattle.command_words.specs.Table.{Word}
 use Rattle.command_words.specs.Values.{top_among, top_value, number_in}
 use Rattle.command_words.specs.Given.{Gathered}
-use Rattle.command_words.specs.Words.{Translate, Translates, Runs80, Runs86, IsCommand, command_of, translate_of, run80_of, run86_of, once, two_files, top_of, text_or}
+use Rattle.command_words.specs.Words.{Translate, Run80, Translates, Runs80, Runs86, IsCommand, command_of, translate_of, run80_of, run86_of, run_options_of, once, one_file, two_files, top_of, text_or}
 
 if_some : (b : Bool) (x y : ℕ) → (if b then Some x else None) ≡ Some y → (b ≡ true) × (x ≡ y)
 if_some true x y e = (refl, cc)
@@ -52,23 +52,43 @@ top_is text m e = let h = taken (number_in 16 4 text) top_among m (if_then _ (op
 pub top_of_is : (g : Gathered) (m : ℕ) → top_of g ≡ Some m → is_top m ≡ true
 top_of_is g m e = let h = taken (text_or _ g.top) top_value m e in top_is h.0 m h.2
 
-top_in : Option Translate → ℕ
-top_in None = 0
-top_in (Some c) = c.top
+translation_top_in : Option Translate → ℕ
+translation_top_in None = 0
+translation_top_in (Some c) = c.top
 
 translate_top : (g : Gathered) (c : Translate) → translate_of g ≡ Some c → is_top c.top ≡ true
-unfolding top_in taken
+unfolding translation_top_in taken
 translate_top g c e =
     let a = taken (once g.plain) _ c e in
     let b = taken (two_files g.names) _ c a.2 in
     let d = taken (top_of g) _ c b.2 in
-    subst (λ n. is_top n ≡ true) (ap top_in d.2) (top_of_is g d.0 d.1)
+    subst (λ n. is_top n ≡ true) (ap translation_top_in d.2) (top_of_is g d.0 d.1)
 
-by_name : (name : CommandName) (g : Gathered) (c : Translate) → command_of name g ≡ Some (Translates c) → is_top c.top ≡ true
-by_name named.Translate g c e = let h = mapped (translate_of g) Translates (Translates c) e in let same : h.0 ≡ c = cc in subst (λ (x : Translate). is_top x.top ≡ true) same (translate_top g h.0 h.1)
-by_name named.Run80 g c e = let h = mapped (run80_of g) Runs80 (Translates c) e in let e = h.2 in absurd (cc)
-by_name named.Run86 g c e = let h = mapped (run86_of g) Runs86 (Translates c) e in let e = h.2 in absurd (cc)
+run80_top_in : Option Run80 → ℕ
+run80_top_in None = 0
+run80_top_in (Some c) = c.top
 
--- so `translate` may be called with each command that words are
-pub command_has_top : (words : List Word) (c : Translate) → IsCommand words (Translates c) → is_top c.top ≡ true
-command_has_top words c is = by_name is.name is.given c is.command
+run80_top : (g : Gathered) (c : Run80) → run80_of g ≡ Some c → is_top c.top ≡ true
+unfolding run80_top_in taken
+run80_top g c e =
+    let a = taken (one_file g.names) _ c e in
+    let b = taken (top_of g) _ c a.2 in
+    let d = taken (run_options_of g) _ c b.2 in
+    subst (λ n. is_top n ≡ true) (ap run80_top_in d.2) (top_of_is g b.0 b.1)
+
+translates_by_name : (name : CommandName) (g : Gathered) (c : Translate) → command_of name g ≡ Some (Translates c) → is_top c.top ≡ true
+translates_by_name named.Translate g c e = let h = mapped (translate_of g) Translates (Translates c) e in let same : h.0 ≡ c = cc in subst (λ (x : Translate). is_top x.top ≡ true) same (translate_top g h.0 h.1)
+translates_by_name named.Run80 g c e = let h = mapped (run80_of g) Runs80 (Translates c) e in let e = h.2 in absurd (cc)
+translates_by_name named.Run86 g c e = let h = mapped (run86_of g) Runs86 (Translates c) e in let e = h.2 in absurd (cc)
+
+runs_by_name : (name : CommandName) (g : Gathered) (c : Run80) → command_of name g ≡ Some (Runs80 c) → is_top c.top ≡ true
+runs_by_name named.Translate g c e = let h = mapped (translate_of g) Translates (Runs80 c) e in let e = h.2 in absurd (cc)
+runs_by_name named.Run80 g c e = let h = mapped (run80_of g) Runs80 (Runs80 c) e in let same : h.0 ≡ c = cc in subst (λ (x : Run80). is_top x.top ≡ true) same (run80_top g h.0 h.1)
+runs_by_name named.Run86 g c e = let h = mapped (run86_of g) Runs86 (Runs80 c) e in let e = h.2 in absurd (cc)
+
+-- so `translate` and `run80` may be called with each command that words are
+pub translation_has_top : (words : List Word) (c : Translate) → IsCommand words (Translates c) → is_top c.top ≡ true
+translation_has_top words c is = translates_by_name is.name is.given c is.command
+
+pub run80_has_top : (words : List Word) (c : Run80) → IsCommand words (Runs80 c) → is_top c.top ≡ true
+run80_has_top words c is = runs_by_name is.name is.given c is.command

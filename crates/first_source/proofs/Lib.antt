@@ -1,5 +1,0 @@
-pub mod FirstProgram
-pub mod Texts
-pub mod Lines
-pub mod Reading
-pub mod Faults

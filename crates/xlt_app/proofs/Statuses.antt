@@ -1,0 +1,113 @@
+-- Each command answers one of the program's statuses, and 2 never.
+use Rattle.std.proofs.Common.{◌≡◌, ℕ, List, refl, sym, subst, arith}
+use Rattle.host.specs.declared.HostFault.{HostFault}
+use Rattle.host.specs.declared.HostFault.TheVariants.{Failed, Memory}
+use Rattle.host.specs.Host.{HostState}
+use Rattle.command_words.specs.Words.{Translate, Run80, Run86}
+use Rattle.reports.specs.declared.stop.Stop.{Stop}
+use Rattle.reports.specs.declared.stop.Stop.TheVariants.{SourceLine, SourceProgram, ReadFailed, WriteFailed, OutOfMemory, LeftProfile, StepLimit, InputEnded, TextLine, ShortJump, NoInstruction, StackSegment, OddCall, NoDrive, CodeTooLarge, FileTooLong}
+use Rattle.reports.specs.Lines.{status_of, ended_line}
+use Rattle.reports.specs.Said.{IsDone, whole, failed, no_memory, Closes, said, unsaid}
+use Rattle.run_parts.specs.Ends.{unsaid_status}
+use Rattle.translating.specs.Translates as translation
+use Rattle.running.specs.Runs80 as source
+use Rattle.running.specs.Runs86 as text
+use Rattle.xlt_app.specs.Top.{IsStatus}
+
+-- a status that is not that of refused words
+pub record IsOfCommand (status : ℕ) : Type 0 where
+  pub number : IsStatus status
+  pub other : status ≡ 2 → ⊥
+
+of_0 : IsOfCommand 0
+of_0 = record { number = (0, omega arith, refl); other = λ e. absurd (omega arith) }
+
+of_1 : IsOfCommand 1
+of_1 = record { number = (1, omega arith, refl); other = λ e. absurd (omega arith) }
+
+of_3 : IsOfCommand 3
+of_3 = record { number = (3, omega arith, refl); other = λ e. absurd (omega arith) }
+
+of_4 : IsOfCommand 4
+of_4 = record { number = (4, omega arith, refl); other = λ e. absurd (omega arith) }
+
+of_5 : IsOfCommand 5
+of_5 = record { number = (5, omega arith, refl); other = λ e. absurd (omega arith) }
+
+of_6 : IsOfCommand 6
+of_6 = record { number = (6, omega arith, refl); other = λ e. absurd (omega arith) }
+
+of_7 : IsOfCommand 7
+of_7 = record { number = (7, omega arith, refl); other = λ e. absurd (omega arith) }
+
+of_9 : IsOfCommand 9
+of_9 = record { number = (8, omega arith, refl); other = λ e. absurd (omega arith) }
+
+of_10 : IsOfCommand 10
+of_10 = record { number = (9, omega arith, refl); other = λ e. absurd (omega arith) }
+
+of_11 : IsOfCommand 11
+of_11 = record { number = (10, omega arith, refl); other = λ e. absurd (omega arith) }
+
+of_12 : IsOfCommand 12
+of_12 = record { number = (11, omega arith, refl); other = λ e. absurd (omega arith) }
+
+of_13 : IsOfCommand 13
+of_13 = record { number = (12, omega arith, refl); other = λ e. absurd (omega arith) }
+
+of_14 : IsOfCommand 14
+of_14 = record { number = (13, omega arith, refl); other = λ e. absurd (omega arith) }
+
+of_stop : (stop : Stop) → IsOfCommand (status_of stop)
+of_stop (SourceLine line rule) = of_1
+of_stop (SourceProgram line rule) = of_1
+of_stop (ReadFailed name) = of_3
+of_stop WriteFailed = of_4
+of_stop OutOfMemory = of_5
+of_stop (LeftProfile line rule) = of_6
+of_stop (StepLimit steps) = of_7
+of_stop InputEnded = of_9
+of_stop (TextLine line rule) = of_10
+of_stop (ShortJump line) = of_10
+of_stop (NoInstruction offset) = of_11
+of_stop (StackSegment offset) = of_11
+of_stop (OddCall offset function) = of_11
+of_stop (NoDrive function) = of_12
+of_stop (CodeTooLarge size) = of_13
+of_stop (FileTooLong name) = of_14
+
+of_closes : (stop : Stop) (old new : HostState) (status : ℕ) → Closes stop old new status → IsOfCommand status
+of_closes stop old new status (said e s) = subst IsOfCommand (sym e) (of_stop stop)
+of_closes stop old new status (unsaid e s) = subst IsOfCommand (sym e) of_5
+
+of_done : (line : List ℕ) (old new : HostState) (status : ℕ) → IsDone line old new status → IsOfCommand status
+of_done line old new _ (whole o s f) = of_0
+of_done line old new _ (failed s) = of_4
+of_done line old new _ (no_memory s) = of_5
+
+of_unsaid : (fault : HostFault) → IsOfCommand (unsaid_status fault)
+of_unsaid Failed = of_4
+of_unsaid Memory = of_5
+
+-- ---- the commands
+
+pub of_translation : (c : Translate) (old new : HostState) (status : ℕ) → translation.Gives c old new status → IsOfCommand status
+of_translation c old new _ (translation.translated p a w s l) = of_0
+of_translation c old new _ (translation.refused line rule r f l) = of_1
+of_translation c old new _ (translation.unread r f l) = of_3
+of_translation c old new _ (translation.unwritten p a w s) = of_4
+of_translation c old new _ (translation.unsaid p a w f s) = of_4
+of_translation c old new _ (translation.no_memory f l) = of_5
+of_translation c old new _ (translation.no_memory_to_write p a w s) = of_5
+of_translation c old new _ (translation.no_memory_to_say p a w f s) = of_5
+of_translation c old new _ (translation.too_long l f s) = of_14
+
+pub of_run80 : (c : Run80) (old new : HostState) (status : ℕ) → source.Gives c old new status → IsOfCommand status
+of_run80 c old new status (source.ended p steps mid r d) = of_done (ended_line steps) mid new status d
+of_run80 c old new status (source.unsaid fault e p f) = subst IsOfCommand (sym e) (of_unsaid fault)
+of_run80 c old new status (source.stopped mid stop s k) = of_closes stop mid new status k
+
+pub of_run86 : (c : Run86) (old new : HostState) (status : ℕ) → text.Gives c old new status → IsOfCommand status
+of_run86 c old new status (text.ended steps mid r d) = of_done (ended_line steps) mid new status d
+of_run86 c old new status (text.unsaid fault e p f) = subst IsOfCommand (sym e) (of_unsaid fault)
+of_run86 c old new status (text.stopped mid stop s k) = of_closes stop mid new status k
