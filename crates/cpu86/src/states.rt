@@ -11,7 +11,7 @@ use std::process::Abort;
 
 /// A place of the state, and what it holds.
 #[derive(Clone, Copy)]
-pub enum Place {
+pub(crate) enum Place {
     Word(Reg16, u16),
     Ip(u16),
     Ds(u16),
@@ -22,18 +22,19 @@ pub enum Place {
     Dma(u16),
 }
 
-pub const S: u8 = 0x80;
+// The bits of SF, ZF, AF, PF and CF in the flags register.
+pub(crate) const S: u8 = 0x80;
 
-pub const Z: u8 = 0x40;
+pub(crate) const Z: u8 = 0x40;
 
-pub const A: u8 = 0x10;
+pub(crate) const A: u8 = 0x10;
 
-pub const P: u8 = 0x04;
+pub(crate) const P: u8 = 0x04;
 
-pub const C: u8 = 0x01;
+pub(crate) const C: u8 = 0x01;
 
-// A state with words that differ, the places put into it.
-pub fn processor_with(alloc: Global, places: &[Place]) -> Result<Processor, AllocError> {
+/// A state whose registers differ, with these places put into it.
+pub(crate) fn processor_with(alloc: Global, places: &[Place]) -> Result<Processor, AllocError> {
     let fill = vec![in alloc; 0xA5; 65536]?;
     let mut processor = Processor {
         registers: Registers {
@@ -69,7 +70,7 @@ fn flags_of_bits(bits: u8) -> Flags {
     }
 }
 
-pub fn put_all(processor: &mut Processor, places: &[Place]) {
+pub(crate) fn put_all(processor: &mut Processor, places: &[Place]) {
     for place in places {
         put(processor, *place);
     }
@@ -101,7 +102,7 @@ fn put_word(processor: &mut Processor, reg: Reg16, word: u16) {
 }
 
 /// Fails where two states differ.
-pub fn assert_same(rt: &impl Abort, found: &Processor, wanted: &Processor, text: &str) {
+pub(crate) fn assert_same(rt: &impl Abort, found: &Processor, wanted: &Processor, text: &str) {
     assert!(rt;
         registers_of(found) == registers_of(wanted),
         "registers: {text}"
@@ -141,9 +142,9 @@ fn flags_of(processor: &Processor) -> [bool; 5] {
     [sf, zf, af, pf, cf]
 }
 
-/// Fails where the instruction of a row, with its choice, from the state with these places does not come to this state with the
-/// places behind them, or changes more.
-pub fn assert_steps(
+/// Fails where the instruction of a row, with its choice, does not lead from the state with the row's first places to the same
+/// state with its second places put into it.
+pub(crate) fn assert_steps(
     alloc: Global,
     rt: &impl Abort,
     rows: &[(
