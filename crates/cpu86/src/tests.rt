@@ -71,6 +71,17 @@ const PUSHES: [Stmt86; 2] = [Stmt86::Cseg, Stmt86::Run(Instr86::Push(StackReg::A
 /// Goes past the end of its code.
 const FALLS_OFF: [Stmt86; 2] = [Stmt86::Cseg, Stmt86::Run(Instr86::Nop)];
 
+/// Asks for the console's status, then calls a function that is none of the profile: its INT is at 10.
+const CALLS: [Stmt86; 7] = [
+    Stmt86::Cseg,
+    Stmt86::Run(Instr86::MovAxDs),
+    Stmt86::Run(Instr86::MovSsAx),
+    Stmt86::Run(Instr86::MovNum8(Reg8::Cl, 11)),
+    Stmt86::Run(Instr86::Int224),
+    Stmt86::Run(Instr86::MovNum8(Reg8::Cl, 3)),
+    Stmt86::Run(Instr86::Int224),
+];
+
 // The statements as lines with numbers from 1.
 fn numbered(alloc: Global, text: &[Stmt86]) -> Result<Vec<Line86>, AllocError>
     requires { length text.now < 2 ^ 28 }
@@ -144,5 +155,38 @@ fn stops_say_where(rt: HostRuntime) -> Result<(), Fail> {
     assert!(rt; falls_off.step(0) == Step86::Ran);
     assert!(rt; falls_off.step(0) == Step86::NoInstruction(1));
     assert_eq!(rt; falls_off.ip(), 1);
+    Ok(())
+}
+
+// A reply to function 11, whose answer is a byte.
+fn answered(alloc: Global, answer: u16) -> Reply {
+    Reply {
+        answer,
+        writes: Blocks::from_vec(Vec::new(alloc)),
+    }
+}
+
+#[test]
+fn a_call_waits_for_a_reply_that_fits(rt: HostRuntime) -> Result<(), Fail> {
+    let alloc = rt.alloc();
+    let mut cpu = machine(alloc, &rt, &CALLS)?;
+    assert!(&rt; !cpu.reply(&answered(alloc, 0), 0));
+    for _ in 0..3 {
+        assert!(&rt; cpu.step(0) == Step86::Ran);
+    }
+    assert!(&rt; cpu.step(0) == Step86::Asked);
+    assert_eq!(&rt; cpu.ip(), 8);
+    assert!(&rt; cpu.step(0) == Step86::Asked);
+    assert!(&rt; !cpu.reply(&answered(alloc, 256), 0));
+    assert!(&rt; cpu.step(0) == Step86::Asked);
+    match cpu.asked(alloc)? {
+        Some(request) => assert_eq!(&rt; request.shape.function, 11),
+        None => panic!(&rt; "nothing is asked"),
+    }
+    assert!(&rt; cpu.reply(&answered(alloc, 255), 0));
+    assert!(&rt; cpu.asked(alloc)?.is_none());
+    assert!(&rt; cpu.step(0) == Step86::Ran);
+    assert!(&rt; cpu.step(0) == Step86::OddCall(3));
+    assert_eq!(&rt; cpu.ip(), 10);
     Ok(())
 }
