@@ -5,6 +5,8 @@ mod memory;
 mod processor;
 mod replies;
 mod runs;
+#[cfg(test)]
+mod single_steps;
 mod start;
 #[cfg(test)]
 mod tests;

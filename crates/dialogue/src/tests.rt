@@ -371,6 +371,18 @@ fn is_page((tail, first, second, area): Paged) -> bool {
         && bytes.iter().skip(36 + area.len()).all(|byte| *byte == 0)
 }
 
+/// Whether a tail of 126 bytes, which begins with one word of tildes, fills its page to the last cell.
+fn fills_its_page(tail: &[u8]) -> bool {
+    let Some(page) = Page::of_tail(tail) else {
+        return false;
+    };
+    let bytes = page.bytes();
+    bytes.starts_with(b"\0~~~~~~~~   ")
+        && bytes[36] == 127
+        && bytes[37] == b' '
+        && &bytes[38..] == tail
+}
+
 #[test]
 fn pages_of_tails(rt: HostRuntime) {
     for paged in PAGES {
@@ -378,7 +390,7 @@ fn pages_of_tails(rt: HostRuntime) {
     }
     let longest = [b'~'; 127];
     assert!(rt; Page::of_tail(&longest).is_none());
-    assert!(rt; Page::of_tail(&longest[..126]).is_some());
+    assert!(rt; fills_its_page(&longest[..126]));
     assert!(rt; Page::of_tail(b"A\x1F").is_none());
     assert!(rt; Page::of_tail(b"A\x7F").is_none());
 }
