@@ -133,7 +133,7 @@ module _ (program_is : OneProgram) (refusal_is : OneRefusal) (apart : NotBoth) (
     halted mid stop status (unloaded only s) closes = unread mid stop status s closes
     halted mid stop status (StopsRan program o line h at e) closes =
         ⊎_elim (λ s. inl s) (λ s. inr (Err stop, by_run mid program o line (Err stop) h at (sym e), s)) (closes_status stop mid new status closes)
-    halted mid _ status (no_memory part) closes = inl (memory_status OutOfMemory mid new status refl closes)
+    halted mid _ status (no_memory part same) closes = inl (memory_status OutOfMemory mid new status refl closes)
     halted mid _ status (no_line program steps h) closes = inl (memory_status OutOfMemory mid new status refl closes)
 
     by_gift : (status : ℕ) → Gives c old new status → HasStatus (Comes c source input) status

@@ -132,7 +132,7 @@ module _ (reading : OneReading) (image_is : OneImage) (refusal_is : OneRefusal) 
       halted mid stop status (unloaded only s) closes = unread mid stop status s closes
       halted mid stop status (StopsRan o h e) closes =
           ⊎_elim (λ s. inl s) (λ s. inr (Err stop, by_run mid o (Err stop) h (sym e), s)) (closes_status stop mid new status closes)
-      halted mid _ status (no_memory part) closes = inl (memory_status OutOfMemory mid new status refl closes)
+      halted mid _ status (no_memory part same) closes = inl (memory_status OutOfMemory mid new status refl closes)
       halted mid _ status (no_line steps h) closes = inl (memory_status OutOfMemory mid new status refl closes)
 
       by_gift : (status : ℕ) → Gives c old new status → HasStatus (Comes c text input) status

@@ -37,13 +37,14 @@ module _ (c : Run80) (old mid new : HostState) (program : Program) (input : List
   }
 
   -- or a line of it was not said, or memory ran out
-  pub part_halts : RunsPart c program input mid new → (fault : TalkFault) → ((f : HostFault) → fault ≡ Untold f → WriteFails mid new) → IsHalted c old new (halt_of_talk fault)
-  part_halts runs (Untold f) failed = (
+  pub part_halts : RunsPart c program input mid new → (fault : TalkFault) → ((f : HostFault) → fault ≡ Untold f → WriteFails mid new) → (fault ≡ NoMemory → SameFaults mid new) → IsHalted c old new (halt_of_talk fault)
+  part_halts runs (Untold f) failed same = (
     record { program = program; input = input; loads = loads; start = mid; reads = reads; runs = runs; says = says },
     subst (λ n. HasRisen n new.write_faults) counted.writes (failed f refl),
   )
-  part_halts runs NoMemory failed =
-      no_memory (record { program = program; input = input; loads = loads; start = mid; reads = reads; runs = runs; says = says })
+  part_halts runs NoMemory failed same =
+      let s = same refl in
+      no_memory (record { program = program; input = input; loads = loads; start = mid; reads = reads; runs = runs; says = says }) (record { reads = s.reads ∙ counted.reads; writes = s.writes ∙ counted.writes })
 
   -- the run did not end, and the command stops for that
   pub left_or_stopped : (o : RunEnd) (line : ℕ) (stop : Stop) → RunsTo c program input o mid new → SameFaults mid new → ((n : ℕ) → IsLineOf program o n → line ≡ n) → steps_of c.run.steps line o ≡ Err stop → Stops c old new stop

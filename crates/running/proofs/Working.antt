@@ -54,10 +54,11 @@ module _ (c : Run86) (old mid new : HostState) (image : Image) (input : List ℕ
   }
 
   -- or a line of it was not said, or memory ran out
-  pub part_halts : RunsPart c image input mid new → (fault : TalkFault) → ((f : HostFault) → fault ≡ Untold f → WriteFails mid new) → IsHalted c old new (halt_of_talk fault)
-  part_halts runs (Untold f) failed = (
+  pub part_halts : RunsPart c image input mid new → (fault : TalkFault) → ((f : HostFault) → fault ≡ Untold f → WriteFails mid new) → (fault ≡ NoMemory → SameFaults mid new) → IsHalted c old new (halt_of_talk fault)
+  part_halts runs (Untold f) failed same = (
     record { image = image; input = input; loads = loads; start = mid; reads = reads; runs = runs; says = says },
     subst (λ n. HasRisen n new.write_faults) counted.writes (failed f refl),
   )
-  part_halts runs NoMemory failed =
-      no_memory (record { image = image; input = input; loads = loads; start = mid; reads = reads; runs = runs; says = says })
+  part_halts runs NoMemory failed same =
+      let s = same refl in
+      no_memory (record { image = image; input = input; loads = loads; start = mid; reads = reads; runs = runs; says = says }) (record { reads = s.reads ∙ counted.reads; writes = s.writes ∙ counted.writes })

@@ -89,7 +89,7 @@ module _ (c : Run80) (old : HostState) where
     pub data Stops : Stop → Type 0 where
       unloaded : {stop : Stop} → OnlyReads old new → LoadStops new stop → Stops stop
       ran : {stop : Stop} (program : Program) (o : RunEnd) (line : ℕ) → HasRun program o → IsLineOf program o line → steps_of c.run.steps line o ≡ Err stop → Stops stop
-      no_memory : HasPart → Stops OutOfMemory
+      no_memory : HasPart → SameFaults old new → Stops OutOfMemory
       no_line : (program : Program) (steps : ℕ) → HasRun program (Ended steps) → Stops OutOfMemory
 
     abbrev pub IsHalted : Halt → Type 0

@@ -83,7 +83,7 @@ module _ (c : Run86) (old : HostState) where
     pub data Stops : Stop → Type 0 where
       unloaded : {stop : Stop} → OnlyReads old new → LoadStops new stop → Stops stop
       ran : {stop : Stop} (o : RunEnd) → HasRun o → steps_of c.run.steps 0 o ≡ Err stop → Stops stop
-      no_memory : HasPart → Stops OutOfMemory
+      no_memory : HasPart → SameFaults old new → Stops OutOfMemory
       no_line : (steps : ℕ) → HasRun (Ended steps) → Stops OutOfMemory
 
     abbrev pub IsHalted : Halt → Type 0

@@ -104,6 +104,7 @@ fn run<H: Host>(
     ensures only { OnlySays (H.state host.old) (H.state host.new) }
     ensures counted { OnOk result (SameFaults (H.state host.old) (H.state host.new)) }
     ensures unsaid { (fault : HostFault) → result ≡ Err (TalkFault.Unsaid fault) → WriteFailed (H.state host.old) (H.state host.new) }
+    ensures memory { result ≡ Err TalkFault.Memory → SameFaults (H.state host.old) (H.state host.new) }
 {
     let Loaded { image, fill, input } = loaded;
     let choice = command.choice;

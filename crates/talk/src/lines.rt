@@ -20,6 +20,7 @@ pub fn say_call<H: Host>(alloc: Global, host: &mut H, request: &Request) -> Resu
     ensures fault { OnErr result ((k : ℕ)
         × Says (H.state host.old) (H.state host.new) (take k (call_line request.now))) }
     ensures unsaid { (fault : HostFault) → result ≡ Err (TalkFault.Unsaid fault) → WriteFailed (H.state host.old) (H.state host.new) }
+    ensures memory { result ≡ Err TalkFault.Memory → SameFaults (H.state host.old) (H.state host.new) }
 {
     let line = call_line(alloc, request)?;
     Ok(say_line(host, line.as_slice())?)

@@ -44,6 +44,7 @@ pub fn converse<E: Emulator, H: Host>(
     ensures only { OnlySays (H.state host.old) (H.state host.new) }
     ensures counted { OnOk result (SameFaults (H.state host.old) (H.state host.new)) }
     ensures unsaid { (fault : HostFault) → result ≡ Err (TalkFault.Unsaid fault) → WriteFailed (H.state host.old) (H.state host.new) }
+    ensures memory { result ≡ Err TalkFault.Memory → SameFaults (H.state host.old) (H.state host.new) }
 {
     for count in 0..limit {
         if let Some(end) = turn(alloc, machine, console, host, count + 1)? {
@@ -68,6 +69,7 @@ fn turn<E: Emulator, H: Host>(
     ensures only { OnlySays (H.state host.old) (H.state host.new) }
     ensures counted { OnOk result (SameFaults (H.state host.old) (H.state host.new)) }
     ensures unsaid { (fault : HostFault) → result ≡ Err (TalkFault.Unsaid fault) → WriteFailed (H.state host.old) (H.state host.new) }
+    ensures memory { result ≡ Err TalkFault.Memory → SameFaults (H.state host.old) (H.state host.new) }
 {
     match machine.turn(alloc)? {
         Turn::Ran => Ok(None),

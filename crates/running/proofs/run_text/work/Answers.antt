@@ -26,7 +26,7 @@ returns-in_err-end-clause-halted g c =
     let e = c.in_err-end.ensures in
     halts c.from_residual-in_err-end.result (λ h. h ≡ halt_of_talk c.in_err-end.field-0.0) (IsHalted command old new) c.from_residual-in_err-end.ensures.1
     (λ h is. subst (IsHalted command old new) (sym is)
-    (part_halts command old mid new l.loaded.image l.loaded.input.items l.ensures.loaded l.ensures.only l.ensures.counted e.only e.part c.in_err-end.field-0.0 (λ f is. e.unsaid f (ap Err is))))
+    (part_halts command old mid new l.loaded.image l.loaded.input.items l.ensures.loaded l.ensures.only l.ensures.counted e.only e.part c.in_err-end.field-0.0 (λ f is. e.unsaid f (ap Err is)) (λ is. e.memory (ap Err is))))
 
 pub returns-in_err-steps-clause-halted : goal.returns-in_err-steps-clause-halted
 returns-in_err-steps-clause-halted g c =
