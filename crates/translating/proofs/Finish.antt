@@ -4,7 +4,7 @@ use Rattle.std.specs.Prelude.{codes}
 use Rattle.std.proofs.lemmas.List.{take_all}
 use Rattle.host.specs.declared.HostFault.{HostFault}
 use Rattle.host.specs.declared.HostFault.TheVariants.{Failed, Memory}
-use Rattle.host.specs.Host.{HostState, Holds, IsFile, HasRisen, last_count, OnlyFileChanged, SameFiles, SameSaid, Says, said_more, OnlySays, OnlyReads}
+use Rattle.host.specs.Host.{HostState, Holds, IsFile, HasRisen, last_count, OnlyFileChanged, SameSaid, Says, said_more, OnlySays, OnlyReads}
 use Rattle.lines86.specs.Image.{Assembles, image_of}
 use Rattle.program80.specs.Program.{Program, IsProgram}
 use Rattle.source80.specs.Source.{IsSource, SourceRule, OfLine, OfProgram}
@@ -17,7 +17,7 @@ use Rattle.reports.specs.Lines.{named_line, memory_line}
 use Rattle.reports.specs.Said.{SaysLine, SaysLast, IsDone, whole, failed, no_memory, Closes, said, unsaid}
 use Rattle.run_parts.specs.Files.{ReadStops, failed as read_failed, too_long as file_too_long, no_memory as no_memory_to_read, input_limit}
 use Rattle.translating.specs.Firsts.{IsRefused}
-use Rattle.translating.specs.Translates.{line_of_program, refusal_line, Accepts, Refuses, Writes, WritesSome, HasSame, SaysOfWrite, Gives, translated, refused, unread, unwritten, unsaid as line_unsaid, no_memory as no_room, no_memory_to_write, no_memory_to_say, too_long, NoCallFailed, Decides}
+use Rattle.translating.specs.Translates.{line_of_program, refusal_line, Accepts, Refuses, Writes, WritesSome, HasSame, SaysOfWrite, EndsWith, Gives, translated, refused, unread, unwritten, unsaid as line_unsaid, no_memory as no_room, no_memory_to_write, no_memory_to_say, too_long, NoCallFailed, Decides}
 use Rattle.translating.specs.Work.{Works, WritesPart, StopsBy, unread as stop_unread, refused as stop_refused, no_memory as stop_no_memory, unwritten as stop_unwritten, stop_of_rule, stop_of_write}
 use Rattle.translating.proofs.Verdicts.{SourceLaw, accepted_or_refused, refused_once}
 
@@ -41,9 +41,6 @@ not_risen old new h e lt = ⊎_elim (λ r. absurd (omega (arith, r, e))) (λ l. 
 module _ (c : Translate) (old mid new : HostState) where
   said_on : (text : List ℕ) → SameSaid old mid → Says mid new text → Says old new text
   said_on text q s = s ∙ ap (λ o. said_more o text) q
-
-  files_on : OnlySays mid new → SameFiles old mid → SameFiles old new
-  files_on only same = λ name. only.files name ∙ same name
 
   others_on : OnlySays mid new → OnlyFileChanged old mid c.output → OnlyFileChanged old new c.output
   others_on only others = λ other ne. only.files other ∙ others other ne
@@ -75,6 +72,7 @@ module _ (c : Translate) (old mid new : HostState) where
   pub worked : FirstLaw → (line : List ℕ) → Works c old mid line → (status : ℕ) → IsDone line mid new status → Gives c old new status
   worked law line w _ (whole only s faults) =
       translated w.program w.accepts (writes_on w.program only w.writes) (has_same law w.program w.accepts) (said_on (line_of_program w.program) w.quiet (subst (Says mid new) w.line s))
+      (record { reads = faults.reads ∙ w.faults.reads; writes = faults.writes ∙ w.faults.writes })
   worked law line w _ (failed s) =
       line_unsaid w.program w.accepts (writes_on w.program s.only w.writes) (risen_behind old.write_faults mid.write_faults new.write_faults w.faults.writes s.failed)
       (s.count, said_on (take s.count (line_of_program w.program)) w.quiet (subst (λ l. Says mid new (take s.count l)) w.line s.said))
@@ -86,9 +84,13 @@ module _ (c : Translate) (old mid new : HostState) where
   of_write : (line : List ℕ) → WritesPart c old mid → SaysLast line mid new → SaysOfWrite c old new line
   of_write line w l = record { mid = mid; quiet = w.quiet; failed = w.failed; only = l.only; says = l.line }
 
+  -- a line was said behind reads
+  ends_with : (line : List ℕ) → OnlyReads old mid → SaysLast line mid new → EndsWith c old new line
+  ends_with line only l = record { mid = mid; reads = only; says = l }
+
   -- the line of want of memory was said
   quiet_end : OnlyReads old mid → SaysLast memory_line mid new → Gives c old new 5
-  quiet_end only l = no_room (files_on l.only only.files) (line_on memory_line only l.line)
+  quiet_end only l = no_room (ends_with memory_line only l)
 
   memory_end : (stop : Stop) → StopsBy c old mid stop → SaysLast memory_line mid new → Gives c old new 5
   memory_end _ (stop_unread s only) l = quiet_end only l
@@ -100,20 +102,20 @@ module _ (c : Translate) (old mid new : HostState) where
   unread_end stop s only status (unsaid e l) = subst (Gives c old new) (sym e) (quiet_end only l)
   unread_end _ (read_failed {n = n} is f) only status (said e l) =
       subst (Gives c old new) (sym e)
-      (unread (⊎_elim (λ r. inl (subst (λ k. HasRisen old.read_faults k) (sym l.only.reads) r)) (λ m. inr m) f) (files_on l.only only.files)
-      (subst (λ name. SaysLine old new (named_line (codes "read failed: ") name)) is (line_on (named_line (codes "read failed: ") n.now) only l.line)))
+      (unread (⊎_elim (λ r. inl (subst (λ k. HasRisen old.read_faults k) (sym l.only.reads) r)) (λ m. inr m) f)
+      (subst (λ name. EndsWith c old new (named_line (codes "read failed: ") name)) is (ends_with (named_line (codes "read failed: ") n.now) only l)))
   unread_end _ (file_too_long {n = n} is longer same) only status (said e l) =
       subst (Gives c old new) (sym e)
-      (too_long longer (files_on l.only only.files)
-      (subst (λ name. SaysLine old new (named_line (codes "file too long: ") name)) is (line_on (named_line (codes "file too long: ") n.now) only l.line)))
+      (too_long longer
+      (subst (λ name. EndsWith c old new (named_line (codes "file too long: ") name)) is (ends_with (named_line (codes "file too long: ") n.now) only l)))
   unread_end _ no_memory_to_read only status (said e l) = subst (Gives c old new) (sym e) (quiet_end only l)
 
   refused_end : (line : ℕ) (rule : SourceRule) → Refuses c old line rule → OnlyReads old mid → (status : ℕ) → Closes (stop_of_rule line rule) mid new status → Gives c old new status
   refused_end line rule r only status (unsaid e l) = subst (Gives c old new) (sym e) (quiet_end only l)
   refused_end line (OfLine rule) r only status (said e l) =
-      subst (Gives c old new) (sym e) (refused line (OfLine rule) r (files_on l.only only.files) (line_on (refusal_line line (OfLine rule)) only l.line))
+      subst (Gives c old new) (sym e) (refused line (OfLine rule) r (ends_with (refusal_line line (OfLine rule)) only l))
   refused_end line (OfProgram rule) r only status (said e l) =
-      subst (Gives c old new) (sym e) (refused line (OfProgram rule) r (files_on l.only only.files) (line_on (refusal_line line (OfProgram rule)) only l.line))
+      subst (Gives c old new) (sym e) (refused line (OfProgram rule) r (ends_with (refusal_line line (OfProgram rule)) only l))
 
   unwritten_end : (fault : HostFault) → WritesPart c old mid → (status : ℕ) → Closes (stop_of_write fault) mid new status → Gives c old new status
   unwritten_end fault w status (unsaid e l) =
@@ -145,26 +147,26 @@ module _ (law : SourceLaw) (c : Translate) (old new : HostState) (bytes : List �
   no_write_failed : HasRisen old.write_faults new.write_faults → ⊥
   no_write_failed h = not_risen old.write_faults new.write_faults h no.faults.writes no.writes
 
-  whole_line : (line : List ℕ) → SaysLine old new line → Says old new line
-  whole_line line s = ⊎_elim (λ all. subst (Says old new) (take_all s.count line all) s.said) (λ r. absurd (no_write_failed r)) s.whole
+  whole_line : (line : List ℕ) → EndsWith c old new line → Says old new line
+  whole_line line e = let s = line_on c old e.mid new line e.reads e.says.line in ⊎_elim (λ all. subst (Says old new) (take_all s.count line all) s.said) (λ r. absurd (no_write_failed r)) s.whole
 
   pub decides : (status : ℕ) → (status ≡ 5 → ⊥) → Gives c old new status → Decides c old new bytes status
-  decides _ ne (translated p a w h s) = record {
+  decides _ ne (translated p a w h s f) = record {
     two = inl refl;
     accepted = (λ e. (p, source_told p a, a.first), λ x. refl);
     refused = λ line rule r. absurd (accepted_or_refused law bytes c.top p (source_told p a) a.first line rule r);
   }
-  decides _ ne (refused line rule r files says) = record {
+  decides _ ne (refused line rule r ends) = record {
     two = inr refl;
     accepted = (λ e. absurd (omega arith), λ x. absurd (accepted_or_refused law bytes c.top x.0 x.1 x.2 line rule (refusal_told line rule r)));
     refused = λ other kind s.
         let e = refused_once law bytes c.top line other rule kind (refusal_told line rule r) s in
-        (refl, subst (λ k. Says old new (refusal_line other k)) e.1 (subst (λ n. Says old new (refusal_line n rule)) e.0 (whole_line (refusal_line line rule) says)));
+        (refl, subst (λ k. Says old new (refusal_line other k)) e.1 (subst (λ n. Says old new (refusal_line n rule)) e.0 (whole_line (refusal_line line rule) ends)));
   }
-  decides _ ne (unread f files says) = absurd (⊎_elim (λ r. not_risen old.read_faults new.read_faults r no.faults.reads no.reads) (λ m. no.there m) f)
+  decides _ ne (unread f ends) = absurd (⊎_elim (λ r. not_risen old.read_faults new.read_faults r no.faults.reads no.reads) (λ m. no.there m) f)
   decides _ ne (unwritten p a w s) = absurd (no_write_failed (risen_on old.write_faults s.mid.write_faults new.write_faults s.failed s.only.writes))
   decides _ ne (line_unsaid p a w f s) = absurd (no_write_failed f)
-  decides _ ne (no_room files says) = absurd (ne refl)
+  decides _ ne (no_room ends) = absurd (ne refl)
   decides _ ne (no_memory_to_write p a w s) = absurd (ne refl)
   decides _ ne (no_memory_to_say p a w f s) = absurd (ne refl)
-  decides _ ne (too_long longer files says) = let e = ap length (same_bytes longer.0 longer.1) in let more = longer.2 in absurd (omega (arith, e, more, within))
+  decides _ ne (too_long longer ends) = let e = ap length (same_bytes longer.0 longer.1) in let more = longer.2 in absurd (omega (arith, e, more, within))

@@ -1,6 +1,6 @@
 -- What `translate` gives, by its status: the causes, the files, what is said, and after status 0 the headline.
 use Rattle.std.specs.Prelude.{◌≡◌, ◌≢◌, ℕ, ◌<◌, ◌≤◌, ◌⊎◌, ◌↔◌, List, codes, length, take}
-use Rattle.host.specs.Host.{HostState, Missing, Holds, last_count, OnlyFileChanged, SameFiles, Says, Rewrites, SameFaults, OnlySays, ReadFailed, WriteFailed}
+use Rattle.host.specs.Host.{HostState, Missing, Holds, last_count, OnlyFileChanged, Says, Rewrites, SameFaults, OnlyReads, OnlySays, ReadFailed, WriteFailed}
 use Rattle.lines86.specs.Layout.{sizes_of}
 use Rattle.lines86.specs.Image.{Image, IsImage}
 use Rattle.lines86.specs.Written.{text_of}
@@ -12,7 +12,7 @@ use Rattle.command_words.specs.Words.{Translate}
 use Rattle.xlt_core.specs.First.{IsFirst}
 use Rattle.xlt_core.specs.Same.{Same}
 use Rattle.reports.specs.Lines.{line_rule, asm_rule, rule_line, named_line, memory_line, translated_line}
-use Rattle.reports.specs.Said.{SaysLine}
+use Rattle.reports.specs.Said.{SaysLine, SaysLast}
 use Rattle.run_parts.specs.Files.{IsWhole, input_limit}
 use Rattle.translating.specs.Firsts.{IsRefused}
 
@@ -67,27 +67,33 @@ module _ (c : Translate) (old : HostState) where
       pub only : OnlySays mid new
       pub says : SaysLine mid new line
 
+    -- the files were read and nothing else was done, and then a line was said
+    pub record EndsWith (line : List ℕ) : Type 0 where
+      pub mid : HostState
+      pub reads : OnlyReads old mid
+      pub says : SaysLast line mid new
+
     -- some first bytes of a line were said
     abbrev pub SaysSome : List ℕ → Type 0
     SaysSome line = (count : ℕ) × Says old new (take count line)
 
     -- each way to a status
     pub data Gives : ℕ → Type 0 where
-      -- the text is written, and its line said
-      translated : (p : Program) → Accepts p → Writes p → HasSame p → Says old new (line_of_program p) → Gives 0
+      -- the text is written, and its line said, and no call failed
+      translated : (p : Program) → Accepts p → Writes p → HasSame p → Says old new (line_of_program p) → SameFaults old new → Gives 0
       -- the source is refused
-      refused : (line : ℕ) (rule : SourceRule) → Refuses line rule → SameFiles old new → SaysLine old new (refusal_line line rule) → Gives 1
+      refused : (line : ℕ) (rule : SourceRule) → Refuses line rule → EndsWith (refusal_line line rule) → Gives 1
       -- the source's file was not read
-      unread : ReadFailed old new c.input → SameFiles old new → SaysLine old new (named_line (codes "read failed: ") c.input) → Gives 3
+      unread : ReadFailed old new c.input → EndsWith (named_line (codes "read failed: ") c.input) → Gives 3
       -- the text was not written, or its line not said
       unwritten : (p : Program) → Accepts p → WritesSome p → SaysOfWrite (codes "write failed\n") → Gives 4
       unsaid : (p : Program) → Accepts p → Writes p → WriteFailed old new → SaysSome (line_of_program p) → Gives 4
       -- memory ran out: before the text is written, while the host writes it, or while the host says its line
-      no_memory : SameFiles old new → SaysLine old new memory_line → Gives 5
+      no_memory : EndsWith memory_line → Gives 5
       no_memory_to_write : (p : Program) → Accepts p → WritesSome p → SaysOfWrite memory_line → Gives 5
       no_memory_to_say : (p : Program) → Accepts p → Writes p → WriteFailed old new → SaysSome (line_of_program p) → Gives 5
       -- the source's file is longer than its limit
-      too_long : IsLonger (old.file c.input) input_limit → SameFiles old new → SaysLine old new (named_line (codes "file too long: ") c.input) → Gives 14
+      too_long : IsLonger (old.file c.input) input_limit → EndsWith (named_line (codes "file too long: ") c.input) → Gives 14
 
     -- no call of the host failed: no count of faults rose, none stands at its last value, and the source's file is there
     pub record NoCallFailed : Type 0 where

@@ -41,7 +41,7 @@ abbrev ReadsBack : Type 0
 ReadsBack = (p : Program) → IsProgram p → IsFirst p → TextGives (text_of (plain p)) (Ok (plain p))
 
 headline_by : (c : Translate) (old new : HostState) → ReadsBack → (status : ℕ) → translation.Gives c old new status → status ≡ 0 → Headline c old new
-headline_by c old new back _ (translation.translated p a w s l) e = record {
+headline_by c old new back _ (translation.translated p a w s l f) e = record {
   source = a.bytes;
   program = p;
   text = text_of (plain p);
@@ -52,14 +52,14 @@ headline_by c old new back _ (translation.translated p a w s l) e = record {
   has_image = record { lines = plain p; reads = back p a.source.program.program.lawful a.first; assembled = s.assembled };
   same = s.same;
 }
-headline_by c old new back _ (translation.refused line rule r f l) e = absurd (omega (arith, e))
-headline_by c old new back _ (translation.unread r f l) e = absurd (omega (arith, e))
+headline_by c old new back _ (translation.refused line rule r l) e = absurd (omega (arith, e))
+headline_by c old new back _ (translation.unread r l) e = absurd (omega (arith, e))
 headline_by c old new back _ (translation.unwritten p a w s) e = absurd (omega (arith, e))
 headline_by c old new back _ (translation.unsaid p a w f s) e = absurd (omega (arith, e))
-headline_by c old new back _ (translation.no_memory f l) e = absurd (omega (arith, e))
+headline_by c old new back _ (translation.no_memory l) e = absurd (omega (arith, e))
 headline_by c old new back _ (translation.no_memory_to_write p a w s) e = absurd (omega (arith, e))
 headline_by c old new back _ (translation.no_memory_to_say p a w f s) e = absurd (omega (arith, e))
-headline_by c old new back _ (translation.too_long l f s) e = absurd (omega (arith, e))
+headline_by c old new back _ (translation.too_long l s) e = absurd (omega (arith, e))
 
 module _ (words : List (List ℕ)) (old new : HostState) (status : ℕ) where
   pub by_translation : ReadsBack → (c : Translate) → IsCommand words (Translates c) → translation.Gives c old new status → translation.Completes c old new status → Outcomes words old new status

@@ -92,15 +92,15 @@ of_unsaid Memory = of_5
 -- ---- the commands
 
 pub of_translation : (c : Translate) (old new : HostState) (status : ℕ) → translation.Gives c old new status → IsOfCommand status
-of_translation c old new _ (translation.translated p a w s l) = of_0
-of_translation c old new _ (translation.refused line rule r f l) = of_1
-of_translation c old new _ (translation.unread r f l) = of_3
+of_translation c old new _ (translation.translated p a w s l f) = of_0
+of_translation c old new _ (translation.refused line rule r l) = of_1
+of_translation c old new _ (translation.unread r l) = of_3
 of_translation c old new _ (translation.unwritten p a w s) = of_4
 of_translation c old new _ (translation.unsaid p a w f s) = of_4
-of_translation c old new _ (translation.no_memory f l) = of_5
+of_translation c old new _ (translation.no_memory l) = of_5
 of_translation c old new _ (translation.no_memory_to_write p a w s) = of_5
 of_translation c old new _ (translation.no_memory_to_say p a w f s) = of_5
-of_translation c old new _ (translation.too_long l f s) = of_14
+of_translation c old new _ (translation.too_long l s) = of_14
 
 pub of_run80 : (c : Run80) (old new : HostState) (status : ℕ) → source.Gives c old new status → IsOfCommand status
 of_run80 c old new status (source.ended p steps mid r d) = of_done (ended_line steps) mid new status d
