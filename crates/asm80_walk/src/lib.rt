@@ -11,7 +11,7 @@ mod walked;
 mod walker;
 
 pub use first_walk::walk;
-pub use operations::operation_of;
+pub use operations::{operation_of, operations_are_words};
 pub use size::size_of;
 pub use walked::{AsmFault, Taken, Walked};
 

@@ -1,8 +1,9 @@
 //! The operations by their names.
 
-ghost use Rattle.std.specs.Prelude.{◌≡◌, List, ℕ, find, map, option_map};
+ghost use Rattle.std.specs.Prelude.{◌≡◌, List, ℕ, find, map, option_map, is_some};
 ghost use Rattle.std.specs.Borrow.{Bor};
 ghost use Rattle.std.specs.Str.{bytes_eq};
+ghost use Rattle.asm80_tokens.specs.Words.{is_operation};
 ghost use Rattle.source80.specs.declared.operation.Operation.{Operation};
 ghost use Rattle.source80.specs.Operations.{operation_of};
 
@@ -108,6 +109,11 @@ pub fn operation_of(word: &[u8]) -> Option<Operation>
 {
     find_in(&OPERATIONS, word)
 }
+
+/// A law: the operations are the words that a line's reader takes for operations.
+pub fn operations_are_words()
+    ensures { (word : List ℕ) → is_operation word ≡ is_some (operation_of word) }
+{}
 
 // What a word is in a table.
 fn find_in(table: &[(&[u8], Operation)], word: &[u8]) -> Option<Operation>

@@ -180,10 +180,11 @@ impl Cpu86 {
         }
     }
 
-    /// The request that waits for its reply; None where the machine does not ask.
+    /// The request that waits for its reply; None where the machine does not ask, and then no memory is taken.
     pub fn asked(&self, alloc: Global) -> Result<Option<Request>, AllocError>
         ensures request { IfOk result (λ r. r ≡ request_in (standing self.now).said) }
         ensures lawful { IfOk result (λ r. IfSome r (λ q. IsLawful q)) }
+        ensures idle { request_in (standing self.now).said ≡ None → result ≡ Ok None }
     {
         match self.pending {
             Pending::Answer(shape) => Ok(Some(request_of(alloc, shape, &self.processor.memory)?)),

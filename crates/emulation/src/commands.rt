@@ -1,10 +1,9 @@
 // Runs over a console.
-ghost use Rattle.std.specs.Prelude.{◌≡◌, ◌∷◌, [], ℕ, length, Option, IfOk, OnOk, OnErr};
+ghost use Rattle.std.specs.Prelude.{◌≡◌, ◌∷◌, [], ℕ, length, Option, IfOk, IfErr, OnOk};
 ghost use Rattle.i86.specs.declared.Instr86.{Instr86};
 ghost use Rattle.i86.specs.Code.{Reads};
-ghost use Rattle.host.specs.declared.HostFault.{HostFault};
-ghost use Rattle.host.specs.Host.{SameFaults, OnlySays, WriteFailed};
-ghost use Rattle.talk.specs.Talk.{SaysRun, SaysPart};
+ghost use Rattle.host.specs.Host.{SameFaults, OnlySays};
+ghost use Rattle.talk.specs.Talk.{SaysRun, IsCutOff};
 ghost use Rattle.emulation.specs.Courses.{course80, course86};
 ghost use Rattle.emulation.specs.Starts.{start_by};
 ghost use Rattle.cpu86.specs.Starts.{start_of};
@@ -30,11 +29,9 @@ pub fn run_80<H: Host>(
     host: &mut H,
 ) -> Result<RunEnd, TalkFault>
     ensures run { IfOk result (λ o. SaysRun (course80 program.now page.now) input.items limit o (H.state host.old) (H.state host.new)) }
-    ensures part { OnErr result (SaysPart (course80 program.now page.now) input.items limit (H.state host.old) (H.state host.new)) }
+    ensures cut { IfErr result (IsCutOff (course80 program.now page.now) input.items limit (H.state host.old) (H.state host.new)) }
     ensures only { OnlySays (H.state host.old) (H.state host.new) }
     ensures counted { OnOk result (SameFaults (H.state host.old) (H.state host.new)) }
-    ensures unsaid { (fault : HostFault) → result ≡ Err (TalkFault.Unsaid fault) → WriteFailed (H.state host.old) (H.state host.new) }
-    ensures memory { result ≡ Err TalkFault.Memory → SameFaults (H.state host.old) (H.state host.new) }
 {
     let mut machine = Tagged80::new(alloc, program, page)?;
     let mut console = Console::new(input);
@@ -56,11 +53,9 @@ pub fn run_86<H: Host>(
 ) -> Result<RunEnd, TalkFault>
     requires { length fill.now ≡ 0x10000 }
     ensures run { IfOk result (λ o. (fetch : ℕ → Option Instr86) → Reads image.now.code fetch → SaysRun (course86 fetch image.now page.now fill.now (start_by choice) (choice ∷ [])) input.items limit o (H.state host.old) (H.state host.new)) }
-    ensures part { OnErr result ((fetch : ℕ → Option Instr86) → Reads image.now.code fetch → SaysPart (course86 fetch image.now page.now fill.now (start_by choice) (choice ∷ [])) input.items limit (H.state host.old) (H.state host.new)) }
+    ensures cut { IfErr result (λ fault. (fetch : ℕ → Option Instr86) → Reads image.now.code fetch → IsCutOff (course86 fetch image.now page.now fill.now (start_by choice) (choice ∷ [])) input.items limit (H.state host.old) (H.state host.new) fault) }
     ensures only { OnlySays (H.state host.old) (H.state host.new) }
     ensures counted { OnOk result (SameFaults (H.state host.old) (H.state host.new)) }
-    ensures unsaid { (fault : HostFault) → result ≡ Err (TalkFault.Unsaid fault) → WriteFailed (H.state host.old) (H.state host.new) }
-    ensures memory { result ≡ Err TalkFault.Memory → SameFaults (H.state host.old) (H.state host.new) }
 {
     let start = start_by(choice);
     let mut machine = Plain86::new(alloc, image, start, page, fill, choice)?;

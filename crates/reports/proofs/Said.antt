@@ -1,9 +1,10 @@
 -- A line that was said, whole or in part.
-use Rattle.std.proofs.Common.{◌≡◌, ℕ, inl, inr, List, length, take, arith, subst, sym, ◌∙◌}
+use Rattle.std.proofs.Common.{◌≡◌, ℕ, inl, inr, List, length, arith, subst, sym, ◌∙◌}
 use Rattle.std.specs.Prelude.{Result, Ok, Err, OnOk, OnErr}
 use Rattle.std.proofs.lemmas.List.{take_all}
 use Rattle.host.specs.declared.HostFault.{HostFault}
 use Rattle.host.specs.Host.{HostState, Says, OnlySays, WriteFailed}
+use Rattle.transfer.specs.Transfer.{CutsLine}
 use Rattle.reports.specs.declared.stop.Stop.{Stop}
 use Rattle.reports.specs.Lines.{status_of, line_of}
 use Rattle.reports.specs.Said.{SaysLast, Closes, said}
@@ -11,7 +12,7 @@ use Rattle.reports.specs.Said.{SaysLast, Closes, said}
 -- what saying a line answers is what a last line says
 pub said_last : (line : List ℕ) (old new : HostState) (result : Result Unit HostFault) → OnlySays old new →
     OnOk result (Says old new line) →
-    OnErr result ((k : ℕ) × Says old new (take k line)) →
+    OnErr result (CutsLine line old new) →
     OnErr result (WriteFailed old new) →
     SaysLast line old new
 said_last line old new (Ok _) only all part failed =
@@ -24,7 +25,7 @@ said_last line old new (Ok _) only all part failed =
       };
     }
 said_last line old new (Err _) only all part failed =
-    record { only = only; line = record { count = part.0; said = part.1; whole = inr failed } }
+    record { only = only; line = record { count = part.count; said = part.said; whole = inr failed } }
 
 -- a stop's line, said last, closes by it
 pub closed : (stop : Stop) (line : List ℕ) (old new : HostState) (status given : ℕ) → line ≡ line_of stop → status ≡ given → given ≡ status_of stop →

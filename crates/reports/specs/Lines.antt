@@ -1,6 +1,6 @@
 -- The last line of a command and its status: a line for each end of its work. Numbers are decimal, but offsets and functions
 -- are in hexadecimal digits, four or two. The statuses and the lines are this project's own.
-use Rattle.std.specs.Prelude.{ℕ, ◌/◌, ◌%◌, codes, List, [], ◌∷◌, ◌++◌}
+use Rattle.std.specs.Prelude.{ℕ, ◌/◌, ◌%◌, codes, Bool, true, false, List, [], ◌∷◌, ◌++◌}
 use Rattle.std.specs.Fmt.{decimal}
 use Rattle.hex.specs.Hex.{encode_lower}
 use Rattle.cells.specs.declared.Rule.{Rule}
@@ -120,6 +120,25 @@ status_of (OddCall offset function) = 11
 status_of (NoDrive function) = 12
 status_of (CodeTooLarge size) = 13
 status_of (FileTooLong name) = 14
+
+-- the line is always the same, and no memory is taken for it
+abbrev pub is_fixed : Stop → Bool
+is_fixed (SourceLine line rule) = false
+is_fixed (SourceProgram line rule) = false
+is_fixed (ReadFailed name) = false
+is_fixed WriteFailed = true
+is_fixed OutOfMemory = true
+is_fixed (LeftProfile line rule) = false
+is_fixed (StepLimit steps) = false
+is_fixed InputEnded = true
+is_fixed (TextLine line rule) = false
+is_fixed (ShortJump line) = false
+is_fixed (NoInstruction offset) = false
+is_fixed (StackSegment offset) = false
+is_fixed (OddCall offset function) = false
+is_fixed (NoDrive function) = false
+is_fixed (CodeTooLarge size) = false
+is_fixed (FileTooLong name) = false
 
 abbrev pub line_of : Stop → List ℕ
 line_of (SourceLine line rule) = rule_line (codes "source line ") line (line_rule rule)

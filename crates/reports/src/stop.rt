@@ -1,7 +1,7 @@
 // The ends of a command's work that are not status 0, and their lines.
-ghost use Rattle.std.specs.Prelude.{◌≡◌, ◌++◌, codes, IfOk, IfSome};
+ghost use Rattle.std.specs.Prelude.{◌≡◌, ◌++◌, codes, false, IfOk, MatchOption};
 ghost use Rattle.std.specs.String.{string_bytes};
-ghost use Rattle.reports.specs.Lines.{status_of, line_of, named_line, rule_line, count_line, stopped_line, drive_line, odd_call, word_digits, byte_digits};
+ghost use Rattle.reports.specs.Lines.{status_of, is_fixed, line_of, named_line, rule_line, count_line, stopped_line, drive_line, odd_call, word_digits, byte_digits};
 
 use crate::rules::{asm_rule, line_rule, profile_rule, text_rule};
 use asm80_tokens::LineRule;
@@ -69,7 +69,7 @@ impl<'a> Stop<'a> {
 
     /// The line, where it is always the same: it takes no memory.
     pub fn fixed_line(self) -> Option<&'static str>
-        ensures { IfSome result (λ line. line.now ≡ line_of self.entry) }
+        ensures { MatchOption result (is_fixed self.entry ≡ false) (λ line. line.now ≡ line_of self.entry) }
     {
         match self {
             Stop::WriteFailed => Some("write failed\n"),

@@ -38,7 +38,7 @@ abbrev pub unsaid_status : HostFault → ℕ
 unsaid_status Failed = 4
 unsaid_status Memory = 5
 
--- a command halts by a stop for this cause, or without a line for that
-abbrev pub Halts : (Stop → Type 0) → Type 0 → Halt → Type 0
-Halts stops unsaid (By stop) = stops stop
-Halts stops unsaid (Unsaid fault) = unsaid
+-- a command halts by a stop for this cause
+abbrev pub Halts : (Stop → Type 0) → Halt → Type 0
+Halts stops (By stop) = stops stop
+Halts stops (Unsaid fault) = ⊥

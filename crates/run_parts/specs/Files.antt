@@ -1,7 +1,7 @@
 -- The files that a run reads, and why one of them is not read.
 use Rattle.std.specs.Prelude.{◌≡◌, ℕ, ◌≤◌, List, [], length, Option, Some, None}
 use Rattle.std.specs.Borrow.{Bor}
-use Rattle.host.specs.Host.{HostState, IsFile, SameFaults}
+use Rattle.host.specs.Host.{HostState, Holds, IsFile, HasRisen, SameFaults}
 use Rattle.host.specs.Host.{ReadFailed as ReadFails}
 use Rattle.transfer.specs.Transfer.{IsLonger}
 use Rattle.reports.specs.declared.stop.Stop.{Stop}
@@ -32,3 +32,17 @@ pub data ReadStops (name : List ℕ) (limit : ℕ) (old new : HostState) : Stop 
 abbrev pub InputStops : Option (List ℕ) → HostState → HostState → Stop → Type 0
 InputStops None old new stop = ⊥
 InputStops (Some name) old new stop = ReadStops name input_limit old new stop
+
+-- no call of the host failed: neither count of faults rose, or stands at its last value
+pub record NoneFailed (old new : HostState) : Type 0 where
+  pub reads : HasRisen old.read_faults new.read_faults → ⊥
+  pub writes : HasRisen old.write_faults new.write_faults → ⊥
+
+-- the host tells the file of a name, and it has these bytes, within a limit
+abbrev pub IsTold : HostState → List ℕ → ℕ → List ℕ → Type 0
+IsTold old name limit bytes = (old.file name ≡ Holds bytes) × (length bytes ≤ limit)
+
+-- the console's input, likewise
+abbrev pub InputIsTold : HostState → Option (List ℕ) → List ℕ → Type 0
+InputIsTold old None bytes = bytes ≡ []
+InputIsTold old (Some name) bytes = IsTold old name input_limit bytes

@@ -17,10 +17,10 @@ use Rattle.reports.specs.declared.stop.Stop.{Stop}
 use Rattle.reports.specs.declared.stop.Stop.TheVariants.{SourceLine, SourceProgram, OutOfMemory}
 use Rattle.reports.specs.Lines.{status_of, ended_line}
 use Rattle.reports.specs.Said.{IsDone, whole, failed, no_memory as unfinished, Closes}
-use Rattle.run_parts.specs.Files.{input_limit}
+use Rattle.run_parts.specs.Files.{input_limit, NoneFailed, IsTold, InputIsTold}
 use Rattle.run_parts.specs.Ends.{steps_of}
 use Rattle.source_program.specs.Stops.{SourceStops, of_line as LineStops, of_program as ProgramStops, no_memory as MemoryStops}
-use Rattle.running.specs.Outcomes.{NoneFailed, IsTold, InputIsTold, ComesTo, IsOnly, HasStatus}
+use Rattle.running.specs.Outcomes.{ComesTo, IsOnly, HasStatus}
 use Rattle.running.specs.Runs80.{IsLineAt, IsLineOf, course_of, LoadStops, no_source, no_input, no_program, HasRun, Stops, unloaded, ran as StopsRan, no_memory, no_line, Gives, ended, unsaid, stopped}
 use Rattle.running.specs.Completes80.{Comes, of_line, of_program, ran, Completes}
 use Rattle.running.proofs.Told.{told_whole, told_input, read_stops, input_stops, not_unsaid, closes_reads, closes_status, memory_status}
@@ -133,12 +133,12 @@ module _ (program_is : OneProgram) (refusal_is : OneRefusal) (apart : NotBoth) (
     halted mid stop status (unloaded only s) closes = unread mid stop status s closes
     halted mid stop status (StopsRan program o line h at e) closes =
         ⊎_elim (λ s. inl s) (λ s. inr (Err stop, by_run mid program o line (Err stop) h at (sym e), s)) (closes_status stop mid new status closes)
-    halted mid _ status (no_memory part same) closes = inl (memory_status OutOfMemory mid new status refl closes)
+    halted mid _ status (no_memory cut) closes = inl (memory_status OutOfMemory mid new status refl closes)
     halted mid _ status (no_line program steps h) closes = inl (memory_status OutOfMemory mid new status refl closes)
 
     by_gift : (status : ℕ) → Gives c old new status → HasStatus (Comes c source input) status
     by_gift status (ended program steps mid h done) = finished mid program steps status h done
-    by_gift status (unsaid fault e part fails) = absurd (none.writes fails)
+    by_gift status (unsaid fault e cut) = absurd (not_unsaid old cut.start new none cut.counted cut.cut.1)
     by_gift status (stopped mid stop stops closes) = halted mid stop status stops closes
 
   pub completes80 : (old new : HostState) (status : ℕ) → Gives c old new status → Completes c old new status

@@ -19,10 +19,10 @@ use Rattle.reports.specs.declared.stop.Stop.{Stop}
 use Rattle.reports.specs.declared.stop.Stop.TheVariants.{OutOfMemory}
 use Rattle.reports.specs.Lines.{status_of, ended_line}
 use Rattle.reports.specs.Said.{IsDone, whole, failed, no_memory as unfinished, Closes}
-use Rattle.run_parts.specs.Files.{text_limit}
+use Rattle.run_parts.specs.Files.{text_limit, NoneFailed, IsTold, InputIsTold}
 use Rattle.run_parts.specs.Texts.{HasImage, IsNoImage, unread as Unread, refused as Refuses, stop_of_image}
 use Rattle.run_parts.specs.Ends.{steps_of}
-use Rattle.running.specs.Outcomes.{NoneFailed, IsTold, InputIsTold, ComesTo, IsOnly, HasStatus}
+use Rattle.running.specs.Outcomes.{ComesTo, IsOnly, HasStatus}
 use Rattle.running.specs.Runs86.{course_of, LoadStops, no_text, no_input, no_image, no_memory as MemoryStops, HasRun, Stops, unloaded, ran as StopsRan, no_memory, no_line, Gives, ended, unsaid, stopped}
 use Rattle.running.specs.Completes86.{Comes, refused, ran, Completes}
 use Rattle.running.proofs.Told.{told_whole, told_input, read_stops, input_stops, not_unsaid, closes_reads, closes_status, memory_status}
@@ -132,12 +132,12 @@ module _ (reading : OneReading) (image_is : OneImage) (refusal_is : OneRefusal) 
       halted mid stop status (unloaded only s) closes = unread mid stop status s closes
       halted mid stop status (StopsRan o h e) closes =
           ⊎_elim (λ s. inl s) (λ s. inr (Err stop, by_run mid o (Err stop) h (sym e), s)) (closes_status stop mid new status closes)
-      halted mid _ status (no_memory part same) closes = inl (memory_status OutOfMemory mid new status refl closes)
+      halted mid _ status (no_memory cut) closes = inl (memory_status OutOfMemory mid new status refl closes)
       halted mid _ status (no_line steps h) closes = inl (memory_status OutOfMemory mid new status refl closes)
 
       by_gift : (status : ℕ) → Gives c old new status → HasStatus (Comes c text input) status
       by_gift status (ended steps mid h done) = finished mid steps status h done
-      by_gift status (unsaid fault e part fails) = absurd (none.writes fails)
+      by_gift status (unsaid fault e cut) = let reader = cut.loads.reader in absurd (not_unsaid old cut.start new none cut.counted (cut.cut reader.0 reader.1.0).1)
       by_gift status (stopped mid stop stops closes) = halted mid stop status stops closes
 
     pub completes86 : (old new : HostState) (status : ℕ) → Gives c old new status → Completes c old new status

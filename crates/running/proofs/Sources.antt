@@ -1,8 +1,6 @@
 -- What the run of `run80` comes to behind its files.
-use Rattle.std.proofs.Common.{◌≡◌, ℕ, List, Err, refl, ◌∙◌, subst}
-use Rattle.host.specs.declared.HostFault.{HostFault}
-use Rattle.host.specs.Host.{HostState, HasRisen, SameFiles, OnlyReads, OnlySays, SameFaults}
-use Rattle.host.specs.Host.{WriteFailed as WriteFails}
+use Rattle.std.proofs.Common.{◌≡◌, ℕ, List, Err, ◌∙◌, subst}
+use Rattle.host.specs.Host.{HostState, SameFiles, OnlyReads, OnlySays, SameFaults}
 use Rattle.program80.specs.Program.{Program}
 use Rattle.command_words.specs.Words.{Run80}
 use Rattle.talk.specs.declared.fault.TalkFault.{TalkFault}
@@ -12,11 +10,11 @@ use Rattle.run_parts.specs.declared.halt.Halt.{Halt}
 use Rattle.run_parts.specs.declared.halt.Halt.TheVariants.{By, Unsaid}
 use Rattle.reports.specs.declared.stop.Stop.{Stop}
 use Rattle.run_parts.specs.Ends.{steps_of, Halts, halt_of_talk}
-use Rattle.running.specs.Runs80.{Loads, LoadStops, RunsTo, RunsPart, HasRun, Stops, IsLineOf, IsHalted, unloaded, ran, no_memory}
+use Rattle.running.specs.Runs80.{Loads, LoadStops, RunsTo, IsCut, HasRun, Stops, IsLineOf, IsHalted, unloaded, ran, no_memory}
 use Rattle.running.proofs.Leaving.{end_has_line}
 
 -- where nothing was loaded, the command halts
-pub unloaded_halts : (c : Run80) (old new : HostState) (halt : Halt) → OnlyReads old new → Halts (LoadStops c old new) ⊥ halt → IsHalted c old new halt
+pub unloaded_halts : (c : Run80) (old new : HostState) (halt : Halt) → OnlyReads old new → Halts (LoadStops c old new) halt → IsHalted c old new halt
 unloaded_halts c old new (By stop) only s = unloaded only s
 unloaded_halts c old new (Unsaid fault) only s = absurd s
 
@@ -36,15 +34,11 @@ module _ (c : Run80) (old mid new : HostState) (program : Program) (input : List
     counted = record { reads = s.reads ∙ counted.reads; writes = s.writes ∙ counted.writes };
   }
 
-  -- or a line of it was not said, or memory ran out
-  pub part_halts : RunsPart c program input mid new → (fault : TalkFault) → ((f : HostFault) → fault ≡ Untold f → WriteFails mid new) → (fault ≡ NoMemory → SameFaults mid new) → IsHalted c old new (halt_of_talk fault)
-  part_halts runs (Untold f) failed same = (
-    record { program = program; input = input; loads = loads; start = mid; reads = reads; runs = runs; says = says },
-    subst (λ n. HasRisen n new.write_faults) counted.writes (failed f refl),
-  )
-  part_halts runs NoMemory failed same =
-      let s = same refl in
-      no_memory (record { program = program; input = input; loads = loads; start = mid; reads = reads; runs = runs; says = says }) (record { reads = s.reads ∙ counted.reads; writes = s.writes ∙ counted.writes })
+  -- or a fault cut it off
+  pub cut_halts : (fault : TalkFault) → IsCut c program input mid new fault → IsHalted c old new (halt_of_talk fault)
+  cut_halts (Untold f) cut = record { program = program; input = input; loads = loads; start = mid; reads = reads; counted = counted; cut = cut; says = says }
+  cut_halts NoMemory cut =
+      no_memory (record { program = program; input = input; loads = loads; start = mid; reads = reads; counted = counted; cut = cut; says = says })
 
   -- the run did not end, and the command stops for that
   pub left_or_stopped : (o : RunEnd) (line : ℕ) (stop : Stop) → RunsTo c program input o mid new → SameFaults mid new → ((n : ℕ) → IsLineOf program o n → line ≡ n) → steps_of c.run.steps line o ≡ Err stop → Stops c old new stop

@@ -7,8 +7,7 @@ use Rattle.reports.specs.declared.stop.Stop.{Stop}
 use Rattle.reports.specs.declared.stop.Stop.TheVariants.{OutOfMemory}
 use Rattle.reports.specs.Lines.{status_of}
 use Rattle.reports.specs.Said.{IsDone, whole, failed as unfinished, no_memory as out_of_memory, Closes, said, unsaid}
-use Rattle.run_parts.specs.Files.{input_limit, IsWhole, IsInput, ReadStops, failed, too_long, no_memory, InputStops}
-use Rattle.running.specs.Outcomes.{NoneFailed, IsTold, InputIsTold}
+use Rattle.run_parts.specs.Files.{input_limit, IsWhole, IsInput, ReadStops, failed, too_long, no_memory, InputStops, NoneFailed, IsTold, InputIsTold}
 
 -- what was read is what is told
 told_file : (told : FileTold) (bytes read : List ℕ) → told ≡ Holds bytes → IsFile told read → bytes ≡ read
@@ -53,15 +52,15 @@ not_unsaid old mid new none same f = none.writes (subst (λ n. HasRisen n new.wr
 -- the reads are those before the last line
 pub closes_reads : (stop : Stop) (mid new : HostState) (status : ℕ) → Closes stop mid new status → new.read_faults ≡ mid.read_faults
 closes_reads stop mid new status (said e s) = s.only.reads
-closes_reads stop mid new status (unsaid e s) = s.only.reads
+closes_reads stop mid new status (unsaid n e s) = s.only.reads
 
 pub closes_status : (stop : Stop) (mid new : HostState) (status : ℕ) → Closes stop mid new status → (status ≡ 5) ⊎ (status ≡ status_of stop)
 closes_status stop mid new status (said e s) = inr e
-closes_status stop mid new status (unsaid e s) = inl e
+closes_status stop mid new status (unsaid n e s) = inl e
 
 pub memory_status : (stop : Stop) (mid new : HostState) (status : ℕ) → stop ≡ OutOfMemory → Closes stop mid new status → status ≡ 5
 memory_status stop mid new status e (said s l) = s ∙ ap status_of e
-memory_status stop mid new status e (unsaid s l) = s
+memory_status stop mid new status e (unsaid n s l) = s
 
 -- the last line changes no file
 pub done_files : (line : List ℕ) (old new : HostState) (status : ℕ) → IsDone line old new status → SameFiles old new

@@ -1,9 +1,7 @@
 -- What the run of `run86` comes to behind its files.
 use Rattle.std.proofs.Common.{◌≡◌, ℕ, ◌<◌, List, refl, ◌∙◌, subst, arith, length}
 use Rattle.std.specs.Prelude.{Ok, IfOk}
-use Rattle.host.specs.declared.HostFault.{HostFault}
-use Rattle.host.specs.Host.{HostState, HasRisen, SameFiles, OnlyReads, OnlySays, SameFaults}
-use Rattle.host.specs.Host.{WriteFailed as WriteFails}
+use Rattle.host.specs.Host.{HostState, SameFiles, OnlyReads, OnlySays, SameFaults}
 use Rattle.lines86.specs.Image.{Image}
 use Rattle.command_words.specs.Words.{Run86}
 use Rattle.talk.specs.declared.fault.TalkFault.{TalkFault}
@@ -14,7 +12,7 @@ use Rattle.reports.specs.Lines.{ended_line}
 use Rattle.run_parts.specs.declared.halt.Halt.{Halt}
 use Rattle.run_parts.specs.declared.halt.Halt.TheVariants.{By, Unsaid}
 use Rattle.run_parts.specs.Ends.{steps_of, Halts, halt_of_talk}
-use Rattle.running.specs.Runs86.{Loads, LoadStops, RunsTo, RunsPart, HasRun, IsHalted, unloaded, no_memory}
+use Rattle.running.specs.Runs86.{Loads, LoadStops, RunsTo, IsCut, HasRun, IsHalted, unloaded, no_memory}
 
 -- a line of steps is not empty
 pub ended_some : (steps : ℕ) → 0 < length (ended_line steps)
@@ -32,7 +30,7 @@ pub ended_is : (limit line : ℕ) (o : RunEnd) (steps : ℕ) → steps_of limit 
 ended_is limit line o steps e = subst (λ r. IfOk r (λ n. o ≡ Ended n)) e (ends_by limit line o)
 
 -- where nothing was loaded, the command halts
-pub unloaded_halts : (c : Run86) (old new : HostState) (halt : Halt) → OnlyReads old new → Halts (LoadStops c old new) ⊥ halt → IsHalted c old new halt
+pub unloaded_halts : (c : Run86) (old new : HostState) (halt : Halt) → OnlyReads old new → Halts (LoadStops c old new) halt → IsHalted c old new halt
 unloaded_halts c old new (By stop) only s = unloaded only s
 unloaded_halts c old new (Unsaid fault) only s = absurd s
 
@@ -53,12 +51,8 @@ module _ (c : Run86) (old mid new : HostState) (image : Image) (input : List ℕ
     counted = record { reads = s.reads ∙ counted.reads; writes = s.writes ∙ counted.writes };
   }
 
-  -- or a line of it was not said, or memory ran out
-  pub part_halts : RunsPart c image input mid new → (fault : TalkFault) → ((f : HostFault) → fault ≡ Untold f → WriteFails mid new) → (fault ≡ NoMemory → SameFaults mid new) → IsHalted c old new (halt_of_talk fault)
-  part_halts runs (Untold f) failed same = (
-    record { image = image; input = input; loads = loads; start = mid; reads = reads; runs = runs; says = says },
-    subst (λ n. HasRisen n new.write_faults) counted.writes (failed f refl),
-  )
-  part_halts runs NoMemory failed same =
-      let s = same refl in
-      no_memory (record { image = image; input = input; loads = loads; start = mid; reads = reads; runs = runs; says = says }) (record { reads = s.reads ∙ counted.reads; writes = s.writes ∙ counted.writes })
+  -- or a fault cut it off
+  pub cut_halts : (fault : TalkFault) → IsCut c image input mid new fault → IsHalted c old new (halt_of_talk fault)
+  cut_halts (Untold f) cut = record { image = image; input = input; loads = loads; start = mid; reads = reads; counted = counted; cut = cut; says = says }
+  cut_halts NoMemory cut =
+      no_memory (record { image = image; input = input; loads = loads; start = mid; reads = reads; counted = counted; cut = cut; says = says })

@@ -9,9 +9,9 @@ use Rattle.command_words.specs.Words.{Run80}
 use Rattle.talk.specs.declared.running.RunEnd.{RunEnd}
 use Rattle.reports.specs.declared.stop.Stop.{Stop}
 use Rattle.reports.specs.declared.stop.Stop.TheVariants.{SourceLine, SourceProgram}
-use Rattle.run_parts.specs.Files.{input_limit}
+use Rattle.run_parts.specs.Files.{input_limit, NoneFailed, IsTold, InputIsTold}
 use Rattle.run_parts.specs.Ends.{steps_of}
-use Rattle.running.specs.Outcomes.{NoneFailed, IsTold, InputIsTold, ComesTo, HasStatus}
+use Rattle.running.specs.Outcomes.{ComesTo, HasStatus}
 use Rattle.running.specs.Runs80.{IsLineOf, course_of}
 
 -- the source is refused, or its program runs over a console with the input and comes to an end

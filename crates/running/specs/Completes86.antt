@@ -8,10 +8,10 @@ use Rattle.command_words.specs.Words.{Run86}
 use Rattle.talk.specs.declared.running.RunEnd.{RunEnd}
 use Rattle.asm86.specs.declared.fault.ImageFault.{ImageFault}
 use Rattle.reports.specs.declared.stop.Stop.{Stop}
-use Rattle.run_parts.specs.Files.{text_limit}
+use Rattle.run_parts.specs.Files.{text_limit, NoneFailed, IsTold, InputIsTold}
 use Rattle.run_parts.specs.Texts.{HasImage, IsNoImage, stop_of_image}
 use Rattle.run_parts.specs.Ends.{steps_of}
-use Rattle.running.specs.Outcomes.{NoneFailed, IsTold, InputIsTold, ComesTo, HasStatus}
+use Rattle.running.specs.Outcomes.{ComesTo, HasStatus}
 use Rattle.running.specs.Runs86.{course_of}
 
 -- the text is refused, or its image runs over a console with the input and comes to an end

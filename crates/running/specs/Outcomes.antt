@@ -1,26 +1,10 @@
 -- What the commands that run a program come to by the whole bytes of their files, where no call of the host fails.
-use Rattle.std.specs.Prelude.{◌≡◌, ℕ, ◌≤◌, ◌⊎◌, List, [], length, Option, Some, None, Result, Ok, Err}
+use Rattle.std.specs.Prelude.{◌≡◌, ℕ, ◌⊎◌, List, Result, Ok, Err}
 use Rattle.dialogue.specs.declared.request.Reply.{Reply}
-use Rattle.host.specs.Host.{HostState, Holds, HasRisen}
 use Rattle.talk.specs.declared.running.RunEnd.{RunEnd}
 use Rattle.talk.specs.Talk.{Seen, IsOutcome}
 use Rattle.reports.specs.declared.stop.Stop.{Stop}
 use Rattle.reports.specs.Lines.{status_of}
-use Rattle.run_parts.specs.Files.{input_limit}
-
--- no call of the host failed: neither count of faults rose, or stands at its last value
-pub record NoneFailed (old new : HostState) : Type 0 where
-  pub reads : HasRisen old.read_faults new.read_faults → ⊥
-  pub writes : HasRisen old.write_faults new.write_faults → ⊥
-
--- the host tells the file of a name, and it has these bytes, within a limit
-abbrev pub IsTold : HostState → List ℕ → ℕ → List ℕ → Type 0
-IsTold old name limit bytes = (old.file name ≡ Holds bytes) × (length bytes ≤ limit)
-
--- the console's input, likewise
-abbrev pub InputIsTold : HostState → Option (List ℕ) → List ℕ → Type 0
-InputIsTold old None bytes = bytes ≡ []
-InputIsTold old (Some name) bytes = IsTold old name input_limit bytes
 
 -- a run over a console comes to this
 abbrev pub ComesTo : (List Reply → ℕ → Seen) → List ℕ → ℕ → RunEnd → Type 0

@@ -5,22 +5,24 @@ use Rattle.cells.specs.declared.Place.TheVariants.{At, Exit}
 use Rattle.dialogue.specs.declared.request.Reply.{Reply}
 use Rattle.host.specs.declared.HostFault.{HostFault}
 use Rattle.host.specs.Host.{HostState, SameFaults, OnlyReads, OnlySays}
-use Rattle.host.specs.Host.{WriteFailed as WriteFails}
 use Rattle.program80.specs.Program.{Program, line_at}
 use Rattle.source80.specs.Source.{IsSource}
 use Rattle.command_words.specs.Words.{Run80}
 use Rattle.talk.specs.declared.emulator.Why.TheVariants.{Left, NoInstruction, StackSegment, OddCall}
+use Rattle.talk.specs.declared.fault.TalkFault.{TalkFault}
+use Rattle.talk.specs.declared.fault.TalkFault.TheVariants.{Unsaid as Untold, Memory as NoMemory}
 use Rattle.talk.specs.declared.running.RunEnd.{RunEnd}
 use Rattle.talk.specs.declared.running.RunEnd.TheVariants.{Ended, Stopped, StepLimit, InputEnded, NoDrive}
-use Rattle.talk.specs.Talk.{Seen, SaysRun, SaysPart}
+use Rattle.talk.specs.Talk.{Seen, SaysRun, IsCutOff}
 use Rattle.emulation.specs.Courses.{course80}
 use Rattle.reports.specs.declared.stop.Stop.{Stop}
 use Rattle.reports.specs.declared.stop.Stop.TheVariants.{OutOfMemory}
 use Rattle.reports.specs.Lines.{ended_line}
 use Rattle.reports.specs.Said.{IsDone, Closes}
 use Rattle.run_parts.specs.declared.halt.Halt.{Halt}
+use Rattle.run_parts.specs.declared.halt.Halt.TheVariants.{By, Unsaid}
 use Rattle.run_parts.specs.Files.{input_limit, IsWhole, IsInput, ReadStops, InputStops}
-use Rattle.run_parts.specs.Ends.{steps_of, unsaid_status, Halts}
+use Rattle.run_parts.specs.Ends.{steps_of, unsaid_status}
 use Rattle.source_program.specs.Stops.{SourceStops}
 
 -- the line of the instruction at a place
@@ -43,12 +45,12 @@ IsLineOf p (NoDrive function) line = line ≡ 0
 abbrev pub course_of : Run80 → Program → List Reply → ℕ → Seen
 course_of c program = course80 program c.run.page
 
--- the run comes to this end and says its dialogue, or a part of it
+-- the run comes to this end and says its dialogue, or is cut off by a fault
 abbrev pub RunsTo : Run80 → Program → List ℕ → RunEnd → HostState → HostState → Type 0
 RunsTo c program input o old new = SaysRun (course_of c program) input c.run.steps o old new
 
-abbrev pub RunsPart : Run80 → Program → List ℕ → HostState → HostState → Type 0
-RunsPart c program input old new = SaysPart (course_of c program) input c.run.steps old new
+abbrev pub IsCut : Run80 → Program → List ℕ → HostState → HostState → TalkFault → Type 0
+IsCut c program input old new = IsCutOff (course_of c program) input c.run.steps old new
 
 module _ (c : Run80) (old : HostState) where
   -- the source's file is the source of a program, and this is the console's input
@@ -75,25 +77,27 @@ module _ (c : Run80) (old : HostState) where
       pub says : OnlySays start new
       pub counted : SameFaults old new
 
-    -- the same, but a part of its dialogue was said
-    pub record HasPart : Type 0 where
+    -- the same, but the run was cut off by a fault
+    pub record HasCut (fault : TalkFault) : Type 0 where
       pub program : Program
       pub input : List ℕ
       pub loads : Loads program input
       pub start : HostState
       pub reads : OnlyReads old start
-      pub runs : RunsPart c program input start new
+      pub counted : SameFaults old start
+      pub cut : IsCut c program input start new fault
       pub says : OnlySays start new
 
     -- why the command stops
     pub data Stops : Stop → Type 0 where
       unloaded : {stop : Stop} → OnlyReads old new → LoadStops new stop → Stops stop
       ran : {stop : Stop} (program : Program) (o : RunEnd) (line : ℕ) → HasRun program o → IsLineOf program o line → steps_of c.run.steps line o ≡ Err stop → Stops stop
-      no_memory : HasPart → SameFaults old new → Stops OutOfMemory
+      no_memory : HasCut NoMemory → Stops OutOfMemory
       no_line : (program : Program) (steps : ℕ) → HasRun program (Ended steps) → Stops OutOfMemory
 
     abbrev pub IsHalted : Halt → Type 0
-    IsHalted halt = Halts Stops (HasPart × WriteFails old new) halt
+    IsHalted (By stop) = Stops stop
+    IsHalted (Unsaid fault) = HasCut (Untold fault)
 
     -- the run ended, and this is the line that says so
     abbrev pub HasEnded : List ℕ → Type 0
@@ -103,5 +107,5 @@ module _ (c : Run80) (old : HostState) where
   -- nothing more is; or the command stops, and the line of the stop is said
   pub data Gives (new : HostState) : ℕ → Type 0 where
     ended : {status : ℕ} (program : Program) (steps : ℕ) (mid : HostState) → HasRun mid program (Ended steps) → IsDone (ended_line steps) mid new status → Gives new status
-    unsaid : {status : ℕ} (fault : HostFault) → status ≡ unsaid_status fault → HasPart new → WriteFails old new → Gives new status
+    unsaid : {status : ℕ} (fault : HostFault) → status ≡ unsaid_status fault → HasCut new (Untold fault) → Gives new status
     stopped : {status : ℕ} (mid : HostState) (stop : Stop) → Stops mid stop → Closes stop mid new status → Gives new status

@@ -8,11 +8,12 @@ use Rattle.dialogue.specs.declared.request.Reply.{Reply}
 use Rattle.lines86.specs.Image.{Image}
 use Rattle.host.specs.declared.HostFault.{HostFault}
 use Rattle.host.specs.Host.{HostState, SameFaults, OnlyReads, OnlySays}
-use Rattle.host.specs.Host.{WriteFailed as WriteFails}
 use Rattle.command_words.specs.Words.{Run86}
+use Rattle.talk.specs.declared.fault.TalkFault.{TalkFault}
+use Rattle.talk.specs.declared.fault.TalkFault.TheVariants.{Unsaid as Untold, Memory as NoMemory}
 use Rattle.talk.specs.declared.running.RunEnd.{RunEnd}
 use Rattle.talk.specs.declared.running.RunEnd.TheVariants.{Ended}
-use Rattle.talk.specs.Talk.{Seen, SaysRun, SaysPart}
+use Rattle.talk.specs.Talk.{Seen, SaysRun, IsCutOff}
 use Rattle.emulation.specs.Courses.{course86}
 use Rattle.emulation.specs.Starts.{start_by}
 use Rattle.reports.specs.declared.stop.Stop.{Stop}
@@ -21,9 +22,10 @@ use Rattle.asm86.specs.declared.fault.ImageFault.{ImageFault}
 use Rattle.reports.specs.Lines.{ended_line}
 use Rattle.reports.specs.Said.{IsDone, Closes}
 use Rattle.run_parts.specs.declared.halt.Halt.{Halt}
+use Rattle.run_parts.specs.declared.halt.Halt.TheVariants.{By, Unsaid}
 use Rattle.run_parts.specs.Files.{text_limit, IsWhole, IsInput, ReadStops, InputStops}
 use Rattle.run_parts.specs.Texts.{HasImage, IsNoImage, stop_of_image}
-use Rattle.run_parts.specs.Ends.{steps_of, unsaid_status, Halts}
+use Rattle.run_parts.specs.Ends.{steps_of, unsaid_status}
 
 unfoldable pub fill_by : ℕ → List ℕ
 fill_by choice = replicate 0x10000 (choice % 256)
@@ -32,14 +34,14 @@ fill_by choice = replicate 0x10000 (choice % 256)
 abbrev pub course_of : Run86 → Image → (ℕ → Option Instr86) → List Reply → ℕ → Seen
 course_of c image fetch = course86 fetch image c.run.page (fill_by c.choice) (start_by c.choice) (c.choice ∷ [])
 
--- the run comes to this end and says its dialogue, or a part of it, whatever reads the code
+-- the run comes to this end and says its dialogue, or is cut off by a fault, whatever reads the code
 abbrev pub RunsTo : Run86 → Image → List ℕ → RunEnd → HostState → HostState → Type 0
 RunsTo c image input o old new =
     (fetch : ℕ → Option Instr86) → Reads image.code fetch → SaysRun (course_of c image fetch) input c.run.steps o old new
 
-abbrev pub RunsPart : Run86 → Image → List ℕ → HostState → HostState → Type 0
-RunsPart c image input old new =
-    (fetch : ℕ → Option Instr86) → Reads image.code fetch → SaysPart (course_of c image fetch) input c.run.steps old new
+abbrev pub IsCut : Run86 → Image → List ℕ → HostState → HostState → TalkFault → Type 0
+IsCut c image input old new fault =
+    (fetch : ℕ → Option Instr86) → Reads image.code fetch → IsCutOff (course_of c image fetch) input c.run.steps old new fault
 
 module _ (c : Run86) (old : HostState) where
   -- the text's file has an image, whose code has one reader, and this is the console's input
@@ -69,25 +71,27 @@ module _ (c : Run86) (old : HostState) where
       pub says : OnlySays start new
       pub counted : SameFaults old new
 
-    -- the same, but a part of its dialogue was said
-    pub record HasPart : Type 0 where
+    -- the same, but the run was cut off by a fault
+    pub record HasCut (fault : TalkFault) : Type 0 where
       pub image : Image
       pub input : List ℕ
       pub loads : Loads image input
       pub start : HostState
       pub reads : OnlyReads old start
-      pub runs : RunsPart c image input start new
+      pub counted : SameFaults old start
+      pub cut : IsCut c image input start new fault
       pub says : OnlySays start new
 
     -- why the command stops
     pub data Stops : Stop → Type 0 where
       unloaded : {stop : Stop} → OnlyReads old new → LoadStops new stop → Stops stop
       ran : {stop : Stop} (o : RunEnd) → HasRun o → steps_of c.run.steps 0 o ≡ Err stop → Stops stop
-      no_memory : HasPart → SameFaults old new → Stops OutOfMemory
+      no_memory : HasCut NoMemory → Stops OutOfMemory
       no_line : (steps : ℕ) → HasRun (Ended steps) → Stops OutOfMemory
 
     abbrev pub IsHalted : Halt → Type 0
-    IsHalted halt = Halts Stops (HasPart × WriteFails old new) halt
+    IsHalted (By stop) = Stops stop
+    IsHalted (Unsaid fault) = HasCut (Untold fault)
 
     -- the run ended, and this is the line that says so
     abbrev pub HasEnded : List ℕ → Type 0
@@ -97,5 +101,5 @@ module _ (c : Run86) (old : HostState) where
   -- nothing more is; or the command stops, and the line of the stop is said
   pub data Gives (new : HostState) : ℕ → Type 0 where
     ended : {status : ℕ} (steps : ℕ) (mid : HostState) → HasRun mid (Ended steps) → IsDone (ended_line steps) mid new status → Gives new status
-    unsaid : {status : ℕ} (fault : HostFault) → status ≡ unsaid_status fault → HasPart new → WriteFails old new → Gives new status
+    unsaid : {status : ℕ} (fault : HostFault) → status ≡ unsaid_status fault → HasCut new (Untold fault) → Gives new status
     stopped : {status : ℕ} (mid : HostState) (stop : Stop) → Stops mid stop → Closes stop mid new status → Gives new status

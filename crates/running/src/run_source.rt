@@ -1,14 +1,13 @@
 // The work of `run80`: a source's program runs on the tagged 8080 over a console.
-ghost use Rattle.std.specs.Prelude.{◌≡◌, ℕ, true, IfOk, IfErr, OnOk, OnErr};
+ghost use Rattle.std.specs.Prelude.{◌≡◌, ℕ, true, IfOk, IfErr, OnOk};
 ghost use Rattle.std.specs.String.{string_bytes};
-ghost use Rattle.host.specs.declared.HostFault.{HostFault};
-ghost use Rattle.host.specs.Host.{SameFiles, SameFaults, OnlyReads, OnlySays, WriteFailed};
+ghost use Rattle.host.specs.Host.{SameFiles, SameFaults, OnlyReads, OnlySays};
 ghost use Rattle.program80.specs.Program.{is_top};
 ghost use Rattle.command_words.specs.ReadCommands.{run80_read};
 ghost use Rattle.talk.specs.declared.running.RunEnd.TheVariants.{Stopped};
 ghost use Rattle.run_parts.specs.Ends.{Halts};
 ghost use Rattle.running.specs.Completes80.{Completes};
-ghost use Rattle.running.specs.Runs80.{IsLineAt, IsLineOf, Loads, LoadStops, RunsTo, RunsPart, HasEnded, IsHalted, Gives};
+ghost use Rattle.running.specs.Runs80.{IsLineAt, IsLineOf, Loads, LoadStops, RunsTo, IsCut, HasEnded, IsHalted, Gives};
 
 use asm80_values::source_has_one_outcome;
 use cells::Place;
@@ -74,7 +73,7 @@ fn load<'a, H: Host>(alloc: Global, host: &mut H, command: &Run80<'a>) -> Result
     ensures only { OnlyReads (H.state host.old) (H.state host.new) }
     ensures loaded { IfOk result (λ l. Loads (run80_read command.now) (H.state host.old) l.program l.input.items) }
     ensures counted { OnOk result (SameFaults (H.state host.old) (H.state host.new)) }
-    ensures stopped { IfErr result (Halts (LoadStops (run80_read command.now) (H.state host.old) (H.state host.new)) ⊥) }
+    ensures stopped { IfErr result (Halts (LoadStops (run80_read command.now) (H.state host.old) (H.state host.new))) }
 {
     let source = read_named(alloc, host, command.source, SOURCE_LIMIT)?;
     let input = read_input(alloc, host, command.run.input)?;
@@ -91,11 +90,9 @@ fn run<H: Host>(
     input: Vec<u8>,
 ) -> Result<RunEnd, TalkFault>
     ensures run { IfOk result (λ o. RunsTo (run80_read command.now) program.now input.items o (H.state host.old) (H.state host.new)) }
-    ensures part { OnErr result (RunsPart (run80_read command.now) program.now input.items (H.state host.old) (H.state host.new)) }
+    ensures cut { IfErr result (IsCut (run80_read command.now) program.now input.items (H.state host.old) (H.state host.new)) }
     ensures only { OnlySays (H.state host.old) (H.state host.new) }
     ensures counted { OnOk result (SameFaults (H.state host.old) (H.state host.new)) }
-    ensures unsaid { (fault : HostFault) → result ≡ Err (TalkFault.Unsaid fault) → WriteFailed (H.state host.old) (H.state host.new) }
-    ensures memory { result ≡ Err TalkFault.Memory → SameFaults (H.state host.old) (H.state host.new) }
 {
     let steps = command.run.steps;
     run_80(alloc, program, &command.run.page, input, steps, host)

@@ -1,12 +1,11 @@
 // The work of `run86`: a text's image runs over a console, by a choice.
-ghost use Rattle.std.specs.Prelude.{◌≡◌, IfOk, IfErr, OnOk, OnErr, length};
+ghost use Rattle.std.specs.Prelude.{◌≡◌, IfOk, IfErr, OnOk, length};
 ghost use Rattle.std.specs.String.{string_bytes};
-ghost use Rattle.host.specs.declared.HostFault.{HostFault};
-ghost use Rattle.host.specs.Host.{SameFiles, SameFaults, OnlyReads, OnlySays, WriteFailed};
+ghost use Rattle.host.specs.Host.{SameFiles, SameFaults, OnlyReads, OnlySays};
 ghost use Rattle.command_words.specs.ReadCommands.{run86_read};
 ghost use Rattle.run_parts.specs.Ends.{Halts};
 ghost use Rattle.running.specs.Completes86.{Completes};
-ghost use Rattle.running.specs.Runs86.{fill_by, Loads, LoadStops, RunsTo, RunsPart, HasEnded, IsHalted, Gives};
+ghost use Rattle.running.specs.Runs86.{fill_by, Loads, LoadStops, RunsTo, IsCut, HasEnded, IsHalted, Gives};
 
 use asm86::{Image86, images_exclude_refusals};
 use command_words::Run86;
@@ -69,7 +68,7 @@ fn load<'a, H: Host>(alloc: Global, host: &mut H, command: &Run86<'a>) -> Result
     ensures fill { IfOk result (λ l. l.fill.items ≡ fill_by command.now.choice) }
     ensures fill_len { IfOk result (λ l. length l.fill.items ≡ 0x10000) }
     ensures counted { OnOk result (SameFaults (H.state host.old) (H.state host.new)) }
-    ensures stopped { IfErr result (Halts (LoadStops (run86_read command.now) (H.state host.old) (H.state host.new)) ⊥) }
+    ensures stopped { IfErr result (Halts (LoadStops (run86_read command.now) (H.state host.old) (H.state host.new))) }
 {
     let text = read_named(alloc, host, command.text, TEXT_LIMIT)?;
     let input = read_input(alloc, host, command.run.input)?;
@@ -100,11 +99,9 @@ fn run<H: Host>(
     requires fill { loaded.fill.items ≡ fill_by command.now.choice }
     requires fill_len { length loaded.fill.items ≡ 0x10000 }
     ensures run { IfOk result (λ o. RunsTo (run86_read command.now) loaded.image loaded.input.items o (H.state host.old) (H.state host.new)) }
-    ensures part { OnErr result (RunsPart (run86_read command.now) loaded.image loaded.input.items (H.state host.old) (H.state host.new)) }
+    ensures cut { IfErr result (IsCut (run86_read command.now) loaded.image loaded.input.items (H.state host.old) (H.state host.new)) }
     ensures only { OnlySays (H.state host.old) (H.state host.new) }
     ensures counted { OnOk result (SameFaults (H.state host.old) (H.state host.new)) }
-    ensures unsaid { (fault : HostFault) → result ≡ Err (TalkFault.Unsaid fault) → WriteFailed (H.state host.old) (H.state host.new) }
-    ensures memory { result ≡ Err TalkFault.Memory → SameFaults (H.state host.old) (H.state host.new) }
 {
     let Loaded { image, fill, input } = loaded;
     let choice = command.choice;

@@ -1,5 +1,5 @@
 -- What one turn comes to.
-use Rattle.std.proofs.Common.{◌≡◌, ℕ, suc, ◌+◌, Bool, true, false, cond, codes, List, [], ◌∷◌, ◌++◌, length, take, refl, sym, ap, ◌∙◌, subst, arith, Option, Some, None}
+use Rattle.std.proofs.Common.{◌≡◌, ℕ, suc, ◌+◌, Bool, true, false, cond, codes, List, [], ◌∷◌, ◌++◌, refl, sym, ap, ◌∙◌, subst, arith, Option, Some, None}
 use Rattle.std.proofs.lemmas.List.{append-nil}
 use Rattle.dialogue.specs.declared.request.Request.{Request}
 use Rattle.dialogue.specs.declared.request.Reply.{Reply}
@@ -10,14 +10,17 @@ use Rattle.console.specs.declared.answers.Answer.TheVariants.{Reply as Replies, 
 use Rattle.console.specs.Console.{console_answer}
 use Rattle.machine.specs.Run.{Waiting, Over}
 use Rattle.host.specs.Host.{HostState, said_more, Says}
+use Rattle.transfer.specs.Transfer.{CutsLine}
 use Rattle.talk.specs.declared.emulator.Turn.TheVariants.{Ran, Asks, Ended}
 use Rattle.talk.specs.declared.running.RunEnd.{RunEnd}
 use Rattle.talk.specs.declared.running.RunEnd.TheVariants.{Ended as HasEnded, InputEnded, NoDrive}
 use Rattle.talk.specs.Lines.{call_line}
 use Rattle.talk.specs.Talk.{Seen, reply_then, console_replies, refusal_then, refusal}
 use Rattle.talk.specs.Turns.{Past, Course, after_ran, after_asked, standing, IsTurn, Begins}
-use Rattle.talk.specs.Advance.{Advance, Rest, Part, IsTurnDone, IsAnswered}
-use Rattle.talk.proofs.Said.{event_lines-one, says_nothing, take_whole}
+use Rattle.talk.specs.declared.fault.TalkFault.{TalkFault}
+use Rattle.talk.specs.declared.fault.TalkFault.TheVariants.{Unsaid, Memory}
+use Rattle.talk.specs.Advance.{Advance, Rest, Grows, SaysTurn, CutsTurn, IsLineCutOff, IsTurnCutOff, IsTurnDone, IsAnswered}
+use Rattle.talk.proofs.Said.{event_lines-one, says_nothing}
 
 module _ (before mid : Course) (answered : Request → Reply → Course) (input : List ℕ) (old new : HostState) where
   pub advance_ran : IsTurn before mid answered Ran → Advance 1 before mid input input old old
@@ -96,27 +99,24 @@ module _ (before mid : Course) (answered : Request → Reply → Course) (input 
   }
 
   -- faults: before anything is said, in the line of the end, in the line of a call, and after it
-  pub part_none : Begins before → Part before old old
-  part_none begins = record {
-    events = [];
+  grows_not : Begins before → Grows before []
+  grows_not begins = record {
     turns = 0;
     few = omega arith;
     dialogue = λ t ys. ap (λ (v : Seen). v.dialogue) (begins t ys) ∙ sym (append-nil t.dialogue);
-    count = 0;
-    says = says_nothing old;
   }
 
-  pub part_end : IsTurn before mid answered Ended → (k : ℕ) × Says old new (take k (codes "end\n")) → Part before old new
-  part_end h said = record {
-    events = End ∷ [];
-    turns = 1;
-    few = omega arith;
-    dialogue = λ t ys. ap (λ (v : Seen). v.dialogue) (h t ys 0);
-    count = said.0;
-    says = said.1 ∙ ap (λ l. said_more old.said (take said.0 l)) (event_lines-one End);
+  pub unbegun : Begins before → SaysTurn before old old
+  unbegun begins = record { events = []; grows = grows_not begins; says = says_nothing old }
+
+  pub cut_end : IsTurn before mid answered Ended → CutsLine (codes "end\n") old new → CutsTurn before old new
+  cut_end h cut = record {
+    event = End;
+    grows = record { turns = 1; few = omega arith; dialogue = λ t ys. ap (λ (v : Seen). v.dialogue) (h t ys 0) };
+    cut = cut;
   }
 
-  module _ (q : Request) (h : IsTurn before mid answered (Asks q)) (begins : (y : Reply) → Begins (answered q y)) where
+  module _ (whole : Begins before) (q : Request) (h : IsTurn before mid answered (Asks q)) (begins : (y : Reply) → Begins (answered q y)) where
     asked_dialogue : (t : Past) (ys : List Reply) → (before t ys 1).dialogue ≡ t.dialogue ++ Call q ∷ []
     asked_dialogue t [] = ap (λ (v : Seen). v.dialogue) (h t [] 0)
     asked_dialogue t (y ∷ ys) = ap (λ (v : Seen). v.dialogue) (h t (y ∷ ys) 0) ∙ by_fit (fits q y)
@@ -125,15 +125,16 @@ module _ (before mid : Course) (answered : Request → Reply → Course) (input 
         by_fit true = ap (λ (v : Seen). v.dialogue) (begins y (after_ran (after_asked t q)) ys)
         by_fit false = refl
 
-    pub part_call : (k : ℕ) × Says old new (take k (call_line q)) → Part before old new
-    part_call said = record {
-      events = Call q ∷ [];
-      turns = 1;
-      few = omega arith;
-      dialogue = asked_dialogue;
-      count = said.0;
-      says = said.1 ∙ ap (λ l. said_more old.said (take said.0 l)) (event_lines-one (Call q));
-    }
+    grows_call : Grows before (Call q ∷ [])
+    grows_call = record { turns = 1; few = omega arith; dialogue = asked_dialogue }
 
-    pub part_called : Says old new (call_line q) → Part before old new
-    part_called said = part_call (length (call_line q), said ∙ ap (said_more old.said) (sym (take_whole (call_line q))))
+    cut_call : CutsLine (call_line q) old new → CutsTurn before old new
+    cut_call cut = record { event = Call q; grows = grows_call; cut = cut }
+
+    -- a fault in the line of a call, or want of memory for it
+    pub call_cut_off : (fault : TalkFault) → IsLineCutOff (call_line q) old new fault → IsTurnCutOff before old new fault
+    call_cut_off (Unsaid fault) h' = (cut_call h'.0, h'.1)
+    call_cut_off Memory h' = (record { events = []; grows = grows_not whole; says = h'.0 ∙ says_nothing old }, h'.1)
+
+    pub called : Says old new (call_line q) → SaysTurn before old new
+    called said = record { events = Call q ∷ []; grows = grows_call; says = said ∙ ap (said_more old.said) (event_lines-one (Call q)) }

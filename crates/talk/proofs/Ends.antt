@@ -1,16 +1,19 @@
 -- Turns put together to a run over a console.
-use Rattle.std.proofs.Common.{◌≡◌, ℕ, suc, ◌+◌, ◌-◌, ◌≤◌, List, [], ◌++◌, length, take, refl, sym, ap, ◌∙◌, subst, arith, append_assoc}
+use Rattle.std.proofs.Common.{◌≡◌, ℕ, suc, ◌+◌, ◌-◌, ◌≤◌, List, [], ◌∷◌, ◌++◌, refl, sym, ap, ◌∙◌, subst, arith, append_assoc}
 use Rattle.std.proofs.lemmas.List.{append-nil}
 use Rattle.machine.specs.Run.{Going}
-use Rattle.host.specs.Host.{HostState, said_more, Says}
+use Rattle.host.specs.Host.{HostState, HasRisen, said_more, SameFaults}
+use Rattle.dialogue.specs.declared.request.Event.{Event}
+use Rattle.talk.specs.declared.fault.TalkFault.{TalkFault}
+use Rattle.talk.specs.declared.fault.TalkFault.TheVariants.{Unsaid, Memory}
 use Rattle.talk.specs.declared.running.RunEnd.{RunEnd}
 use Rattle.talk.specs.declared.running.RunEnd.TheVariants.{Ended, Stopped as HasStopped, StepLimit, InputEnded, NoDrive}
 use Rattle.talk.specs.Lines.{event_lines}
-use Rattle.talk.specs.Talk.{Seen, console_replies, refusal, IsAt, HasOneRun, IsCause, IsOutcome, SaysRun, SaysPart}
+use Rattle.talk.specs.Talk.{Seen, console_replies, refusal, IsAt, HasOneRun, IsCause, IsOutcome, SaysRun, HasFirst, SaysFirst, SaysCut, IsCutOff}
 use Rattle.talk.specs.Turns.{Course, nothing, standing, Begins}
-use Rattle.talk.specs.Advance.{Advance, IsEnd, Rest, Part}
-use Rattle.talk.proofs.Said.{event_lines-append, says_nothing, says_then, says_part}
-use Rattle.talk.proofs.Exact.{outcome_one, part_at_limit}
+use Rattle.talk.specs.Advance.{Advance, IsEnd, Rest, Grows, SaysTurn, CutsTurn, IsTurnCutOff}
+use Rattle.talk.proofs.Said.{event_lines-append, says_nothing, says_then}
+use Rattle.talk.proofs.Exact.{outcome_one, first_at_limit}
 
 pub advance_none : (c : Course) (input : List ℕ) (h : HostState) → Advance 0 c c input input h h
 advance_none c input h = record {
@@ -112,16 +115,33 @@ module _ (c b : Course) (one : HasOneRun (c nothing)) (input left : List ℕ) (o
       says = says_then old mid new (event_lines x.events) (event_lines y.events) x.says y.says ∙ ap (said_more old.said) (sym (event_lines-append x.events y.events));
     }
 
-  -- where a fault comes
-  pub says_fault : (limit : ℕ) → suc j ≤ limit → Part b mid new → SaysPart (c nothing) input limit old new
-  says_fault limit within y =
-      let run : Seen = c nothing (console_replies input (x.events ++ y.events)) (j + y.turns) in
+  -- where a fault comes: the events up to it are the run's first
+  first_events : (limit : ℕ) → suc j ≤ limit → (events : List Event) → Grows b events → HasFirst (c nothing) input limit (x.events ++ events)
+  first_events limit within events y =
+      let run : Seen = c nothing (console_replies input (x.events ++ events)) (j + y.turns) in
       let few : y.turns ≤ 1 = y.few in
-      let goes : run ≡ b (x.next nothing) (console_replies left y.events) y.turns = ap (λ zs. c nothing zs (j + y.turns)) (x.replies y.events) ∙ x.goes nothing (console_replies left y.events) y.turns in
-      let is : run.dialogue ≡ x.events ++ y.events = ap (λ (v : Seen). v.dialogue) goes ∙ y.dialogue (x.next nothing) (console_replies left y.events) ∙ ap (λ d. d ++ y.events) (x.dialogue nothing) in
-      let count : ℕ = length (event_lines x.events) + y.count in
-      let says : Says old new (take count (event_lines run.dialogue)) =
-      says_part old mid new (event_lines x.events) (event_lines y.events) y.count x.says y.says
-      ∙ ap (λ l. said_more old.said (take count l)) (sym (event_lines-append x.events y.events) ∙ ap event_lines (sym is)) in
+      let goes : run ≡ b (x.next nothing) (console_replies left events) y.turns = ap (λ zs. c nothing zs (j + y.turns)) (x.replies events) ∙ x.goes nothing (console_replies left events) y.turns in
+      let is : run.dialogue ≡ x.events ++ events = ap (λ (v : Seen). v.dialogue) goes ∙ y.dialogue (x.next nothing) (console_replies left events) ∙ ap (λ d. d ++ events) (x.dialogue nothing) in
       let within : j + y.turns ≤ limit = omega arith in
-      part_at_limit (c nothing) one input limit old new (j + y.turns) within run (ap (λ d. c nothing (console_replies input d) (j + y.turns)) (sym is)) count says
+      subst (HasFirst (c nothing) input limit) is (first_at_limit (c nothing) one input limit (j + y.turns) within run (ap (λ d. c nothing (console_replies input d) (j + y.turns)) (sym is)))
+
+  says_first : (limit : ℕ) → suc j ≤ limit → SaysTurn b mid new → SaysFirst (c nothing) input limit old new
+  says_first limit within y = record {
+    events = x.events ++ y.events;
+    first = first_events limit within y.events y.grows;
+    says = says_then old mid new (event_lines x.events) (event_lines y.events) x.says y.says ∙ ap (said_more old.said) (sym (event_lines-append x.events y.events));
+  }
+
+  says_cut : (limit : ℕ) → suc j ≤ limit → CutsTurn b mid new → SaysCut (c nothing) input limit old new
+  says_cut limit within y = record {
+    events = x.events;
+    next = y.event;
+    first = first_events limit within (y.event ∷ []) y.grows;
+    mid = mid;
+    says = x.says;
+    cut = y.cut;
+  }
+
+  pub cut_off : (limit : ℕ) → suc j ≤ limit → SameFaults old mid → (fault : TalkFault) → IsTurnCutOff b mid new fault → IsCutOff (c nothing) input limit old new fault
+  cut_off limit within same (Unsaid fault) y = (says_cut limit within y.0, subst (λ n. HasRisen n new.write_faults) same.writes y.1)
+  cut_off limit within same Memory y = (says_first limit within y.0, record { reads = y.1.reads ∙ same.reads; writes = y.1.writes ∙ same.writes })

@@ -1,15 +1,14 @@
 -- Over a console there is one run, and it comes to one end.
-use Rattle.std.proofs.Common.{◌≡◌, ℕ, ◌≤◌, ◌<◌, List, ◌++◌, length, take, refl, sym, ap, ◌∙◌, subst, arith}
+use Rattle.std.proofs.Common.{◌≡◌, ℕ, ◌≤◌, ◌<◌, List, [], refl, sym, ap, ◌∙◌, subst, arith}
 use Rattle.std.proofs.lemmas.Bool.{cases_lt}
 use Rattle.std.proofs.Common.{⊎_elim}
 use Rattle.dialogue.specs.declared.request.Reply.{Reply}
 use Rattle.machine.specs.Run.{Going, Over}
-use Rattle.host.specs.Host.{HostState, said_more, Says}
+use Rattle.host.specs.Host.{HostState}
 use Rattle.talk.specs.declared.running.RunEnd.{RunEnd}
 use Rattle.talk.specs.declared.running.RunEnd.TheVariants.{Ended, Stopped as HasStopped, StepLimit, InputEnded, NoDrive}
-use Rattle.talk.specs.Lines.{event_lines}
-use Rattle.talk.specs.Talk.{Seen, console_replies, IsAt, HasOneRun, EndsAfter, IsCause, IsOutcome, SaysPart}
-use Rattle.talk.proofs.Said.{event_lines-append, says_nothing, take_front}
+use Rattle.talk.specs.Talk.{Seen, console_replies, IsAt, HasOneRun, EndsAfter, IsCause, IsOutcome, HasFirst, SaysFirst}
+use Rattle.talk.proofs.Said.{says_nothing}
 
 module _ (course : List Reply → ℕ → Seen) (single : HasOneRun course) (input : List ℕ) where
   -- a run that is over is not going at a later turn
@@ -69,32 +68,28 @@ module _ (course : List Reply → ℕ → Seen) (single : HasOneRun course) (inp
         let same : w ≡ v = single.one input limit w v y.at x.at in
         (cause_one v o e x.cause (subst (IsCause course input limit e) same y.cause), same)
 
-    -- what begins the lines of an earlier turn begins the lines of the run at the limit
-    pub part_at_limit : (old new : HostState) (n : ℕ) → n ≤ limit → (v : Seen) → IsAt course input n v → (count : ℕ) → Says old new (take count (event_lines v.dialogue)) → SaysPart course input limit old new
-    part_at_limit old new n le v at count says =
-        let last = single.some input limit in
-        let w : Seen = last.0 in
-        let front = single.grows input n limit v w le at last.1 in
-        let lines : event_lines w.dialogue ≡ event_lines v.dialogue ++ event_lines front.0 = ap event_lines front.1 ∙ event_lines-append v.dialogue front.0 in
-        record {
-          run = w;
-          at = last.1;
-          only = λ u is. single.one input limit u w is last.1;
-          count = length (take count (event_lines v.dialogue));
-          says =
-              says
-              ∙ ap (said_more old.said) (sym (take_front (event_lines v.dialogue) (event_lines front.0) count)
-              ∙ ap (take (length (take count (event_lines v.dialogue)))) (sym lines));
-        }
-
-    -- before anything is said
-    pub part_unsaid : (h : HostState) → SaysPart course input limit h h
-    part_unsaid h =
+    -- the events of an earlier turn are the first of the run at the limit
+    pub first_at_limit : (n : ℕ) → n ≤ limit → (v : Seen) → IsAt course input n v → HasFirst course input limit v.dialogue
+    first_at_limit n le v at =
         let last = single.some input limit in
         record {
           run = last.0;
           at = last.1;
           only = λ u is. single.one input limit u last.0 is last.1;
-          count = 0;
+          front = single.grows input n limit v last.0 le at last.1;
+        }
+
+    -- before anything is said
+    pub says_none : (h : HostState) → SaysFirst course input limit h h
+    says_none h =
+        let last = single.some input limit in
+        record {
+          events = [];
+          first = record {
+            run = last.0;
+            at = last.1;
+            only = λ u is. single.one input limit u last.0 is last.1;
+            front = (last.0.dialogue, refl);
+          };
           says = says_nothing h;
         }

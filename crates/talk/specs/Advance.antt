@@ -1,5 +1,5 @@
 -- How far a run over a console has come, in a form that can be put together turn by turn.
-use Rattle.std.specs.Prelude.{◌≡◌, ℕ, ◌+◌, ◌≤◌, suc, List, [], ◌++◌, take, Option, Some, None, true}
+use Rattle.std.specs.Prelude.{◌≡◌, ℕ, ◌+◌, ◌≤◌, suc, List, [], ◌∷◌, ◌++◌, Option, Some, None, true}
 use Rattle.dialogue.specs.declared.request.Request.{Request}
 use Rattle.dialogue.specs.declared.request.Reply.{Reply}
 use Rattle.dialogue.specs.declared.request.Event.{Event}
@@ -7,11 +7,14 @@ use Rattle.dialogue.specs.Fits.{fits}
 use Rattle.console.specs.declared.answers.Answer.TheVariants.{Reply as Replies}
 use Rattle.console.specs.Console.{Answered, console_answer}
 use Rattle.machine.specs.Run.{Status, Waiting, Over, Stopped}
-use Rattle.host.specs.Host.{HostState, Says}
+use Rattle.host.specs.Host.{HostState, SameSaid, Says, SameFaults, WriteFailed}
+use Rattle.transfer.specs.Transfer.{CutsLine}
 use Rattle.talk.specs.declared.emulator.Why.{Why}
+use Rattle.talk.specs.declared.fault.TalkFault.{TalkFault}
+use Rattle.talk.specs.declared.fault.TalkFault.TheVariants.{Unsaid, Memory}
 use Rattle.talk.specs.declared.running.RunEnd.{RunEnd}
 use Rattle.talk.specs.declared.running.RunEnd.TheVariants.{Ended, Stopped as HasStopped, StepLimit, InputEnded, NoDrive}
-use Rattle.talk.specs.Lines.{event_lines}
+use Rattle.talk.specs.Lines.{event_line, event_lines}
 use Rattle.talk.specs.Talk.{console_replies, refusal_then, refusal}
 use Rattle.talk.specs.Turns.{Past, Course, standing}
 
@@ -43,14 +46,33 @@ pub record Rest (o : RunEnd) (count : ℕ) (before : Course) (input : List ℕ) 
   pub end : IsEnd o count status (refusal input events)
   pub says : Says old new (event_lines events)
 
--- of the events of the next turn, if there are any, some first bytes were said
-pub record Part (before : Course) (old new : HostState) : Type 0 where
-  pub events : List Event
+-- after one more turn, or before it, the dialogue has these events more
+pub record Grows (before : Course) (events : List Event) : Type 0 where
   pub turns : ℕ
   pub few : turns ≤ 1
   pub dialogue : (t : Past) (ys : List Reply) → (before t ys turns).dialogue ≡ t.dialogue ++ events
-  pub count : ℕ
-  pub says : Says old new (take count (event_lines events))
+
+-- the line of what the next turn brings was said, or nothing yet
+pub record SaysTurn (before : Course) (old new : HostState) : Type 0 where
+  pub events : List Event
+  pub grows : Grows before events
+  pub says : Says old new (event_lines events)
+
+-- the line of what the next turn brings was cut off
+pub record CutsTurn (before : Course) (old new : HostState) : Type 0 where
+  pub event : Event
+  pub grows : Grows before (event ∷ [])
+  pub cut : CutsLine (event_line event) old new
+
+-- what was said in a turn up to a fault
+abbrev pub IsTurnCutOff : Course → HostState → HostState → TalkFault → Type 0
+IsTurnCutOff before old new (Unsaid fault) = CutsTurn before old new × WriteFailed old new
+IsTurnCutOff before old new Memory = SaysTurn before old new × SameFaults old new
+
+-- what was said of a line up to a fault: a call of the host failed within it; or none failed, and memory ran out before it
+abbrev pub IsLineCutOff : List ℕ → HostState → HostState → TalkFault → Type 0
+IsLineCutOff line old new (Unsaid fault) = CutsLine line old new × WriteFailed old new
+IsLineCutOff line old new Memory = SameSaid old new × SameFaults old new
 
 -- what a turn comes to: the end of the run, if it is its last
 abbrev pub IsTurnDone : ℕ → Course → Course → List ℕ → List ℕ → HostState → HostState → Option RunEnd → Type 0

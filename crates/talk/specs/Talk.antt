@@ -1,5 +1,5 @@
 -- A run over a console: its replies are the console's to its own calls. What it comes to, and what it says meanwhile.
-use Rattle.std.specs.Prelude.{◌≡◌, ℕ, suc, ◌≤◌, List, [], ◌∷◌, take, Option, Some, None}
+use Rattle.std.specs.Prelude.{◌≡◌, ℕ, suc, ◌≤◌, List, [], ◌∷◌, ◌++◌, Option, Some, None}
 use Rattle.dialogue.specs.declared.request.Request.{Request}
 use Rattle.dialogue.specs.declared.request.Reply.{Reply}
 use Rattle.dialogue.specs.declared.request.Event.{Event}
@@ -8,11 +8,14 @@ use Rattle.console.specs.declared.answers.Answer.TheVariants.{Reply as Replies, 
 use Rattle.console.specs.declared.answers.Answer.{Answer}
 use Rattle.console.specs.Console.{console_answer}
 use Rattle.machine.specs.Run.{Status, Going, Waiting, Over, Stopped, Run, IsFrontOf}
-use Rattle.host.specs.Host.{HostState, Says}
+use Rattle.host.specs.Host.{HostState, Says, SameFaults, WriteFailed}
+use Rattle.transfer.specs.Transfer.{CutsLine}
 use Rattle.talk.specs.declared.emulator.Why.{Why}
+use Rattle.talk.specs.declared.fault.TalkFault.{TalkFault}
+use Rattle.talk.specs.declared.fault.TalkFault.TheVariants.{Unsaid, Memory}
 use Rattle.talk.specs.declared.running.RunEnd.{RunEnd}
 use Rattle.talk.specs.declared.running.RunEnd.TheVariants.{Ended, Stopped as HasStopped, StepLimit, InputEnded, NoDrive}
-use Rattle.talk.specs.Lines.{event_lines}
+use Rattle.talk.specs.Lines.{event_line, event_lines}
 
 -- a run as it is seen from outside: whether it goes on, or else why not, and its dialogue
 pub record Seen : Type 0 where
@@ -95,10 +98,29 @@ module _ (course : List Reply → ℕ → Seen) (input : List ℕ) (limit : ℕ)
     pub only : (e : RunEnd) (v : Seen) → IsOutcome e v → (e ≡ o) × (v ≡ run)
     pub says : Says old new (event_lines run.dialogue)
 
-  -- some first bytes were said of the dialogue that the run has at the limit
-  pub record SaysPart (old new : HostState) : Type 0 where
+  -- these are the first events of the dialogue that the run has at the limit
+  pub record HasFirst (events : List Event) : Type 0 where
     pub run : Seen
     pub at : IsAt course input limit run
     pub only : (v : Seen) → IsAt course input limit v → v ≡ run
-    pub count : ℕ
-    pub says : Says old new (take count (event_lines run.dialogue))
+    pub front : IsFrontOf events run.dialogue
+
+  -- the lines of some first events of the run were said
+  pub record SaysFirst (old new : HostState) : Type 0 where
+    pub events : List Event
+    pub first : HasFirst events
+    pub says : Says old new (event_lines events)
+
+  -- the same, and then the line of the next event was cut off
+  pub record SaysCut (old new : HostState) : Type 0 where
+    pub events : List Event
+    pub next : Event
+    pub first : HasFirst (events ++ next ∷ [])
+    pub mid : HostState
+    pub says : Says old mid (event_lines events)
+    pub cut : CutsLine (event_line next) mid new
+
+  -- what was said up to a fault: a call of the host failed within a line; or none failed and memory ran out between two lines
+  abbrev pub IsCutOff : HostState → HostState → TalkFault → Type 0
+  IsCutOff old new (Unsaid fault) = SaysCut old new × WriteFailed old new
+  IsCutOff old new Memory = SaysFirst old new × SameFaults old new

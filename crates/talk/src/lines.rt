@@ -1,8 +1,9 @@
 // The lines of events.
-ghost use Rattle.std.specs.Prelude.{◌≡◌, ◌<◌, ◌++◌, [], ◌∷◌, length, take, ℕ, IfOk, OnOk, OnErr, codes};
-ghost use Rattle.host.specs.declared.HostFault.{HostFault};
+ghost use Rattle.std.specs.Prelude.{◌≡◌, ◌<◌, ◌++◌, [], ◌∷◌, length, IfOk, IfErr, OnOk, OnErr, codes};
 ghost use Rattle.host.specs.Host.{Says, SameFaults, OnlySays, WriteFailed};
 ghost use Rattle.hex.specs.Hex.{encode_lower};
+ghost use Rattle.transfer.specs.Transfer.{CutsLine};
+ghost use Rattle.talk.specs.Advance.{IsLineCutOff};
 ghost use Rattle.talk.specs.Lines.{blank_then, arg_text, bytes_text, blocks_text, call_line};
 
 use crate::fault::TalkFault;
@@ -17,10 +18,7 @@ pub fn say_call<H: Host>(alloc: Global, host: &mut H, request: &Request) -> Resu
     ensures only { OnlySays (H.state host.old) (H.state host.new) }
     ensures ok { OnOk result (Says (H.state host.old) (H.state host.new) (call_line request.now)) }
     ensures counted { OnOk result (SameFaults (H.state host.old) (H.state host.new)) }
-    ensures fault { OnErr result ((k : ℕ)
-        × Says (H.state host.old) (H.state host.new) (take k (call_line request.now))) }
-    ensures unsaid { (fault : HostFault) → result ≡ Err (TalkFault.Unsaid fault) → WriteFailed (H.state host.old) (H.state host.new) }
-    ensures memory { result ≡ Err TalkFault.Memory → SameFaults (H.state host.old) (H.state host.new) }
+    ensures cut { IfErr result (IsLineCutOff (call_line request.now) (H.state host.old) (H.state host.new)) }
 {
     let line = call_line(alloc, request)?;
     Ok(say_line(host, line.as_slice())?)
@@ -31,8 +29,7 @@ pub fn say_end<H: Host>(host: &mut H) -> Result<(), HostFault>
     ensures only { OnlySays (H.state host.old) (H.state host.new) }
     ensures ok { OnOk result (Says (H.state host.old) (H.state host.new) (codes "end\n")) }
     ensures counted { OnOk result (SameFaults (H.state host.old) (H.state host.new)) }
-    ensures fault { OnErr result ((k : ℕ)
-        × Says (H.state host.old) (H.state host.new) (take k (codes "end\n"))) }
+    ensures cut { OnErr result (CutsLine (codes "end\n") (H.state host.old) (H.state host.new)) }
     ensures failed { OnErr result (WriteFailed (H.state host.old) (H.state host.new)) }
 {
     say_line(host, b"end\n")

@@ -1,11 +1,10 @@
 // The loop that runs a machine over a console.
-ghost use Rattle.std.specs.Prelude.{◌≡◌, None, IfOk, OnOk, OnErr};
+ghost use Rattle.std.specs.Prelude.{◌≡◌, None, IfOk, IfErr, OnOk};
 ghost use Rattle.dialogue.specs.Lawful.{IsLawful};
-ghost use Rattle.host.specs.declared.HostFault.{HostFault};
-ghost use Rattle.host.specs.Host.{SameFaults, OnlySays, WriteFailed};
-ghost use Rattle.talk.specs.Talk.{SaysRun, SaysPart};
+ghost use Rattle.host.specs.Host.{SameFaults, OnlySays};
+ghost use Rattle.talk.specs.Talk.{SaysRun, IsCutOff};
 ghost use Rattle.talk.specs.Turns.{nothing};
-ghost use Rattle.talk.specs.Advance.{IsTurnDone, Part, IsAnswered};
+ghost use Rattle.talk.specs.Advance.{IsTurnDone, IsTurnCutOff, IsAnswered};
 
 use crate::emulator::{Emulator, Turn, Why};
 use crate::fault::TalkFault;
@@ -40,11 +39,9 @@ pub fn converse<E: Emulator, H: Host>(
 ) -> Result<RunEnd, TalkFault>
     requires { E.runs machine.old }
     ensures run { IfOk result (λ o. SaysRun (E.course machine.old nothing) console.old limit o (H.state host.old) (H.state host.new)) }
-    ensures part { OnErr result (SaysPart (E.course machine.old nothing) console.old limit (H.state host.old) (H.state host.new)) }
+    ensures cut { IfErr result (IsCutOff (E.course machine.old nothing) console.old limit (H.state host.old) (H.state host.new)) }
     ensures only { OnlySays (H.state host.old) (H.state host.new) }
     ensures counted { OnOk result (SameFaults (H.state host.old) (H.state host.new)) }
-    ensures unsaid { (fault : HostFault) → result ≡ Err (TalkFault.Unsaid fault) → WriteFailed (H.state host.old) (H.state host.new) }
-    ensures memory { result ≡ Err TalkFault.Memory → SameFaults (H.state host.old) (H.state host.new) }
 {
     for count in 0..limit {
         if let Some(end) = turn(alloc, machine, console, host, count + 1)? {
@@ -65,11 +62,9 @@ fn turn<E: Emulator, H: Host>(
     requires { E.runs machine.old }
     ensures done { IfOk result (λ o. IsTurnDone count (E.course machine.old) (E.course machine.new) console.old console.new (H.state host.old) (H.state host.new) o) }
     ensures ready { result ≡ Ok None → E.runs machine.new }
-    ensures part { OnErr result (Part (E.course machine.old) (H.state host.old) (H.state host.new)) }
+    ensures cut { IfErr result (IsTurnCutOff (E.course machine.old) (H.state host.old) (H.state host.new)) }
     ensures only { OnlySays (H.state host.old) (H.state host.new) }
     ensures counted { OnOk result (SameFaults (H.state host.old) (H.state host.new)) }
-    ensures unsaid { (fault : HostFault) → result ≡ Err (TalkFault.Unsaid fault) → WriteFailed (H.state host.old) (H.state host.new) }
-    ensures memory { result ≡ Err TalkFault.Memory → SameFaults (H.state host.old) (H.state host.new) }
 {
     match machine.turn(alloc)? {
         Turn::Ran => Ok(None),

@@ -1,7 +1,7 @@
 -- A piece that was filled with the first of more bytes.
-use Rattle.std.proofs.Common.{◌≡◌, ℕ, min, List, ◌++◌, length, take, drop, ap, ◌∙◌, sym, append_assoc, arith, Result, Ok, Err, OnErr}
+use Rattle.std.proofs.Common.{◌≡◌, ℕ, ◌+◌, ◌<◌, List, ◌++◌, length, length-append, take, drop, ap, ◌∙◌, sym, append_assoc, arith, Result, Ok, Err, OnErr}
 use Rattle.std.proofs.Math.Seq.{take-append_seam, drop-append_seam}
-use Rattle.std.proofs.lemmas.List.{take-append-drop, take-append-le, take_min}
+use Rattle.std.proofs.lemmas.List.{take-append-drop, take-append-le}
 use Rattle.host.specs.Host.{FileTold}
 use Rattle.transfer.specs.Transfer.{extended}
 
@@ -20,12 +20,14 @@ pub fills-drop : (old more piece : List ℕ) (taken : ℕ) → piece ≡ old ++ 
 fills-drop old more piece taken e =
     ap (drop (length piece)) (whole old more piece taken e) ∙ drop-append_seam piece (drop taken more)
 
--- some first bytes of the piece are first bytes of the whole
-pub fills-prefix : (old more piece : List ℕ) (taken : ℕ) (was now : FileTold) → piece ≡ old ++ take taken more → (k : ℕ) × (now ≡ extended was (take k piece)) → (k : ℕ) × (now ≡ extended was (take k (old ++ more)))
-fills-prefix old more piece taken was now e added =
-    let n = min added.0 (length piece) in
-    let same : take added.0 piece ≡ take n (old ++ more) = sym (ap (take n) (whole old more piece taken e) ∙ take-append-le n piece (drop taken more) (omega arith) ∙ take_min added.0 piece) in
-    (n, added.1 ∙ ap (extended was) same)
+-- first bytes of the piece, but not all, are such of the whole
+pub fills-part : (old more piece : List ℕ) (taken : ℕ) (was now : FileTold) → piece ≡ old ++ take taken more → (k : ℕ) × (k < length piece) × (now ≡ extended was (take k piece)) → (k : ℕ) × (k < length (old ++ more)) × (now ≡ extended was (take k (old ++ more)))
+fills-part old more piece taken was now e added =
+    let k = added.0 in
+    let few = added.1 in
+    let longer : length (old ++ more) ≡ length piece + length (drop taken more) = ap length (whole old more piece taken e) ∙ length-append piece (drop taken more) in
+    let same : take k piece ≡ take k (old ++ more) = sym (ap (take k) (whole old more piece taken e) ∙ take-append-le k piece (drop taken more) (omega (arith, few))) in
+    (k, omega (arith, few, longer), added.2 ∙ ap (extended was) same)
 
 -- what holds in any case holds after a fault
 pub on_err : {T E P : Type 0} (r : Result T E) → P → OnErr r P

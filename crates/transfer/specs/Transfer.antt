@@ -2,7 +2,7 @@
 use Rattle.std.specs.Prelude.{◌≡◌, ℕ, ◌<◌, ◌⊎◌, List, [], ◌∷◌, length, take}
 use Rattle.host.specs.declared.HostFault.{HostFault}
 use Rattle.host.specs.declared.HostFault.TheVariants.{Failed, Memory}
-use Rattle.host.specs.Host.{FileTold, HostState, IsFile, appended, Rewrites}
+use Rattle.host.specs.Host.{FileTold, HostState, IsFile, appended, Says, Rewrites}
 use Rattle.transfer.specs.declared.read.ReadFault.{ReadFault}
 use Rattle.transfer.specs.declared.read.ReadFault.TheVariants.{Failed as ReadFailed, Memory as ReadMemory}
 
@@ -20,6 +20,12 @@ abbrev pub extended : FileTold → List ℕ → FileTold
 extended told [] = told
 extended told (byte ∷ bytes) = appended told (byte ∷ bytes)
 
--- the file is as before, or holds the first bytes of the text and no others
-abbrev pub IsBeforeOrPrefix : HostState → HostState → List ℕ → List ℕ → Type 0
-IsBeforeOrPrefix old new name text = (new.file name ≡ old.file name) ⊎ ((k : ℕ) × Rewrites old new name (take k text))
+-- the file is as before, or holds first bytes of the text and no others: not all of them
+abbrev pub IsBeforeOrPart : HostState → HostState → List ℕ → List ℕ → Type 0
+IsBeforeOrPart old new name text = (new.file name ≡ old.file name) ⊎ ((k : ℕ) × (k < length text) × Rewrites old new name (take k text))
+
+-- first bytes of a line were said: not all of them
+pub record CutsLine (line : List ℕ) (old new : HostState) : Type 0 where
+  pub count : ℕ
+  pub short : count < length line
+  pub said : Says old new (take count line)

@@ -2,20 +2,20 @@
 ghost use Rattle.std.specs.Prelude.{◌≡◌, ℕ, ◌<◌, ◌≤◌, ◌++◌, take, drop, length, OnOk, OnErr};
 ghost use Rattle.lines86.specs.Written.{text_of};
 ghost use Rattle.host.specs.Host.{SameFaults, OnlyWrites, Rewrites, WriteFailed};
-ghost use Rattle.transfer.specs.Transfer.{extended, IsBeforeOrPrefix};
+ghost use Rattle.transfer.specs.Transfer.{extended, IsBeforeOrPart};
 
 use crate::piece::Piece;
 use host::{Host, HostFault};
 use lines86::{Line86, write_line};
 
 /// Writes the text of lines to a file, in pieces of 4,096 bytes but the last, and takes no memory of its own. After a fault the
-/// file is as before, or some first bytes of the text.
+/// file is as before, or holds first bytes of the text, but not all.
 pub fn write_out<H: Host>(host: &mut H, name: &str, lines: &[Line86]) -> Result<(), HostFault>
     ensures only { OnlyWrites (H.state host.old) (H.state host.new) name.now }
     ensures ok { OnOk result (Rewrites (H.state host.old) (H.state host.new) name.now (text_of lines.now)) }
     ensures counted { OnOk result (SameFaults (H.state host.old) (H.state host.new)) }
     ensures fault { OnErr result
-        (IsBeforeOrPrefix (H.state host.old) (H.state host.new) name.now (text_of lines.now)) }
+        (IsBeforeOrPart (H.state host.old) (H.state host.new) name.now (text_of lines.now)) }
     ensures failed { OnErr result (WriteFailed (H.state host.old) (H.state host.new)) }
 {
     host.begin(name)?;
@@ -37,7 +37,7 @@ fn add<H: Host>(host: &mut H, name: &str, piece: &mut Piece, more: &[u8]) -> Res
         × (piece.new ≡ drop k (piece.old ++ more.now))) }
     ensures room { OnOk result (length piece.new < 4096) }
     ensures counted { OnOk result (SameFaults (H.state host.old) (H.state host.new)) }
-    ensures fault { OnErr result ((k : ℕ) × ((H.state host.new).file name.now
+    ensures fault { OnErr result ((k : ℕ) × (k < length (piece.old ++ more.now)) × ((H.state host.new).file name.now
         ≡ extended ((H.state host.old).file name.now) (take k (piece.old ++ more.now)))) }
     ensures failed { OnErr result (WriteFailed (H.state host.old) (H.state host.new)) }
 {
@@ -56,7 +56,7 @@ fn append_all<H: Host>(host: &mut H, name: &str, bytes: &[u8]) -> Result<(), Hos
     ensures ok { OnOk result ((H.state host.new).file name.now
         ≡ extended ((H.state host.old).file name.now) bytes.now) }
     ensures counted { OnOk result (SameFaults (H.state host.old) (H.state host.new)) }
-    ensures fault { OnErr result ((k : ℕ) × ((H.state host.new).file name.now
+    ensures fault { OnErr result ((k : ℕ) × (k < length bytes.now) × ((H.state host.new).file name.now
         ≡ extended ((H.state host.old).file name.now) (take k bytes.now))) }
     ensures failed { OnErr result (WriteFailed (H.state host.old) (H.state host.new)) }
 {

@@ -1,29 +1,31 @@
 -- From the work and the last line to what the command gives.
-use Rattle.std.proofs.Common.{◌≡◌, ℕ, ◌<◌, ◌≤◌, inl, inr, ⊎_elim, List, length, take, refl, sym, ap, ◌∙◌, subst, arith}
+use Rattle.std.proofs.Common.{◌≡◌, ℕ, ◌<◌, ◌≤◌, true, false, inl, inr, ⊎_elim, List, length, take, refl, sym, ap, ◌∙◌, subst, arith}
 use Rattle.std.specs.Prelude.{codes}
 use Rattle.std.proofs.lemmas.List.{take_all}
 use Rattle.host.specs.declared.HostFault.{HostFault}
 use Rattle.host.specs.declared.HostFault.TheVariants.{Failed, Memory}
-use Rattle.host.specs.Host.{HostState, Holds, IsFile, HasRisen, last_count, OnlyFileChanged, SameSaid, Says, said_more, OnlySays, OnlyReads}
+use Rattle.host.specs.Host.{HostState, Holds, Missing, IsFile, HasRisen, OnlyFileChanged, SameSaid, Says, said_more, OnlySays, OnlyReads}
 use Rattle.lines86.specs.Image.{Assembles, image_of}
+use Rattle.transfer.specs.Transfer.{CutsLine}
 use Rattle.program80.specs.Program.{Program, IsProgram}
 use Rattle.source80.specs.Source.{IsSource, SourceRule, OfLine, OfProgram}
 use Rattle.templates.specs.Plain.{plain}
 use Rattle.command_words.specs.Words.{Translate}
 use Rattle.xlt_core.specs.First.{IsFirst}
-use Rattle.xlt_core.specs.Same.{Same}
+use Rattle.xlt_core.specs.Same.{HasReader, Same}
 use Rattle.reports.specs.declared.stop.Stop.{Stop}
 use Rattle.reports.specs.Lines.{named_line, memory_line}
 use Rattle.reports.specs.Said.{SaysLine, SaysLast, IsDone, whole, failed, no_memory, Closes, said, unsaid}
-use Rattle.run_parts.specs.Files.{ReadStops, failed as read_failed, too_long as file_too_long, no_memory as no_memory_to_read, input_limit}
+use Rattle.run_parts.specs.Files.{ReadStops, failed as read_failed, too_long as file_too_long, no_memory as no_memory_to_read, NoneFailed, IsTold, input_limit}
 use Rattle.translating.specs.Firsts.{IsRefused}
-use Rattle.translating.specs.Translates.{line_of_program, refusal_line, Accepts, Refuses, Writes, WritesSome, HasSame, SaysOfWrite, EndsWith, Gives, translated, refused, unread, unwritten, unsaid as line_unsaid, no_memory as no_room, no_memory_to_write, no_memory_to_say, too_long, NoCallFailed, Decides}
-use Rattle.translating.specs.Work.{Works, WritesPart, StopsBy, unread as stop_unread, refused as stop_refused, no_memory as stop_no_memory, unwritten as stop_unwritten, stop_of_rule, stop_of_write}
+use Rattle.translating.specs.Translates.{line_of_program, refusal_line, Accepts, Refuses, Writes, WritesPart, HasSame, SaysOfWrite, EndsWith, Gives, translated, refused, unread, unwritten, unsaid as line_unsaid, no_memory as no_room, no_memory_to_write, no_memory_to_say, too_long, stop_of_rule, Decides}
+use Rattle.translating.specs.Work.{Works, FailsToWrite, StopsBy, unread as stop_unread, refused as stop_refused, no_memory as stop_no_memory, unwritten as stop_unwritten, stop_of_write}
 use Rattle.translating.proofs.Verdicts.{SourceLaw, accepted_or_refused, refused_once}
 
 -- the law of programs of the first instructions
 pub record FirstLaw : Type 0 where
   pub assembles : (p : Program) → IsProgram p → IsFirst p → Assembles (plain p)
+  pub reader : (p : Program) → IsProgram p → IsFirst p → HasReader (image_of (plain p))
   pub same : (p : Program) → IsProgram p → IsFirst p → Same p (image_of (plain p))
 
 -- a count that rose before stays risen where it does not fall
@@ -33,10 +35,6 @@ risen_on a b c h le = ⊎_elim (λ r. inl (omega (arith, r, le))) (λ l. inr (om
 -- a count that rises behind one that did not
 risen_behind : (a b c : ℕ) → b ≡ a → HasRisen b c → HasRisen a c
 risen_behind a b c e h = subst (λ n. HasRisen n c) e h
-
--- no count that rose is as it was
-not_risen : (old new : ℕ) → HasRisen old new → new ≡ old → old < last_count → ⊥
-not_risen old new h e lt = ⊎_elim (λ r. absurd (omega (arith, r, e))) (λ l. absurd (omega (arith, l, e, lt))) h
 
 module _ (c : Translate) (old mid new : HostState) where
   said_on : (text : List ℕ) → SameSaid old mid → Says mid new text → Says old new text
@@ -48,10 +46,18 @@ module _ (c : Translate) (old mid new : HostState) where
   writes_on : (p : Program) → OnlySays mid new → Writes c old mid p → Writes c old new p
   writes_on p only w = record { text = only.files c.output ∙ w.text; others = others_on only w.others }
 
-  some_on : (p : Program) → OnlySays mid new → WritesSome c old mid p → WritesSome c old new p
-  some_on p only w = record {
-    text = ⊎_elim (λ s. inl (only.files c.output ∙ s)) (λ k. inr (k.0, only.files c.output ∙ k.1)) w.text;
+  part_on : (p : Program) → OnlySays mid new → WritesPart c old mid p → WritesPart c old new p
+  part_on p only w = record {
+    text = ⊎_elim (λ s. inl (only.files c.output ∙ s)) (λ k. inr (k.0, k.1, only.files c.output ∙ k.2)) w.text;
     others = others_on only w.others;
+  }
+
+  -- a line was cut off, and nothing was said before
+  cut_on : (p : Program) (line : List ℕ) → line ≡ line_of_program p → SameSaid old mid → CutsLine line mid new → CutsLine (line_of_program p) old new
+  cut_on p line is q k = record {
+    count = k.count;
+    short = subst (λ l. k.count < length l) is k.short;
+    said = said_on (take k.count (line_of_program p)) q (subst (λ l. Says mid new (take k.count l)) is k.said);
   }
 
   line_on : (line : List ℕ) → OnlyReads old mid → SaysLine mid new line → SaysLine old new line
@@ -65,6 +71,7 @@ module _ (c : Translate) (old mid new : HostState) where
   has_same law p a = record {
     image = image_of (plain p);
     assembled = record { assembles = law.assembles p a.source.program.program.lawful a.first; is = refl };
+    reader = law.reader p a.source.program.program.lawful a.first;
     same = law.same p a.source.program.program.lawful a.first;
   }
 
@@ -75,13 +82,13 @@ module _ (c : Translate) (old mid new : HostState) where
       (record { reads = faults.reads ∙ w.faults.reads; writes = faults.writes ∙ w.faults.writes })
   worked law line w _ (failed s) =
       line_unsaid w.program w.accepts (writes_on w.program s.only w.writes) (risen_behind old.write_faults mid.write_faults new.write_faults w.faults.writes s.failed)
-      (s.count, said_on (take s.count (line_of_program w.program)) w.quiet (subst (λ l. Says mid new (take s.count l)) w.line s.said))
+      (cut_on w.program line w.line w.quiet s.cut)
   worked law line w _ (no_memory s) =
       no_memory_to_say w.program w.accepts (writes_on w.program s.only w.writes) (risen_behind old.write_faults mid.write_faults new.write_faults w.faults.writes s.failed)
-      (s.count, said_on (take s.count (line_of_program w.program)) w.quiet (subst (λ l. Says mid new (take s.count l)) w.line s.said))
+      (cut_on w.program line w.line w.quiet s.cut)
 
   -- a line says what came of a write
-  of_write : (line : List ℕ) → WritesPart c old mid → SaysLast line mid new → SaysOfWrite c old new line
+  of_write : (line : List ℕ) → FailsToWrite c old mid → SaysLast line mid new → SaysOfWrite c old new line
   of_write line w l = record { mid = mid; quiet = w.quiet; failed = w.failed; only = l.only; says = l.line }
 
   -- a line was said behind reads
@@ -96,10 +103,10 @@ module _ (c : Translate) (old mid new : HostState) where
   memory_end _ (stop_unread s only) l = quiet_end only l
   memory_end _ (stop_refused line rule r e only same) l = quiet_end only l
   memory_end _ (stop_no_memory only) l = quiet_end only l
-  memory_end _ (stop_unwritten fault w e) l = no_memory_to_write w.program w.accepts (some_on w.program l.only w.some) (of_write memory_line w l)
+  memory_end _ (stop_unwritten fault w e) l = no_memory_to_write w.program w.accepts (part_on w.program l.only w.part) (of_write memory_line w l)
 
   unread_end : (stop : Stop) → ReadStops c.input input_limit old mid stop → OnlyReads old mid → (status : ℕ) → Closes stop mid new status → Gives c old new status
-  unread_end stop s only status (unsaid e l) = subst (Gives c old new) (sym e) (quiet_end only l)
+  unread_end stop s only status (unsaid n e l) = subst (Gives c old new) (sym e) (quiet_end only l)
   unread_end _ (read_failed {n = n} is f) only status (said e l) =
       subst (Gives c old new) (sym e)
       (unread (⊎_elim (λ r. inl (subst (λ k. HasRisen old.read_faults k) (sym l.only.reads) r)) (λ m. inr m) f)
@@ -111,32 +118,32 @@ module _ (c : Translate) (old mid new : HostState) where
   unread_end _ no_memory_to_read only status (said e l) = subst (Gives c old new) (sym e) (quiet_end only l)
 
   refused_end : (line : ℕ) (rule : SourceRule) → Refuses c old line rule → OnlyReads old mid → (status : ℕ) → Closes (stop_of_rule line rule) mid new status → Gives c old new status
-  refused_end line rule r only status (unsaid e l) = subst (Gives c old new) (sym e) (quiet_end only l)
+  refused_end line rule r only status (unsaid n e l) = subst (Gives c old new) (sym e) (quiet_end only l)
   refused_end line (OfLine rule) r only status (said e l) =
       subst (Gives c old new) (sym e) (refused line (OfLine rule) r (ends_with (refusal_line line (OfLine rule)) only l))
   refused_end line (OfProgram rule) r only status (said e l) =
       subst (Gives c old new) (sym e) (refused line (OfProgram rule) r (ends_with (refusal_line line (OfProgram rule)) only l))
 
-  unwritten_end : (fault : HostFault) → WritesPart c old mid → (status : ℕ) → Closes (stop_of_write fault) mid new status → Gives c old new status
-  unwritten_end fault w status (unsaid e l) =
-      subst (Gives c old new) (sym e) (no_memory_to_write w.program w.accepts (some_on w.program l.only w.some) (of_write memory_line w l))
+  unwritten_end : (fault : HostFault) → FailsToWrite c old mid → (status : ℕ) → Closes (stop_of_write fault) mid new status → Gives c old new status
+  unwritten_end Failed w status (unsaid n e l) = let fixed : true ≡ false = n in absurd cc
+  unwritten_end Memory w status (unsaid n e l) = let fixed : true ≡ false = n in absurd cc
   unwritten_end Failed w status (said e l) =
-      subst (Gives c old new) (sym e) (unwritten w.program w.accepts (some_on w.program l.only w.some) (of_write (codes "write failed\n") w l))
+      subst (Gives c old new) (sym e) (unwritten w.program w.accepts (part_on w.program l.only w.part) (of_write (codes "write failed\n") w l))
   unwritten_end Memory w status (said e l) =
-      subst (Gives c old new) (sym e) (no_memory_to_write w.program w.accepts (some_on w.program l.only w.some) (of_write memory_line w l))
+      subst (Gives c old new) (sym e) (no_memory_to_write w.program w.accepts (part_on w.program l.only w.part) (of_write memory_line w l))
 
   -- the work ended early
   pub stopped : (stop : Stop) → StopsBy c old mid stop → (status : ℕ) → Closes stop mid new status → Gives c old new status
   stopped stop (stop_unread s only) status closes = unread_end stop s only status closes
   stopped stop (stop_refused line rule r e only same) status closes = refused_end line rule r only status (subst (λ s. Closes s mid new status) e closes)
   stopped _ (stop_no_memory only) status (said e l) = subst (Gives c old new) (sym e) (quiet_end only l)
-  stopped _ (stop_no_memory only) status (unsaid e l) = subst (Gives c old new) (sym e) (quiet_end only l)
+  stopped _ (stop_no_memory only) status (unsaid n e l) = subst (Gives c old new) (sym e) (quiet_end only l)
   stopped stop (stop_unwritten fault w e) status closes = unwritten_end fault w status (subst (λ s. Closes s mid new status) e closes)
 
-module _ (law : SourceLaw) (c : Translate) (old new : HostState) (bytes : List ℕ) (told : old.file c.input ≡ Holds bytes) (within : length bytes ≤ input_limit) (no : NoCallFailed c old new) where
+module _ (law : SourceLaw) (c : Translate) (old new : HostState) (none : NoneFailed old new) (bytes : List ℕ) (told : IsTold old c.input input_limit bytes) where
   -- the source's bytes are those that the host tells
   same_bytes : (others : List ℕ) → IsFile (old.file c.input) others → others ≡ bytes
-  same_bytes others f = sym (subst (λ t. IsFile t others) told f)
+  same_bytes others f = sym (subst (λ t. IsFile t others) told.0 f)
 
   source_told : (p : Program) (a : Accepts c old p) → IsSource bytes c.top p
   source_told p a = subst (λ b. IsSource b c.top p) (same_bytes a.bytes a.file.0) a.source
@@ -144,11 +151,8 @@ module _ (law : SourceLaw) (c : Translate) (old new : HostState) (bytes : List �
   refusal_told : (line : ℕ) (rule : SourceRule) (r : Refuses c old line rule) → IsRefused bytes c.top line rule
   refusal_told line rule r = subst (λ b. IsRefused b c.top line rule) (same_bytes r.bytes r.file.0) r.refused
 
-  no_write_failed : HasRisen old.write_faults new.write_faults → ⊥
-  no_write_failed h = not_risen old.write_faults new.write_faults h no.faults.writes no.writes
-
   whole_line : (line : List ℕ) → EndsWith c old new line → Says old new line
-  whole_line line e = let s = line_on c old e.mid new line e.reads e.says.line in ⊎_elim (λ all. subst (Says old new) (take_all s.count line all) s.said) (λ r. absurd (no_write_failed r)) s.whole
+  whole_line line e = let s = line_on c old e.mid new line e.reads e.says.line in ⊎_elim (λ all. subst (Says old new) (take_all s.count line all) s.said) (λ r. absurd (none.writes r)) s.whole
 
   pub decides : (status : ℕ) → (status ≡ 5 → ⊥) → Gives c old new status → Decides c old new bytes status
   decides _ ne (translated p a w h s f) = record {
@@ -163,10 +167,10 @@ module _ (law : SourceLaw) (c : Translate) (old new : HostState) (bytes : List �
         let e = refused_once law bytes c.top line other rule kind (refusal_told line rule r) s in
         (refl, subst (λ k. Says old new (refusal_line other k)) e.1 (subst (λ n. Says old new (refusal_line n rule)) e.0 (whole_line (refusal_line line rule) ends)));
   }
-  decides _ ne (unread f ends) = absurd (⊎_elim (λ r. not_risen old.read_faults new.read_faults r no.faults.reads no.reads) (λ m. no.there m) f)
-  decides _ ne (unwritten p a w s) = absurd (no_write_failed (risen_on old.write_faults s.mid.write_faults new.write_faults s.failed s.only.writes))
-  decides _ ne (line_unsaid p a w f s) = absurd (no_write_failed f)
+  decides _ ne (unread f ends) = absurd (⊎_elim none.reads (λ m. let there : Missing ≡ Holds bytes = sym m ∙ told.0 in cc) f)
+  decides _ ne (unwritten p a w s) = absurd (none.writes (risen_on old.write_faults s.mid.write_faults new.write_faults s.failed s.only.writes))
+  decides _ ne (line_unsaid p a w f s) = absurd (none.writes f)
   decides _ ne (no_room ends) = absurd (ne refl)
   decides _ ne (no_memory_to_write p a w s) = absurd (ne refl)
   decides _ ne (no_memory_to_say p a w f s) = absurd (ne refl)
-  decides _ ne (too_long longer ends) = let e = ap length (same_bytes longer.0 longer.1) in let more = longer.2 in absurd (omega (arith, e, more, within))
+  decides _ ne (too_long longer ends) = let e = ap length (same_bytes longer.0 longer.1) in let more = longer.2 in absurd (omega (arith, e, more, told.1))

@@ -1,5 +1,5 @@
 -- What the steps of the work come to.
-use Rattle.std.proofs.Common.{◌≡◌, ℕ, inl, inr, ⊎_elim, List, take, refl, ap, ◌∙◌, subst}
+use Rattle.std.proofs.Common.{◌≡◌, ℕ, ◌<◌, inl, inr, ⊎_elim, List, length, take, refl, ap, ◌∙◌, subst}
 use Rattle.std.specs.Prelude.{Result, Ok, Err, IsErrAnd, IfErr}
 use Rattle.host.specs.Host.{HostState, HasRisen, OnlyReads, OnlyWrites, SameFaults, Rewrites, rewritten}
 use Rattle.lines86.specs.Written.{text_of}
@@ -48,8 +48,8 @@ module _ (c : Translate) (old mid new : HostState) (bytes : List ℕ) (file : Is
           (record {
             program = p;
             accepts = accepts;
-            some = record {
-              text = ⊎_elim (λ s. inl (s ∙ reads.files c.output)) (λ k. inr (k.0, subst (λ t. Rewrites old new c.output (take k.0 t)) is (rewrites_old (take k.0 text) k.1))) w.part;
+            part = record {
+              text = ⊎_elim (λ s. inl (s ∙ reads.files c.output)) (λ k. inr (k.0, subst (λ t. k.0 < length t) is k.1, subst (λ t. Rewrites old new c.output (take k.0 t)) is (rewrites_old (take k.0 text) k.2))) w.part;
               others = λ other ne. writes.files other ne ∙ reads.files other;
             };
             quiet = writes.said ∙ reads.said;

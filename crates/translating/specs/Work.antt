@@ -6,20 +6,15 @@ use Rattle.host.specs.Host.{HostState, SameSaid, SameFaults, OnlyReads}
 use Rattle.host.specs.Host.{WriteFailed as WriteFails}
 use Rattle.program80.specs.declared.program.Placed.{Placed}
 use Rattle.program80.specs.Program.{Program}
-use Rattle.source80.specs.Source.{SourceRule, OfLine, OfProgram}
-use Rattle.transfer.specs.Transfer.{IsBeforeOrPrefix}
+use Rattle.source80.specs.Source.{SourceRule}
+use Rattle.transfer.specs.Transfer.{IsBeforeOrPart}
 use Rattle.command_words.specs.Words.{Translate}
 use Rattle.xlt_core.specs.First.{HoldsFirst}
 use Rattle.reports.specs.declared.stop.Stop.{Stop}
-use Rattle.reports.specs.declared.stop.Stop.TheVariants.{SourceLine, SourceProgram, WriteFailed, OutOfMemory}
+use Rattle.reports.specs.declared.stop.Stop.TheVariants.{WriteFailed, OutOfMemory}
 use Rattle.run_parts.specs.Files.{ReadStops, input_limit}
 use Rattle.translating.specs.Firsts.{IsOtherLine, IsRefused}
-use Rattle.translating.specs.Translates.{line_of_program, Accepts, Refuses, Writes, WritesSome}
-
--- the stop of a refusal
-abbrev pub stop_of_rule : ℕ → SourceRule → Stop
-stop_of_rule line (OfLine rule) = SourceLine line rule
-stop_of_rule line (OfProgram rule) = SourceProgram line rule
+use Rattle.translating.specs.Translates.{stop_of_rule, line_of_program, Accepts, Refuses, Writes, WritesPart}
 
 -- a stop is a refusal of the bytes, or want of memory
 pub data FirstStops (bytes : List ℕ) (top : ℕ) : Stop → Type 0 where
@@ -41,10 +36,10 @@ pub record Works (c : Translate) (old new : HostState) (text : List ℕ) : Type 
 
 module _ (c : Translate) (old new : HostState) where
   -- a write of the text failed
-  pub record WritesPart : Type 0 where
+  pub record FailsToWrite : Type 0 where
     pub program : Program
     pub accepts : Accepts c old program
-    pub some : WritesSome c old new program
+    pub part : WritesPart c old new program
     pub quiet : SameSaid old new
     pub failed : WriteFails old new
 
@@ -53,7 +48,7 @@ module _ (c : Translate) (old new : HostState) where
     unread : {stop : Stop} → ReadStops c.input input_limit old new stop → OnlyReads old new → StopsBy stop
     refused : {stop : Stop} (line : ℕ) (rule : SourceRule) → Refuses c old line rule → stop ≡ stop_of_rule line rule → OnlyReads old new → SameFaults old new → StopsBy stop
     no_memory : OnlyReads old new → StopsBy OutOfMemory
-    unwritten : {stop : Stop} (fault : HostFault) → WritesPart → stop ≡ stop_of_write fault → StopsBy stop
+    unwritten : {stop : Stop} (fault : HostFault) → FailsToWrite → stop ≡ stop_of_write fault → StopsBy stop
 
 -- the least line of instructions of another kind; None where there are none
 abbrev pub IsLeastOther : List Placed → Option ℕ → Type 0
@@ -64,5 +59,5 @@ IsLeastOther xs (Some line) = IsOtherLine xs line
 pub record WriteStops (old new : HostState) (name text : List ℕ) (stop : Stop) : Type 0 where
   pub fault : HostFault
   pub is : stop ≡ stop_of_write fault
-  pub part : IsBeforeOrPrefix old new name text
+  pub part : IsBeforeOrPart old new name text
   pub failed : WriteFails old new

@@ -10,7 +10,6 @@ ghost use Rattle.xlt_core.specs.First.{IsFirst};
 ghost use Rattle.templates.specs.Plain.{plain, plain_statements};
 ghost use Rattle.command_words.specs.ReadCommands.{translate_read};
 ghost use Rattle.reports.specs.declared.stop.Stop.TheVariants.{OutOfMemory};
-ghost use Rattle.transfer.specs.Transfer.{IsBeforeOrPrefix};
 ghost use Rattle.translating.specs.Translates.{line_of_program, Gives, Completes};
 ghost use Rattle.translating.specs.Work.{FirstStops, Works, StopsBy, WriteStops};
 

@@ -50,6 +50,7 @@ headline_by c old new back _ (translation.translated p a w s l f) e = record {
   is_source = a.source;
   written = w.text;
   has_image = record { lines = plain p; reads = back p a.source.program.program.lawful a.first; assembled = s.assembled };
+  reader = s.reader;
   same = s.same;
 }
 headline_by c old new back _ (translation.refused line rule r l) e = absurd (omega (arith, e))
@@ -62,12 +63,11 @@ headline_by c old new back _ (translation.no_memory_to_say p a w f s) e = absurd
 headline_by c old new back _ (translation.too_long l s) e = absurd (omega (arith, e))
 
 module _ (words : List (List ℕ)) (old new : HostState) (status : ℕ) where
-  pub by_translation : ReadsBack → (c : Translate) → IsCommand words (Translates c) → translation.Gives c old new status → translation.Completes c old new status → Outcomes words old new status
-  by_translation back c h gives completes =
+  pub by_translation : (c : Translate) → IsCommand words (Translates c) → translation.Gives c old new status → translation.Completes c old new status → Outcomes words old new status
+  by_translation c h gives completes =
       let of = of_translation c old new status gives in
       let one : (d : Translate) → IsCommand words (Translates d) → c ≡ d = λ d g. same_translation c d (one_command words (Translates c) (Translates d) h g) in
       record {
-        headline = λ d g e. subst (λ d. Headline d old new) (one d g) (headline_by c old new back status gives e);
         number = of.number;
         no_command = λ none. absurd (none (Translates c) h);
         words_refused = λ e. absurd (of.other e);
@@ -86,7 +86,6 @@ module _ (words : List (List ℕ)) (old new : HostState) (status : ℕ) where
       let of = of_run80 c old new status gives in
       let one : (d : Run80) → IsCommand words (Runs80 d) → c ≡ d = λ d g. same_run80 c d (one_command words (Runs80 c) (Runs80 d) h g) in
       record {
-        headline = λ d g e. absurd (no_translation80 d c (one_command words (Translates d) (Runs80 c) g h));
         number = of.number;
         no_command = λ none. absurd (none (Runs80 c) h);
         words_refused = λ e. absurd (of.other e);
@@ -105,7 +104,6 @@ module _ (words : List (List ℕ)) (old new : HostState) (status : ℕ) where
       let of = of_run86 c old new status gives in
       let one : (d : Run86) → IsCommand words (Runs86 d) → c ≡ d = λ d g. same_run86 c d (one_command words (Runs86 c) (Runs86 d) h g) in
       record {
-        headline = λ d g e. absurd (no_translation86 d c (one_command words (Translates d) (Runs86 c) g h));
         number = of.number;
         no_command = λ none. absurd (none (Runs86 c) h);
         words_refused = λ e. absurd (of.other e);
@@ -121,7 +119,6 @@ module _ (words : List (List ℕ)) (old new : HostState) (status : ℕ) where
 
   pub by_no_command : IsNoCommand words → IsRefusedWords old new status → Outcomes words old new status
   by_no_command none refused = record {
-    headline = λ c h e. absurd (none (Translates c) h);
     number = subst IsStatus (sym refused.0) (2, omega arith, refl);
     no_command = λ n. refused;
     words_refused = λ e. none;
@@ -134,3 +131,7 @@ module _ (words : List (List ℕ)) (old new : HostState) (status : ℕ) where
     run86_completes = λ c h. absurd (none (Runs86 c) h);
     run86_changes_no_file = λ c h. absurd (none (Runs86 c) h);
   }
+
+  -- the headline, where a translation answers 0
+  pub has_headline : ReadsBack → Outcomes words old new status → (c : Translate) → IsCommand words (Translates c) → status ≡ 0 → Headline c old new
+  has_headline back outcomes c h e = headline_by c old new back status (outcomes.translated c h) e

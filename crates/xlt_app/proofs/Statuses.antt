@@ -78,7 +78,7 @@ of_stop (FileTooLong name) = of_14
 
 of_closes : (stop : Stop) (old new : HostState) (status : ℕ) → Closes stop old new status → IsOfCommand status
 of_closes stop old new status (said e s) = subst IsOfCommand (sym e) (of_stop stop)
-of_closes stop old new status (unsaid e s) = subst IsOfCommand (sym e) of_5
+of_closes stop old new status (unsaid n e s) = subst IsOfCommand (sym e) of_5
 
 of_done : (line : List ℕ) (old new : HostState) (status : ℕ) → IsDone line old new status → IsOfCommand status
 of_done line old new _ (whole o s f) = of_0
@@ -104,10 +104,10 @@ of_translation c old new _ (translation.too_long l s) = of_14
 
 pub of_run80 : (c : Run80) (old new : HostState) (status : ℕ) → source.Gives c old new status → IsOfCommand status
 of_run80 c old new status (source.ended p steps mid r d) = of_done (ended_line steps) mid new status d
-of_run80 c old new status (source.unsaid fault e p f) = subst IsOfCommand (sym e) (of_unsaid fault)
+of_run80 c old new status (source.unsaid fault e k) = subst IsOfCommand (sym e) (of_unsaid fault)
 of_run80 c old new status (source.stopped mid stop s k) = of_closes stop mid new status k
 
 pub of_run86 : (c : Run86) (old new : HostState) (status : ℕ) → text.Gives c old new status → IsOfCommand status
 of_run86 c old new status (text.ended steps mid r d) = of_done (ended_line steps) mid new status d
-of_run86 c old new status (text.unsaid fault e p f) = subst IsOfCommand (sym e) (of_unsaid fault)
+of_run86 c old new status (text.unsaid fault e k) = subst IsOfCommand (sym e) (of_unsaid fault)
 of_run86 c old new status (text.stopped mid stop s k) = of_closes stop mid new status k

@@ -13,10 +13,11 @@ use Rattle.running.specs.Runs80 as source
 use Rattle.running.specs.Completes80 as source_completes
 use Rattle.running.specs.Runs86 as text
 use Rattle.running.specs.Completes86 as text_completes
-use Rattle.xlt_core.specs.Same.{Same}
+use Rattle.xlt_core.specs.Same.{HasReader, Same}
 
 -- the headline: the source's file, where the host tells it, is the source of a program; the output's file holds a text with an
--- image; and the image makes the same system calls as the program, in the same order, and ends when it ends
+-- image, whose code is read in one way; and the image makes the same system calls as the program, in the same order, and ends
+-- when it ends
 pub record Headline (c : Translate) (old new : HostState) : Type 0 where
   pub source : List ℕ
   pub program : Program
@@ -26,6 +27,7 @@ pub record Headline (c : Translate) (old new : HostState) : Type 0 where
   pub is_source : IsSource source c.top program
   pub written : Rewrites old new c.output text
   pub has_image : HasImage text image
+  pub reader : HasReader image
   pub same : Same program image
 
 -- the statuses that are answered
@@ -35,10 +37,9 @@ statuses = 0 ∷ (1 ∷ (2 ∷ (3 ∷ (4 ∷ (5 ∷ (6 ∷ (7 ∷ (9 ∷ (10 ∷
 abbrev pub IsStatus : ℕ → Type 0
 IsStatus status = Contains statuses status
 
--- what is said of an answer: the headline; that words which are no command, and no others, are refused; for each command each way
--- to a status with its cause, what is said and what becomes of files, and which status it is where no call of the host failed
+-- what is said of an answer: that words which are no command, and no others, are refused; for each command each way to a status
+-- with its cause, what is said and what becomes of files, and which status it is where no call of the host failed
 pub record Outcomes (words : List (List ℕ)) (old new : HostState) (status : ℕ) : Type 0 where
-  pub headline : (c : Translate) → IsCommand words (Translates c) → status ≡ 0 → Headline c old new
   pub number : IsStatus status
   pub no_command : IsNoCommand words → IsRefusedWords old new status
   pub words_refused : status ≡ 2 → IsNoCommand words

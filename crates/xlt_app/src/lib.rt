@@ -24,14 +24,12 @@ pub fn xlt<H: Host>(alloc: Global, words: Vec<String>, host: &mut H) -> u8
         → result ≡ 0 → Headline c (H.state host.old) (H.state host.new) }
     ensures outcomes { Outcomes (map string_bytes words.items) (H.state host.old) (H.state host.new) result }
 {
+    first_is_same();
     let Some(command) = read_words(words.as_slice()) else {
         return words_refused(host);
     };
     match command {
-        Command::Translate(command) => {
-            first_is_same();
-            translate(alloc, host, &command)
-        }
+        Command::Translate(command) => translate(alloc, host, &command),
         Command::Run80(command) => run80(alloc, host, &command),
         Command::Run86(command) => run86(alloc, host, &command),
     }

@@ -1,4 +1,4 @@
--- The plain text of a program of the first instructions reads back as its lines.
+-- The plain text of a program of the first instructions reads back as its lines, and its code has one reader.
 use Rattle.std.proofs.Common.{◌≡◌, ℕ, ◌+◌, ◌-◌, ◌≤◌, ◌<◌, List, [], ◌∷◌, ◌++◌, Ok, refl, sym, ap, subst, ◌∙◌, arith, Bool, true, false, ◌||◌, add-one}
 use Rattle.std.specs.Prelude.{nat_lt, All}
 use Rattle.std.specs.List.{list_any}
@@ -9,28 +9,20 @@ use Rattle.i80.specs.Columns.{length80}
 use Rattle.lines86.specs.declared.line.Stmt86.{Stmt86}
 use Rattle.lines86.specs.declared.line.Stmt86.TheVariants.{Dseg}
 use Rattle.lines86.specs.Order.{is_end}
-use Rattle.lines86.specs.Image.{Assembles}
+use Rattle.lines86.specs.Image.{statements, image_of, Assembles}
 use Rattle.lines86.specs.Written.{text_of}
 use Rattle.program80.specs.declared.program.Placed.{Placed}
 use Rattle.program80.specs.Program.{Program, program_of, AreLaid, IsProgram}
 use Rattle.templates.specs.Template.{template}
 use Rattle.templates.specs.Plain.{runtime, body, ending, plain_statements, numbered, plain}
-use Rattle.text_lines86.specs.ReadBack.{has_line}
 use Rattle.text86.specs.Back.{AreWritten}
 use Rattle.text86.specs.Stream.{TextGives}
 use Rattle.text86.proofs.Back.{reads_back}
 use Rattle.xlt_core.specs.First.{IsFirstInstr, function, argument, system, finish, HoldsFirst, IsFirst}
+use Rattle.xlt_core.specs.Same.{HasReader}
 use Rattle.xlt_core.proofs.Assembling.{statements-numbered}
+use Rattle.xlt_core.proofs.CodeBytes.{HaveLines, have_lines-append, code_has_reader}
 use Rattle.xlt_core.proofs.FirstLayout.{first_assembles, top_high, without_data}
-
--- each statement of a list has a written line
-abbrev HaveLines : List Stmt86 → Type 0
-HaveLines [] = Unit {0}
-HaveLines (x ∷ xs) = (has_line x ≡ true) × HaveLines xs
-
-have_lines-append : (xs ys : List Stmt86) → HaveLines xs → HaveLines ys → HaveLines (xs ++ ys)
-have_lines-append [] ys a b = b
-have_lines-append (x ∷ xs) ys a b = (a.0, have_lines-append xs ys a.1 b)
 
 numbered_written : (n : ℕ) (xs : List Stmt86) → HaveLines xs → AreWritten n (numbered n xs)
 numbered_written n [] h = tt
@@ -88,3 +80,11 @@ pub first_reads_back : (p : Program) → IsProgram p → IsFirst p → TextGives
 first_reads_back p is first =
     subst (λ q. TextGives (text_of (plain q)) (Ok (plain q))) (without_data p first)
     (reads p.instrs p.top is.instrs first.kinds (top_high p.top is.top) (subst (λ q. Assembles (plain q)) (sym (without_data p first)) (first_assembles p is first)))
+
+pub first_has_reader : (p : Program) → IsProgram p → IsFirst p → HasReader (image_of (plain p))
+first_has_reader p is first =
+    let xs = plain_statements p in
+    let same : statements (plain p) ≡ xs = statements-numbered 1 xs in
+    let lines : HaveLines xs = subst (λ q. HaveLines (plain_statements q)) (without_data p first) (all_lines p.instrs p.top is.instrs first.kinds (top_high p.top is.top)) in
+    let assembles = first_assembles p is first in
+    code_has_reader (statements (plain p)) (subst HaveLines (sym same) lines) assembles.small

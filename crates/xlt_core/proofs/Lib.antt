@@ -9,5 +9,6 @@ pub mod FirstTurn
 pub mod Assembling
 pub mod FirstLayout
 pub mod FirstStart
+pub mod CodeBytes
 pub mod FirstText
 pub mod Rows

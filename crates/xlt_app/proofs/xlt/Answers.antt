@@ -4,15 +4,21 @@ use Rattle.command_words.specs.declared.command.Command.TheVariants as read
 use Rattle.command_words.specs.ReadCommands.{command_read, translate_read, run80_read, run86_read}
 use Rattle.command_words.specs.Words.{IsCommand, IsNoCommand}
 use Rattle.xlt_app.specs.Top.{Outcomes}
-use Rattle.xlt_app.proofs.Outcomes.{by_translation, by_run80, by_run86, by_no_command}
+use Rattle.xlt_app.proofs.Outcomes.{by_translation, by_run80, by_run86, by_no_command, has_headline}
 use Rattle.xlt_app.proofs.Tops.{translation_has_top, run80_has_top}
 use Rattle.xlt_app.proofs.xlt.Given.{Over}
 use Rattle.xlt_app.proofs.xlt.Goals as goal
 
-pub returns-in_default-clause-outcomes : goal.returns-in_default-clause-outcomes
-returns-in_default-clause-outcomes g c =
+refused : (g : Over) (c : goal.After-drop-words g) → Outcomes (map string_bytes c.args.words.items) (g.H.Host.state c.args.host.now) (g.H.Host.state c.words_refused.new.host) c.words_refused.result
+refused g c =
     by_no_command (map string_bytes c.args.words.items) (g.H.Host.state c.args.host.now) (g.H.Host.state c.words_refused.new.host) c.words_refused.result
     (subst (λ w. IsNoCommand (map string_bytes w)) c.as_slice.ensures.value c.in_default.ensures) c.words_refused.ensures
+
+pub returns-in_default-clause-headline : goal.returns-in_default-clause-headline
+returns-in_default-clause-headline g c = has_headline (map string_bytes c.args.words.items) (g.H.Host.state c.args.host.now) (g.H.Host.state c.words_refused.new.host) c.words_refused.result c.first_is_same.ensures.reads_back (refused g c)
+
+pub returns-in_default-clause-outcomes : goal.returns-in_default-clause-outcomes
+returns-in_default-clause-outcomes g c = refused g c
 
 pub translate-requires : goal.translate-requires
 translate-requires g c =
@@ -22,13 +28,13 @@ translate-requires g c =
 by_translate : (g : Over) (c : goal.After-drop-words-in-Translate g) → Outcomes (map string_bytes c.args.words.items) (g.H.Host.state c.args.host.now) (g.H.Host.state c.translate.new.host) c.translate.result
 by_translate g c =
     by_translation (map string_bytes c.args.words.items) (g.H.Host.state c.args.host.now) (g.H.Host.state c.translate.new.host) c.translate.result
-    c.first_is_same.ensures.reads_back (translate_read c.in-Translate.command)
+    (translate_read c.in-Translate.command)
     (subst (λ w. IsCommand (map string_bytes w) (command_read (read.Translate c.in-Translate.command))) c.as_slice.ensures.value
     (subst (λ k. IsCommand (map string_bytes c.as_slice.result.now) (command_read k)) c.in-Translate.is c.in-Some.ensures))
     c.translate.ensures.gives c.translate.ensures.completes
 
 pub returns-in-Translate-clause-headline : goal.returns-in-Translate-clause-headline
-returns-in-Translate-clause-headline g c = (by_translate g c).headline
+returns-in-Translate-clause-headline g c = has_headline (map string_bytes c.args.words.items) (g.H.Host.state c.args.host.now) (g.H.Host.state c.translate.new.host) c.translate.result c.first_is_same.ensures.reads_back (by_translate g c)
 
 pub returns-in-Translate-clause-outcomes : goal.returns-in-Translate-clause-outcomes
 returns-in-Translate-clause-outcomes g c = by_translate g c
@@ -47,7 +53,7 @@ by_80 g c =
     c.run80.ensures.gives c.run80.ensures.completes c.run80.ensures.files
 
 pub returns-in-Run80-clause-headline : goal.returns-in-Run80-clause-headline
-returns-in-Run80-clause-headline g c = (by_80 g c).headline
+returns-in-Run80-clause-headline g c = has_headline (map string_bytes c.args.words.items) (g.H.Host.state c.args.host.now) (g.H.Host.state c.run80.new.host) c.run80.result c.first_is_same.ensures.reads_back (by_80 g c)
 
 pub returns-in-Run80-clause-outcomes : goal.returns-in-Run80-clause-outcomes
 returns-in-Run80-clause-outcomes g c = by_80 g c
@@ -61,7 +67,7 @@ by_86 g c =
     c.run86.ensures.gives c.run86.ensures.completes c.run86.ensures.files
 
 pub returns-clause-headline : goal.returns-clause-headline
-returns-clause-headline g c = (by_86 g c).headline
+returns-clause-headline g c = has_headline (map string_bytes c.args.words.items) (g.H.Host.state c.args.host.now) (g.H.Host.state c.run86.new.host) c.run86.result c.first_is_same.ensures.reads_back (by_86 g c)
 
 pub returns-clause-outcomes : goal.returns-clause-outcomes
 returns-clause-outcomes g c = by_86 g c

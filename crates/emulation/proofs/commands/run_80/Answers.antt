@@ -1,22 +1,41 @@
-use Rattle.std.proofs.Common.{◌≡◌, ℕ, List, [], ap, ◌∙◌, subst}
+use Rattle.std.proofs.Common.{◌≡◌, ℕ, List, [], refl, sym, ap, ◌∙◌, subst}
+use Rattle.std.specs.Prelude.{IfErr}
 use Rattle.std.proofs.lemmas.Result.{IfOk-weaker}
 use Rattle.dialogue.specs.declared.request.Reply.{Reply}
 use Rattle.step80.specs.Start.{start80}
 use Rattle.step80.specs.Step.{machine80}
 use Rattle.cpu80.specs.State.{state_of}
-use Rattle.talk.specs.Talk.{Seen, SaysRun}
+use Rattle.talk.specs.declared.fault.TalkFault.TheVariants.{Memory}
+use Rattle.talk.specs.Talk.{Seen, SaysRun, IsCutOff}
 use Rattle.talk.specs.Turns.{nothing}
 use Rattle.talk.proofs.OneRun.{one_run}
-use Rattle.talk.proofs.Exact.{part_unsaid}
-use Rattle.talk.proofs.Said.{on_err}
+use Rattle.talk.proofs.Exact.{says_none}
+use Rattle.talk.proofs.Said.{on_fault}
 use Rattle.emulation.specs.Courses.{why80, course80, course80_from}
 use Rattle.emulation.proofs.commands.run_80.Goals as goal
 
-pub returns-in_err-machine-clause-part : goal.returns-in_err-machine-clause-part
-returns-in_err-machine-clause-part g c =
+pub returns-in_err-machine-clause-cut : goal.returns-in_err-machine-clause-cut
+returns-in_err-machine-clause-cut g c =
     let p = c.args.program.now in
     let page = c.args.page.now in
-    on_err c.from_residual.result (part_unsaid (course80 p page) (one_run (machine80 p) [] why80 (start80 p page)) c.args.input.items c.args.limit (g.H.Host.state c.args.host.now))
+    let limit = c.args.limit in
+    let host = g.H.Host.state c.args.host.now in
+    on_fault c.from_residual.result (λ h. h ≡ Memory) (IsCutOff (course80 p page) c.args.input.items limit host host) c.from_residual.ensures.1
+    (λ h is. subst (IsCutOff (course80 p page) c.args.input.items limit host host) (sym is)
+    (says_none (course80 p page) (one_run (machine80 p) [] why80 (start80 p page)) c.args.input.items limit host, record { reads = refl; writes = refl }))
+
+pub returns-clause-cut : goal.returns-clause-cut
+returns-clause-cut g c =
+    let m = c.in_ok-machine.machine in
+    let p = c.args.program.now in
+    let page = c.args.page.now in
+    let limit = c.args.limit in
+    let old = g.H.Host.state c.args.host.now in
+    let new = g.H.Host.state c.converse.new.host in
+    let first : List Reply → ℕ → Seen = course80_from m.program.now (state_of m.cpu) nothing in
+    let is : first ≡ course80 p page = ap (λ q. course80_from q (state_of m.cpu) nothing) c.in_ok-machine.ensures.program ∙ ap (λ s. course80_from p s nothing) c.in_ok-machine.ensures.start in
+    subst (λ i. IfErr c.converse.result (IsCutOff (course80 p page) i limit old new)) c.new-console.ensures
+    (subst (λ course. IfErr c.converse.result (IsCutOff course c.new-console.result limit old new)) is c.converse.ensures.cut)
 
 pub returns-clause-run : goal.returns-clause-run
 returns-clause-run g c =

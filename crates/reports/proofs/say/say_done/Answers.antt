@@ -1,5 +1,6 @@
-use Rattle.std.proofs.Common.{subst, take}
+use Rattle.std.proofs.Common.{subst}
 use Rattle.host.specs.Host.{Says}
+use Rattle.transfer.specs.Transfer.{CutsLine}
 use Rattle.reports.specs.Said.{whole, failed, no_memory}
 use Rattle.reports.proofs.say.say_done.Goals as goal
 
@@ -11,9 +12,9 @@ returns-in-Ok g c =
 pub returns-in-Err-Failed : goal.returns-in-Err-Failed
 returns-in-Err-Failed g c =
     let e = c.in-Err-Failed.ensures in
-    failed (record { only = e.only; count = e.fault.0; said = subst (λ l. Says (g.H.Host.state c.args.host.now) (g.H.Host.state c.say_line.new.host) (take e.fault.0 l)) c.as_bytes.ensures.value e.fault.1; failed = e.failed })
+    failed (record { only = e.only; cut = subst (λ l. CutsLine l (g.H.Host.state c.args.host.now) (g.H.Host.state c.say_line.new.host)) c.as_bytes.ensures.value e.fault; failed = e.failed })
 
 pub returns-in-Err-Memory : goal.returns-in-Err-Memory
 returns-in-Err-Memory g c =
     let e = c.in-Err-Memory.ensures in
-    no_memory (record { only = e.only; count = e.fault.0; said = subst (λ l. Says (g.H.Host.state c.args.host.now) (g.H.Host.state c.say_line.new.host) (take e.fault.0 l)) c.as_bytes.ensures.value e.fault.1; failed = e.failed })
+    no_memory (record { only = e.only; cut = subst (λ l. CutsLine l (g.H.Host.state c.args.host.now) (g.H.Host.state c.say_line.new.host)) c.as_bytes.ensures.value e.fault; failed = e.failed })

@@ -10,4 +10,4 @@ pub returns-in-Ok : goal.returns-in-Ok
 returns-in-Ok g c = closed c.args.stop _ (g.H.Host.state c.args.host.now) (g.H.Host.state c.say_last-in-Ok.new.host) c.say_last-in-Ok.result c.status-in-Ok.result (c.as_str.ensures.value ∙ c.in-Ok.ensures) c.say_last-in-Ok.ensures.status c.status-in-Ok.ensures c.say_last-in-Ok.ensures.said
 
 pub returns-in-Err : goal.returns-in-Err
-returns-in-Err g c = unsaid c.say_last-in-Err.ensures.status c.say_last-in-Err.ensures.said
+returns-in-Err g c = unsaid c.in_default.ensures c.say_last-in-Err.ensures.status c.say_last-in-Err.ensures.said

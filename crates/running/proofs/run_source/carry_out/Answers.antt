@@ -22,8 +22,7 @@ pub returns-in-Err-Unsaid-clause-gives : goal.returns-in-Err-Unsaid-clause-gives
 returns-in-Err-Unsaid-clause-gives g c =
     let old = g.H.Host.state c.args.host.now in
     let new = g.H.Host.state c.work.new.host in
-    let h = subst (IsHalted (run80_read c.args.command.now) old new) c.in-Err-Unsaid.field-0-is c.in-Err-Unsaid.ensures.halted in
-    unsaid c.in-Err-Unsaid.fault c.unsaid_status.ensures h.0 h.1
+    unsaid c.in-Err-Unsaid.fault c.unsaid_status.ensures (subst (IsHalted (run80_read c.args.command.now) old new) c.in-Err-Unsaid.field-0-is c.in-Err-Unsaid.ensures.halted)
 
 pub returns-in-Ok-clause-files : goal.returns-in-Ok-clause-files
 returns-in-Ok-clause-files g c =

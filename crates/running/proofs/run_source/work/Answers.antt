@@ -1,4 +1,4 @@
-use Rattle.std.proofs.Common.{◌≡◌, sym, subst, ap, Err}
+use Rattle.std.proofs.Common.{◌≡◌, sym, subst}
 use Rattle.command_words.specs.ReadCommands.{run80_read}
 use Rattle.reports.specs.declared.stop.Stop.TheVariants.{OutOfMemory}
 use Rattle.run_parts.specs.declared.halt.Halt.TheVariants.{By}
@@ -6,7 +6,7 @@ use Rattle.run_parts.specs.Ends.{halt_of_talk}
 use Rattle.running.specs.Runs80.{HasRun, IsHalted, no_line}
 use Rattle.running.proofs.Loading.{halts}
 use Rattle.running.proofs.Working.{ended_is}
-use Rattle.running.proofs.Sources.{unloaded_halts, has_run, part_halts, left_or_stopped}
+use Rattle.running.proofs.Sources.{unloaded_halts, has_run, cut_halts, left_or_stopped}
 use Rattle.running.proofs.run_source.work.Goals as goal
 
 pub returns-in_err-loaded-clause-halted : goal.returns-in_err-loaded-clause-halted
@@ -27,7 +27,7 @@ returns-in_err-end-clause-halted g c =
     let e = c.in_err-end.ensures in
     halts c.from_residual-in_err-end.result (λ h. h ≡ halt_of_talk c.in_err-end.field-0.0) (IsHalted command old new) c.from_residual-in_err-end.ensures.1
     (λ h is. subst (IsHalted command old new) (sym is)
-    (part_halts command old mid new l.loaded.program l.loaded.input.items l.ensures.loaded l.ensures.only l.ensures.counted e.only e.part c.in_err-end.field-0.0 (λ f is. e.unsaid f (ap Err is)) (λ is. e.memory (ap Err is))))
+    (cut_halts command old mid new l.loaded.program l.loaded.input.items l.ensures.loaded l.ensures.only l.ensures.counted e.only c.in_err-end.field-0.0 e.cut))
 
 pub returns-in_err-steps-clause-halted : goal.returns-in_err-steps-clause-halted
 returns-in_err-steps-clause-halted g c =

@@ -1,12 +1,12 @@
-use Rattle.std.proofs.Common.{◌≡◌, ◌+◌, refl, subst, arith}
+use Rattle.std.proofs.Common.{◌≡◌, ◌+◌, refl, sym, subst, arith}
 use Rattle.std.proofs.lemmas.Grind.{common_steps}
 use Rattle.host.proofs.HostLemmas.{OnlySays-trans}
 use Rattle.talk.specs.declared.running.RunEnd.TheVariants.{StepLimit}
-use Rattle.talk.specs.Talk.{SaysRun}
+use Rattle.talk.specs.Talk.{SaysRun, IsCutOff}
 use Rattle.talk.specs.Turns.{nothing}
 use Rattle.talk.specs.Advance.{Advance, Rest, IsTurnDone}
-use Rattle.talk.proofs.Said.{on_err}
-use Rattle.talk.proofs.Ends.{advance_none, advance_then, says_limit, says_end, says_fault}
+use Rattle.talk.proofs.Said.{on_fault}
+use Rattle.talk.proofs.Ends.{advance_none, advance_then, says_limit, says_end, cut_off}
 use Rattle.talk.proofs.running.converse.Goals as goal
 
 -- before the first turn
@@ -65,11 +65,15 @@ returns-clause-run g c =
     subst (λ n. SaysRun (first nothing) c.args.console.now n StepLimit old mid) all (says_limit first before (g.met.E.Emulator.single c.args.machine.now) c.args.console.now c.loop-count.console old mid mid c.loop-count.count c.loop-count.invariant.advance (g.met.E.Emulator.begins c.loop-count.machine))
 
 -- a fault
-pub returns-in_err-end-clause-part : goal.returns-in_err-end-clause-part
-returns-in_err-end-clause-part g c =
+pub returns-in_err-end-clause-cut : goal.returns-in_err-end-clause-cut
+returns-in_err-end-clause-cut g c =
     let first = g.E.Emulator.course c.args.machine.now in
     let before = g.E.Emulator.course c.loop-count.machine in
     let old = g.H.Host.state c.args.host.now in
     let mid = g.H.Host.state c.loop-count.host in
     let new = g.H.Host.state c.turn.new.host in
-    on_err c.from_residual.result (says_fault first before (g.met.E.Emulator.single c.args.machine.now) c.args.console.now c.loop-count.console old mid new c.loop-count.count c.loop-count.invariant.advance c.args.limit (omega arith) c.in_err-end.ensures.part)
+    let e = c.in_err-end in
+    let known = c.loop-count.invariant in
+    on_fault c.from_residual.result (λ h. h ≡ e.field-0.0) (IsCutOff (first nothing) c.args.console.now c.args.limit old new) c.from_residual.ensures.1
+    (λ h is. subst (IsCutOff (first nothing) c.args.console.now c.args.limit old new) (sym is)
+    (cut_off first before (g.met.E.Emulator.single c.args.machine.now) c.args.console.now c.loop-count.console old mid new c.loop-count.count known.advance c.args.limit (omega arith) known.counted e.field-0.0 e.ensures.cut))

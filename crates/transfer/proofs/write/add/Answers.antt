@@ -2,7 +2,7 @@ use Rattle.std.proofs.Common.{◌≡◌, ◌++◌, length, take, drop, ap, ◌�
 use Rattle.std.proofs.lemmas.Grind.{common_steps}
 use Rattle.std.proofs.lemmas.List.{take_all}
 use Rattle.transfer.specs.Transfer.{extended}
-use Rattle.transfer.proofs.Fills.{fills-take, fills-drop, fills-prefix, on_err}
+use Rattle.transfer.proofs.Fills.{fills-take, fills-drop, fills-part, on_err}
 use Rattle.transfer.proofs.write.add.Goals as goal
 
 -- some first bytes of the full piece were appended
@@ -14,7 +14,7 @@ returns-in_err-append_all-clause-fault g c =
     let e : full ≡ old ++ take c.fill-taken.result more = c.as_slice.ensures ∙ c.fill-taken.ensures.bytes in
     let was = (g.H.Host.state c.args.host.now).file c.args.name.now in
     let now = (g.H.Host.state c.append_all.new.host).file c.args.name.now in
-    on_err c.from_residual.result (fills-prefix old more full c.fill-taken.result was now e c.in_err-append_all.ensures.fault)
+    on_err c.from_residual.result (fills-part old more full c.fill-taken.result was now e c.in_err-append_all.ensures.fault)
 
 -- the full piece was appended, and the bytes that did not go in wait
 pub returns-in_ok-append_all-clause-ok : goal.returns-in_ok-append_all-clause-ok

@@ -13,7 +13,7 @@ gives-in-Ok g c =
     let mid = g.H.Host.state c.work.new.host in
     let new = g.H.Host.state c.say_done.new.host in
     worked (translate_read c.args.command.now) (g.H.Host.state c.args.host.now) mid new
-    (record { assembles = c.first_is_same.ensures.assembles; same = c.first_is_same.ensures.same })
+    (record { assembles = c.first_is_same.ensures.assembles; reader = c.first_is_same.ensures.reader; same = c.first_is_same.ensures.same })
     (string_bytes c.in-Ok.line) c.in-Ok.ensures.worked c.say_done.result
     (subst (λ l. IsDone l mid new c.say_done.result) c.as_str.ensures.value c.say_done.ensures)
 
@@ -26,16 +26,16 @@ pub returns-in-Ok-clause-gives : goal.returns-in-Ok-clause-gives
 returns-in-Ok-clause-gives g c = gives-in-Ok g c
 
 pub returns-in-Ok-clause-completes : goal.returns-in-Ok-clause-completes
-returns-in-Ok-clause-completes g c = λ bytes told within no memory.
+returns-in-Ok-clause-completes g c = λ none bytes told memory.
     decides (record { program = c.source_has_one_outcome.ensures.program; refusal = c.source_has_one_outcome.ensures.refusal; apart = c.source_has_one_outcome.ensures.apart })
     (translate_read c.args.command.now) (g.H.Host.state c.args.host.now) (g.H.Host.state c.say_done.new.host)
-    bytes told within no c.say_done.result memory (gives-in-Ok g c)
+    none bytes told c.say_done.result memory (gives-in-Ok g c)
 
 pub returns-in-Err-clause-gives : goal.returns-in-Err-clause-gives
 returns-in-Err-clause-gives g c = gives-in-Err g c
 
 pub returns-in-Err-clause-completes : goal.returns-in-Err-clause-completes
-returns-in-Err-clause-completes g c = λ bytes told within no memory.
+returns-in-Err-clause-completes g c = λ none bytes told memory.
     decides (record { program = c.source_has_one_outcome.ensures.program; refusal = c.source_has_one_outcome.ensures.refusal; apart = c.source_has_one_outcome.ensures.apart })
     (translate_read c.args.command.now) (g.H.Host.state c.args.host.now) (g.H.Host.state c.say_stop.new.host)
-    bytes told within no c.say_stop.result memory (gives-in-Err g c)
+    none bytes told c.say_stop.result memory (gives-in-Err g c)
