@@ -8,8 +8,16 @@ use Rattle.source80.specs.Walk.{Walk, Row, is_taken, after, ends, rows_from, wal
 use Rattle.source80.specs.FirstFaults.{first_fault}
 use Rattle.asm80_walk.specs.declared.walked.Taken.{Taken}
 use Rattle.asm80_walk.specs.Walked.{StandsFor, Stand}
-use Rattle.asm80_walk.specs.State.{State, walk_of, taken_row, Steps, verdict, Reaches, start, Done}
-use Rattle.asm80_walk.proofs.Verdicts.{verdict_stays, verdict_at_end}
+use Rattle.asm80_walk.specs.State.{State, walk_of, taken_row, Steps, start, Done}
+use Rattle.asm80_walk.proofs.Verdicts.{verdict, verdict_stays, verdict_at_end}
+
+-- The state is reached, and these statements are left.
+pub record Reaches (statements : List Stmt80) (s : State) (left : List Statement) : Type 0 where
+  pub before : List Row
+  pub stand : Stand statements s.rows before
+  pub taken : filter row_is_taken (rows (map statement_of statements)) ≡ before ++ filter row_is_taken (rows_from (walk_of s) left)
+  pub end : walked (map statement_of statements) ≡ walk_from (walk_of s) left
+  pub fault : first_fault (rows (map statement_of statements)) (walked (map statement_of statements)) ≡ verdict s (rows_from (walk_of s) left) (walk_from (walk_of s) left)
 
 stand_more : (statements : List Stmt80) (ts : List Taken) (rs : List Row) (t : Taken) (r : Row) → Stand statements ts rs → StandsFor statements t r → Stand statements (ts ++ t ∷ []) (rs ++ r ∷ [])
 stand_more statements [] [] t r h k = (k, tt)

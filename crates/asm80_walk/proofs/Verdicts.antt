@@ -12,7 +12,17 @@ use Rattle.source80.specs.declared.rule.AsmRule.TheVariants.{V6}
 use Rattle.source80.specs.Walk.{Walk, Row, operation_in, is_if, is_endif, is_taken, rows_from, walk_from}
 use Rattle.source80.specs.FirstFaults.{Refusal, rule_if, most_ifs, is_closed, rule_of_taken, with_line, first_fault}
 use Rattle.asm80_walk.specs.declared.ifs.OpenIf.{OpenIf}
-use Rattle.asm80_walk.specs.State.{State, taken_flags, refusals, walk_of, sure_rule, if_unclosed, all_but_last, refusals_by, Steps, under, verdict, final}
+use Rattle.asm80_walk.specs.State.{State, taken_flags, refusals, walk_of, sure_rule, if_unclosed, all_but_last, refusals_by, Steps, final}
+
+-- The first of the IFs, of these depths, that stays open decides, and else the other fault.
+abbrev pub under : ℕ → List Refusal → Option Refusal → List Row → Walk → Option Refusal
+under depth [] other later end = other
+under depth (r ∷ rs) other later end =
+    cond (is_closed depth later end) (under (suc depth) rs other later end) (Some r)
+
+-- the first fault of all rows, by what the state holds of the earlier ones
+abbrev pub verdict : State → List Row → Walk → Option Refusal
+verdict s later end = under 0 (refusals s.ifs) (option_or s.fault (first_fault later end)) later end
 
 -- ---- the IFs that are open
 

@@ -1,5 +1,5 @@
 -- Where the walk is behind some of the statements, as the code holds it.
-use Rattle.std.specs.Prelude.{◌≡◌, ℕ, suc, nat_le, ◌&&◌, ◌||◌, Bool, true, false, cond, List, [], ◌∷◌, ◌++◌, length, map, filter, reverse, Option, Some, None, unwrap_or}
+use Rattle.std.specs.Prelude.{◌≡◌, ℕ, nat_le, ◌&&◌, ◌||◌, Bool, true, false, cond, List, [], ◌∷◌, ◌++◌, length, map, filter, reverse, Option, Some, None, unwrap_or}
 use Rattle.std.specs.Option.{option_or}
 use Rattle.std.specs.List.{list_any}
 use Rattle.asm80_tokens.specs.declared.stmt.Stmt80.{Stmt80}
@@ -10,8 +10,8 @@ use Rattle.source80.specs.declared.rule.AsmRule.{AsmRule}
 use Rattle.source80.specs.declared.rule.AsmRule.TheVariants.{V1, V2, V4, V5, V6, V7}
 use Rattle.source80.specs.Values.{Scope, operand_has_unknown, operand_divides_by_zero}
 use Rattle.source80.specs.Names.{Name}
-use Rattle.source80.specs.Walk.{Walk, Row, operation_in, is_if, is_endif, is_end, is_taken, scope, meaning_in, directive_meaning, after, rows_from, walk_from, rows, walked, row_is_taken}
-use Rattle.source80.specs.FirstFaults.{Refusal, rule_if, most_ifs, is_closed, label_clashes, label_overflows, breaks_v5, rule_of_taken, with_line, first_fault}
+use Rattle.source80.specs.Walk.{Walk, operation_in, is_if, is_endif, is_end, is_taken, scope, meaning_in, directive_meaning, after, rows, walked, row_is_taken}
+use Rattle.source80.specs.FirstFaults.{Refusal, rule_if, most_ifs, label_clashes, label_overflows, breaks_v5, rule_of_taken, with_line, first_fault}
 use Rattle.asm80_walk.specs.declared.walked.Taken.{Taken}
 use Rattle.asm80_walk.specs.declared.ifs.OpenIf.{OpenIf}
 use Rattle.asm80_walk.specs.Walked.{Stand}
@@ -107,24 +107,6 @@ pub record Steps (index : ℕ) (s : Statement) (old new : State) : Type 0 where
   pub rows : new.rows ≡ cond (is_taken (walk_of old) s) (old.rows ++ taken_row index (walk_of old) s ∷ []) old.rows
 
 -- ---- all statements
-
--- The first of the IFs, of these depths, that stays open decides, and else the other fault.
-abbrev pub under : ℕ → List Refusal → Option Refusal → List Row → Walk → Option Refusal
-under depth [] other later end = other
-under depth (r ∷ rs) other later end =
-    cond (is_closed depth later end) (under (suc depth) rs other later end) (Some r)
-
--- the first fault of all rows, by what the state holds of the earlier ones
-abbrev pub verdict : State → List Row → Walk → Option Refusal
-verdict s later end = under 0 (refusals s.ifs) (option_or s.fault (first_fault later end)) later end
-
--- The state is reached, and these statements are left.
-pub record Reaches (statements : List Stmt80) (s : State) (left : List Statement) : Type 0 where
-  pub before : List Row
-  pub stand : Stand statements s.rows before
-  pub taken : filter row_is_taken (rows (map statement_of statements)) ≡ before ++ filter row_is_taken (rows_from (walk_of s) left)
-  pub end : walked (map statement_of statements) ≡ walk_from (walk_of s) left
-  pub fault : first_fault (rows (map statement_of statements)) (walked (map statement_of statements)) ≡ verdict s (rows_from (walk_of s) left) (walk_from (walk_of s) left)
 
 -- the first fault where no statement is left
 abbrev pub final : List Refusal → Option Refusal → Option Refusal
