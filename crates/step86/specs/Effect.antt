@@ -25,21 +25,21 @@ with_flags s f = record s { flags = f }
 abbrev pub with_cf : State86 → Bool → State86
 with_cf s c = record s { flags = record (s.flags) { cf = c } }
 
--- CMP keeps its first operand
-abbrev pub keeps_result : AluOp → Bool
-keeps_result Add = true
-keeps_result Or = true
-keeps_result Adc = true
-keeps_result Sbb = true
-keeps_result And = true
-keeps_result Sub = true
-keeps_result Xor = true
-keeps_result Cmp = false
+-- every operation but CMP puts its result in AL
+abbrev pub stores_result : AluOp → Bool
+stores_result Add = true
+stores_result Or = true
+stores_result Adc = true
+stores_result Sbb = true
+stores_result And = true
+stores_result Sub = true
+stores_result Xor = true
+stores_result Cmp = false
 
 -- an operation on AL and a byte
 abbrev pub alu_al : State86 → AluOp → ℕ → ℕ → State86
 alu_al s op y choice =
-    with_flags (set8 s Al (cond (keeps_result op) (alu_result op s.regs.al y s.flags.cf) s.regs.al))
+    with_flags (set8 s Al (cond (stores_result op) (alu_result op s.regs.al y s.flags.cf) s.regs.al))
     (alu_flags op s.regs.al y s.flags.cf choice)
 
 abbrev pub or_cl : State86 → ℕ → State86
