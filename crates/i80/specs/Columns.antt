@@ -93,9 +93,9 @@ read (Reg r) = only (part_of_reg r)
 read Mem = these (H ∷ L ∷ [])
 
 -- a byte operand that is written: M uses the address in HL, and a register uses nothing
-abbrev pub place : Src → Parts
-place (Reg r) = nothing
-place Mem = these (H ∷ L ∷ [])
+abbrev pub address_parts : Src → Parts
+address_parts (Reg r) = nothing
+address_parts Mem = these (H ∷ L ∷ [])
 
 -- a byte operand that is written: it defines a register, and M is no part
 abbrev pub written : Src → Parts
@@ -163,8 +163,8 @@ gives_zero op s = false
 -- the parts that an instruction uses
 abbrev pub uses80 : Instr80 → Parts
 uses80 Nop = nothing
-uses80 (Mov to from) = union (place to) (read from)
-uses80 (Mvi to n) = place to
+uses80 (Mov to from) = union (address_parts to) (read from)
+uses80 (Mvi to n) = address_parts to
 uses80 (Lxi p w) = nothing
 uses80 (Lda a) = nothing
 uses80 (Sta a) = only A

@@ -10,8 +10,8 @@ mod tests;
 
 use cells::{Cond, Keep, Part};
 use parts::{
-    a, asked_of, carry_in, changed_by, counted_flags, cy, de, five_flags, flag, hl, operands, pair,
-    place, read, result_in_a, stack_pair, written,
+    a, address_parts, asked_of, carry_in, changed_by, counted_flags, cy, de, five_flags, flag, hl,
+    operands, pair, read, result_in_a, stack_pair, written,
 };
 
 /// A register.
@@ -96,7 +96,9 @@ pub enum Instr80 {
     Xthl,
     Sphl,
     Pchl,
+    /// ADD, ADC, SUB, SBB, ANA, XRA, ORA or CMP
     Alu(Op, Src),
+    /// ADI, ACI, SUI, SBI, ANI, XRI, ORI or CPI
     AluI(Op, u8),
     Inr(Src),
     Dcr(Src),
@@ -114,10 +116,13 @@ pub enum Instr80 {
     Push(StackPair),
     Pop(StackPair),
     Jmp(Goal),
+    /// JNZ, JZ, JNC, JC, JPO, JPE, JP or JM
     Jif(Cond, Goal),
     Call(Goal),
+    /// CNZ, CZ, CNC, CC, CPO, CPE, CP or CM
     Cif(Cond, Goal),
     Ret,
+    /// RNZ, RZ, RNC, RC, RPO, RPE, RP or RM
     Rif(Cond),
     Rst0,
 }
@@ -179,8 +184,8 @@ pub fn uses(i: Instr80) -> Keep
     ensures { result ≡ uses80 i }
 {
     match i {
-        Instr80::Mov(to, from) => place(to).join(read(from)),
-        Instr80::Mvi(to, _) => place(to),
+        Instr80::Mov(to, from) => address_parts(to).join(read(from)),
+        Instr80::Mvi(to, _) => address_parts(to),
         Instr80::Inr(operand) | Instr80::Dcr(operand) => read(operand),
         Instr80::Alu(op, operand) => operands(op, operand),
         Instr80::AluI(op, _) => a().join(carry_in(op)),

@@ -2,7 +2,7 @@
 ghost use Rattle.std.specs.Prelude.{◌≡◌, [], ◌∷◌};
 ghost use Rattle.cells.specs.Parts.{only, these};
 ghost use Rattle.cells.specs.declared.Part.TheVariants.{A, Ac, B, C, Cy, D, E, H, L, P, S, Z};
-ghost use Rattle.i80.specs.Columns.{uses80, gives_zero, part_of_reg, read, place, written, pair, five_flags, stack_pair, carry_in, result_in_a, flag, asked_of, changed_by};
+ghost use Rattle.i80.specs.Columns.{uses80, gives_zero, part_of_reg, read, address_parts, written, pair, five_flags, stack_pair, carry_in, result_in_a, flag, asked_of, changed_by};
 
 use crate::{Goal, Instr80, Op, Pair, Reg, Src, StackPair};
 use cells::{Cond, Keep, Part};
@@ -79,8 +79,8 @@ pub(crate) fn read(operand: Src) -> Keep
 }
 
 /// What an operand that is written uses: M the address in HL, a register nothing.
-pub(crate) fn place(operand: Src) -> Keep
-    ensures { result ≡ place operand }
+pub(crate) fn address_parts(operand: Src) -> Keep
+    ensures { result ≡ address_parts operand }
 {
     match operand {
         Src::Reg(_) => Keep::none(),
