@@ -9,7 +9,7 @@ use thiserror::Error;
 #[derive(Clone, Copy, Debug, PartialEq, Eq, Drop, Error)]
 pub enum FormFault {
     /// The first rule that they break, in the order V5, V1, V4, V3.
-    #[error("{0}")]
+    #[error("{0:?}")]
     Rule(AsmRule),
     #[error("out of memory")]
     Memory,

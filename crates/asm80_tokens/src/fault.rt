@@ -6,7 +6,6 @@ ghost use Rattle.asm80_tokens.specs.declared.fault.ScanFault.TheVariants as scan
 ghost use Rattle.asm80_tokens.specs.declared.fault.ParseFault.TheVariants as parse;
 
 use std::alloc::{AllocError, AllocFailed};
-use std::fmt;
 use thiserror::Error;
 
 /// A rule of the line grammar.
@@ -30,26 +29,11 @@ pub enum LineRule {
     L8,
 }
 
-impl fmt::Display for LineRule {
-    fn fmt<W: fmt::Write>(&self, f: &mut fmt::Formatter<W>) -> fmt::Result {
-        match self {
-            LineRule::L1 => write!(f, "L1"),
-            LineRule::L2 => write!(f, "L2"),
-            LineRule::L3 => write!(f, "L3"),
-            LineRule::L4 => write!(f, "L4"),
-            LineRule::L5 => write!(f, "L5"),
-            LineRule::L6 => write!(f, "L6"),
-            LineRule::L7 => write!(f, "L7"),
-            LineRule::L8 => write!(f, "L8"),
-        }
-    }
-}
-
 /// Why a source is not read.
 #[derive(Clone, Copy, Debug, PartialEq, Eq, Drop, Error)]
 pub enum ReadFault {
     /// The line of this number, counted from 1, is the first that breaks a rule.
-    #[error("source line {0}: {1}")]
+    #[error("source line {0}: {1:?}")]
     Syntax(u32, LineRule),
     #[error("out of memory")]
     Memory,
@@ -58,7 +42,7 @@ pub enum ReadFault {
 /// Why there is no token.
 #[derive(Clone, Copy, Debug, PartialEq, Eq, Drop, Error)]
 pub enum ScanFault {
-    #[error("{0}")]
+    #[error("{0:?}")]
     Rule(LineRule),
     #[error("out of memory")]
     Memory,

@@ -31,7 +31,7 @@ pub struct Walked {
 #[derive(Clone, Copy, Debug, PartialEq, Eq, Drop, Error)]
 pub enum AsmFault {
     /// The statement on the line of this number, counted from 1, breaks the rule; 0 where no statement does.
-    #[error("source line {0}: {1}")]
+    #[error("source line {0}: {1:?}")]
     Refused(u32, AsmRule),
     #[error("out of memory")]
     Memory,

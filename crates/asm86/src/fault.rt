@@ -10,7 +10,7 @@ use thiserror::Error;
 #[derive(Clone, Copy, Debug, PartialEq, Eq, Drop, Error)]
 pub enum ImageFault {
     /// The line of this number defines a label again (M3), or uses one that the text does not define (M4).
-    #[error("text line {0}: {1}")]
+    #[error("text line {0}: {1:?}")]
     Line(u32, TextRule),
     /// The code has this number of bytes, above 65,535.
     #[error("the code has {0} bytes")]

@@ -1,7 +1,6 @@
 // Statements of an ASM-86 text (CP/M-86 Programmer's Guide, "ASM-86"; the forms are this project's profile).
 pub use i86::Jump;
 use i86::{Instr86, Reg16};
-use std::fmt;
 
 /// A label: `Lhhhh` of an 8080 address, `Khhhh` past a conditional jump, `Uhhhh` of a user, `X_SYS`, `X_END`.
 #[derive(Clone, Copy, PartialEq, Eq, Hash)]
@@ -64,17 +63,4 @@ pub enum TextRule {
     M5,
     /// No END.
     M6,
-}
-
-impl fmt::Display for TextRule {
-    fn fmt<W: fmt::Write>(&self, f: &mut fmt::Formatter<W>) -> fmt::Result {
-        match self {
-            TextRule::M1 => write!(f, "M1"),
-            TextRule::M2 => write!(f, "M2"),
-            TextRule::M3 => write!(f, "M3"),
-            TextRule::M4 => write!(f, "M4"),
-            TextRule::M5 => write!(f, "M5"),
-            TextRule::M6 => write!(f, "M6"),
-        }
-    }
 }

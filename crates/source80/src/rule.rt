@@ -1,5 +1,4 @@
 // The rules that a source's statements may break.
-use std::fmt;
 
 /// A rule of names and values (V), or of the layout and this project's profile (S).
 #[derive(Clone, Copy, Debug, PartialEq, Eq)]
@@ -32,25 +31,4 @@ pub enum AsmRule {
     S6,
     /// A cell is below 100H, or not below the top of the program area less 2.
     S7,
-}
-
-impl fmt::Display for AsmRule {
-    fn fmt<W: fmt::Write>(&self, f: &mut fmt::Formatter<W>) -> fmt::Result {
-        match self {
-            AsmRule::V1 => write!(f, "V1"),
-            AsmRule::V2 => write!(f, "V2"),
-            AsmRule::V3 => write!(f, "V3"),
-            AsmRule::V4 => write!(f, "V4"),
-            AsmRule::V5 => write!(f, "V5"),
-            AsmRule::V6 => write!(f, "V6"),
-            AsmRule::V7 => write!(f, "V7"),
-            AsmRule::S1 => write!(f, "S1"),
-            AsmRule::S2 => write!(f, "S2"),
-            AsmRule::S3 => write!(f, "S3"),
-            AsmRule::S4 => write!(f, "S4"),
-            AsmRule::S5 => write!(f, "S5"),
-            AsmRule::S6 => write!(f, "S6"),
-            AsmRule::S7 => write!(f, "S7"),
-        }
-    }
 }

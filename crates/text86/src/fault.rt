@@ -11,7 +11,7 @@ use thiserror::Error;
 pub enum TextFault {
     /// The line of this number, counted from 1, is the first that breaks M1, M2 or M5; or 0 and M6, where none does and no
     /// END comes.
-    #[error("text line {0}: {1}")]
+    #[error("text line {0}: {1:?}")]
     Line(u32, TextRule),
     #[error("out of memory")]
     Memory,

@@ -47,14 +47,23 @@ fn read_bytes(alloc: Global, text: &[u8]) -> Result<String, AllocError> {
     ending(alloc, reader)
 }
 
+// The fault of a text, if it has one.
+fn fault_of(alloc: Global, text: &[u8]) -> Result<Option<TextFault>, AllocError> {
+    let mut reader = Text86::new(alloc)?;
+    let _ = reader.feed(text);
+    Ok(reader.finish().err())
+}
+
 // Texts with a fault: bytes and words, of the line alone.
-const UNREAD: [(&str, &[&[u8]]); 5] = [
+const UNREAD: [(u32, TextRule, &[&[u8]]); 5] = [
     (
-        "text line 1: M1",
+        1,
+        TextRule::M1,
         &[b"?\n", b"\x1a", b"\r", b"END\r", b"END\r\r\n", b"DB 256"],
     ),
     (
-        "text line 2: M1",
+        2,
+        TextRule::M1,
         &[
             b"CSEG\nFOO ?\n",
             b"CSEG\nEND\x1a\n?",
@@ -63,12 +72,14 @@ const UNREAD: [(&str, &[&[u8]]); 5] = [
         ],
     ),
     (
-        "text line 1: M2",
+        1,
+        TextRule::M2,
         &[b"END X\n", b"FOO\nEND", b"L0100: FOO\n", b"CSEG DSEG\n"],
     ),
-    ("text line 2: M2", &[b"CSEG\nFOO\n?\n"]),
+    (2, TextRule::M2, &[b"CSEG\nFOO\n?\n"]),
     (
-        "text line 0: M6",
+        0,
+        TextRule::M6,
         &[
             b"",
             b"\r\n\r\n",
@@ -80,13 +91,11 @@ const UNREAD: [(&str, &[&[u8]]); 5] = [
 ];
 
 // Texts with a statement that may not stand where it stands.
-const MISPLACED: [(&str, &[&[u8]]); 6] = [
+const MISPLACED: [(u32, TextRule, &[&[u8]]); 6] = [
+    (1, TextRule::M5, &[b"NOP\n?\n", b"L0100:\n", b"ORG 100H\n"]),
     (
-        "text line 1: M5",
-        &[b"NOP\n?\n", b"L0100:\n", b"ORG 100H\n"],
-    ),
-    (
-        "text line 2: M5",
+        2,
+        TextRule::M5,
         &[
             b"CSEG\nDB 1\n",
             b"CSEG\nDW 1\n",
@@ -101,7 +110,8 @@ const MISPLACED: [(&str, &[&[u8]]); 6] = [
         ],
     ),
     (
-        "text line 3: M5",
+        3,
+        TextRule::M5,
         &[
             b"DSEG\nCSEG\nCSEG\n",
             b"DSEG\nORG 0FFFFH\nDW 1\nEND",
@@ -110,7 +120,8 @@ const MISPLACED: [(&str, &[&[u8]]); 6] = [
         ],
     ),
     (
-        "text line 4: M5",
+        4,
+        TextRule::M5,
         &[
             b"CSEG\nDSEG\nORG 0FFH\nDB 1\nEND\n",
             b"DSEG\nORG 0FFFFH\nRB 0FFFFH\nDB 1\nEND",
@@ -119,14 +130,16 @@ const MISPLACED: [(&str, &[&[u8]]); 6] = [
         ],
     ),
     (
-        "text line 5: M5",
+        5,
+        TextRule::M5,
         &[
             b"DSEG\nORG 101H\nDB 1\nORG 100H\nDW 1\nEND\n",
             b"DSEG\nORG 100H\nDB 1,2,3\nORG 102H\nDB 1",
         ],
     ),
     (
-        "text line 6: M5",
+        6,
+        TextRule::M5,
         &[
             b"CSEG\nDSEG\nORG 100H\nDB 1\nORG 100H\nDB 2\nEND\n",
             b"DSEG\nORG 0FFFFH\nRB 1\nRB 0FFFFH\nRB 101H\nDB 1\nEND",
@@ -136,16 +149,16 @@ const MISPLACED: [(&str, &[&[u8]]); 6] = [
 
 #[test]
 fn faults_are_found(rt: HostRuntime) -> Result<(), Fail> {
-    for (want, texts) in UNREAD {
+    for (line, rule, texts) in UNREAD {
         for text in texts {
-            let found = read(rt.alloc(), *text, 0)?;
-            assert_eq!(rt; found.as_str(), want);
+            let found = fault_of(rt.alloc(), *text)?;
+            assert_eq!(rt; found, Some(TextFault::Line(line, rule)));
         }
     }
-    for (want, texts) in MISPLACED {
+    for (line, rule, texts) in MISPLACED {
         for text in texts {
-            let found = read(rt.alloc(), *text, 0)?;
-            assert_eq!(rt; found.as_str(), want);
+            let found = fault_of(rt.alloc(), *text)?;
+            assert_eq!(rt; found, Some(TextFault::Line(line, rule)));
         }
     }
     Ok(())
