@@ -11,6 +11,8 @@ mod second_walk;
 pub use asm80_walk::AsmFault;
 pub use assembly::assemble;
 pub use laws::source_has_one_outcome;
+pub use program80::Program80;
+pub use source80::AsmRule;
 
 #[cfg(test)]
 mod tests;

@@ -6,7 +6,6 @@ use asm80_text::{Lines, Stmt80};
 use asm80_tokens::ReadFault;
 use cells::{Cell, Place};
 use i80::{Goal, Instr80, Word};
-use program80::Program80;
 use std::alloc::{AllocError, Global};
 use std::test::Fail;
 
