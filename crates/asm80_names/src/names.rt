@@ -56,7 +56,7 @@ impl Names {
         self.entries.get(name).copied()
     }
 
-    /// What a name stands for.
+    /// What a name stands for; None where it is not defined.
     pub fn meaning(&self, name: &Name80) -> Option<Meaning>
         ensures { result ≡ meaning_in self.now name.now }
     {
@@ -64,7 +64,7 @@ impl Names {
         Some(entry.meaning)
     }
 
-    /// How a name was defined.
+    /// How a name was defined; None where it is not defined.
     pub fn kind(&self, name: &Name80) -> Option<NameKind>
         ensures { result ≡ option_map (λ (n : Name). n.kind) (named self.now name.now) }
     {

@@ -18,12 +18,14 @@ impl Model for Bytes {
 }
 
 impl Bytes {
+    /// The bytes of a vector.
     pub fn from_vec(bytes: Vec<u8>) -> Bytes
         ensures { result ≡ bytes.items }
     {
         Bytes { items: bytes }
     }
 
+    /// The bytes, without the quotes; two quotes within the string are one byte here.
     pub fn as_slice(&self) -> &[u8]
         ensures { result.now ≡ self.now }
     {
@@ -59,12 +61,14 @@ impl Model for Args {
 }
 
 impl Args {
+    /// The operands of a vector.
     pub fn from_vec(args: Vec<Arg>) -> Args
         ensures { result ≡ args.items }
     {
         Args { items: args }
     }
 
+    /// The operands, in the order in which they stand.
     pub fn as_slice(&self) -> &[Arg]
         ensures { result.now ≡ self.now }
     {

@@ -19,7 +19,8 @@ pub enum LineRule {
     L3,
     /// A name above 16 characters, or a reserved name as a label.
     L4,
-    /// The names and signs of a statement form no statement.
+    /// The names and signs of a statement form no statement; among them an unknown operation, and an operation's name in an
+    /// operand.
     L5,
     /// More than 16 parentheses are open at some point of a statement.
     L6,

@@ -30,6 +30,7 @@ impl Model for Name80 {
 }
 
 impl Name80 {
+    /// The name of these bytes, which are 1 to 16 capital letters and digits.
     pub fn of(bytes: &[u8]) -> Name80
         requires { IsName bytes.now }
         ensures { result ≡ bytes.now }
@@ -42,6 +43,7 @@ impl Name80 {
         }
     }
 
+    /// Its bytes: capital letters and digits, without the `$` that a source may have among them.
     pub fn as_slice(&self) -> &[u8]
         ensures value { result.now ≡ self.now }
         ensures name { IsName self.now }

@@ -4,6 +4,7 @@ use crate::arg::Bytes;
 use crate::expr::Two;
 use crate::name::Name80;
 
+/// A token of a line: its smallest part that has a meaning.
 #[derive(Drop)]
 pub enum Token {
     /// A number of digits alone, which may be a line number.

@@ -14,7 +14,8 @@ use program80::Program80;
 use std::alloc::Global;
 
 /// The program of the statements of a source, for a top of the program area, which is 4000H, 8000H, 0C000H or 0F000H. A refusal
-/// names the line, and the first rule that is broken: of the first walk, else of the second, else of the layout.
+/// names the first rule that is broken, of the first walk, else of the second, else of the layout, and the line of the first
+/// statement in the list that breaks it; for S3, which none breaks, line 0.
 pub fn assemble(alloc: Global, statements: &[Stmt80], top: u16) -> Result<Program80, AsmFault>
     requires { is_top top ≡ true }
     ensures assembled { IfOk result (λ p. IsAssembled (map statement_of statements.now) top p) }

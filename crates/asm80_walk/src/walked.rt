@@ -16,7 +16,8 @@ pub struct Taken {
     /// The address of its first byte.
     pub at: u16,
     pub operation: Option<Operation>,
-    /// What its one operand stands for, as that of a directive; None where it has none or more.
+    /// What its one operand stands for, as that of a directive. Its value is None where there is no operand or more than one,
+    /// where it is a string, and where it cannot be computed: it has a register, a name without a value above, or a division by 0.
     pub meaning: Meaning,
 }
 

@@ -47,7 +47,7 @@ impl Image86 {
         self.code.as_slice()
     }
 
-    /// The address and the byte of each data cell.
+    /// The address and the byte of each data cell, in ascending order of addresses.
     pub fn cells(&self) -> &[(u16, u8)]
         ensures { result.now ≡ self.now.cells }
     {
@@ -62,8 +62,8 @@ impl Image86 {
     }
 }
 
-/// The image of a text's statements, which stand in order. The first M3 is looked for before the first M4, and both before the
-/// size of the code and the first short jump that does not reach.
+/// The image of a text's statements, which stand in order and need no END. What is told is the first M3; else the first M4;
+/// else a code of more than 65,535 bytes; else the first short jump that does not reach.
 pub fn image(alloc: Global, lines: &[Line86]) -> Result<Image86, ImageFault>
     requires order { in_order at_start (statements lines.now) ≡ true }
     requires few { length lines.now < 2 ^ 28 }

@@ -68,20 +68,32 @@ pub enum Cond {
     M,
 }
 
-/// Why a program left the profile.
+/// Why a program left the profile; docs/PROFILE.md has the rules in full, and the order in which they are looked at.
 #[derive(Clone, Copy, PartialEq, Eq)]
 pub enum Rule {
+    /// It goes on to a place where no instruction starts.
     P1,
+    /// It reads a closed cell.
     P2,
+    /// It writes a closed cell, or cell 6 or 7.
     P3,
+    /// It reads or writes a word at 0FFFFH.
     P4,
+    /// Arithmetic on what is no number.
     P5,
+    /// It reads an unknown flag.
     P6,
+    /// DAA of a value that the 8086 adjusts in another way.
     P7,
+    /// An address that is no number.
     P8,
+    /// A call of the system whose function is no number or not in the call table.
     P9,
+    /// A call whose argument is no number, or that reads what it may not.
     P10,
+    /// A call that could write what it may not.
     P11,
+    /// A call with cell 6 or 7 among the eight below SP.
     P12,
 }
 
@@ -125,18 +137,21 @@ impl Eq for Keep {
 }
 
 impl Keep {
+    /// The set without a member.
     pub fn none() -> Keep
         ensures { result ≡ nothing }
     {
         Keep { bits: 0 }
     }
 
+    /// The set of all twelve parts.
     pub fn all() -> Keep
         ensures { result ≡ everything }
     {
         Keep { bits: 0xFFF }
     }
 
+    /// The set with this part too.
     pub fn with(self, part: Part) -> Keep
         ensures { result ≡ union self (only part) }
     {
@@ -145,12 +160,14 @@ impl Keep {
         }
     }
 
+    /// Whether the part is a member.
     pub fn has(self, part: Part) -> bool
         ensures { result ≡ has self part }
     {
         (self.bits >> part as u16) & 1 == 1
     }
 
+    /// The members of both sets.
     pub fn join(self, other: Keep) -> Keep
         ensures { result ≡ union self other }
     {

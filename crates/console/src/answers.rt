@@ -49,7 +49,8 @@ impl Console {
         Console { input, taken: 0 }
     }
 
-    /// The answer to a call. Only a reply takes input.
+    /// The answer to a call. Only a reply takes input, so that after another answer or want of memory the call can be answered
+    /// anew. Function 0 ends a program and is not asked; it is answered `NoDrive`, as the functions of a disk are.
     pub fn answer(&mut self, alloc: Global, request: &Request) -> Result<Answer, AllocError>
         requires { IsLawful request.now }
         ensures answer { IfOk result (λ a. ◌≡◌ {A = Answered} (record { answer = a; left = self.new }) (console_answer self.old request.now)) }

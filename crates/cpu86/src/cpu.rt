@@ -69,8 +69,9 @@ impl Cpu86 {
     ghost use Rattle.cpu86.specs.Standing.{standing, code_of, request_in};
     ghost use Rattle.cpu86.specs.Calls.{settled, stepped, replied, IsOpen, IsTold, IsTaken};
 
-    /// The machine at the start of an image, of which it keeps a copy of the code. Memory is the fill, over it the page, and over
-    /// both the image's data cells.
+    /// The machine at the start of an image, of which it keeps a copy of the code. Memory is the fill, which has a byte for each
+    /// of the 65,536 addresses, over it the page from 5CH up, and over both the image's data cells. The offset of the next
+    /// instruction is 0, the DMA address is 80H, and nothing is asked.
     pub fn new(
         alloc: Global,
         image: &Image86,
@@ -104,7 +105,10 @@ impl Cpu86 {
     }
 
     /// One instruction. While the machine asks it answers `Asked`, and after the end `Ended`; these change nothing, nor does a
-    /// stop.
+    /// stop. Where an instruction uses the stack, whether SS is DS is looked at first, before an INT ends or asks. The choice has
+    /// what is left undefined: after AND, OR and XOR its bit 0 is AF; after LAHF bits 0 to 2 are bits 1, 3 and 5 of AH; after a
+    /// DAA of AL from 0FAH up, or from 9AH to 9FH with AF and without CF, bits 0 to 7 are AL and 8 to 12 SF ZF AF PF CF; at an
+    /// INT bits 0 to 47 are the six bytes below SP, the lowest first.
     pub fn step(&mut self, choice: u128) -> Step86
         ensures step { (fetch : ℕ → Option Instr86) → Reads (code_of self.old) fetch → (result, standing self.new) ≡ stepped fetch (standing self.old) choice }
         ensures told { (fetch : ℕ → Option Instr86) → Reads (code_of self.old) fetch → (standing self.old).said ≡ None → IsTold (step86 fetch (standing self.old).state choice) result (standing self.old).state (standing self.new) }
@@ -193,6 +197,7 @@ impl Cpu86 {
     }
 
     /// Takes a reply to what was asked. False where the machine does not ask or the reply does not fit; then nothing changes.
+    /// But for the answer, bits 0 to 79 of the choice are AX CX DX BX SI, and 80 to 84 SF ZF AF PF CF.
     pub fn reply(&mut self, reply: &Reply, choice: u128) -> bool
         ensures reply { (result, standing self.new) ≡ replied (standing self.old) reply.now choice }
         ensures taken { (e : Event) → (standing self.old).said ≡ Some e → IsTaken e result reply.now choice (standing self.old).state (standing self.new) }

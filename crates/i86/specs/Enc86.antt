@@ -106,7 +106,7 @@ with_operand reg (Mem p) = one reg (code_of_ptr p)
 abbrev pub word_then : ℕ → List ℕ → List ℕ
 word_then w rest = (w % 256) ∷ ((w / 256) ∷ rest)
 
--- the 1 to 6 bytes of an instruction
+-- the bytes of an instruction: 1 to 4 in this subset
 abbrev pub enc86 : Instr86 → List ℕ
 enc86 (MovReg8 r o) = 0x8A ∷ (with_operand (code8 r) o ∷ [])
 enc86 (MovMem8 p r) = 0x88 ∷ (one (code8 r) (code_of_ptr p) ∷ [])

@@ -58,14 +58,16 @@ enum FieldsForm {
     Not8,
 }
 
-/// The instruction that the bytes begin with, and how many of them it takes.
+/// The instruction that the bytes begin with, and how many of them it takes. None where no instruction of this subset stands
+/// there whole.
 pub fn decode(bytes: &[u8]) -> Option<(Instr86, u8)>
     ensures { IsDecoded bytes.now result }
 {
     decode_at(bytes, 0)
 }
 
-/// The instruction that stands at an offset of the code, and its number of bytes. Past the code's end nothing is read: fetching does not wrap.
+/// The instruction that stands at an offset of the code, and its number of bytes. Past the code's end nothing is read, since
+/// fetching does not wrap: None where the code ends within the instruction, and where no instruction of this subset begins.
 pub fn decode_at(code: &[u8], at: u16) -> Option<(Instr86, u8)>
     ensures stands { IsDecodedAt code.now at result }
     ensures decoded { option_map (λ d. d.0) result ≡ decoded code.now at }

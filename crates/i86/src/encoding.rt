@@ -6,7 +6,7 @@ ghost use Rattle.i86.specs.Decode.{IsPrefixFree};
 use crate::{AluOp, Count, Instr86, Jump, Operand8, Operand16, Ptr, Reg8, Reg16, Rotate, StackReg};
 use std::marker::Model;
 
-/// The bytes of an instruction: 1 to 6.
+/// The bytes of an instruction: at most 6, as the 8086 has them; this subset has 1 to 4.
 #[derive(Drop)]
 pub struct Code {
     bytes: [u8; 6],
@@ -131,7 +131,7 @@ fn mov16(to: Reg16, from: Operand16) -> Code
     }
 }
 
-/// How many bytes an instruction has: 1 to 6.
+/// How many bytes an instruction has.
 pub fn length_of(i: Instr86) -> u8
     ensures length { result ≡ length (enc86 i) }
     ensures least { 1 ≤ result }

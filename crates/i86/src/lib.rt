@@ -106,7 +106,8 @@ pub enum Jump {
     Jnp,
 }
 
-/// An instruction. A displacement is the field's byte or word, counted from the next instruction modulo 65,536.
+/// An instruction. A displacement is the field's byte or word, counted from the next instruction modulo 65,536; a byte is
+/// signed, so that 0FAH goes back by 6.
 #[derive(Clone, Copy, PartialEq, Eq)]
 pub enum Instr86 {
     /// `MOV r8,r8` and `MOV r8,BYTE PTR [p]`

@@ -93,7 +93,7 @@ offset_of xs l = offset_from 0 xs l
 abbrev pub place_of : List Stmt86 → Label → ℕ
 place_of xs l = unwrap_or (offset_of xs l) 0
 
--- the distance from one place to another, as a word
+-- the distance from one place to another, as a word; `from` is at most 10000H, as each place of a code of 65,535 bytes is
 abbrev pub distance16 : ℕ → ℕ → ℕ
 distance16 from to = (to + (0x10000 - from)) % 0x10000
 

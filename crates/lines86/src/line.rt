@@ -51,7 +51,8 @@ pub struct Line86 {
 /// The rules of ASM-86 text.
 #[derive(Clone, Copy, Debug, PartialEq, Eq)]
 pub enum TextRule {
-    /// A byte or a number that may not stand in a text, or a line above 255 bytes.
+    /// A byte that may not stand in a text, a word that begins with a digit and is no number or is above 65,535, a number
+    /// above 255 where a byte is needed, or a line above 255 bytes.
     M1,
     /// The words of a line form no statement.
     M2,
@@ -59,8 +60,8 @@ pub enum TextRule {
     M3,
     /// A label is used and not defined.
     M4,
-    /// A statement outside its group, or a data cell below 100H, past memory or filled before.
+    /// A statement outside its group, a second CSEG or DSEG, or a data cell below 100H, above 0FFFFH or filled before.
     M5,
-    /// No END.
+    /// No END; its line is told as 0.
     M6,
 }

@@ -16,10 +16,13 @@ use dialogue::request::{Reply, Request, Shape};
 use dialogue::shape::shape_of;
 use dialogue::table::AnswerKind;
 
-/// What INT 224 comes to: the program ends, or asks, or the call is none of the profile.
+/// What INT 224 comes to.
 pub enum Interrupt {
+    /// The program ends.
     Ends,
+    /// It asks the system and waits.
     Asks(Shape),
+    /// The call is none of the profile; the byte is the function, as CL has it.
     Odd(u8),
 }
 
@@ -60,8 +63,8 @@ impl Processor {
         shape_of(Some(cl), Some(dh), Some(dl), self.dma, &self.memory).ok()
     }
 
-    /// Takes a reply that fits the request: the registers and flags are the choice's, but for the answer, and what the reply
-    /// writes is in memory.
+    /// Takes a reply that fits the request: AX, CX, DX, BX, SI and the flags are the choice's, but for the answer; the DMA
+    /// address is the argument's after function 26 and 80H after function 13; what the reply writes is in memory.
     pub fn take_reply(&mut self, request: &Request, reply: &Reply, choice: u128)
         requires { fits request.now reply.now ≡ true }
         ensures { state_of self.new ≡ after_reply (state_of self.old) request.now reply.now choice }

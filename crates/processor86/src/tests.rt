@@ -7,7 +7,7 @@ use crate::flags::Flags;
 use i86::{AluOp, Count, Rotate};
 use std::process::Abort;
 
-/// The flags as the letters of those that are set.
+/// Fails where the flags are not these values of SF ZF AF PF CF.
 fn assert_flags(rt: &impl Abort, flags: Flags, set: [bool; 5]) {
     let [sf, zf, af, pf, cf] = set;
     assert_eq!(rt; flags.sf, sf);

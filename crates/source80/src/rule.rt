@@ -7,11 +7,12 @@ pub enum AsmRule {
     V1,
     /// A name defined twice, SET after SET excepted.
     V2,
-    /// A value that is no byte where a byte is needed, or an RST number above 7.
+    /// A value that is no byte where a byte is needed, as the address of an instruction, or an RST number above 7.
     V3,
     /// A divisor of `/` or `MOD` that is 0.
     V4,
-    /// Operands of a number or kind that the operation lacks, or an EQU or SET without a label.
+    /// Operands of a number or kind that the operation lacks, or an EQU or SET without a label; among them `MOV M,M`, and a
+    /// register's name where a value is needed.
     V5,
     /// ENDIF without IF, IF nested above 8, IF without ENDIF.
     V6,
@@ -23,9 +24,9 @@ pub enum AsmRule {
     S2,
     /// No instruction starts at 100H.
     S3,
-    /// The address of an instruction in a larger expression.
+    /// The address of an instruction in a larger expression that is a byte, a word but that of LXI SP, or a cell's address.
     S4,
-    /// The address of an instruction as that of a cell.
+    /// The address of an instruction as that of a cell, in LDA, STA, LHLD or SHLD.
     S5,
     /// A cell belongs to an earlier statement too.
     S6,

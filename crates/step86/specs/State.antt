@@ -123,7 +123,7 @@ operand16 s (Direct a) = word_at s.mem a
 abbrev pub push : State86 → ℕ → State86
 push s w = record s { sp = back s.sp 2; mem = put_word s.mem (back s.sp 2) w }
 
--- the bits of a choice, from bit k up: one, a byte, a word
+-- of a choice: bit k, and the byte from bit k up
 abbrev pub bit_of : ℕ → ℕ → Bool
 bit_of c k = (c / 2 ^ k) % 2 == 1
 

@@ -54,7 +54,7 @@ cell_statement Junk = []
 abbrev pub org_at : ℕ → ℕ → List Stmt86
 org_at next at = cond (at == next) [] (Org at ∷ [])
 
--- the data cells in order; no cell stands before address 1, so 0 is no address after a cell
+-- the data cells in order; all stand from 100H up, so 0 is the address after none
 abbrev pub data_from : ℕ → List (ℕ × Cell) → List Stmt86
 data_from next [] = []
 data_from next (c ∷ cs) = org_at next c.0 ++ (cell_statement c.1 ++ data_from (c.0 + 1) cs)

@@ -23,7 +23,7 @@ pub fn prologue(top: u16) -> Sequence
 }
 
 /// What a system call runs, and the end: the answers of CP/M-86 go where CP/M 2.2 has them, and function 0 ends (CP/M-86
-/// Programmer's Guide, "BDOS").
+/// System Guide, "BDOS calls").
 pub fn runtime() -> Sequence
     ensures { result ≡ runtime }
 {

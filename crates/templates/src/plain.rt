@@ -83,7 +83,7 @@ fn put_program(text: &mut Text, program: &Program80) -> Result<(), AllocError>
 }
 
 /// The plain text of a program: between the prologue and the runtime each instruction's label and its statements with a
-/// save of the flags, then the data. It has fewer than 2^20 lines.
+/// save of the flags, then the data. Its lines are numbered from 1, and it has fewer than 2^20.
 pub fn plain_text(alloc: Global, program: &Program80) -> Result<Vec<Line86>, AllocError>
     ensures value { IfOk result (λ lines. lines.items ≡ plain program.now) }
     ensures few { IfOk result (λ lines. vec_len lines < 2 ^ 20) }

@@ -13,6 +13,8 @@ pub enum TextFault {
     /// END comes.
     #[error("text line {0}: {1:?}")]
     Line(u32, TextRule),
+    /// An allocation failed; or the text has a statement of number 2^28 or a line of number 2^32, for which there is no room
+    /// whatever memory there is.
     #[error("out of memory")]
     Memory,
 }

@@ -10,7 +10,8 @@ use lines86::{Line86, Stmt86, TextRule};
 use std::alloc::{AllocError, Global};
 use text_lines86::{LineFault, read_line};
 
-/// The most statements that there is room for.
+/// The most statements that are listed, since a text of fewer than 2^28 can be assembled. One more is answered with want of
+/// memory, whatever memory there is.
 const MOST_STATEMENTS: usize = 0x0FFF_FFFF;
 
 /// The statements so far with the numbers of their lines, the order that they are in, and the number of lines. After a
@@ -45,7 +46,7 @@ impl Listing {
         self.order.is_ended()
     }
 
-    // The number of the next line. Memory where a `u32` has no room for it.
+    // The number of the next line. Of line 2^32 want of memory is answered, since a `u32` has no room for its number.
     fn next_number(&self) -> Result<u32, TextFault>
         ensures { MatchResult result (λ n. n ≡ self.now.number + 1) (λ f. f ≡ Memory) }
     {

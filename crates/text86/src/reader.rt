@@ -18,7 +18,8 @@ use std::alloc::{AllocError, Global};
 use std::marker::Model;
 use std::mem;
 
-/// A reader of the statements of a text. Of the text's bytes it keeps only the line that is not complete yet.
+/// A reader of the statements of a text; lines behind END are not read. Of the text's bytes it keeps only the line that is not
+/// complete yet. It takes a text of any number of bytes with fewer than 2^28 statements and 2^32 lines.
 #[derive(Drop)]
 pub struct Text86 {
     listing: Listing,
@@ -49,7 +50,8 @@ impl Text86 {
         })
     }
 
-    /// Takes the next piece of the text.
+    /// Takes the next piece of the text, which may be cut at any byte. `Line` tells the first line with M1, M2 or M5; a line is
+    /// complete once its line feed has come. After a fault each later call answers the same fault.
     pub fn feed(&mut self, piece: &[u8]) -> Result<(), TextFault>
         // The text so far grows by the piece.
         ensures grows { self.new.fault ≢ Some Memory → (stream : List ℕ) → After stream self.old → After (stream ++ piece.now) self.new }
@@ -78,7 +80,8 @@ impl Text86 {
         }
     }
 
-    /// The statements of the whole text, with the numbers of their lines.
+    /// The statements of the whole text, with the numbers of their lines from 1. `Line` tells the first line with M1, M2 or M5,
+    /// the last line too if no line feed ended it; else line 0 and M6 where no END came.
     pub fn finish(self) -> Result<Vec<Line86>, TextFault>
         // Line comes exactly where the text has a fault, with its first one.
         ensures outcome { (stream : List ℕ) → After stream self → Finishes stream result }

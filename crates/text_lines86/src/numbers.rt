@@ -7,7 +7,8 @@ ghost use Rattle.text_lines86.specs.Numbers.{number_of, value_in};
 
 use std::str;
 
-/// The number that digits of a base spell, unless it is above 65,535.
+/// The number that digits of a base spell; None where there is no digit or one that the base lacks, and where the number is
+/// above 65,535.
 pub fn value_in(base: u32, digits: &[u8]) -> Option<u16>
     requires { (2 ≤ base) × (base ≤ 16) }
     ensures { result ≡ value_in base digits.now }
