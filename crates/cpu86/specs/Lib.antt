@@ -1,5 +1,4 @@
 pub mod Standing
 pub mod Calls
 pub mod Starts
-pub mod Runs
 pub mod Histories

@@ -1,4 +1,4 @@
-// The plain 8086 as a machine, by single steps and by whole runs.
+// The plain 8086 as a machine, step by step.
 #![tactic(auto)]
 
 #[cfg(test)]
@@ -6,7 +6,7 @@ mod arithmetic_steps;
 pub mod cpu;
 #[cfg(test)]
 mod data_steps;
-pub mod run;
+mod laws;
 pub mod start;
 #[cfg(test)]
 mod states;
@@ -16,5 +16,5 @@ mod system_calls;
 mod tests;
 
 pub use cpu::{Cpu86, Step86};
-pub use run::calls_give_runs;
+pub use laws::calls_give_runs;
 pub use start::Start86;

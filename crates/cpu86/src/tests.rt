@@ -5,11 +5,10 @@ ghost use Rattle.lines86.specs.Order.{at_start, in_order};
 ghost use Rattle.cpu86.specs.Standing.{standing};
 
 use crate::cpu::{Cpu86, Step86};
-use crate::run::{RunStatus, run};
 use crate::start::Start86;
 use asm86::image;
 use dialogue::blocks::Blocks;
-use dialogue::request::{ArgWord, Event, Reply};
+use dialogue::request::{ArgWord, Reply};
 use dialogue::start_page::Page;
 use i86::{Instr86, Operand8, Operand16, Reg8, Reg16, StackReg};
 use lines86::{Jump, Label, Line86, Stmt86};
@@ -112,37 +111,34 @@ fn machine(alloc: Global, rt: &impl Abort, text: &[Stmt86]) -> Result<Cpu86, All
     Cpu86::new(alloc, &image, START, &page, fill.as_slice())
 }
 
-fn run_one_letter(
-    alloc: Global,
-    rt: &impl Abort,
-    turns: u32,
-    status: RunStatus,
-    events: usize,
-) -> Result<(), AllocError> {
-    let mut cpu = machine(alloc, rt, &ONE_LETTER)?;
-    let reply = Reply {
-        answer: 0,
-        writes: Blocks::from_vec(Vec::new(alloc)),
-    };
-    let replies = vec![in alloc; reply]?;
-    let progress = run(alloc, &mut cpu, replies.as_slice(), &[0], turns)?;
-    assert!(rt; progress.status == status);
-    assert!(rt; progress.dialogue.len() == events && events > 0);
-    match &progress.dialogue[0] {
-        Event::Call(request) => {
-            assert_eq!(rt; request.shape.function, 2);
-            assert!(rt; request.shape.arg == ArgWord::Byte(0x41));
+// Steps until it does something other than go on, at most so many times; what it did, and after how many steps.
+fn steps_to_event(cpu: &mut Cpu86, most: u32) -> (Step86, u32) {
+    for taken in 0..most {
+        match cpu.step(0) {
+            Step86::Ran => {}
+            step => return (step, taken + 1),
         }
-        Event::End => panic!(rt; "no call"),
     }
-    Ok(())
+    (Step86::Ran, most)
 }
 
 #[test]
 fn one_letter_is_written_and_the_program_ends(rt: HostRuntime) -> Result<(), Fail> {
     let alloc = rt.alloc();
-    run_one_letter(alloc, &rt, 19, RunStatus::Going, 1)?;
-    run_one_letter(alloc, &rt, 20, RunStatus::Over, 2)?;
+    let mut cpu = machine(alloc, &rt, &ONE_LETTER)?;
+    let (asks, before) = steps_to_event(&mut cpu, 20);
+    assert!(&rt; asks == Step86::Asked);
+    let request = cpu.asked(alloc)?.expect(&rt, "it asks");
+    assert_eq!(&rt; request.shape.function, 2);
+    assert!(&rt; request.shape.arg == ArgWord::Byte(0x41));
+    let reply = Reply {
+        answer: 0,
+        writes: Blocks::from_vec(Vec::new(alloc)),
+    };
+    assert!(&rt; cpu.reply(&reply, 0));
+    let (ends, after) = steps_to_event(&mut cpu, 20);
+    assert!(&rt; ends == Step86::Ended);
+    assert_eq!(&rt; before.checked_add(after), Some(20));
     Ok(())
 }
 

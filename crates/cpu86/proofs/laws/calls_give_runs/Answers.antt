@@ -1,5 +1,5 @@
 use Rattle.cpu86.proofs.Called.{calls_give_runs as the_law}
-use Rattle.cpu86.proofs.run.calls_give_runs.Goals as goal
+use Rattle.cpu86.proofs.laws.calls_give_runs.Goals as goal
 
 pub returns : goal.returns
 returns c = the_law
