@@ -3,6 +3,7 @@ use Rattle.std.proofs.Common.{◌≡◌, ℕ, ◌+◌, ◌<◌, ◌&&◌, ◌||�
 use Rattle.std.proofs.lemmas.List.{drop_more}
 use Rattle.std.proofs.lemmas.List.Sums.{fold-append}
 use Rattle.std.specs.List.{fold}
+use Rattle.std.proofs.lemmas.Bool.{and_parts}
 use Rattle.lines86.specs.declared.line.Label.{Label}
 use Rattle.lines86.specs.declared.line.Value16.TheVariants.{Num, Offset}
 use Rattle.lines86.specs.declared.line.Stmt86.{Stmt86}
@@ -54,17 +55,13 @@ pub record StandsFrom (at : ℕ) (xs : List Stmt86) : Type 0 where
   pub address : reading.at ≡ at
   pub order : in_order reading xs ≡ true
 
-both : (a b : Bool) → (a && b) ≡ true → (a ≡ true) × (b ≡ true)
-both true b e = (refl, e)
-both false b e = cc
-
 pub stands_rest : (at : ℕ) (x : Stmt86) (xs : List Stmt86) → StandsFrom at (x ∷ xs) → StandsFrom (address_after at x) xs
 stands_rest at x xs h =
-    let rest = both (may_stand h.reading x) ((not (is_end x) || is_empty xs) && in_order (after h.reading x) xs) h.order in
+    let rest = and_parts (may_stand h.reading x) ((not (is_end x) || is_empty xs) && in_order (after h.reading x) xs) h.order in
     record {
       reading = after h.reading x;
       address = address_is h.reading x ∙ ap (λ n. address_after n x) h.address;
-      order = (both (not (is_end x) || is_empty xs) (in_order (after h.reading x) xs) rest.1).1;
+      order = (and_parts (not (is_end x) || is_empty xs) (in_order (after h.reading x) xs) rest.1).1;
     }
 
 pub filled_rest : (off : Label → ℕ) (at : ℕ) (x : Stmt86) (xs : List Stmt86) (cells more whole : List (ℕ × ℕ)) → fold put_cell cells (cells_from off at (x ∷ xs)) ≡ whole → more ≡ fold put_cell cells (cells_from off at (x ∷ [])) → fold put_cell more (cells_from off (address_after at x) xs) ≡ whole

@@ -1,6 +1,6 @@
 -- The shapes that calls have over some memory give lawful requests.
 use Rattle.std.proofs.Common.{◌≡◌, ◌≢◌, refl, sym, ◌∙◌, ap, subst, ℕ, zero, suc, ◌+◌, ◌≤◌, ◌<◌, Bool, true, false, cond, List, [], ◌∷◌, ◌++◌, length, drop, add-one, add-zero, drop-cons, append_assoc, arith}
-use Rattle.std.proofs.lemmas.Bool.{leb-true, eqb-true}
+use Rattle.std.proofs.lemmas.Bool.{leb-true, eqb-true, and_parts}
 use Rattle.std.proofs.lemmas.List.{map-append}
 use Rattle.std.proofs.lemmas.List.Elements.{All-nil, All-cons, All-head, All-tail}
 use Rattle.std.specs.Prelude.{Option, Some, None, Result, Ok, Err, map, unwrap_or, slice_index_or, IfSome, IsTrue, ◌==◌, ◌&&◌, ◌||◌, nat_le, not}
@@ -16,7 +16,7 @@ use Rattle.dialogue.specs.Table.{Argument, NoArgument, InE, InDE, Extent, F, Dma
 use Rattle.dialogue.specs.Shape.{Seen, argument_of, address_of, is_readable, line_room, text_length, text_range, range_of, is_within, range_within, ranges_within, has_room, ranges, bytes_in, block_of, request_of, shape_by, shape_in, shape_of}
 use Rattle.dialogue.specs.Places.{room_at}
 use Rattle.dialogue.specs.Lawful.{IsShapeOver, is_argument, IsRangeOf, AreRangesOf, first_byte, range_of_block, IsLawful}
-use Rattle.dialogue.proofs.Rows.{rows_have_places, entry_at-passes, both, fits_in_places, has_room-padded}
+use Rattle.dialogue.proofs.Rows.{rows_have_places, entry_at-passes, fits_in_places, has_room-padded}
 
 -- a range ends within memory
 abbrev pub Ends : Range → Type 0
@@ -39,7 +39,7 @@ range_within-ok : (passes : ℕ → Bool) (rule : Rule) (o : Option Range) (r : 
 range_within-ok passes rule None r h = cc
 range_within-ok passes rule (Some q) r h =
     let told = cond-ok (is_within passes q) q r rule h in
-    let ends = leb-true _ _ (both (nat_le (q.at + q.len) 0x10000) _ told.0).0 in
+    let ends = leb-true _ _ (and_parts (nat_le (q.at + q.len) 0x10000) _ told.0).0 in
     (ap Some told.1, subst Ends told.1 ends)
 
 range_of-is : (seen : Seen) (de dma : ℕ) (x : Extent) (r : Range) → range_of seen de dma x ≡ Some r → IsRangeOf de dma (line_room seen de) x r
@@ -178,7 +178,7 @@ mx_is_read seen de dma (Text ∷ xs) rs first are = cc
 mx_is_read seen de dma (Line ∷ xs) rs first are = cc
 mx_is_read seen de dma (F i k ∷ xs) [] first are = absurd are
 mx_is_read seen de dma (F i k ∷ xs) (r ∷ rs) first are =
-    let each = both (i == 0) (k == 1) first in
+    let each = and_parts (i == 0) (k == 1) first in
     first_byte-cell seen de r rs (are.0.0 ∙ ap (λ n. de + n) (eqb-true i 0 each.0)) (are.0.1 ∙ eqb-true k 1 each.1)
 
 -- the row of function 10
@@ -216,7 +216,7 @@ pub lines : (seen : Seen) (function : ℕ) (row : Row) (de dma : ℕ) (rs ws : L
     room_at seen de (padded 2 row.writes) ≡ true →
     Lines row function de dma (padded 3 rs) (padded 2 ws) (first_byte (map (block_of seen) rs))
 lines seen function row de dma rs ws found reads writes room =
-    let told = both (has_no_line row.reads) _ (rows_read_mx function row found) in
+    let told = and_parts (has_no_line row.reads) _ (rows_read_mx function row found) in
     by_lines (has_no_line row.writes) refl told.0 told.1
   where
     mx : ℕ

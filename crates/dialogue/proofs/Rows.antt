@@ -1,6 +1,6 @@
 -- The table's rows, and the shapes that they give in lists and in arrays.
 use Rattle.std.proofs.Common.{◌≡◌, refl, ℕ, zero, suc, ◌≤◌, Bool, true, false, cond, List, [], ◌∷◌, length, arith}
-use Rattle.std.proofs.lemmas.Bool.{leb-true}
+use Rattle.std.proofs.lemmas.Bool.{leb-true, and_parts}
 use Rattle.std.specs.Prelude.{Option, Some, None, Result, Ok, Err, option_map, ◌==◌, ◌&&◌, nat_le, not}
 use Rattle.std.specs.List.{list_all}
 use Rattle.cells.specs.declared.Rule.{Rule}
@@ -110,14 +110,10 @@ shape_by-laid_out function row d e dma seen reads writes =
     (room_at seen (address_of arg) (padded 2 row.writes)) row.writes
     (λ xs. ranges_within seen.writable P11 seen (address_of arg) dma xs)))
 
-pub both : (a b : Bool) → (a && b) ≡ true → (a ≡ true) × (b ≡ true)
-both true b h = (refl, h)
-both false b h = cc
-
 -- the lists of a row of the table have places in the arrays
 pub fits_in_places : (row : Row) → has_places row ≡ true → (length row.reads ≤ 3) × (length row.writes ≤ 2)
 fits_in_places row fits =
-    let each = both (nat_le (length row.reads) 3) (nat_le (length row.writes) 2) fits in
+    let each = and_parts (nat_le (length row.reads) 3) (nat_le (length row.writes) 2) fits in
     (leb-true _ _ each.0, leb-true _ _ each.1)
 
 -- the shape by the row of a function, as the code has it

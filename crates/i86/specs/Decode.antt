@@ -29,6 +29,10 @@ IsPrefixFree = (i j : Instr86) → IsPrefix (enc86 i) (enc86 j) → i ≡ j
 abbrev pub IsOnlyReader : List ℕ → (ℕ → Option Instr86) → Type 0
 IsOnlyReader code fetch = Reads code fetch × ((other : ℕ → Option Instr86) → Reads code other → (at : ℕ) → other at ≡ fetch at)
 
--- each code of bytes has a reader, and only one
+-- the code has a reader, and only one
+abbrev pub HasReader : List ℕ → Type 0
+HasReader code = (fetch : ℕ → Option Instr86) × IsOnlyReader code fetch
+
+-- each code of bytes has one
 abbrev pub HasOneReader : Type 0
-HasOneReader = (code : List ℕ) → All (λ b. b < 256) code → (fetch : ℕ → Option Instr86) × IsOnlyReader code fetch
+HasOneReader = (code : List ℕ) → All (λ b. b < 256) code → HasReader code

@@ -6,7 +6,7 @@ use Rattle.std.specs.Map.{keys_of}
 use Rattle.std.specs.Ordering.{nat_cmp, MatchOrdering, match_ordering}
 use Rattle.std.specs.declared.cmp.Ordering.{Ordering}
 use Rattle.std.specs.declared.cmp.Ordering.TheVariants.{Less, Equal, Greater}
-use Rattle.std.proofs.lemmas.Bool.{eq-eqb}
+use Rattle.std.proofs.lemmas.Bool.{eq-eqb, and_parts}
 use Rattle.std.proofs.lemmas.Bool.Decides.{nat_tests}
 use Rattle.std.proofs.lemmas.Cmp.{ranked}
 use Rattle.std.proofs.lemmas.List.Sorted.{IsPermutation-refl, IsPermutation-sym, IsPermutation-trans, IsPermutation-cons, IsPermutation-middle, IsPermutation-append_right, list_any-IsPermutation}
@@ -116,10 +116,6 @@ either : (a b : Bool) → (a || b) ≡ false → (a ≡ false) × (b ≡ false)
 either true b e = cc
 either false b e = (refl, e)
 
-both : (a b : Bool) → (a && b) ≡ true → (a ≡ true) × (b ≡ true)
-both true b e = (refl, e)
-both false b e = cc
-
 one_more_step : (c e : ℕ × ℕ) (es put : List (ℕ × ℕ)) (r : Ordering) → MatchOrdering r (c.0 < e.0) (c.0 ≡ e.0) (e.0 < c.0) → (e.0 == c.0) ≡ false → IsPermutation (c ∷ es) put → IsPermutation (c ∷ (e ∷ es)) (match_ordering r (c ∷ (e ∷ es)) ((e.0, c.1) ∷ es) (e ∷ put))
 one_more_step c e es put Less m n p = IsPermutation-refl (c ∷ (e ∷ es))
 one_more_step c e es put Equal m n p = absurd (true≢false (sym (eq-eqb e.0 c.0 (sym m)) ∙ n))
@@ -157,8 +153,8 @@ Counts r done = (a : ℕ) → has done a ≡ list_any (λ b. b == a) r.filled
 
 free : (r : Reading) (a : ℕ) (done : List (ℕ × ℕ)) → Counts r done → is_free r a ≡ true → has done a ≡ false
 free r a done counts h =
-    let inner = both (nat_le 0x100 a) (nat_lt a 0x10000 && not (list_any (λ b. b == a) r.filled)) h in
-    let last = both (nat_lt a 0x10000) (not (list_any (λ b. b == a) r.filled)) inner.1 in
+    let inner = and_parts (nat_le 0x100 a) (nat_lt a 0x10000 && not (list_any (λ b. b == a) r.filled)) h in
+    let last = and_parts (nat_lt a 0x10000) (not (list_any (λ b. b == a) r.filled)) inner.1 in
     counts a ∙ is_not (list_any (λ b. b == a) r.filled) last.1
   where
     is_not : (b : Bool) → not b ≡ true → b ≡ false
@@ -167,8 +163,8 @@ free r a done counts h =
 
 rest_stands : (r : Reading) (x : Stmt86) (xs : List Stmt86) → in_order r (x ∷ xs) ≡ true → (may_stand r x ≡ true) × (in_order (after r x) xs ≡ true)
 rest_stands r x xs h =
-    let first = both (may_stand r x) ((not (is_end x) || is_empty xs) && in_order (after r x) xs) h in
-    (first.0, (both (not (is_end x) || is_empty xs) (in_order (after r x) xs) first.1).1)
+    let first = and_parts (may_stand r x) ((not (is_end x) || is_empty xs) && in_order (after r x) xs) h in
+    (first.0, (and_parts (not (is_end x) || is_empty xs) (in_order (after r x) xs) first.1).1)
 
 or_swap : (a b c : Bool) → (a || (b || c)) ≡ (b || (a || c))
 or_swap true true c = refl
@@ -208,15 +204,15 @@ fresh_cells off r done (Org w ∷ xs) counts h = fresh_cells off (after r (Org w
 fresh_cells off r done (Rb w ∷ xs) counts h = fresh_cells off (after r (Rb w)) done xs counts (rest_stands r (Rb w) xs h).1
 fresh_cells off r done (Db n ∷ xs) counts h =
     let s = rest_stands r (Db n) xs h in
-    let first = free r r.at done counts (both (in_data r.group) (is_free r r.at) s.0).1 in
+    let first = free r r.at done counts (and_parts (in_data r.group) (is_free r r.at) s.0).1 in
     (first, fresh_cells off (after r (Db n)) (put_cell done (r.at, n)) xs (λ a. has_put done (r.at, n) a first ∙ ap (λ b. (r.at == a) || b) (counts a)) s.1)
 fresh_cells off r done (Dw (Num w) ∷ xs) counts h =
     let s = rest_stands r (Dw (Num w)) xs h in
-    let f = both (is_free r r.at) (is_free r (r.at + 1)) (both (in_data r.group) (is_free r r.at && is_free r (r.at + 1)) s.0).1 in
+    let f = and_parts (is_free r r.at) (is_free r (r.at + 1)) (and_parts (in_data r.group) (is_free r r.at && is_free r (r.at + 1)) s.0).1 in
     two_fresh r done (w % 256) (w / 256) (cells_from off (r.at + 2) xs) counts f.0 f.1 (λ more. fresh_cells off (after r (Dw (Num w))) (put_cell (put_cell done (r.at, w % 256)) (r.at + 1, w / 256)) xs more s.1)
 fresh_cells off r done (Dw (Offset l) ∷ xs) counts h =
     let s = rest_stands r (Dw (Offset l)) xs h in
-    let f = both (is_free r r.at) (is_free r (r.at + 1)) (both (in_data r.group) (is_free r r.at && is_free r (r.at + 1)) s.0).1 in
+    let f = and_parts (is_free r r.at) (is_free r (r.at + 1)) (and_parts (in_data r.group) (is_free r r.at && is_free r (r.at + 1)) s.0).1 in
     two_fresh r done (off l % 256) (off l / 256) (cells_from off (r.at + 2) xs) counts f.0 f.1 (λ more. fresh_cells off (after r (Dw (Offset l))) (put_cell (put_cell done (r.at, off l % 256)) (r.at + 1, off l / 256)) xs more s.1)
 fresh_cells off r done (Mark l ∷ xs) counts h = fresh_cells off r done xs counts (rest_stands r (Mark l) xs h).1
 fresh_cells off r done (Run i ∷ xs) counts h = fresh_cells off r done xs counts (rest_stands r (Run i) xs h).1

@@ -3,7 +3,7 @@
 use Rattle.std.specs.Prelude.{◌≡◌, ℕ, ◌%◌, List, [], ◌∷◌, replicate, Option, Err}
 use Rattle.i86.specs.declared.Instr86.{Instr86}
 use Rattle.i86.specs.Code.{Reads}
-use Rattle.i86.specs.Decode.{IsOnlyReader}
+use Rattle.i86.specs.Decode.{HasReader}
 use Rattle.dialogue.specs.declared.request.Reply.{Reply}
 use Rattle.lines86.specs.Image.{Image}
 use Rattle.host.specs.declared.HostFault.{HostFault}
@@ -49,7 +49,7 @@ module _ (c : Run86) (old : HostState) where
     pub text : List ℕ
     pub file : IsWhole old c.text text_limit text
     pub assembled : HasImage text image
-    pub reader : (fetch : ℕ → Option Instr86) × IsOnlyReader image.code fetch
+    pub reader : HasReader image.code
     pub given : IsInput old c.run.input input
 
   -- why there is nothing to run: the text or the input was not read, or the text has no image, or memory ran out

@@ -12,7 +12,8 @@ use Rattle.source80.specs.Source.{IsSource, SourceRule, OfLine, OfProgram}
 use Rattle.templates.specs.Plain.{plain}
 use Rattle.command_words.specs.Words.{Translate}
 use Rattle.xlt_core.specs.First.{IsFirst}
-use Rattle.xlt_core.specs.Same.{HasReader, Same}
+use Rattle.i86.specs.Decode.{HasReader}
+use Rattle.xlt_core.specs.Same.{Same}
 use Rattle.reports.specs.declared.stop.Stop.{Stop}
 use Rattle.reports.specs.Lines.{named_line, memory_line}
 use Rattle.reports.specs.Said.{SaysLine, SaysLast, IsDone, whole, failed, no_memory, Closes, said, unsaid}
@@ -25,7 +26,7 @@ use Rattle.translating.proofs.Verdicts.{SourceLaw, accepted_or_refused, refused_
 -- the law of programs of the first instructions
 pub record FirstLaw : Type 0 where
   pub assembles : (p : Program) → IsProgram p → IsFirst p → Assembles (plain p)
-  pub reader : (p : Program) → IsProgram p → IsFirst p → HasReader (image_of (plain p))
+  pub reader : (p : Program) → IsProgram p → IsFirst p → HasReader (image_of (plain p)).code
   pub same : (p : Program) → IsProgram p → IsFirst p → Same p (image_of (plain p))
 
 -- a count that rose before stays risen where it does not fall

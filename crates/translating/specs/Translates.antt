@@ -10,7 +10,8 @@ use Rattle.templates.specs.Plain.{plain, plain_statements}
 use Rattle.transfer.specs.Transfer.{IsLonger, IsBeforeOrPart, CutsLine}
 use Rattle.command_words.specs.Words.{Translate}
 use Rattle.xlt_core.specs.First.{IsFirst}
-use Rattle.xlt_core.specs.Same.{HasReader, Same}
+use Rattle.i86.specs.Decode.{HasReader}
+use Rattle.xlt_core.specs.Same.{Same}
 use Rattle.reports.specs.declared.stop.Stop.{Stop}
 use Rattle.reports.specs.declared.stop.Stop.TheVariants.{SourceLine, SourceProgram}
 use Rattle.reports.specs.Lines.{line_of, named_line, memory_line, translated_line}
@@ -60,7 +61,7 @@ module _ (c : Translate) (old : HostState) where
     pub record HasSame (p : Program) : Type 0 where
       pub image : Image
       pub assembled : IsImage (plain p) image
-      pub reader : HasReader image
+      pub reader : HasReader image.code
       pub same : Same p image
 
     -- a write of the text failed and nothing was said before; a line says what came of it

@@ -13,7 +13,8 @@ use Rattle.running.specs.Runs80 as source
 use Rattle.running.specs.Completes80 as source_completes
 use Rattle.running.specs.Runs86 as text
 use Rattle.running.specs.Completes86 as text_completes
-use Rattle.xlt_core.specs.Same.{HasReader, Same}
+use Rattle.i86.specs.Decode.{HasReader}
+use Rattle.xlt_core.specs.Same.{Same}
 
 -- the headline: the source's file, where the host tells it, is the source of a program; the output's file holds a text with an
 -- image, whose code is read in one way; and the image makes the same system calls as the program, in the same order, and ends
@@ -27,7 +28,7 @@ pub record Headline (c : Translate) (old new : HostState) : Type 0 where
   pub is_source : IsSource source c.top program
   pub written : Rewrites old new c.output text
   pub has_image : HasImage text image
-  pub reader : HasReader image
+  pub reader : HasReader image.code
   pub same : Same program image
 
 -- the statuses that are answered

@@ -14,7 +14,7 @@ use Rattle.i86.specs.declared.Reg16.{Reg16}
 use Rattle.i86.specs.declared.Instr86.{Instr86}
 use Rattle.i86.specs.declared.Instr86.TheVariants.{MovReg8, MovMem8, MovAlDirect, MovDirectAl, MovNum8, MovNum16, MovMemNum, MovReg16, MovDirect16, MovAxDs, MovSsAx, Alu, AluNum, OrClCl, Add16, Count8, Count16, Push, Pop, Xchg8, Xchg16, Rotate8, Rotate16, Not8, Daa, Sahf, Lahf, Cmc, Stc, Nop, Jcc as JccBy, JmpNear, JmpShort, JmpBx, CallNear, Ret, Int224}
 use Rattle.i86.specs.Enc86.{code8, code16, reg_of_stack, code_of_ptr, code_of_alu, code_of_count, code_of_rotate, code_of_jump, two, one, with_operand, word_then, enc86}
-use Rattle.i86.specs.Decode.{IsOnlyReader}
+use Rattle.i86.specs.Decode.{HasReader}
 use Rattle.i86.proofs.Tables.{code8_small, code16_small, ptr_small, count_small, rotate_small}
 use Rattle.i86.proofs.Readers.{one_reader}
 use Rattle.lines86.specs.declared.line.Label.{Label}
@@ -173,5 +173,5 @@ module _ (off : Label → ℕ) (words : (l : Label) → off l < 65536) where
       bytes-append (bytes_at off at x) (code_from off (at + size_of x) xs) (statement_bytes at x h.0) (code_bytes (at + size_of x) xs h.1)
 
 -- the code of statements that have written lines has one reader
-pub code_has_reader : (xs : List Stmt86) → HaveLines xs → sizes_of xs < 65536 → (fetch : ℕ → Option Instr86) × IsOnlyReader (code_of xs) fetch
+pub code_has_reader : (xs : List Stmt86) → HaveLines xs → sizes_of xs < 65536 → HasReader (code_of xs)
 code_has_reader xs lines small = one_reader (code_of xs) (all_bytes (code_of xs) (code_bytes (place_of xs) (place_below xs small) 0 xs lines))

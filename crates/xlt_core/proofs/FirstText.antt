@@ -19,7 +19,7 @@ use Rattle.text86.specs.Back.{AreWritten}
 use Rattle.text86.specs.Stream.{TextGives}
 use Rattle.text86.proofs.Back.{reads_back}
 use Rattle.xlt_core.specs.First.{IsFirstInstr, function, argument, system, finish, HoldsFirst, IsFirst}
-use Rattle.xlt_core.specs.Same.{HasReader}
+use Rattle.i86.specs.Decode.{HasReader}
 use Rattle.xlt_core.proofs.Assembling.{statements-numbered}
 use Rattle.xlt_core.proofs.CodeBytes.{HaveLines, have_lines-append, code_has_reader}
 use Rattle.xlt_core.proofs.FirstLayout.{first_assembles, top_high, without_data}
@@ -81,7 +81,7 @@ first_reads_back p is first =
     subst (λ q. TextGives (text_of (plain q)) (Ok (plain q))) (without_data p first)
     (reads p.instrs p.top is.instrs first.kinds (top_high p.top is.top) (subst (λ q. Assembles (plain q)) (sym (without_data p first)) (first_assembles p is first)))
 
-pub first_has_reader : (p : Program) → IsProgram p → IsFirst p → HasReader (image_of (plain p))
+pub first_has_reader : (p : Program) → IsProgram p → IsFirst p → HasReader (image_of (plain p)).code
 first_has_reader p is first =
     let xs = plain_statements p in
     let same : statements (plain p) ≡ xs = statements-numbered 1 xs in

@@ -6,7 +6,6 @@ use Rattle.dialogue.specs.declared.blocks.Block.{Block}
 use Rattle.dialogue.specs.declared.request.Reply.{Reply}
 use Rattle.i86.specs.declared.Instr86.{Instr86}
 use Rattle.i86.specs.Code.{Reads}
-use Rattle.i86.specs.Decode.{IsOnlyReader}
 use Rattle.lines86.specs.Image.{Image}
 use Rattle.machine.specs.Same.{SameDialogue}
 use Rattle.program80.specs.Program.{Program}
@@ -24,10 +23,6 @@ pub record IsBlock (b : Block) : Type 0 where
 pub record IsReply (y : Reply) : Type 0 where
   pub answer : y.answer < 0x10000
   pub writes : All IsBlock y.writes
-
--- something reads the image's code, and whatever does gives the same
-abbrev pub HasReader : Image → Type 0
-HasReader image = (fetch : ℕ → Option Instr86) × IsOnlyReader image.code fetch
 
 -- for every start page, fill of memory, start, list of choices and list of replies the two runs have the same dialogue;
 -- `fetch` is what stands at each place of the image's code: where the image has a reader, that is one

@@ -1,6 +1,6 @@
 use Rattle.std.proofs.Common.{◌≡◌, ℕ, sym, subst, Option}
 use Rattle.i86.specs.declared.Instr86.{Instr86}
-use Rattle.i86.specs.Decode.{IsOnlyReader}
+use Rattle.i86.specs.Decode.{HasReader}
 use Rattle.i86.specs.Decoder.{decoded}
 use Rattle.command_words.specs.ReadCommands.{run86_read}
 use Rattle.reports.specs.declared.stop.Stop.TheVariants.{OutOfMemory}
@@ -59,6 +59,6 @@ returns-clause-loaded g c =
       text = c.in_ok-text.text.items;
       file = first.read;
       assembled = subst (λ b. HasImage b image) c.as_slice.ensures.value c.in_ok-image.ensures.image;
-      reader = subst (λ k. (fetch : ℕ → Option Instr86) × IsOnlyReader k fetch) c.code.ensures (decoded c.code.result.now, c.decode_at.ensures.reader);
+      reader = subst HasReader c.code.ensures (decoded c.code.result.now, c.decode_at.ensures.reader);
       given = input_before old mid new first.only first.counted (option_copied c.args.command.now.run.input) c.in_ok-input.input.items second.read;
     }
