@@ -9,7 +9,7 @@ use Rattle.asm80_tokens.specs.declared.token.Token.{Token}
 use Rattle.asm80_tokens.specs.declared.token.Token.TheVariants.{Digits, Num, Here, Word, Register, Op, Not, Open, Close}
 use Rattle.asm80_tokens.specs.declared.fault.ParseFault.{ParseFault}
 use Rattle.asm80_tokens.specs.declared.fault.ParseFault.TheVariants as faults
-use Rattle.asm80_tokens.specs.Results.{Sure, Never, Gives, Stops}
+use Rattle.asm80_tokens.specs.Results.{Sure, Never, Gives, Stops, IsNotOf}
 use Rattle.asm80_tokens.specs.Grammar.{level_of, next_operator, IsLooser, Spells, Begins, Ends, EndsInside, alone, joined, digits, number, here, name, register, parens, tighter, minus, plus, inverse}
 use Rattle.asm80_tokens.proofs.Chain.{Extends, done, step, Chained, unrolled, ends_inside_all}
 
@@ -84,23 +84,24 @@ abbrev pub Operand : List Token → Tree → List Token → Type 0
 Operand ts = Sure (Begins 0 ts) (EndsInside 0)
 
 pub digits_read : (ts rest : List Token) (n : ℕ) → ts ≡ Digits n ∷ rest → Operand ts (Number n) rest
-digits_read ts rest n e = rw e (record { holds = digits; only = λ o r b h. digits_is b })
+digits_read ts rest n e = rw e (record { holds = digits; ended = tt; only = λ o r b h. digits_is b })
 
 pub number_read : (ts rest : List Token) (n : ℕ) → ts ≡ Num n ∷ rest → Operand ts (Number n) rest
-number_read ts rest n e = rw e (record { holds = number; only = λ o r b h. number_is b })
+number_read ts rest n e = rw e (record { holds = number; ended = tt; only = λ o r b h. number_is b })
 
 pub here_read : (ts rest : List Token) → ts ≡ Here ∷ rest → Operand ts Place rest
-here_read ts rest e = rw e (record { holds = here; only = λ o r b h. here_is b })
+here_read ts rest e = rw e (record { holds = here; ended = tt; only = λ o r b h. here_is b })
 
 pub name_read : (ts rest : List Token) (n : List ℕ) → ts ≡ Word n ∷ rest → Operand ts (Named n) rest
-name_read ts rest n e = rw e (record { holds = name; only = λ o r b h. name_is b })
+name_read ts rest n e = rw e (record { holds = name; ended = tt; only = λ o r b h. name_is b })
 
 pub register_read : (ts rest : List Token) (n : List ℕ) → ts ≡ Register n ∷ rest → Operand ts (Named n) rest
-register_read ts rest n e = rw e (record { holds = register; only = λ o r b h. register_is b })
+register_read ts rest n e = rw e (record { holds = register; ended = tt; only = λ o r b h. register_is b })
 
 pub parens_read : (ts after rest : List Token) (e : Tree) → after ≡ Close ∷ rest → Sure (Spells 5 ts) (Ends 5) e after → Operand (Open ∷ ts) e rest
 parens_read ts after rest e p s = record {
   holds = parens (rw p at s.holds);
+  ended = tt;
   only = λ o r b h. let f = s.only o (Close ∷ r) (parens_is b) tt in (f.0, cc (p, f.1));
 }
 
@@ -115,6 +116,7 @@ parens_never ts n = λ o r b h. n o (Close ∷ r) (parens_is b) tt
 pub minus_read : (ts rest r : List Token) (e : Tree) → ts ≡ Op Sub ∷ rest → Sure (Spells 1 rest) (Ends 1) e r → Sure (Begins 2 ts) (EndsInside 2) (Negated e) r
 minus_read ts rest r e p s = rw p (record {
   holds = minus s.holds;
+  ended = s.ended;
   only = λ o t b h. let m = minus_is b in let f = s.only m.0 t m.2 h in (cc (f.0, m.1), f.1);
 })
 
@@ -122,7 +124,7 @@ pub minus_never : (ts rest : List Token) → ts ≡ Op Sub ∷ rest → Never (S
 minus_never ts rest p n = rw p (λ o t b h. let m = minus_is b in n m.0 t m.2 h)
 
 pub plus_read : (ts rest r : List Token) (e : Tree) → ts ≡ Op Add ∷ rest → Sure (Spells 1 rest) (Ends 1) e r → Sure (Begins 2 ts) (EndsInside 2) e r
-plus_read ts rest r e p s = rw p (record { holds = plus s.holds; only = λ o t b h. s.only o t (plus_is b) h })
+plus_read ts rest r e p s = rw p (record { holds = plus s.holds; ended = s.ended; only = λ o t b h. s.only o t (plus_is b) h })
 
 pub plus_never : (ts rest : List Token) → ts ≡ Op Add ∷ rest → Never (Spells 1 rest) (Ends 1) → Never (Begins 2 ts) (EndsInside 2)
 plus_never ts rest p n = rw p (λ o t b h. n o t (plus_is b) h)
@@ -147,6 +149,7 @@ ends_three ts h = looser_three (next_operator ts) h
 pub inverse_read : (ts rest r : List Token) (e : Tree) → ts ≡ Not ∷ rest → Sure (Spells 3 rest) (Ends 3) e r → Sure (Begins 3 ts) (EndsInside 3) (Inverted e) r
 inverse_read ts rest r e p s = rw p (record {
   holds = inverse s.holds;
+  ended = ends_inside_all 3 r s.ended;
   only = λ o t b h. let m = inverse_is b in let f = s.only m.0 t m.2 (ends_three t h) in (ap Inverted f.0 ∙ m.1, f.1);
 })
 
@@ -159,6 +162,10 @@ ends_before : (n : ℕ) (ts : List Token) → n ≢ 0 → EndsInside n ts → En
 ends_before zero ts ne h = absurd (ne refl)
 ends_before (suc k) ts ne h = let e : suc k - 1 ≡ k = omega arith in rw e h
 
+ends_behind : (n : ℕ) (ts : List Token) → n ≢ 0 → Ends (n - 1) ts → EndsInside n ts
+ends_behind zero ts ne h = tt
+ends_behind (suc k) ts ne h = let e : suc k - 1 ≡ k = omega arith in rw e at h
+
 begins_tighter : (n : ℕ) (ts r : List Token) (e : Tree) → n ≢ 0 → Spells (n - 1) ts e r → Begins n ts e r
 begins_tighter zero ts r e ne s = absurd (ne refl)
 begins_tighter (suc k) ts r e ne s = let p : suc k - 1 ≡ k = omega arith in tighter (rw p at s)
@@ -166,6 +173,7 @@ begins_tighter (suc k) ts r e ne s = let p : suc k - 1 ≡ k = omega arith in ti
 pub tighter_read : (n : ℕ) (ts r : List Token) (e : Tree) → n ≢ 0 → n ≢ 2 → n ≢ 3 → Sure (Spells (n - 1) ts) (Ends (n - 1)) e r → Sure (Begins n ts) (EndsInside n) e r
 tighter_read n ts r e a b c s = record {
   holds = begins_tighter n ts r e a s.holds;
+  ended = ends_behind n r a s.ended;
   only = λ o t x h. s.only o t (tighter_is x a b c) (ends_before n t a h);
 }
 
@@ -179,7 +187,7 @@ unsigned_is (plus s) a = absurd (a refl)
 unsigned_is (tighter s) a = s
 
 pub unsigned_read : (ts r : List Token) (e : Tree) → Stops 2 ts → Sure (Spells 1 ts) (Ends 1) e r → Sure (Begins 2 ts) (EndsInside 2) e r
-unsigned_read ts r e a s = record { holds = tighter s.holds; only = λ o t x h. s.only o t (unsigned_is x a) h }
+unsigned_read ts r e a s = record { holds = tighter s.holds; ended = s.ended; only = λ o t x h. s.only o t (unsigned_is x a) h }
 
 pub unsigned_never : (ts : List Token) → Stops 2 ts → Never (Spells 1 ts) (Ends 1) → Never (Begins 2 ts) (EndsInside 2)
 unsigned_never ts a n = λ o t x h. n o t (unsigned_is x a) h
@@ -215,7 +223,7 @@ upright_is (inverse {ts = ts} s) a = absurd (a ts refl)
 upright_is (tighter s) a = s
 
 pub upright_read : (ts r : List Token) (e : Tree) → ((rest : List Token) → ts ≢ Not ∷ rest) → Sure (Spells 2 ts) (Ends 2) e r → Sure (Begins 3 ts) (EndsInside 3) e r
-upright_read ts r e a s = record { holds = tighter s.holds; only = λ o t x h. s.only o t (upright_is x a) h }
+upright_read ts r e a s = record { holds = tighter s.holds; ended = s.ended; only = λ o t x h. s.only o t (upright_is x a) h }
 
 pub upright_never : (ts : List Token) → ((rest : List Token) → ts ≢ Not ∷ rest) → Never (Spells 2 ts) (Ends 2) → Never (Begins 3 ts) (EndsInside 3)
 upright_never ts a n = λ o t x h. n o t (upright_is x a) h
@@ -237,6 +245,7 @@ no_zero Xor h = omega arith
 pub chain_starts : (n : ℕ) (ts rest : List Token) (a : Tree) → Sure (Begins n ts) (EndsInside n) a rest → Chained n ts a rest
 chain_starts n ts rest a s = record {
   so_far = alone s.holds;
+  ended = s.ended;
   only = λ e r x h.
       let u = unrolled x (ends_inside_all n r h) in
       let f = s.only u.first u.after u.begins u.ends in
@@ -266,18 +275,51 @@ joins (suc k) ts after more a b o x lv y = let q : suc k - 1 ≡ k = omega arith
 pub chain_goes_on : (n : ℕ) (ts rest after more : List Token) (a b : Tree) (o : Two) → Chained n ts a rest → rest ≡ Op o ∷ after → level_of o ≡ n → Sure (Spells (n - 1) after) (Ends (n - 1)) b more → Chained n ts (Binary o a b) more
 chain_goes_on n ts rest after more a b o c p lv s = record {
   so_far = joins n ts after more a b o (rw p at c.so_far) lv s.holds;
+  ended = ends_behind n more (λ z. no_zero o (lv ∙ z)) s.ended;
   only = λ e r x h. extends_on (rw p at (c.only e r x h)) lv h b more s;
 }
 
 pub chain_breaks : (n : ℕ) (ts rest after : List Token) (a : Tree) (o : Two) → Chained n ts a rest → rest ≡ Op o ∷ after → level_of o ≡ n → Never (Spells (n - 1) after) (Ends (n - 1)) → Never (Spells n ts) (Ends n)
 chain_breaks n ts rest after a o c p lv s = λ e r x h. extends_never (rw p at (c.only e r x h)) lv h s
 
+-- no operator has level 0
+positive : (o : Two) → 0 < level_of o
+positive Mul = omega arith
+positive Div = omega arith
+positive Mod = omega arith
+positive Shl = omega arith
+positive Shr = omega arith
+positive Add = omega arith
+positive Sub = omega arith
+positive And = omega arith
+positive Or = omega arith
+positive Xor = omega arith
+
+looser_zero : (o : Option Two) → IsNotOf 0 o → IsLooser 0 o
+looser_zero None st = tt
+looser_zero (Some o) st = positive o
+
+above_next : (k l : ℕ) → k < l → l ≢ suc k → suc k < l
+above_next k zero h st = absurd (omega arith)
+above_next zero (suc zero) h st = absurd (st refl)
+above_next zero (suc (suc l)) h st = omega arith
+above_next (suc k) (suc l) h st = let r = above_next k l (omega arith) (λ e. st (ap suc e)) in omega arith
+
+looser_next : (k : ℕ) (o : Option Two) → IsLooser k o → IsNotOf (suc k) o → IsLooser (suc k) o
+looser_next k None h st = tt
+looser_next k (Some o) h st = above_next k (level_of o) h st
+
+-- where no tighter operator and none of this level stands next, an expression of this level ends
+ends_stopped : (n : ℕ) (ts : List Token) → EndsInside n ts → Stops n ts → Ends n ts
+ends_stopped zero ts h st = looser_zero (next_operator ts) st
+ends_stopped (suc k) ts h st = looser_next k (next_operator ts) h st
+
 extends_ends : {n : ℕ} {a e : Tree} {ts r : List Token} → Extends n a ts e r → Stops n ts → (a ≡ e) × (ts ≡ r)
 extends_ends done st = (refl, refl)
 extends_ends (step p lv x en y) st = absurd (st lv)
 
 pub chain_ends : (n : ℕ) (ts rest : List Token) (a : Tree) → Chained n ts a rest → Stops n rest → Sure (Spells n ts) (Ends n) a rest
-chain_ends n ts rest a c st = record { holds = c.so_far; only = λ e r x h. extends_ends (c.only e r x h) st }
+chain_ends n ts rest a c st = record { holds = c.so_far; ended = ends_stopped n rest c.ended st; only = λ e r x h. extends_ends (c.only e r x h) st }
 
 -- ---- what is passed on
 

@@ -47,6 +47,7 @@ unrolled (joined {k = k} {mid = mid} {o = o} l lv r) h =
 -- what a loop over the operators of one level keeps
 pub record Chained (n : ℕ) (tokens : List Token) (left : Tree) (rest : List Token) : Type 0 where
   pub so_far : Spells n tokens left rest
+  pub ended : EndsInside n rest
   pub only : (e : Tree) (r : List Token) → Spells n tokens e r → Ends n r → Extends n left rest e r
 
 mutual

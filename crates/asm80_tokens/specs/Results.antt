@@ -41,9 +41,10 @@ BeginsWithLetter (b ∷ bytes) = (is_upper b || is_lower b) ≡ true
 
 -- ---- expressions
 
--- The rule holds of this tree and this rest, and of no other with a rest at which it may end.
+-- The rule holds of this tree and this rest, at which it may end, and of no other with a rest at which it may end.
 pub record Sure (rule : Tree → List Token → Type 0) (ends : List Token → Type 0) (e : Tree) (rest : List Token) : Type 0 where
   pub holds : rule e rest
+  pub ended : ends rest
   pub only : (other : Tree) (r : List Token) → rule other r → ends r → (e ≡ other) × (rest ≡ r)
 
 -- The rule holds of no tree with a rest at which it may end.

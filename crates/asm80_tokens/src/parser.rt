@@ -187,7 +187,7 @@ fn after_close(tokens: &[Token]) -> Option<&[Token]>
     }
 }
 
-/// The front of tokens, up to where an expression cannot go on, is one expression.
+/// The front of tokens, up to where an expression cannot go on, is at most one expression.
 pub fn expression_has_one_tree()
     ensures { (ts r s : List Token) (e f : Tree) → Spells 5 ts e r → Spells 5 ts f s → Ends 5 r → Ends 5 s → (e ≡ f) × (r ≡ s) }
 {}

@@ -86,7 +86,7 @@ fn sign_token(b: u8) -> Token
     }
 }
 
-/// A line has one list of tokens and one first fault.
+/// A line has at most one list of tokens and first fault.
 pub fn line_has_one_reading()
     ensures { (line : List ℕ) (ts us : List Token) (f g : Option LineRule) → Lexes line ts f → Lexes line us g → (ts ≡ us) × (f ≡ g) }
 {}

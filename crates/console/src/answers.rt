@@ -1,5 +1,5 @@
 // The console and its answers (CP/M 2.2 Operating System Manual, section 5.3, "BDOS functions").
-ghost use Rattle.std.specs.Prelude.{◌≡◌, ◌+◌, ◌<◌, [], ◌∷◌, length, IfOk, OnErr};
+ghost use Rattle.std.specs.Prelude.{◌≡◌, ◌≢◌, ◌+◌, ◌<◌, [], ◌∷◌, length, IfOk, OnErr};
 ghost use Rattle.dialogue.specs.Shape.{address_of};
 ghost use Rattle.dialogue.specs.Lawful.{first_byte, IsLawful};
 ghost use Rattle.console.specs.Console.{disk_selected, place_in};
@@ -50,13 +50,14 @@ impl Console {
     }
 
     /// The answer to a call. Only a reply takes input, so that after another answer or want of memory the call can be answered
-    /// anew. Function 0 ends a program and is not asked; it is answered `NoDrive`, as the functions of a disk are.
+    /// anew; only a line wants memory. Function 0 ends a program and is not asked; it is answered `NoDrive`, as the functions of a disk are.
     pub fn answer(&mut self, alloc: Global, request: &Request) -> Result<Answer, AllocError>
         requires { IsLawful request.now }
         ensures answer { IfOk result (λ a. ◌≡◌ {A = Answered} (record { answer = a; left = self.new }) (console_answer self.old request.now)) }
         ensures fits { IfOk result (λ a. FitsRequest request.now a) }
         ensures takes { IfOk result (λ a. TakesByReply a self.old self.new) }
         ensures memory { OnErr result (self.new ≡ self.old) }
+        ensures wanted { OnErr result ((request.now.shape.function ≡ 10) × (self.old ≢ [])) }
     {
         match request.shape.function {
             1 => Ok(self.read_byte(alloc)),
@@ -105,6 +106,7 @@ impl Console {
         ensures answer { IfOk result (λ a. ◌≡◌ {A = Answered} (record { answer = a; left = self.new }) (read_console_line (address_of request.now.shape.arg + 1) (first_byte request.now.blocks) self.old)) }
         ensures fits { IfOk result (λ a. FitsRequest request.now a) }
         ensures memory { OnErr result (self.new ≡ self.old) }
+        ensures wanted { OnErr result (self.old ≢ []) }
     {
         if self.left().is_empty() {
             return Ok(Answer::InputEnded);

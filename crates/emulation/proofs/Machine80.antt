@@ -47,6 +47,16 @@ module _ (p : Program) (s t : State80) (answered : Request → Reply → Course)
       by Ends h = let g = h.0 in cc
       by (Stops x) h = let g = h.0 in (cc, h.1)
 
+  -- a step that left the profile changed nothing
+  pub still80 : (rule : Rule) → IsStep (step80 p s) (DidLeave rule) s t → t ≡ s
+  still80 rule h = by (step80 p s) h
+    where
+      by : (a : Answer State80 Rule) → IsStep a (DidLeave rule) s t → t ≡ s
+      by (Ran u) h = let g = h.0 in cc
+      by (Asks e u) h = let g = h.0 in cc
+      by Ends h = let g = h.0 in cc
+      by (Stops x) h = h.1
+
   -- a step that asked changed nothing
   pub stayed80 : IsStep (step80 p s) Asked s t → t ≡ s
   stayed80 h = by (step80 p s) h

@@ -63,6 +63,7 @@ fn fault_of(error: &io::Error) -> HostFault
 fn some_taken(taken: io::Result<usize>) -> io::Result<usize>
     ensures some { IfOk result (λ k. (0 < k) × (taken ≡ Ok k)) }
     ensures kept { IfOk taken (λ k. 0 < k → result ≡ Ok k) }
+    ensures fault { IfErr taken (λ error. result ≡ Err error) }
     ensures none { taken ≡ Ok 0 → IsErrAnd result (λ error. error_kind error ≡ ErrorKind.WriteZero) }
 {
     match taken {

@@ -66,6 +66,13 @@ IsReady runs waits (Asks q) = waits q
 IsReady runs waits Ended = Unit {0}
 IsReady runs waits (HasStopped why) = Unit {0}
 
+-- a machine that stops is as before
+abbrev pub StopsInPlace : Course → Course → Turn → Type 0
+StopsInPlace before after Ran = Unit {0}
+StopsInPlace before after (Asks q) = Unit {0}
+StopsInPlace before after Ended = Unit {0}
+StopsInPlace before after (HasStopped why) = after ≡ before
+
 -- before more turns a run stands as it is
 abbrev pub Begins : Course → Type 0
 Begins course = (t : Past) (ys : List Reply) → course t ys 0 ≡ standing Going t.dialogue

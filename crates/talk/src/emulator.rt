@@ -35,7 +35,7 @@ pub trait Emulator {
     ghost use Rattle.dialogue.specs.declared.request.Request.{Request};
     ghost use Rattle.dialogue.specs.declared.request.Reply.{Reply};
     ghost use Rattle.talk.specs.Talk.{Seen, HasOneRun};
-    ghost use Rattle.talk.specs.Turns.{Past, nothing, IsTurn, AsksLawfully, IsReady, Begins};
+    ghost use Rattle.talk.specs.Turns.{Past, nothing, IsTurn, StopsInPlace, AsksLawfully, IsReady, Begins};
 
     // It may take a turn; it waits for the reply to a request.
     ghost runs: { Self → Type 0 };
@@ -52,6 +52,7 @@ pub trait Emulator {
     fn turn(&mut self, alloc: Global) -> Result<Turn, AllocError>
         requires { runs self.old }
         ensures turn { IfOk result (λ t. IsTurn (course self.old) (course self.new) (answered self.new) t) }
+        ensures still { IfOk result (λ t. StopsInPlace (course self.old) (course self.new) t) }
         ensures lawful { IfOk result (λ t. AsksLawfully t) }
         ensures ready { IfOk result (λ t. IsReady (runs self.new) (waits self.new) t) };
 

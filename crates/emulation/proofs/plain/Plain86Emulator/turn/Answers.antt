@@ -67,3 +67,24 @@ returns-in-OddCall-clause-turn c =
     let told = c.in-OddCall.ensures.told (decoded (code_of cpu)) c.requires.1 c.requires.0 in
     let at : s.ip ≡ c.ip.result = sym (c.ip.ensures ∙ ap (λ (x : Standing). x.state.ip) told.1) in
     subst (λ ip. IsTurn (course86_from (code_of cpu) choice s) (course86_from (code_of cpu) choice s) (λ q y. course86_from (code_of cpu) choice s) (Stopped (HasOdd ip f))) at (stopped86 (code_of cpu) choice s s (λ q y. course86_from (code_of cpu) choice s) (OddCall f) told.0)
+
+pub returns-in-NoInstruction-clause-still : goal.returns-in-NoInstruction-clause-still
+returns-in-NoInstruction-clause-still c =
+    let cpu = c.args.self.now.cpu in
+    let choice = c.args.self.now.choice in
+    let told = c.in-NoInstruction.ensures.told (decoded (code_of cpu)) c.requires.1 c.requires.0 in
+    ap (λ code. course86_from code choice (standing c.step.new.self).state) c.step.ensures.code ∙ ap (λ (x : Standing). course86_from (code_of cpu) choice x.state) told.1
+
+pub returns-in-StackSegment-clause-still : goal.returns-in-StackSegment-clause-still
+returns-in-StackSegment-clause-still c =
+    let cpu = c.args.self.now.cpu in
+    let choice = c.args.self.now.choice in
+    let told = c.in-StackSegment.ensures.told (decoded (code_of cpu)) c.requires.1 c.requires.0 in
+    ap (λ code. course86_from code choice (standing c.step.new.self).state) c.step.ensures.code ∙ ap (λ (x : Standing). course86_from (code_of cpu) choice x.state) told.1
+
+pub returns-in-OddCall-clause-still : goal.returns-in-OddCall-clause-still
+returns-in-OddCall-clause-still c =
+    let cpu = c.args.self.now.cpu in
+    let choice = c.args.self.now.choice in
+    let told = c.in-OddCall.ensures.told (decoded (code_of cpu)) c.requires.1 c.requires.0 in
+    ap (λ code. course86_from code choice (standing c.step.new.self).state) c.step.ensures.code ∙ ap (λ (x : Standing). course86_from (code_of cpu) choice x.state) told.1

@@ -1,8 +1,8 @@
-use Rattle.std.proofs.Common.{subst}
+use Rattle.std.proofs.Common.{subst, ap}
 use Rattle.cpu80.specs.State.{state_of}
 use Rattle.cpu80.specs.Machine.{IsAsked}
 use Rattle.emulation.specs.Courses.{course80_from}
-use Rattle.emulation.proofs.Machine80.{ended80, left80, stayed80, asked80}
+use Rattle.emulation.proofs.Machine80.{ended80, left80, stayed80, still80, asked80}
 use Rattle.emulation.proofs.tagged.Tagged80Emulator.turn.Goals as goal
 
 pub returns-in-Some-clause-turn : goal.returns-in-Some-clause-turn
@@ -24,3 +24,10 @@ returns-in-Left-clause-turn c =
     let p = c.args.self.now.program.now in
     let s = state_of c.args.self.now.cpu in
     left80 p s (state_of c.step.new.self) (λ q y. course80_from p s) c.in-Left.rule c.place.result c.in-Left.ensures.step c.place.ensures
+
+pub returns-in-Left-clause-still : goal.returns-in-Left-clause-still
+returns-in-Left-clause-still c =
+    let p = c.args.self.now.program.now in
+    let s = state_of c.args.self.now.cpu in
+    let t = state_of c.step.new.self in
+    ap (course80_from p) (still80 p s t (λ q y. course80_from p s) c.in-Left.rule c.in-Left.ensures.step)
