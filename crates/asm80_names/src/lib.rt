@@ -1,14 +1,12 @@
-// Names of a source with their meanings, the values of its expressions and operands, and sets of addresses.
+// Names of a source with their meanings, and the values of its expressions and operands.
 #![tactic(auto)]
 
-mod addresses;
 mod arithmetic;
 mod names;
 mod operand;
 mod scope;
 mod values;
 
-pub use addresses::AddressSet;
 pub use names::Names;
 pub use operand::{
     has_place_inside, is_no_value, operand_divides_by_zero, operand_has_unknown, operand_number,

@@ -1,6 +1,6 @@
 //! The names of a source.
 
-ghost use Rattle.std.specs.Prelude.{◌≡◌, ◌||◌, [], Some, None, MatchOption, OnOk, OnErr, not, filter, option_map};
+ghost use Rattle.std.specs.Prelude.{◌≡◌, ◌||◌, [], Some, None, false, MatchOption, OnOk, OnErr, not, filter, option_map};
 ghost use Rattle.source80.specs.declared.meaning.NameKind.{NameKind};
 ghost use Rattle.source80.specs.Names.{Name, named, clashes, overflows, defined, is_settable};
 ghost use Rattle.source80.specs.Walk.{meaning_in};
@@ -105,6 +105,7 @@ impl Names {
     ) -> Result<(), AllocError>
         ensures made { OnOk result (self.new ≡ defined self.old (record { text = name; kind = kind; meaning = meaning })) }
         ensures unchanged { OnErr result (self.new ≡ self.old) }
+        ensures wanted { OnErr result ((clashes self.old (record { text = name; kind = kind; meaning = meaning }) || overflows self.old (record { text = name; kind = kind; meaning = meaning })) ≡ false) }
     {
         if self.is_refused(&name, kind) {
             return Ok(());

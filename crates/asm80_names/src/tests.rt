@@ -1,4 +1,5 @@
 use super::*;
+use address_set::AddressSet;
 use asm80_tokens::{Arg, Bytes, Expr, Name80, ParseFault, expression, tokens_of};
 use source80::{Meaning, NameKind};
 use std::alloc::Global;
@@ -204,17 +205,6 @@ fn expressions_have_meanings(rt: HostRuntime) -> Result<(), Fail> {
         let e = read(rt.alloc(), text)?;
         assert!(rt; meaning_of(&scope, &e) == Meaning { value, is_place });
     }
-    Ok(())
-}
-
-#[test]
-fn sets_have_addresses(rt: HostRuntime) -> Result<(), Fail> {
-    let mut set = AddressSet::new(rt.alloc())?;
-    set.insert(0);
-    set.insert(0xFFFF);
-    set.insert(0);
-    assert!(rt; set.contains(0) && set.contains(0xFFFF));
-    assert!(rt; !set.contains(1) && !set.contains(0xFFFE));
     Ok(())
 }
 

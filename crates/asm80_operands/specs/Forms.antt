@@ -26,8 +26,9 @@ IsForm t o args (Data d) =
     × (d.cells.items ≡ data_by t args (Some o))
     × (d.computes ≡ list_any (computes t) (operands_by args (Some o)))
 
--- what is answered for operands: their form where they break no rule, else the first rule that they break
+-- what is answered for operands: their form where they break no rule, else the first rule that they break. Memory is wanted
+-- for data alone that breaks none
 abbrev pub GivesForm : Setting → Operation → List Operand → Result Form FormFault → Type 0
 GivesForm t o args (Ok f) = (rule_of_operands t.scope args (Some o) ≡ None) × IsForm t o args f
 GivesForm t o args (Err (Rule rule)) = rule_of_operands t.scope args (Some o) ≡ Some rule
-GivesForm t o args (Err Memory) = Unit {0}
+GivesForm t o args (Err Memory) = (rule_of_operands t.scope args (Some o) ≡ None) × (is_data_op (Some o) ≡ true)

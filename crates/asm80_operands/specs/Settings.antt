@@ -1,5 +1,5 @@
 -- What a setting stands for.
-use Rattle.asm80_names.specs.Addresses.{has_address}
+use Rattle.address_set.specs.Addresses.{has_address}
 use Rattle.asm80_names.specs.Scopes.{scope_of}
 use Rattle.asm80_operands.specs.declared.setting.Setting.{Setting}
 use Rattle.source80.specs.Items.{Setting as Seen}

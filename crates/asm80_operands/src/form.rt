@@ -1,5 +1,5 @@
 // What a statement's operands make.
-ghost use Rattle.std.specs.Prelude.{◌≡◌, Some, true, false, IfOk, map};
+ghost use Rattle.std.specs.Prelude.{◌≡◌, Some, true, false, IfOk, OnErr, map};
 ghost use Rattle.asm80_tokens.specs.Tree.{operand_of};
 ghost use Rattle.asm80_operands.specs.Forms.{IsForm, GivesForm};
 ghost use Rattle.asm80_operands.specs.Settings.{setting_of};
@@ -72,7 +72,8 @@ fn unbroken_form(
     operation: Operation,
     args: &[Arg],
 ) -> Result<Form, AllocError>
-    ensures { IfOk result (λ f. IsForm (setting_of setting.now) operation (map operand_of args.now) f) }
+    ensures form { IfOk result (λ f. IsForm (setting_of setting.now) operation (map operand_of args.now) f) }
+    ensures data { OnErr result (is_data_op (Some operation) ≡ true) }
 {
     match operation {
         Operation::Db => Ok(Form::Data(Data {

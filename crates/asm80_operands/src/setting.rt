@@ -4,7 +4,8 @@ ghost use Rattle.asm80_tokens.specs.Tree.{operand_of};
 ghost use Rattle.asm80_operands.specs.Settings.{setting_of};
 ghost use Rattle.source80.specs.Items.{value, byte, code_address};
 
-use asm80_names::{AddressSet, Scope, operand_number, operand_place};
+use address_set::AddressSet;
+use asm80_names::{Scope, operand_number, operand_place};
 use asm80_tokens::Arg;
 
 /// Where operands are evaluated: what they see, and the addresses at which instructions start.

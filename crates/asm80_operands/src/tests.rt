@@ -1,6 +1,7 @@
 // Operands with what they make, by the rules of the source language.
 use crate::*;
-use asm80_names::{AddressSet, Names, Scope};
+use address_set::AddressSet;
+use asm80_names::{Names, Scope};
 use asm80_tokens::{Arg, Bytes, Expr, Name80, expression, tokens_of};
 use cells::{Cell, Cond, Place};
 use i80::{Goal, Instr80, Op, Pair, Reg, Src, StackPair, Word};

@@ -9,10 +9,13 @@ use Rattle.asm80_tokens.specs.declared.fault.ReadFault.TheVariants.{Syntax, Memo
 use Rattle.asm80_tokens.specs.declared.stmt.Stmt80.{Stmt80}
 use Rattle.asm80_tokens.specs.Tree.{statement_of}
 use Rattle.asm80_text.specs.Line.{LineGives, late, long}
-use Rattle.asm80_text.specs.Held.{with_byte, Holds}
-use Rattle.asm80_text.specs.Stream.{IsPlain, Cut, IsStream, open_yet, closed, without_cr, last_line, complete, LinesGive, none_left, StreamGives}
+use Rattle.cut_lines.specs.Held.{with_byte, Holds}
+use Rattle.cut_lines.specs.Cut.{Cut, without_cr, last_line}
+use Rattle.asm80_text.specs.Stream.{IsPlain, IsStream, open_yet, closed, complete, LinesGive, none_left, StreamGives}
 use Rattle.asm80_text.specs.Reader.{Reader, After, rule_of_long, EndsLineBy, EndsLine, AddsBy, EndsStreamBy, EndsStream, Finishes}
-use Rattle.asm80_text.proofs.Grow.{cut_byte, cut_line, lines_map_push, length_map, reads_on, reads_fault, stands}
+use Rattle.cut_lines.proofs.Cuts.{cut_byte, cut_line, map_push}
+use Rattle.cut_lines.proofs.Holding.{holds_byte}
+use Rattle.asm80_text.proofs.Grow.{length_map, reads_on, reads_fault, stands}
 
 pub after_none : (reader : Reader) → reader.statements ≡ [] → reader.held ≡ Some [] → reader.number ≡ 0 → reader.is_closed ≡ false → reader.fault ≡ None → After [] reader
 after_none reader es held number open_now fault = record {
@@ -29,7 +32,7 @@ stream_closed : {stream rest : List ℕ} {raw : List (List ℕ)} {k : Bool} → 
 stream_closed (open_yet c) e b = absurd cc
 stream_closed (closed text more c p) e b = closed text (more ++ b ∷ []) c (ap (λ (t : List ℕ). t ++ b ∷ []) p ∙ append_assoc text (26 ∷ more) (b ∷ []))
 
-cut_of : {stream rest : List ℕ} {raw : List (List ℕ)} {k : Bool} → IsStream stream raw rest k → k ≡ false → Cut stream raw rest
+cut_of : {stream rest : List ℕ} {raw : List (List ℕ)} {k : Bool} → IsStream stream raw rest k → k ≡ false → Cut IsPlain stream raw rest
 cut_of (open_yet c) e = c
 cut_of (closed text more c p) e = absurd cc
 
@@ -58,13 +61,6 @@ holds_line line rest h = h
 holds_long : (rest : List ℕ) → Holds None rest → 256 < length rest
 holds_long rest h = h
 
-holds_byte : (o : Option (List ℕ)) (rest : List ℕ) (b : ℕ) → Holds o rest → Holds (with_byte o b) (rest ++ b ∷ [])
-holds_byte None rest b h = omega (arith, length-append rest (b ∷ []))
-holds_byte (Some bytes) rest b h = elim (cases_lt (length bytes) 256) [
-  | inl lt ↦ rw (lt-ltb (length bytes) 256 lt) (ap (λ (t : List ℕ). t ++ b ∷ []) h)
-  | inr le ↦ rw (le-ltb (length bytes) 256 le) (omega (arith, length-append rest (b ∷ []), ap length h))
-]
-
 long_line : (n : ℕ) (line : List ℕ) → 255 < length line → LineGives n line (Err (rule_of_long n))
 long_line n line h = elim (cases_lt 32768 n) [
   | inl lt ↦ rw (lt-ltb 32768 n lt) (late lt)
@@ -85,7 +81,7 @@ module _ (stream : List ℕ) (s : Reader) (fault : s.fault ≡ None) (open_now :
   is_open : h.is_closed ≡ false
   is_open = sym (h.closing fault) ∙ open_now
 
-  cut_now : Cut stream h.raw h.rest
+  cut_now : Cut IsPlain stream h.raw h.rest
   cut_now = cut_of h.cut is_open
 
   reads_now : LinesGive 1 (map without_cr h.raw) (map statement_of s.statements) s.fault
@@ -120,7 +116,7 @@ module _ (stream : List ℕ) (s : Reader) (fault : s.fault ≡ None) (open_now :
     rest = [];
     is_closed = false;
     cut = open_yet (cut_line stream h.raw h.rest cut_now);
-    lines = rw (fault, lines_map_push h.raw h.rest, map-append statement_of s.statements a.0) (reads_on reads_now fault (without_cr h.rest) (map statement_of a.0) (s.number + 1) next_number (rw (line_held line k) at a.1));
+    lines = rw (fault, map_push h.raw h.rest, map-append statement_of s.statements a.0) (reads_on reads_now fault (without_cr h.rest) (map statement_of a.0) (s.number + 1) next_number (rw (line_held line k) at a.1));
     closing = λ _. open_now;
     held = λ _ _. (refl, omega (arith, number_now, length-append h.raw (h.rest ∷ [])));
   })
@@ -130,7 +126,7 @@ module _ (stream : List ℕ) (s : Reader) (fault : s.fault ≡ None) (open_now :
     rest = [];
     is_closed = false;
     cut = open_yet (cut_line stream h.raw h.rest cut_now);
-    lines = rw (e, a.2, lines_map_push h.raw h.rest) (reads_fault reads_now fault (without_cr h.rest) r n (a.0 ∙ next_number) (rw (line_held line k) at a.1));
+    lines = rw (e, a.2, map_push h.raw h.rest) (reads_fault reads_now fault (without_cr h.rest) r n (a.0 ∙ next_number) (rw (line_held line k) at a.1));
     closing = λ x. absurd (no_fault n r (sym e ∙ x));
     held = λ x _. absurd (no_fault n r (sym e ∙ x));
   }
@@ -145,7 +141,7 @@ module _ (stream : List ℕ) (s : Reader) (fault : s.fault ≡ None) (open_now :
     rest = [];
     is_closed = false;
     cut = open_yet (cut_line stream h.raw h.rest cut_now);
-    lines = rw (a.0, a.1, lines_map_push h.raw h.rest) (reads_fault reads_now fault (without_cr h.rest) (rule_of_long (s.number + 1)) (s.number + 1) next_number (long_line (s.number + 1) (without_cr h.rest) (without_cr_long h.rest (long_now k))));
+    lines = rw (a.0, a.1, map_push h.raw h.rest) (reads_fault reads_now fault (without_cr h.rest) (rule_of_long (s.number + 1)) (s.number + 1) next_number (long_line (s.number + 1) (without_cr h.rest) (without_cr_long h.rest (long_now k))));
     closing = λ x. absurd (no_fault (s.number + 1) (rule_of_long (s.number + 1)) (sym a.0 ∙ x));
     held = λ x _. absurd (no_fault (s.number + 1) (rule_of_long (s.number + 1)) (sym a.0 ∙ x));
   }
@@ -215,7 +211,7 @@ record Grown (stream : List ℕ) (b : ℕ) (lines : List (List ℕ)) : Type 0 wh
 grown : {stream rest : List ℕ} {raw : List (List ℕ)} {k : Bool} → IsStream stream raw rest k → (b : ℕ) → Grown stream b (complete raw rest k)
 grown {rest = rest} {raw = raw} (closed text more c p) b = record { raw = raw; rest = rest; is_closed = true; cut = stream_closed (closed text more c p) refl b; more = []; same = sym (append-nil (complete raw rest true)) }
 grown {stream} {rest} {raw} (open_yet c) b = elim (cases_eq b 10) [
-  | inl e ↦ record { raw = raw ++ rest ∷ []; rest = []; is_closed = false; cut = rw e (open_yet (cut_line stream raw rest c)); more = without_cr rest ∷ []; same = lines_map_push raw rest }
+  | inl e ↦ record { raw = raw ++ rest ∷ []; rest = []; is_closed = false; cut = rw e (open_yet (cut_line stream raw rest c)); more = without_cr rest ∷ []; same = map_push raw rest }
   | inr ne ↦ elim (cases_eq b 26) [
     | inl f ↦ record { raw = raw; rest = rest; is_closed = true; cut = rw f (closed stream [] c refl); more = last_line rest; same = refl }
     | inr nf ↦ record { raw = raw; rest = rest ++ b ∷ []; is_closed = false; cut = open_yet (cut_byte stream raw rest b c (ne, nf)); more = []; same = sym (append-nil (map without_cr raw)) }

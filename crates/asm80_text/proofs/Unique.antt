@@ -1,5 +1,5 @@
 -- A stream has one outcome.
-use Rattle.std.proofs.Common.{◌≡◌, ◌≢◌, ℕ, List, [], ◌∷◌, ◌++◌, map, Bool, Option, Some, None, Result, Ok, Err, refl, sym, ap, ◌∙◌, append_assoc, arith, inl, inr, ◌⊎◌}
+use Rattle.std.proofs.Common.{◌≡◌, ◌≢◌, ℕ, List, [], ◌∷◌, ◌++◌, map, Bool, Option, Some, None, Result, Ok, Err, refl, sym, ap, ◌∙◌, arith, inl, inr, ◌⊎◌}
 use Rattle.std.specs.Global.{Vec}
 use Rattle.std.specs.List.{flat_map, AllByRecursion}
 use Rattle.asm80_tokens.specs.declared.fault.LineRule.{LineRule}
@@ -7,7 +7,9 @@ use Rattle.asm80_tokens.specs.declared.fault.ReadFault.{ReadFault}
 use Rattle.asm80_tokens.specs.declared.fault.ReadFault.TheVariants.{Syntax, Memory}
 use Rattle.asm80_tokens.specs.Tree.{Statement, statement_of}
 use Rattle.asm80_text.proofs.Once.{one_line}
-use Rattle.asm80_text.specs.Stream.{IsPlain, ended, Cut, IsStream, open_yet, closed, complete, LinesGive, none_left, next, fails, StreamGives, HoldsFault}
+use Rattle.cut_lines.specs.Cut.{Cut, ended}
+use Rattle.cut_lines.proofs.Cuts.{split_same, not_in, regroup, one_cut}
+use Rattle.asm80_text.specs.Stream.{IsPlain, IsStream, open_yet, closed, complete, LinesGive, none_left, next, fails, StreamGives, HoldsFault}
 use Rattle.asm80_tokens.specs.declared.stmt.Stmt80.{Stmt80}
 use Rattle.asm80_text.specs.Reader.{Reader, After, answer_of, Finishes, Agrees}
 
@@ -32,45 +34,9 @@ one_run (fails {n = n} {r = r} l) (fails {r = s} m) = (refl, ap (λ (k : LineRul
 
 -- ---- one cut
 
--- two texts with no byte c, each followed by c
-split_same : (c : ℕ) (a b x y : List ℕ) → AllByRecursion (λ k. k ≢ c) a → AllByRecursion (λ k. k ≢ c) b → a ++ c ∷ x ≡ b ++ c ∷ y → (a ≡ b) × (x ≡ y)
-split_same c [] [] x y p q e = (refl, cc)
-split_same c [] (k ∷ b) x y p q e = absurd (q.0 cc)
-split_same c (k ∷ a) [] x y p q e = absurd (p.0 cc)
-split_same c (k ∷ a) (l ∷ b) x y p q e =
-    let r = split_same c a b x y p.1 q.1 cc in
-    let h : k ≡ l = cc in
-    (ap (λ (n : ℕ). n ∷ a) h ∙ ap (λ (t : List ℕ). l ∷ t) r.0, r.1)
-
-not_in : (c : ℕ) (a b x : List ℕ) → AllByRecursion (λ k. k ≢ c) a → a ≡ b ++ c ∷ x → ⊥
-not_in c [] [] x p e = cc
-not_in c [] (k ∷ b) x p e = cc
-not_in c (k ∷ a) [] x p e = p.0 cc
-not_in c (k ∷ a) (l ∷ b) x p e = not_in c a b x p.1 cc
-
-no_ten : (a : List ℕ) → AllByRecursion IsPlain a → AllByRecursion (λ k. k ≢ 10) a
-no_ten [] h = tt
-no_ten (x ∷ a) h = (h.0.0, no_ten a h.1)
-
 no_end : (a : List ℕ) → AllByRecursion IsPlain a → AllByRecursion (λ k. k ≢ 26) a
 no_end [] h = tt
 no_end (x ∷ a) h = (h.0.1, no_end a h.1)
-
-regroup : (l : List ℕ) (raw : List (List ℕ)) (rest : List ℕ) → flat_map ended (l ∷ raw) ++ rest ≡ l ++ 10 ∷ (flat_map ended raw ++ rest)
-regroup l raw rest = append_assoc (ended l) (flat_map ended raw) rest ∙ append_assoc l (10 ∷ []) (flat_map ended raw ++ rest)
-
--- the lines of one text
-one_list : (raw sow : List (List ℕ)) (rest sest : List ℕ) → AllByRecursion (AllByRecursion IsPlain) raw → AllByRecursion (AllByRecursion IsPlain) sow → AllByRecursion IsPlain rest → AllByRecursion IsPlain sest → flat_map ended raw ++ rest ≡ flat_map ended sow ++ sest → (raw ≡ sow) × (rest ≡ sest)
-one_list [] [] rest sest p q r s e = (refl, e)
-one_list [] (l ∷ sow) rest sest p q r s e = absurd (not_in 10 rest l (flat_map ended sow ++ sest) (no_ten rest r) (e ∙ regroup l sow sest))
-one_list (k ∷ raw) [] rest sest p q r s e = absurd (not_in 10 sest k (flat_map ended raw ++ rest) (no_ten sest s) (sym e ∙ regroup k raw rest))
-one_list (k ∷ raw) (l ∷ sow) rest sest p q r s e =
-    let h = split_same 10 k l _ _ (no_ten k p.0) (no_ten l q.0) (sym (regroup k raw rest) ∙ e ∙ regroup l sow sest) in
-    let t = one_list raw sow rest sest p.1 q.1 r s h.1 in
-    (ap (λ (x : List ℕ). x ∷ raw) h.0 ∙ ap (λ (x : List (List ℕ)). l ∷ x) t.0, t.1)
-
-one_cut : (text : List ℕ) (raw sow : List (List ℕ)) (rest sest : List ℕ) → Cut text raw rest → Cut text sow sest → (raw ≡ sow) × (rest ≡ sest)
-one_cut text raw sow rest sest c d = one_list raw sow rest sest c.each d.each c.last d.last (sym c.whole ∙ d.whole)
 
 all_append : (a b : List ℕ) → AllByRecursion (λ k. k ≢ 26) a → AllByRecursion (λ k. k ≢ 26) b → AllByRecursion (λ k. k ≢ 26) (a ++ b)
 all_append [] b p q = q
@@ -80,7 +46,7 @@ text_open_list : (raw : List (List ℕ)) (rest : List ℕ) → AllByRecursion (A
 text_open_list [] rest p q = no_end rest q
 text_open_list (l ∷ raw) rest p q = rw (regroup l raw rest) (all_append l (10 ∷ (flat_map ended raw ++ rest)) (no_end l p.0) (λ e. omega (arith, e), text_open_list raw rest p.1 q))
 
-text_open : (text : List ℕ) (raw : List (List ℕ)) (rest : List ℕ) → Cut text raw rest → AllByRecursion (λ k. k ≢ 26) text
+text_open : (text : List ℕ) (raw : List (List ℕ)) (rest : List ℕ) → Cut IsPlain text raw rest → AllByRecursion (λ k. k ≢ 26) text
 text_open text raw rest c = rw c.whole (text_open_list raw rest c.each c.last)
 
 record SameCut (raw sow : List (List ℕ)) (rest sest : List ℕ) (k l : Bool) : Type 0 where
@@ -89,12 +55,12 @@ record SameCut (raw sow : List (List ℕ)) (rest sest : List ℕ) (k l : Bool) :
   ends : k ≡ l
 
 one_stream : {stream rest sest : List ℕ} {raw sow : List (List ℕ)} {k l : Bool} → IsStream stream raw rest k → IsStream stream sow sest l → SameCut raw sow rest sest k l
-one_stream {stream} {rest} {sest} {raw} {sow} (open_yet c) (open_yet d) = let h = one_cut stream raw sow rest sest c d in record { raws = h.0; rests = h.1; ends = refl }
+one_stream {stream} {rest} {sest} {raw} {sow} (open_yet c) (open_yet d) = let h = one_cut (λ b p. p.0) c d in record { raws = h.0; rests = h.1; ends = refl }
 one_stream {stream} {rest} {sest} {raw} {sow} (open_yet c) (closed text more d p) = absurd (not_in 26 stream text more (text_open stream raw rest c) p)
 one_stream {stream} {rest} {sest} {raw} {sow} (closed text more c p) (open_yet d) = absurd (not_in 26 stream text more (text_open stream sow sest d) p)
 one_stream {stream} {rest} {sest} {raw} {sow} (closed text more c p) (closed text' more' d q) =
     let t = split_same 26 text text' more more' (text_open text raw rest c) (text_open text' sow sest d) (sym p ∙ q) in
-    let h = one_cut text raw sow rest sest c (rw (← t.0) at d) in record { raws = h.0; rests = h.1; ends = refl }
+    let h = one_cut (λ b p. p.0) c (rw (← t.0) at d) in record { raws = h.0; rests = h.1; ends = refl }
 
 pub one_outcome_of : (stream : List ℕ) (raw sow : List (List ℕ)) (rest sest : List ℕ) (k l : Bool) (es fs : List Statement) (f g : Option ReadFault) → IsStream stream raw rest k → IsStream stream sow sest l → LinesGive 1 (complete raw rest k) es f → LinesGive 1 (complete sow sest l) fs g → (es ≡ fs) × (f ≡ g)
 one_outcome_of stream raw sow rest sest k l es fs f g a b x y = let s = one_stream a b in one_run x (rw (← s.raws, ← s.rests, ← s.ends) at y)

@@ -7,6 +7,5 @@ pub use Rattle.asm80_tokens.specs.Words
 pub mod Statement
 pub mod Line
 pub mod Stream
-pub mod Held
 pub mod Reader
 pub mod Results

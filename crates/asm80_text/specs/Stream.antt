@@ -1,38 +1,20 @@
 -- The lines of a stream of bytes, and what they give (CP/M 2.2 Operating System Manual, the assembler, "Program format").
-use Rattle.std.specs.Prelude.{◌≡◌, ◌≢◌, ℕ, suc, List, [], ◌∷◌, ◌++◌, Bool, true, false, Option, Some, None, Ok, Err, ◌==◌, ◌-◌, if◌then◌else◌, map, length, take, slice_index}
-use Rattle.std.specs.List.{flat_map, AllByRecursion}
+use Rattle.std.specs.Prelude.{◌≡◌, ◌≢◌, ℕ, suc, List, [], ◌∷◌, ◌++◌, Bool, true, false, Option, Some, None, Ok, Err, map}
 use Rattle.asm80_tokens.specs.declared.fault.LineRule.{LineRule}
 use Rattle.asm80_tokens.specs.declared.fault.ReadFault.{ReadFault}
 use Rattle.asm80_tokens.specs.declared.fault.ReadFault.TheVariants.{Syntax}
 use Rattle.asm80_tokens.specs.Tree.{Statement}
+use Rattle.cut_lines.specs.Cut.{Cut, without_cr, last_line}
 use Rattle.asm80_text.specs.Line.{LineGives}
 
 -- neither LF nor the byte 1AH
 abbrev pub IsPlain : ℕ → Type 0
 IsPlain b = (b ≢ 10) × (b ≢ 26)
 
-abbrev pub ended : List ℕ → List ℕ
-ended line = line ++ 10 ∷ []
-
--- a text is these lines, each ended by LF, and then a rest with no LF
-pub record Cut (text : List ℕ) (raw : List (List ℕ)) (rest : List ℕ) : Type 0 where
-  pub whole : text ≡ flat_map ended raw ++ rest
-  pub each : AllByRecursion (AllByRecursion IsPlain) raw
-  pub last : AllByRecursion IsPlain rest
-
 -- a stream is a text, which ends at the first byte 1AH, where there is one
 pub data IsStream : List ℕ → List (List ℕ) → List ℕ → Bool → Type 0 where
-  open_yet : {text rest : List ℕ} {raw : List (List ℕ)} → Cut text raw rest → IsStream text raw rest false
-  closed : {stream rest : List ℕ} {raw : List (List ℕ)} (text more : List ℕ) → Cut text raw rest → stream ≡ text ++ 26 ∷ more → IsStream stream raw rest true
-
--- a line that LF ended, without the CR at its end
-abbrev pub without_cr : List ℕ → List ℕ
-without_cr line = if slice_index line (length line - 1) == 13 then take (length line - 1) line else line
-
--- a last line with no LF, which counts unless it is empty
-abbrev pub last_line : List ℕ → List (List ℕ)
-last_line [] = []
-last_line (b ∷ bytes) = (b ∷ bytes) ∷ []
+  open_yet : {text rest : List ℕ} {raw : List (List ℕ)} → Cut IsPlain text raw rest → IsStream text raw rest false
+  closed : {stream rest : List ℕ} {raw : List (List ℕ)} (text more : List ℕ) → Cut IsPlain text raw rest → stream ≡ text ++ 26 ∷ more → IsStream stream raw rest true
 
 -- the lines that are complete: those that LF ended, and the last one once the byte 1AH has come
 abbrev pub complete : List (List ℕ) → List ℕ → Bool → List (List ℕ)

@@ -1,7 +1,6 @@
 // The line reader: a stream of bytes in any pieces, as statements.
 #![tactic(auto)]
 
-mod held;
 mod line;
 mod parse;
 mod parts;

@@ -154,7 +154,7 @@ fn past_colon(tokens: &[Token]) -> &[Token]
     }
 }
 
-/// The words of a statement have one tree: one label, one operation and one list of operands.
+/// The words of a statement have at most one tree: one label, one operation and one list of operands.
 pub fn statement_has_one_tree()
     ensures { (ts : List Token) (l m o p : Option (List ℕ)) (a b : List Operand) → IsStatement ts l o a → IsStatement ts m p b → (l ≡ m) × (o ≡ p) × (a ≡ b) }
 {}

@@ -1,18 +1,18 @@
 //! A reader of lines that is fed a stream in pieces.
 
-ghost use Rattle.std.specs.Prelude.{◌≡◌, ◌≢◌, ◌≤◌, ◌+◌, ◌∷◌, [], ◌++◌, ◌⊎◌, ℕ, List, Option, None, Some, Err, IfOk, IfSome, false};
+ghost use Rattle.std.specs.Prelude.{◌≡◌, ◌≢◌, ◌≤◌, ◌+◌, ◌∷◌, [], ◌++◌, ◌⊎◌, ℕ, List, Option, None, Some, Err, IfOk, IfSome, MatchResult, true, false};
 ghost use Rattle.asm80_tokens.specs.declared.fault.ReadFault.{ReadFault};
 ghost use Rattle.asm80_tokens.specs.declared.fault.ReadFault.TheVariants.{Memory, Syntax};
 ghost use Rattle.asm80_tokens.specs.declared.fault.LineRule.{LineRule};
 ghost use Rattle.asm80_tokens.specs.Tree.{Statement};
 ghost use Rattle.asm80_tokens.specs.WellFormed.{AreWellFormed};
-ghost use Rattle.asm80_text.specs.Held.{with_byte};
-ghost use Rattle.asm80_text.specs.Stream.{HoldsFault, StreamGives, without_cr};
+ghost use Rattle.cut_lines.specs.Held.{with_byte};
+ghost use Rattle.asm80_text.specs.Stream.{HoldsFault, StreamGives};
 ghost use Rattle.asm80_text.specs.Reader.{Adds, After, Agrees, EndsLine, EndsStream, Finishes, answer_of, rule_of_long};
 
-use crate::held::HeldLine;
 use crate::line::{MOST_LINES, read_line};
 use asm80_tokens::{LineRule, ReadFault, Stmt80};
+use cut_lines::{HeldLine, without_cr};
 use std::alloc::{AllocError, Global};
 use std::marker::Model;
 use std::mem;
@@ -76,8 +76,9 @@ impl Lines {
         ensures faulty { (stream : List ℕ) (n : ℕ) (rule : LineRule) → After stream self.old → result ≡ Err (Syntax n rule) → HoldsFault (stream ++ piece.now) n rule }
         ensures found { (stream : List ℕ) (n : ℕ) (rule : LineRule) → After stream self.old → HoldsFault (stream ++ piece.now) n rule → (result ≡ Err (Syntax n rule)) ⊎ (result ≡ Err Memory) }
 
-        // A fault stands.
+        // A fault stands, and behind the byte 1AH nothing is read.
         ensures stands { self.old.fault ≢ None → self.new ≡ self.old }
+        ensures closed { self.old.is_closed ≡ true → self.new ≡ self.old }
     {
         for b in piece {
             self.step(*b);
@@ -101,8 +102,9 @@ impl Lines {
         ensures outcome { (stream : List ℕ) → After stream self → Finishes stream result }
         ensures only { (stream : List ℕ) (statements : List Statement) (fault : Option ReadFault) → After stream self → StreamGives stream statements fault → Agrees result statements fault }
 
-        // A fault stands.
+        // A fault stands, and once the byte 1AH has come there is an answer.
         ensures stands { IfSome self.fault (λ fault. result ≡ Err fault) }
+        ensures closed { self.fault ≡ None → self.is_closed ≡ true → MatchResult result (λ v. v.items ≡ self.statements) (λ _. ⊥) }
 
         // The statements can be assembled.
         ensures well_formed { IfOk result (λ v. AreWellFormed v.items) }
@@ -119,6 +121,7 @@ impl Lines {
     fn step(&mut self, b: u8)
         ensures grows { self.new.fault ≢ Some Memory → (stream : List ℕ) → After stream self.old → After (stream ++ b ∷ []) self.new }
         ensures stands { self.old.fault ≢ None → self.new ≡ self.old }
+        ensures closed { self.old.is_closed ≡ true → self.new ≡ self.old }
     {
         if self.fault.is_some() {
             return;
@@ -129,7 +132,8 @@ impl Lines {
     // Takes the next byte of the stream.
     fn take(&mut self, b: u8)
         requires { self.old.fault ≡ None }
-        ensures { self.new.fault ≢ Some Memory → (stream : List ℕ) → After stream self.old → After (stream ++ b ∷ []) self.new }
+        ensures grows { self.new.fault ≢ Some Memory → (stream : List ℕ) → After stream self.old → After (stream ++ b ∷ []) self.new }
+        ensures closed { self.old.is_closed ≡ true → self.new ≡ self.old }
     {
         if self.is_closed {
             return;
@@ -215,17 +219,7 @@ impl Lines {
     }
 }
 
-// A line that LF ended, without the CR at its end.
-fn without_cr(line: &[u8]) -> &[u8]
-    ensures { result.now ≡ without_cr line.now }
-{
-    let Some((last, front)) = line.split_last() else {
-        return line;
-    };
-    if *last == b'\r' { front } else { line }
-}
-
-/// A stream has one outcome: its statements, or its first fault with the statements before it.
+/// A stream has at most one outcome: its statements, or its first fault with the statements before it.
 pub fn stream_has_one_outcome()
     ensures { (stream : List ℕ) (a b : List Statement) (f g : Option ReadFault) → StreamGives stream a f → StreamGives stream b g → (a ≡ b) × (f ≡ g) }
 {}

@@ -3,6 +3,7 @@
 use Rattle.std.proofs.Common.{◌≡◌, ℕ, ◌==◌, not, ◌&&◌, ◌||◌, Bool, true, false, cond, List, [], ◌∷◌, zip, Option, Some, None, is_some, is_none, IfSome, option_map, option_and_then, refl, arith}
 use Rattle.std.specs.List.{find, list_all}
 use Rattle.std.proofs.lemmas.Bool.Decides.{nat_tests}
+use Rattle.std.proofs.lemmas.Bool.{and_parts}
 use Rattle.i80.specs.declared.Src.{Src}
 use Rattle.i80.specs.declared.Src.TheVariants.{Reg, Mem}
 use Rattle.i80.specs.declared.Pair.{Pair as Pair80}
@@ -24,10 +25,6 @@ use Rattle.source80.specs.Walk.{size_of_kinds, size_by}
 use Rattle.source80.specs.Operands.{register_name, indirect_named, src_of, pair_of, indirect_of, stack_of, is_of_kind, are_of_kinds, is_memory, moves_memory, rule_of_values, rule_by_kinds, rule_of_operands}
 use Rattle.source80.specs.Items.{Setting, value, byte, word_of, move, is_instruction_op, instruction}
 use Rattle.source80.specs.Layout.{is_foreign_by}
-
-both : (x y : Bool) → (x && y) ≡ true → (x ≡ true) × (y ≡ true)
-both true y h = (refl, h)
-both false y h = absurd cc
 
 -- ---- what the second walk's rules say of the operands of an instruction
 
@@ -84,7 +81,7 @@ found_by false x later here h = h
 found_sound : (test : List ℕ × Operation → Bool) (xs : List (List ℕ × Operation)) → list_all named_sound xs ≡ true → FoundIsSound (find test xs)
 found_sound test [] h = tt
 found_sound test (x ∷ xs) h =
-    let parts = both (named_sound x) (list_all named_sound xs) h in
+    let parts = and_parts (named_sound x) (list_all named_sound xs) h in
     found_by (test x) x (find test xs) parts.0 (found_sound test xs parts.1)
 
 word_sound : (word : Option (List ℕ)) → IfSome (option_and_then operation_of word) (λ o. is_bare_sound o ≡ true)
@@ -106,14 +103,14 @@ none_given P (a ∷ args) h p = absurd cc
 one_given : (k : Kind) (P : List Operand → Type 0) (args : List Operand) → are_of_kinds (k ∷ []) args ≡ true → ((a : Operand) → is_of_kind k a ≡ true → P (a ∷ [])) → P args
 one_given k P [] h p = absurd cc
 one_given k P (a ∷ args) h p =
-    let parts = both (is_of_kind k a) (are_of_kinds [] args) h in none_given (λ rest. P (a ∷ rest)) args parts.1 (p a parts.0)
+    let parts = and_parts (is_of_kind k a) (are_of_kinds [] args) h in none_given (λ rest. P (a ∷ rest)) args parts.1 (p a parts.0)
 
 two_given :
     (k l : Kind) (P : List Operand → Type 0) (args : List Operand) → are_of_kinds (k ∷ l ∷ []) args ≡ true
     → ((a b : Operand) → is_of_kind k a ≡ true → is_of_kind l b ≡ true → P (a ∷ b ∷ [])) → P args
 two_given k l P [] h p = absurd cc
 two_given k l P (a ∷ args) h p =
-    let parts = both (is_of_kind k a) (are_of_kinds (l ∷ []) args) h in
+    let parts = and_parts (is_of_kind k a) (are_of_kinds (l ∷ []) args) h in
     one_given l (λ rest. P (a ∷ rest)) args parts.1 (λ b of_l. p a b parts.0 of_l)
 
 -- ---- the instruction
@@ -169,7 +166,7 @@ restart_made false = (refl, tt)
 
 bare_good : (i : Instr80) → (is_well_formed i && (length80 i == 1)) ≡ true → IsGood 1 i
 bare_good i h =
-    let parts = both (is_well_formed i) (length80 i == 1) h in
+    let parts = and_parts (is_well_formed i) (length80 i == 1) h in
     let test : (length80 i == 1) ≡ true = parts.1 in
     (parts.0, grind (arith, nat_tests))
 

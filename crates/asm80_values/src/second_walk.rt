@@ -1,6 +1,6 @@
 // The second walk: the operands of instructions, DB and DW.
 ghost use Rattle.std.specs.Prelude.{◌≡◌, ◌||◌, ℕ, List, option_to_list, map, Some, OnOk, IfOk, MatchResult};
-ghost use Rattle.asm80_names.specs.Addresses.{has_address, is_among, StandsFor};
+ghost use Rattle.address_set.specs.Addresses.{has_address, is_among, StandsFor};
 ghost use Rattle.asm80_tokens.specs.declared.stmt.Stmt80.{Stmt80};
 ghost use Rattle.asm80_tokens.specs.Tree.{Statement, operand_of, statement_of};
 ghost use Rattle.asm80_operands.specs.Forms.{IsForm};
@@ -10,7 +10,8 @@ ghost use Rattle.source80.specs.Items.{Setting as Seen, address, is_instruction_
 ghost use Rattle.asm80_values.specs.Second.{taken_rows, start_of, seen_in, names_set, fault_on, IsItemOf, GivesItem, AreItemsOf, AreRefused};
 
 use crate::item::Item;
-use asm80_names::{AddressSet, Names, Scope};
+use address_set::AddressSet;
+use asm80_names::{Names, Scope};
 use asm80_operands::{Form, FormFault, Setting, form_of, kinds_of};
 use asm80_tokens::{Arg, Stmt80};
 use asm80_walk::{AsmFault, Taken, Walked, size_of};

@@ -1,5 +1,5 @@
--- Flags of the addresses that are found so far.
-use Rattle.std.proofs.Common.{◌≡◌, ℕ, ◌==◌, ◌+◌, ◌<◌, ◌||◌, Bool, false, List, [], ◌∷◌, length, get_or, take, Option, Some, None, refl, ap, ◌∙◌}
+-- The addresses that are found so far.
+use Rattle.std.proofs.Common.{◌≡◌, ℕ, ◌==◌, ◌+◌, ◌<◌, ◌||◌, Bool, true, false, List, [], ◌∷◌, length, get_or, take, Option, Some, None, refl, ap, ◌∙◌}
 use Rattle.std.specs.List.{list_any, filter_map, cons_option}
 use Rattle.std.specs.Option.{option_to_list}
 use Rattle.std.proofs.Math.Bool.{or_assoc}
@@ -14,7 +14,14 @@ cons_option-one : {X : Type 0} (o : Option X) → cons_option o [] ≡ option_to
 cons_option-one None = refl
 cons_option-one (Some x) = refl
 
--- the flag of an address: one item more
+-- whether an address is among them: one address more
+pub found_one : (here old : Bool) → (here || old) ≡ (old || (here || false))
+found_one true true = refl
+found_one true false = refl
+found_one false true = refl
+found_one false false = refl
+
+-- one item more
 pub found_more :
     {X : Type 0} (f : X → Option ℕ) (xs : List X) (i : ℕ) (d : X) (o : Option ℕ) (a : ℕ) (initial old new : Bool) → i < length xs → o ≡ f (get_or xs i d)
     → new ≡ (old || list_any (λ b. b == a) (option_to_list o))
@@ -23,7 +30,7 @@ pub found_more :
 found_more f xs i d o a initial old new lt item step before =
     rw (take_more xs i d lt, filter_map-append f (take i xs) (get_or xs i d ∷ []), list_any-append (λ b. b == a), cons_option-one (f (get_or xs i d)), ← item, ← or_assoc initial, ← before) step
 
--- the flag of an address after both passes
+-- after both passes
 pub found_all :
     (instrs : List Placed) (cells : List (ℕ × Cell)) (a : ℕ) (initial middle new : Bool) → initial ≡ false
     → middle ≡ (initial || list_any (λ b. b == a) (filter_map place_placed instrs))

@@ -1,9 +1,10 @@
 // The places that are taken.
-ghost use Rattle.std.specs.Prelude.{◌≡◌, ◌==◌, ◌≤◌, ◌||◌, ℕ, false, length, filter, filter_map, get_or, option_to_list, IfOk};
-ghost use Rattle.std.specs.List.{list_any};
+ghost use Rattle.std.specs.Prelude.{◌≡◌, ◌||◌, ℕ, filter, filter_map, option_to_list, IfOk};
+ghost use Rattle.address_set.specs.Addresses.{has_address, is_among};
 ghost use Rattle.program80.specs.Taken.{if_calls, if_code, place_placed, place_in_cell, is_taken};
 
 use crate::program::Placed;
+use address_set::AddressSet;
 use cells::{Cell, Place};
 use i80::{Goal, Instr80, Word};
 use std::alloc::{AllocError, Global};
@@ -48,59 +49,40 @@ fn place_in_cell(cell: &(u16, Cell)) -> Option<u16>
     }
 }
 
-fn clear_flags(alloc: Global, count: usize) -> Result<Vec<bool>, AllocError>
-    ensures count { IfOk result (λ v. length v.items ≡ count) }
-    ensures clear { IfOk result (λ v. (a : ℕ) → get_or v.items a false ≡ false) }
-{
-    Vec::from_elem(alloc, false, count)
-}
-
-// Sets the flag of an address.
-fn mark(flags: &mut Vec<bool>, place: Option<u16>)
-    requires { 65536 ≤ length flags.old.items }
-    ensures count { length flags.new.items ≡ length flags.old.items }
-    ensures marked { (a : ℕ) → get_or flags.new.items a false ≡ (get_or flags.old.items a false || list_any (λ b. b == a) (option_to_list place)) }
+// Adds an address.
+fn mark(set: &mut AddressSet, place: Option<u16>)
+    ensures { (a : ℕ) → has_address set.new a ≡ (has_address set.old a || is_among (option_to_list place) a) }
 {
     if let Some(at) = place {
-        flags[usize::from(at)] = true;
+        set.insert(at);
     }
 }
 
-// Sets the flags of the places that instructions take.
-fn mark_placed(flags: &mut Vec<bool>, instrs: &[Placed])
-    requires { 65536 ≤ length flags.old.items }
-    ensures count { length flags.new.items ≡ length flags.old.items }
-    ensures marked { (a : ℕ) → get_or flags.new.items a false ≡ (get_or flags.old.items a false || list_any (λ b. b == a) (filter_map place_placed instrs.now)) }
+// Adds the places that instructions take.
+fn mark_placed(set: &mut AddressSet, instrs: &[Placed])
+    ensures { (a : ℕ) → has_address set.new a ≡ (has_address set.old a || is_among (filter_map place_placed instrs.now) a) }
 {
     for placed in instrs {
-        mark(flags, place_placed(placed));
+        mark(set, place_placed(placed));
     }
 }
 
-// Sets the flags of the places whose code addresses are in data cells.
-fn mark_in_cells(flags: &mut Vec<bool>, cells: &[(u16, Cell)])
-    requires { 65536 ≤ length flags.old.items }
-    ensures count { length flags.new.items ≡ length flags.old.items }
-    ensures marked { (a : ℕ) → get_or flags.new.items a false ≡ (get_or flags.old.items a false || list_any (λ b. b == a) (filter_map place_in_cell cells.now)) }
+// Adds the places whose code addresses are in data cells.
+fn mark_in_cells(set: &mut AddressSet, cells: &[(u16, Cell)])
+    ensures { (a : ℕ) → has_address set.new a ≡ (has_address set.old a || is_among (filter_map place_in_cell cells.now) a) }
 {
     for cell in cells {
-        mark(flags, place_in_cell(cell));
+        mark(set, place_in_cell(cell));
     }
 }
 
-fn is_set(flags: &[bool], at: u16) -> bool
-    ensures { result ≡ get_or flags.now at false }
-{
-    flags.get(usize::from(at)).copied().unwrap_or(false)
-}
-
-// Those of some addresses whose flags are set.
-fn marked(alloc: Global, flags: &[bool], addresses: &[u16]) -> Result<Vec<u16>, AllocError>
-    ensures { IfOk result (λ v. v.items ≡ filter (λ a. get_or flags.now a false) addresses.now) }
+// Those of some addresses that are in a set.
+fn marked(alloc: Global, set: &AddressSet, addresses: &[u16]) -> Result<Vec<u16>, AllocError>
+    ensures { IfOk result (λ v. v.items ≡ filter (has_address set.now) addresses.now) }
 {
     addresses
         .iter()
-        .filter(|address| is_set(flags, **address))
+        .filter(|address| set.contains(**address))
         .copied()
         .collect(alloc)
 }
@@ -114,8 +96,8 @@ pub fn taken_of(
 ) -> Result<Vec<u16>, AllocError>
     ensures { IfOk result (λ v. v.items ≡ filter (is_taken instrs.now cells.now) starts.now) }
 {
-    let mut flags = clear_flags(alloc, 65_536)?;
-    mark_placed(&mut flags, instrs);
-    mark_in_cells(&mut flags, cells);
-    marked(alloc, &flags, starts)
+    let mut set = AddressSet::new(alloc)?;
+    mark_placed(&mut set, instrs);
+    mark_in_cells(&mut set, cells);
+    marked(alloc, &set, starts)
 }

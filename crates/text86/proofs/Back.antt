@@ -8,7 +8,8 @@ use Rattle.lines86.specs.declared.line.Stmt86.{Stmt86}
 use Rattle.lines86.specs.Image.{statements}
 use Rattle.lines86.specs.Order.{Reading, after, at_start, in_order, is_end, is_empty, may_stand}
 use Rattle.lines86.specs.Written.{line_of, text_of}
-use Rattle.text86.specs.Stream.{IsNotLf, ended, without_cr, numbered, are_in_order, has_end, Adds, Ended, LinesGive, next, ends, TextGives}
+use Rattle.cut_lines.specs.Cut.{ended, without_cr}
+use Rattle.text86.specs.Stream.{IsNotLf, numbered, are_in_order, has_end, Adds, Ended, LinesGive, next, ends, TextGives}
 use Rattle.text86.specs.Back.{AreWritten}
 use Rattle.text_lines86.specs.Line.{LineGives}
 use Rattle.text_lines86.specs.ReadBack.{has_line}

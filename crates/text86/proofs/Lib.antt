@@ -1,6 +1,5 @@
 pub mod Orders
 pub mod Listings
-pub mod Cuts
 pub mod Lines
 pub mod Steps
 pub mod Whole

@@ -1,9 +1,8 @@
 -- Statements in order, and one more.
-use Rattle.std.proofs.Common.{◌≡◌, ℕ, ◌+◌, ◌<◌, ◌==◌, ◌||◌, ◌&&◌, Bool, true, false, not, List, [], ◌∷◌, ◌++◌, refl, sym, ap, ◌∙◌, arith, slice_index_or, min}
-use Rattle.std.proofs.lemmas.List.{get_or-replicate}
+use Rattle.std.proofs.Common.{◌≡◌, ℕ, ◌+◌, ◌==◌, ◌||◌, ◌&&◌, Bool, true, false, not, List, [], ◌∷◌, ◌++◌, refl, sym, ap, ◌∙◌, arith, min}
 use Rattle.std.proofs.lemmas.List.Folds.{list_any-append}
-use Rattle.std.proofs.Math.ListN.{replicate}
 use Rattle.std.specs.List.{list_any}
+use Rattle.address_set.specs.Addresses.{has_address}
 use Rattle.lines86.specs.declared.line.Stmt86.{Stmt86}
 use Rattle.lines86.specs.Order.{Reading, after, at_start, in_order, is_end, is_empty, may_stand}
 use Rattle.text86.specs.declared.order.Order.{Order}
@@ -78,12 +77,9 @@ two_cells order r h = record {
   filled = λ a lt. h.filled a lt ∙ swapped (r.at + 1 == a) (r.at == a) (list_any (λ (b : ℕ). b == a) r.filled);
 }
 
-pub at_first : (order : Order) → order.group ≡ Neither → order.code_came ≡ false → order.data_came ≡ false → order.at ≡ 0 → order.is_ended ≡ false → ((a : ℕ) → a < 0x10000 → slice_index_or order.filled.items a true ≡ false) → IsAfter order []
+pub at_first : (order : Order) → order.group ≡ Neither → order.code_came ≡ false → order.data_came ≡ false → order.at ≡ 0 → order.is_ended ≡ false → ((a : ℕ) → has_address order.filled a ≡ false) → IsAfter order []
 at_first order g c d a e f = record {
   in_order = refl;
-  place = record { group = rw g refl; code_came = c; data_came = d; at = a; filled = f };
+  place = record { group = rw g refl; code_came = c; data_came = d; at = a; filled = λ b lt. f b };
   ended = e;
 }
-
-pub none_filled : (n : ℕ) (cells : List Bool) → cells ≡ replicate n false → (a : ℕ) → a < n → slice_index_or cells a true ≡ false
-none_filled n cells e a lt = rw e (get_or-replicate n a false true lt)

@@ -2,15 +2,17 @@
 use Rattle.std.proofs.Common.{◌≡◌, ◌≢◌, ℕ, ◌<◌, ◌+◌, ◌||◌, List, [], ◌∷◌, ◌++◌, take, length, map, Bool, true, false, Option, Some, None, refl, sym, ap, subst, ◌∙◌, append_assoc, arith, inl, inr, ◌⊎◌}
 use Rattle.std.specs.Prelude.{is_some}
 use Rattle.std.proofs.Math.ListN.{get_or}
-use Rattle.std.proofs.lemmas.Bool.{cases_eq, cases_lt, lt-ltb, le-ltb}
+use Rattle.std.proofs.lemmas.Bool.{cases_eq}
 use Rattle.std.proofs.lemmas.List.{take_more, length-map, append-nil, length-append}
 use Rattle.lines86.specs.declared.line.Line86.{Line86}
 use Rattle.text86.specs.declared.fault.TextFault.{TextFault}
 use Rattle.text86.specs.declared.fault.TextFault.TheVariants.{Line, Memory}
-use Rattle.text86.specs.Held.{with_byte, Holds}
-use Rattle.text86.specs.Stream.{Cut, without_cr, has_end, Ending, Open, Ended, Broken, LinesGive, none_left, next, ends, breaks}
+use Rattle.cut_lines.specs.Held.{with_byte, Holds}
+use Rattle.text86.specs.Stream.{IsNotLf, has_end, Ending, Open, Ended, Broken, LinesGive, none_left, next, ends, breaks}
 use Rattle.text86.specs.Reader.{Reader, IsBehind, IsOf, After, ReadsBy, Reads}
-use Rattle.text86.proofs.Cuts.{cut_byte, cut_line, map_push}
+use Rattle.cut_lines.specs.Cut.{Cut, without_cr}
+use Rattle.cut_lines.proofs.Holding.{holds_byte}
+use Rattle.cut_lines.proofs.Cuts.{cut_byte, cut_line, map_push}
 use Rattle.text86.proofs.Lines.{true_false, open_not_ended, reads_on, stands, open_without_end, ended_with_end}
 
 pub after_none : (reader : Reader) → reader.lines ≡ [] → reader.number ≡ 0 → reader.held ≡ Some [] → reader.fault ≡ None → After [] reader
@@ -37,26 +39,19 @@ no_fault f e = cc
 pub record Opened (stream : List ℕ) (s : Reader) : Type 0 where
   pub raw : List (List ℕ)
   pub rest : List ℕ
-  pub cut : Cut stream raw rest
+  pub cut : Cut IsNotLf stream raw rest
   pub lines : LinesGive 1 [] (map without_cr raw) s.lines Open
   pub fault : s.fault ≡ None
   pub number : s.number ≡ length raw
   pub held : Holds s.held rest
 
-opened_by : (stream : List ℕ) (s : Reader) (raw : List (List ℕ)) (rest : List ℕ) (xs : List Line86) (e : Ending) → Cut stream raw rest → LinesGive 1 [] (map without_cr raw) xs e → IsBehind s raw rest xs e → s.fault ≡ None → has_end s.lines ≡ false → Opened stream s
+opened_by : (stream : List ℕ) (s : Reader) (raw : List (List ℕ)) (rest : List ℕ) (xs : List Line86) (e : Ending) → Cut IsNotLf stream raw rest → LinesGive 1 [] (map without_cr raw) xs e → IsBehind s raw rest xs e → s.fault ≡ None → has_end s.lines ≡ false → Opened stream s
 opened_by stream s raw rest xs Open c l b f o = record { raw = raw; rest = rest; cut = c; lines = rw b.1 l; fault = f; number = b.2; held = b.3 }
 opened_by stream s raw rest xs Ended c l b f o = absurd (true_false (has_end s.lines) (rw b.1 (ended_with_end l refl)) o)
 opened_by stream s raw rest xs (Broken n rule) c l b f o = absurd (no_fault (Line n rule) (sym b ∙ f))
 
 pub opened : (stream : List ℕ) (s : Reader) → s.fault ≡ None → has_end s.lines ≡ false → After stream s → Opened stream s
 opened stream s f o h = opened_by stream s h.raw h.rest h.found h.ending h.cut h.lines h.behind f o
-
-holds_byte : (o : Option (List ℕ)) (rest : List ℕ) (b : ℕ) → Holds o rest → Holds (with_byte o b) (rest ++ b ∷ [])
-holds_byte None rest b h = omega (arith, length-append rest (b ∷ []))
-holds_byte (Some bytes) rest b h = elim (cases_lt (length bytes) 256) [
-  | inl lt ↦ rw (lt-ltb (length bytes) 256 lt) (ap (λ (t : List ℕ). t ++ b ∷ []) h)
-  | inr le ↦ rw (le-ltb (length bytes) 256 le) (omega (arith, length-append rest (b ∷ []), ap length h))
-]
 
 pub after_byte : (stream : List ℕ) (s : Reader) (b : ℕ) (new : Reader) → Opened stream s → b ≢ 10 → new ≡ record s { held = with_byte s.held b } → After (stream ++ b ∷ []) new
 after_byte stream s b new o ne e = rw e (record {
@@ -129,11 +124,11 @@ still_behind s raw sow rest sest xs (Broken n rule) ne b = b
 record Grown (stream : List ℕ) (b : ℕ) (lines : List (List ℕ)) : Type 0 where
   raw : List (List ℕ)
   rest : List ℕ
-  cut : Cut (stream ++ b ∷ []) raw rest
+  cut : Cut IsNotLf (stream ++ b ∷ []) raw rest
   more : List (List ℕ)
   same : map without_cr raw ≡ lines ++ more
 
-grown : (stream : List ℕ) (raw : List (List ℕ)) (rest : List ℕ) → Cut stream raw rest → (b : ℕ) → Grown stream b (map without_cr raw)
+grown : (stream : List ℕ) (raw : List (List ℕ)) (rest : List ℕ) → Cut IsNotLf stream raw rest → (b : ℕ) → Grown stream b (map without_cr raw)
 grown stream raw rest c b = elim (cases_eq b 10) [
   | inl e ↦ record { raw = raw ++ rest ∷ []; rest = []; cut = rw e (cut_line stream raw rest c); more = without_cr rest ∷ []; same = map_push raw rest }
   | inr ne ↦ record { raw = raw; rest = rest ++ b ∷ []; cut = cut_byte stream raw rest b c ne; more = []; same = sym (append-nil (map without_cr raw)) }

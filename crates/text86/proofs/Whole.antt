@@ -8,9 +8,10 @@ use Rattle.lines86.specs.declared.line.TextRule.{TextRule}
 use Rattle.lines86.specs.declared.line.TextRule.TheVariants.{M6}
 use Rattle.text86.specs.declared.fault.TextFault.{TextFault}
 use Rattle.text86.specs.declared.fault.TextFault.TheVariants.{Line, Memory}
-use Rattle.text86.specs.Stream.{Cut, without_cr, last_line, has_end, Ending, Open, Ended, Broken, LinesGive, outcome_of, TextGives, HoldsFault}
+use Rattle.cut_lines.specs.Cut.{Cut, without_cr, last_line}
+use Rattle.text86.specs.Stream.{IsNotLf, has_end, Ending, Open, Ended, Broken, LinesGive, outcome_of, TextGives, HoldsFault}
 use Rattle.text86.specs.Reader.{Reader, IsBehind, IsOf, After, AfterAll, answer_of, Finishes, Agrees, ReadsRest}
-use Rattle.text86.proofs.Cuts.{one_cut}
+use Rattle.cut_lines.proofs.Cuts.{one_cut}
 use Rattle.text86.proofs.Lines.{true_false, reads_on, stands, open_without_end, ended_with_end, one_run}
 use Rattle.text86.proofs.Steps.{no_fault, Opened, given, done_not_open}
 
@@ -32,7 +33,7 @@ all_done stream s d h = record {
   behind = is_of s h.raw h.rest h.found h.ending h.behind;
 }
 
-all_rest_of : (stream : List ℕ) (s new : Reader) (raw : List (List ℕ)) (rest : List ℕ) → Cut stream raw rest → LinesGive 1 [] (map without_cr raw) s.lines Open → s.fault ≡ None → s.number ≡ length raw → new.fault ≢ Some Memory → ReadsRest rest s new → AfterAll stream new
+all_rest_of : (stream : List ℕ) (s new : Reader) (raw : List (List ℕ)) (rest : List ℕ) → Cut IsNotLf stream raw rest → LinesGive 1 [] (map without_cr raw) s.lines Open → s.fault ≡ None → s.number ≡ length raw → new.fault ≢ Some Memory → ReadsRest rest s new → AfterAll stream new
 all_rest_of stream s new raw [] c l f n ne a = rw a (record {
   raw = raw;
   rest = [];
@@ -91,7 +92,7 @@ finish_ended text s f o h = let k = h (λ x. none_not_memory (sym f ∙ x)) in g
 
 pub one_reading : (text : List ℕ) (a b : Result (List Line86) (ℕ × TextRule)) → TextGives text a → TextGives text b → a ≡ b
 one_reading text a b x y =
-    let c = one_cut x.cut y.cut in
+    let c = one_cut (λ b h. h) x.cut y.cut in
     let r = one_run x.lines (rw (← c.0, ← c.1) at y.lines) refl in
     x.is ∙ ap (λ (t : List Line86). outcome_of t x.ending) r.0 ∙ ap (λ (e : Ending). outcome_of y.found e) r.1 ∙ sym y.is
 
@@ -102,7 +103,7 @@ agrees text (Err (Line n rule)) outcome h g = one_reading text outcome (Err (n, 
 
 -- ---- what is answered on the way
 
-holds_of : (stream : List ℕ) (s : Reader) (raw : List (List ℕ)) (rest : List ℕ) (xs : List Line86) (e : Ending) (n : ℕ) (rule : TextRule) → Cut stream raw rest → LinesGive 1 [] (map without_cr raw) xs e → IsBehind s raw rest xs e → s.fault ≡ Some (Line n rule) → HoldsFault stream n rule
+holds_of : (stream : List ℕ) (s : Reader) (raw : List (List ℕ)) (rest : List ℕ) (xs : List Line86) (e : Ending) (n : ℕ) (rule : TextRule) → Cut IsNotLf stream raw rest → LinesGive 1 [] (map without_cr raw) xs e → IsBehind s raw rest xs e → s.fault ≡ Some (Line n rule) → HoldsFault stream n rule
 holds_of stream s raw rest xs Open n rule c l b f = absurd (no_fault (Line n rule) (sym f ∙ b.0))
 holds_of stream s raw rest xs Ended n rule c l b f = absurd (no_fault (Line n rule) (sym f ∙ b.0))
 holds_of stream s raw rest xs (Broken m r) n rule c l b f =
@@ -126,7 +127,7 @@ fault_of s raw rest xs (Broken m r) n rule b e = b ∙ cc
 
 one_fault : (stream : List ℕ) (s : Reader) (n : ℕ) (rule : TextRule) → After stream s → HoldsFault stream n rule → s.fault ≡ Some (Line n rule)
 one_fault stream s n rule h b =
-    let c = one_cut h.cut b.cut in
+    let c = one_cut (λ k n. n) h.cut b.cut in
     let r = one_run h.lines (rw (← c.0) at b.lines) refl in
     fault_of s h.raw h.rest h.found h.ending n rule h.behind r.1
 

@@ -1,5 +1,4 @@
 pub mod Place
-pub mod Held
 pub mod Stream
 pub mod Reader
 pub mod Back

@@ -1,6 +1,7 @@
 -- What the reader keeps of the statements that it has passed, to tell which may stand next.
-use Rattle.std.specs.Prelude.{◌≡◌, ℕ, ◌<◌, ◌==◌, true, List, [], ◌∷◌, min, slice_index_or}
+use Rattle.std.specs.Prelude.{◌≡◌, ℕ, ◌<◌, ◌==◌, true, List, [], ◌∷◌, min}
 use Rattle.std.specs.List.{list_any}
+use Rattle.address_set.specs.Addresses.{has_address}
 use Rattle.lines86.specs.declared.line.Stmt86.{Stmt86}
 use Rattle.lines86.specs.Order.{Group as Part, NoGroup, CodeGroup, DataGroup, Reading, after, at_start, in_order, is_end}
 use Rattle.text86.specs.declared.order.Group.{Group}
@@ -18,7 +19,7 @@ pub record IsAt (order : Order) (r : Reading) : Type 0 where
   pub code_came : order.code_came ≡ r.code_came
   pub data_came : order.data_came ≡ r.data_came
   pub at : order.at ≡ min r.at 0x10000
-  pub filled : (a : ℕ) → a < 0x10000 → slice_index_or order.filled.items a true ≡ list_any (λ b. b == a) r.filled
+  pub filled : (a : ℕ) → a < 0x10000 → has_address order.filled a ≡ list_any (λ b. b == a) r.filled
 
 -- the reading after statements
 abbrev pub after_all : Reading → List Stmt86 → Reading

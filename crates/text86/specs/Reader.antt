@@ -10,9 +10,10 @@ use Rattle.text_lines86.specs.Line.{LineGives}
 use Rattle.text86.specs.declared.fault.TextFault.{TextFault}
 use Rattle.text86.specs.declared.fault.TextFault.TheVariants.{Line, Memory}
 use Rattle.text86.specs.declared.listing.Listing.{Listing}
-use Rattle.text86.specs.Held.{Holds}
+use Rattle.cut_lines.specs.Held.{Holds}
 use Rattle.text86.specs.Place.{IsAfter}
-use Rattle.text86.specs.Stream.{Cut, without_cr, last_line, numbered, are_in_order, Adds, Breaks, Ending, Open, Ended, Broken, LinesGive, TextGives}
+use Rattle.cut_lines.specs.Cut.{Cut, without_cr, last_line}
+use Rattle.text86.specs.Stream.{IsNotLf, numbered, are_in_order, Adds, Breaks, Ending, Open, Ended, Broken, LinesGive, TextGives}
 
 -- the statements so far, the number of lines read, the line that is not complete yet, and the fault
 pub record Reader : Type 0 where
@@ -33,7 +34,7 @@ pub record After (stream : List ℕ) (reader : Reader) : Type 0 where
   pub rest : List ℕ
   pub found : List Line86
   pub ending : Ending
-  pub cut : Cut stream raw rest
+  pub cut : Cut IsNotLf stream raw rest
   pub lines : LinesGive 1 [] (map without_cr raw) found ending
   pub behind : IsBehind reader raw rest found ending
 
@@ -49,7 +50,7 @@ pub record AfterAll (text : List ℕ) (reader : Reader) : Type 0 where
   pub rest : List ℕ
   pub found : List Line86
   pub ending : Ending
-  pub cut : Cut text raw rest
+  pub cut : Cut IsNotLf text raw rest
   pub lines : LinesGive 1 [] (map without_cr raw ++ last_line rest) found ending
   pub behind : IsOf reader found ending
 

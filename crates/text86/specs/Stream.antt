@@ -1,7 +1,7 @@
 -- The lines of a stream of bytes, and what they give (CP/M-86 Programmer's Guide, "ASM-86"; the rules M1 to M6 are this
 -- project's).
-use Rattle.std.specs.Prelude.{◌≡◌, ◌≢◌, ℕ, suc, ◌-◌, ◌==◌, Bool, true, false, if◌then◌else◌, List, [], ◌∷◌, ◌++◌, map, length, take, slice_index, Result, Ok, Err}
-use Rattle.std.specs.List.{flat_map, list_any, AllByRecursion}
+use Rattle.std.specs.Prelude.{◌≡◌, ◌≢◌, ℕ, suc, Bool, true, false, List, [], ◌∷◌, ◌++◌, map, Result, Ok, Err}
+use Rattle.std.specs.List.{list_any}
 use Rattle.lines86.specs.declared.line.Line86.{Line86}
 use Rattle.lines86.specs.declared.line.Stmt86.{Stmt86}
 use Rattle.lines86.specs.declared.line.TextRule.{TextRule}
@@ -9,29 +9,11 @@ use Rattle.lines86.specs.declared.line.TextRule.TheVariants.{M5, M6}
 use Rattle.lines86.specs.Image.{statements}
 use Rattle.lines86.specs.Order.{at_start, in_order, is_end}
 use Rattle.text_lines86.specs.Line.{LineGives}
+use Rattle.cut_lines.specs.Cut.{Cut, without_cr, last_line}
 
--- ---- lines
-
+-- the bytes of a line
 abbrev pub IsNotLf : ℕ → Type 0
 IsNotLf b = b ≢ 10
-
-abbrev pub ended : List ℕ → List ℕ
-ended line = line ++ 10 ∷ []
-
--- a text is these lines, each ended by LF, and then a rest with no LF
-pub record Cut (text : List ℕ) (raw : List (List ℕ)) (rest : List ℕ) : Type 0 where
-  pub whole : text ≡ flat_map ended raw ++ rest
-  pub each : AllByRecursion (AllByRecursion IsNotLf) raw
-  pub last : AllByRecursion IsNotLf rest
-
--- a line that LF ended, without the CR at its end
-abbrev pub without_cr : List ℕ → List ℕ
-without_cr line = if slice_index line (length line - 1) == 13 then take (length line - 1) line else line
-
--- a last line with no LF, which counts unless it is empty
-abbrev pub last_line : List ℕ → List (List ℕ)
-last_line [] = []
-last_line (b ∷ bytes) = (b ∷ bytes) ∷ []
 
 -- ---- statements
 
@@ -86,7 +68,7 @@ pub record TextGives (text : List ℕ) (outcome : Result (List Line86) (ℕ × T
   pub rest : List ℕ
   pub found : List Line86
   pub ending : Ending
-  pub cut : Cut text raw rest
+  pub cut : Cut IsNotLf text raw rest
   pub lines : LinesGive 1 [] (map without_cr raw ++ last_line rest) found ending
   pub is : outcome ≡ outcome_of found ending
 
@@ -95,5 +77,5 @@ pub record HoldsFault (stream : List ℕ) (n : ℕ) (rule : TextRule) : Type 0 w
   pub raw : List (List ℕ)
   pub rest : List ℕ
   pub found : List Line86
-  pub cut : Cut stream raw rest
+  pub cut : Cut IsNotLf stream raw rest
   pub lines : LinesGive 1 [] (map without_cr raw) found (Broken n rule)

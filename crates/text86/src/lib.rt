@@ -2,7 +2,6 @@
 #![tactic(auto)]
 
 mod fault;
-mod held;
 mod laws;
 mod listing;
 mod order;

@@ -1,14 +1,15 @@
 // What stands in which group of a text, told of one statement after the other.
-ghost use Rattle.std.specs.Prelude.{◌≡◌, ◌≤◌, length};
+ghost use Rattle.std.specs.Prelude.{◌≡◌, ◌≤◌};
 
+use address_set::AddressSet;
 use lines86::Stmt86;
 use std::alloc::{AllocError, Global};
 
-/// The cells of memory, and the address past the last of them.
+/// The address past the last cell of memory.
 const CELLS: usize = 0x10000;
 
 /// The first address that a data cell may have.
-const FIRST_CELL: usize = 0x100;
+const FIRST_CELL: u16 = 0x100;
 
 /// The group that CSEG or DSEG has begun.
 #[derive(Clone, Copy, PartialEq, Eq)]
@@ -26,10 +27,9 @@ pub struct Order {
     code_came: bool,
     data_came: bool,
     at: usize,
-    filled: Vec<bool>,
+    filled: AddressSet,
     is_ended: bool,
     ghost most: { at ≤ 0x10000 },
-    ghost full: { length filled.items ≡ 0x10000 },
 }
 
 impl Order {
@@ -48,7 +48,7 @@ impl Order {
             code_came: false,
             data_came: false,
             at: 0,
-            filled: vec![in alloc; false; CELLS]?,
+            filled: AddressSet::new(alloc)?,
             is_ended: false,
         })
     }
@@ -100,7 +100,10 @@ impl Order {
     fn is_free(&self, at: usize) -> bool
         ensures { (r : Reading) → IsAt self.now r → result ≡ is_free r at }
     {
-        FIRST_CELL <= at && at < CELLS && !self.filled[at]
+        match u16::try_from(at) {
+            Ok(at) => FIRST_CELL <= at && !self.filled.contains(at),
+            Err(_) => false,
+        }
     }
 
     // Moves on past a statement that may stand here.
@@ -135,8 +138,8 @@ impl Order {
         ensures place { (r : Reading) → IsAt self.old r → IsAt self.new (record r { at = r.at + 1; filled = r.at ∷ r.filled }) }
         ensures ended { self.new.is_ended ≡ self.old.is_ended }
     {
-        if self.at < CELLS {
-            self.filled[self.at] = true;
+        if let Ok(at) = u16::try_from(self.at) {
+            self.filled.insert(at);
             self.at += 1;
         }
     }

@@ -1,18 +1,19 @@
 // A reader of a text that is fed a stream in pieces.
-ghost use Rattle.std.specs.Prelude.{◌≡◌, ◌≢◌, ◌<◌, ◌^◌, ◌∷◌, [], ◌++◌, ◌⊎◌, ℕ, List, Option, None, Some, Result, Err, IfOk, IfSome, true, length, is_some, ◌||◌};
+ghost use Rattle.std.specs.Prelude.{◌≡◌, ◌≢◌, ◌<◌, ◌^◌, ◌∷◌, [], ◌++◌, ◌⊎◌, ℕ, List, Option, None, Some, Result, Err, IfOk, IfSome, MatchResult, true, length, is_some, ◌||◌};
 ghost use Rattle.lines86.specs.declared.line.Line86.{Line86};
 ghost use Rattle.lines86.specs.declared.line.TextRule.{TextRule};
 ghost use Rattle.lines86.specs.Image.{statements};
 ghost use Rattle.lines86.specs.Order.{at_start, in_order};
 ghost use Rattle.text86.specs.declared.fault.TextFault.{TextFault};
 ghost use Rattle.text86.specs.declared.fault.TextFault.TheVariants.{Line, Memory};
-ghost use Rattle.text86.specs.Held.{with_byte, Holds};
+ghost use Rattle.cut_lines.specs.Cut.{without_cr};
+ghost use Rattle.cut_lines.specs.Held.{with_byte, Holds};
 ghost use Rattle.text86.specs.Reader.{After, AfterAll, Agrees, Finishes, Reads, ReadsRest, answer_of};
-ghost use Rattle.text86.specs.Stream.{HoldsFault, TextGives, has_end, without_cr};
+ghost use Rattle.text86.specs.Stream.{HoldsFault, TextGives, has_end};
 
 use crate::fault::TextFault;
-use crate::held::HeldLine;
 use crate::listing::Listing;
+use cut_lines::{HeldLine, without_cr};
 use lines86::{Line86, TextRule};
 use std::alloc::{AllocError, Global};
 use std::marker::Model;
@@ -61,8 +62,9 @@ impl Text86 {
         ensures faulty { (stream : List ℕ) (n : ℕ) (rule : TextRule) → After stream self.old → result ≡ Err (Line n rule) → HoldsFault (stream ++ piece.now) n rule }
         ensures found { (stream : List ℕ) (n : ℕ) (rule : TextRule) → After stream self.old → HoldsFault (stream ++ piece.now) n rule → (result ≡ Err (Line n rule)) ⊎ (result ≡ Err Memory) }
 
-        // A fault stands.
+        // A fault stands, and behind END nothing is read.
         ensures stands { self.old.fault ≢ None → self.new ≡ self.old }
+        ensures ended { has_end self.old.lines ≡ true → self.new ≡ self.old }
     {
         for b in piece {
             self.step(*b);
@@ -87,8 +89,9 @@ impl Text86 {
         ensures outcome { (stream : List ℕ) → After stream self → Finishes stream result }
         ensures only { (stream : List ℕ) (outcome : Result (List Line86) (ℕ × TextRule)) → After stream self → TextGives stream outcome → Agrees result outcome }
 
-        // A fault stands.
+        // A fault stands, and once END has come there is an answer.
         ensures stands { IfSome self.fault (λ fault. result ≡ Err fault) }
+        ensures ended { self.fault ≡ None → has_end self.lines ≡ true → MatchResult result (λ v. v.items ≡ self.lines) (λ _. ⊥) }
 
         // The statements may be assembled.
         ensures in_order { IfOk result (λ v. in_order at_start (statements v.items) ≡ true) }
@@ -103,6 +106,7 @@ impl Text86 {
     fn outcome(self) -> Result<Vec<Line86>, TextFault>
         ensures value { (text : List ℕ) → (self.fault ≢ Some Memory → AfterAll text self) → Finishes text result }
         ensures stands { IfSome self.fault (λ fault. result ≡ Err fault) }
+        ensures ended { self.fault ≡ None → has_end self.lines ≡ true → MatchResult result (λ v. v.items ≡ self.lines) (λ _. ⊥) }
         ensures in_order { IfOk result (λ v. in_order at_start (statements v.items) ≡ true) }
         ensures few { IfOk result (λ v. length v.items < 2 ^ 28) }
     {
@@ -119,6 +123,7 @@ impl Text86 {
     fn step(&mut self, b: u8)
         ensures grows { self.new.fault ≢ Some Memory → (stream : List ℕ) → After stream self.old → After (stream ++ b ∷ []) self.new }
         ensures stands { self.old.fault ≢ None → self.new ≡ self.old }
+        ensures ended { has_end self.old.lines ≡ true → self.new ≡ self.old }
     {
         if self.is_done() {
             return;
@@ -159,6 +164,7 @@ impl Text86 {
     fn end(&mut self)
         ensures whole { self.new.fault ≢ Some Memory → (stream : List ℕ) → After stream self.old → AfterAll stream self.new }
         ensures stands { self.old.fault ≢ None → self.new ≡ self.old }
+        ensures ended { has_end self.old.lines ≡ true → self.new ≡ self.old }
     {
         if self.is_done() {
             return;
@@ -200,14 +206,4 @@ impl Text86 {
             self.fault = Some(fault);
         }
     }
-}
-
-// A line that LF ended, without the CR at its end.
-fn without_cr(line: &[u8]) -> &[u8]
-    ensures { result.now ≡ without_cr line.now }
-{
-    let Some((last, front)) = line.split_last() else {
-        return line;
-    };
-    if *last == b'\r' { front } else { line }
 }

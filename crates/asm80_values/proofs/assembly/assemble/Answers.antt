@@ -1,6 +1,6 @@
 use Rattle.std.proofs.Common.{◌≡◌, map, List, None, refl, sym, ◌∙◌}
 use Rattle.asm80_tokens.specs.Tree.{Statement, statement_of}
-use Rattle.asm80_names.specs.Addresses.{StandsFor}
+use Rattle.address_set.specs.Addresses.{StandsFor}
 use Rattle.asm80_walk.specs.Walked.{IsWalked}
 use Rattle.source80.specs.Walk.{rows, walked}
 use Rattle.source80.specs.Items.{starts_in}

@@ -1,6 +1,6 @@
 use Rattle.std.proofs.Common.{◌≡◌, false}
 use Rattle.std.specs.List.{list_any}
-use Rattle.asm80_names.specs.Addresses.{has_address}
+use Rattle.address_set.specs.Addresses.{has_address}
 use Rattle.source80.specs.Layout.{counted_from}
 use Rattle.asm80_values.proofs.layout.overlaps.Given as goal
 

@@ -1,11 +1,12 @@
-use Rattle.std.proofs.Common.{◌≡◌, ℕ, Bool, false, filter, get_or, IfOk, subst}
+use Rattle.std.proofs.Common.{◌≡◌, ℕ, Bool, filter, IfOk, subst}
 use Rattle.std.proofs.Math.Path.{fun_ext}
+use Rattle.address_set.specs.Addresses.{has_address}
 use Rattle.program80.specs.Taken.{is_taken}
 use Rattle.program80.proofs.taken.taken_of.Goals as goal
 use Rattle.program80.proofs.Marks.{found_all}
 
 pub returns : goal.returns
 returns c =
-    let value : (λ (a : ℕ). get_or c.mark_in_cells.new.flags.items a false) ≡ is_taken c.args.instrs.now c.args.cells.now = fun_ext (λ a. found_all c.args.instrs.now c.args.cells.now a _ _ _ (c.in_ok-flags.ensures.clear a) (c.mark_placed.ensures.marked a) (c.mark_in_cells.ensures.marked a)) in
+    let value : has_address c.mark_in_cells.new.set ≡ is_taken c.args.instrs.now c.args.cells.now = fun_ext (λ a. found_all c.args.instrs.now c.args.cells.now a _ _ _ (c.in_ok-set.ensures a) (c.mark_placed.ensures a) (c.mark_in_cells.ensures a)) in
     let Same : (ℕ → Bool) → Type 0 = λ test. IfOk c.marked.result (λ v. v.items ≡ filter test c.args.starts.now) in
-    subst Same value (rw c.deref.ensures.value at c.marked.ensures)
+    subst Same value c.marked.ensures

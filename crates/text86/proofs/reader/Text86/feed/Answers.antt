@@ -1,4 +1,4 @@
-use Rattle.std.proofs.Common.{rules}
+use Rattle.std.proofs.Common.{rules, ◌∙◌}
 use Rattle.std.proofs.lemmas.List.{take_all}
 use Rattle.text86.proofs.Steps.{piece_grows}
 use Rattle.text86.proofs.Whole.{faulty_in, found_in}
@@ -8,6 +8,7 @@ pub loop-b-preserved : goal.loop-b-preserved
 loop-b-preserved c = record {
   grows = piece_grows c.args.piece.now c.loop-b.b-index c.args.self.now c.loop-b.self c.step.new.self c.loop-b-test.true c.step.ensures.stands c.step.ensures.grows c.loop-b.invariant.grows;
   stands = search rules;
+  ended = λ h. c.step.ensures.ended (rw (c.loop-b.invariant.ended h) h) ∙ c.loop-b.invariant.ended h;
 }
 
 pub returns-clause-faulty : goal.returns-clause-faulty

@@ -1,5 +1,5 @@
 use Rattle.std.proofs.Common.{◌∙◌, sym}
-use Rattle.text86.specs.Stream.{without_cr}
+use Rattle.cut_lines.specs.Cut.{without_cr}
 use Rattle.text86.proofs.Steps.{not_done, opened, given, after_done, after_byte, after_line}
 use Rattle.text86.proofs.reader.Text86.step.Goals as goal
 

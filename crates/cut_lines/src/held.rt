@@ -1,7 +1,7 @@
 //! The line that is not complete yet.
 
-ghost use Rattle.std.specs.Prelude.{◌≡◌, ◌≤◌, [], ◌∷◌, ◌++◌, ℕ, List, Some, None, MatchOption};
-ghost use Rattle.asm80_text.specs.Held.{with_byte, Holds};
+ghost use Rattle.std.specs.Prelude.{◌≡◌, [], Some, None, MatchOption};
+ghost use Rattle.cut_lines.specs.Held.{with_byte};
 
 use std::marker::Model;
 

@@ -1,10 +1,14 @@
-//! Sets of addresses.
+// Sets of 16-bit addresses.
+#![tactic(auto)]
 
 ghost use Rattle.std.specs.Prelude.{◌≡◌, ◌==◌, ◌||◌, ◌∷◌, [], ℕ, List, false, length, IfOk};
-ghost use Rattle.asm80_names.specs.Addresses.{has_address, StandsFor};
+ghost use Rattle.address_set.specs.Addresses.{has_address, StandsFor};
 
 use std::alloc::{AllocError, Global};
 use std::marker::Model;
+
+#[cfg(test)]
+mod tests;
 
 /// A set of 16-bit addresses, seen as a flag for each.
 #[derive(Drop)]
