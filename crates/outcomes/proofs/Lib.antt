@@ -4,3 +4,4 @@ pub mod Streams80
 pub mod Tokens86
 pub mod Texts86
 pub mod Images
+pub mod Decided86

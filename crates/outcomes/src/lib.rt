@@ -12,6 +12,7 @@ ghost use Rattle.lines86.specs.Order.{at_start, in_order};
 ghost use Rattle.text86.specs.Stream.{TextGives};
 ghost use Rattle.asm86.specs.declared.fault.ImageFault.{ImageFault};
 ghost use Rattle.asm86.specs.Refusals.{ImageRefused};
+ghost use Rattle.run_parts.specs.Texts.{HasImage, IsNoImage};
 
 /// A law: no stream of a source is without an outcome, its statements or its first fault with the statements before it. With
 /// `stream_has_one_outcome` it has just one.
@@ -29,4 +30,9 @@ pub fn each_text_has_a_reading()
 /// one of the two.
 pub fn lines_have_an_image_or_a_refusal()
     ensures { (lines : List Line86) → in_order at_start (statements lines) ≡ true → ((image : Image) → IsImage lines image → ⊥) → ((fault : ImageFault) → ImageRefused lines fault → ⊥) → ⊥ }
+{}
+
+/// A law: no ASM-86 text is without both, an image and a fault, which is the first rule that its lines break, or its image.
+pub fn each_text_has_an_image_or_a_fault()
+    ensures { (text : List ℕ) → ((image : Image) → HasImage text image → ⊥) → ((fault : ImageFault) → IsNoImage text fault → ⊥) → ⊥ }
 {}
