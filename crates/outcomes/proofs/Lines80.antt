@@ -2,7 +2,7 @@
 -- malformed, they are not for want of statements.
 use Rattle.std.proofs.Common.{◌≡◌, ℕ, suc, List, [], ◌∷◌, ◌++◌, length, false, Option, Some, None, Result, Ok, Err, inl, inr, ◌⊎◌}
 use Rattle.std.specs.List.{list_any}
-use Rattle.std.proofs.lemmas.Bool.{cases_eq, cases_lt}
+use Rattle.std.proofs.lemmas.Bool.{cases_Bool, cases_eq, cases_lt}
 use Rattle.asm80_tokens.specs.declared.fault.LineRule.{LineRule}
 use Rattle.asm80_tokens.specs.declared.fault.LineRule.TheVariants as rules
 use Rattle.asm80_tokens.specs.declared.fault.ReadFault.{ReadFault}
@@ -11,10 +11,10 @@ use Rattle.asm80_tokens.specs.declared.token.Token.{Token}
 use Rattle.asm80_tokens.specs.Tree.{Statement}
 use Rattle.asm80_text.specs.Line.{parts_of, has_reserved_label, is_deep, PartsGive, deep, malformed, formed, TextGives, reserved, faulty, sound, IsRemark, LineGives, late, long, remark, told}
 use Rattle.asm80_text.specs.Stream.{LinesGive, none_left, next, fails}
-use Rattle.outcomes.proofs.Tokens80.{two_cases, lexed}
+use Rattle.outcomes.proofs.Tokens80.{lexed}
 
 parts_give : (n : ℕ) (parts : List (List Token)) → ((r : Result (List Statement) LineRule) → PartsGive n parts r → ⊥) → ⊥
-parts_give n parts k = elim (two_cases (list_any is_deep parts)) [
+parts_give n parts k = elim (cases_Bool (list_any is_deep parts)) [
   | inl e ↦ k (Err rules.L6) (deep e)
   | inr e ↦ k (Err rules.L5) (malformed e (λ ss a. k (Ok ss) (formed e a)))
 ]
@@ -24,7 +24,7 @@ unreserved n parts (Some rule) e k = k (Err rule) (faulty e)
 unreserved n parts None e k = parts_give n parts (λ r p. k r (sound e p))
 
 text_gives : (n : ℕ) (parts : List (List Token)) (f : Option LineRule) → ((r : Result (List Statement) LineRule) → TextGives n parts f r → ⊥) → ⊥
-text_gives n parts f k = elim (two_cases (list_any has_reserved_label parts)) [
+text_gives n parts f k = elim (cases_Bool (list_any has_reserved_label parts)) [
   | inl e ↦ k (Err rules.L4) (reserved e)
   | inr e ↦ unreserved n parts f e k
 ]

@@ -1,7 +1,7 @@
 -- Each ASM-86 text is read as something.
 use Rattle.std.proofs.Common.{◌≡◌, ℕ, suc, ◌≤◌, List, [], ◌∷◌, ◌++◌, length, map, Bool, true, false, Option, Some, None, Result, Ok, Err, refl, subst, append_assoc, inl, inr}
 use Rattle.std.specs.List.{list_all}
-use Rattle.std.proofs.lemmas.Bool.{cases_eq, cases_lt}
+use Rattle.std.proofs.lemmas.Bool.{cases_Bool, cases_eq, cases_lt}
 use Rattle.std.proofs.lemmas.List.{append-nil}
 use Rattle.cut_lines.specs.Cut.{Cut, without_cr, last_line}
 use Rattle.cut_lines.proofs.Cuts.{cut_byte, cut_line}
@@ -15,7 +15,6 @@ use Rattle.text_lines86.specs.Tokens.{Lexes}
 use Rattle.text_lines86.specs.Forms.{statements_of, is_small}
 use Rattle.text_lines86.specs.Line.{LineGives, long, faulty, large, senseless, sensible}
 use Rattle.text86.specs.Stream.{IsNotLf, numbered, are_in_order, has_end, Adds, unread, misplaced, Ending, Open, Ended, Broken, LinesGive, none_left, next, ends, breaks, outcome_of, TextGives}
-use Rattle.outcomes.proofs.Tokens80.{two_cases}
 use Rattle.outcomes.proofs.Tokens86.{lexed}
 
 -- ---- a line
@@ -25,7 +24,7 @@ record Given (line : List ℕ) : Type 0 where
   gives : LineGives line result
 
 small_or_large : (line : List ℕ) (ts : List Token) (ss : List Stmt86) → length line ≤ 255 → Lexes (map upper line) ts true → statements_of ts ≡ Some ss → Given line
-small_or_large line ts ss short lexes is = elim (two_cases (list_all is_small ss)) [
+small_or_large line ts ss short lexes is = elim (cases_Bool (list_all is_small ss)) [
   | inl e ↦ record { result = Ok ss; gives = sensible short lexes is e }
   | inr e ↦ record { result = Err M1; gives = large short lexes is e }
 ]
@@ -54,11 +53,11 @@ record AllGiven (n : ℕ) (xs : List Line86) (lines : List (List ℕ)) : Type 0 
 -- a line more, by what it gives
 line_more : (n : ℕ) (xs : List Line86) (line : List ℕ) (lines : List (List ℕ)) → ((ys : List Line86) → AllGiven (suc n) ys lines) → (r : Result (List Stmt86) TextRule) → LineGives line r → AllGiven n xs (line ∷ lines)
 line_more n xs line lines rest (Err rule) g = record { found = xs; ending = Broken n rule; gives = breaks (unread g) }
-line_more n xs line lines rest (Ok ss) g = elim (two_cases (are_in_order (xs ++ numbered n ss))) [
+line_more n xs line lines rest (Ok ss) g = elim (cases_Bool (are_in_order (xs ++ numbered n ss))) [
   | inr e ↦ record { found = xs; ending = Broken n M5; gives = breaks (misplaced g e) }
   | inl e ↦
       let adds : Adds xs n line (xs ++ numbered n ss) = record { given = ss; reads = g; whole = refl; in_order = e } in
-      elim (two_cases (has_end (xs ++ numbered n ss))) [
+      elim (cases_Bool (has_end (xs ++ numbered n ss))) [
         | inl ended ↦ record { found = xs ++ numbered n ss; ending = Ended; gives = ends adds ended }
         | inr goes_on ↦ let all = rest (xs ++ numbered n ss) in record { found = all.found; ending = all.ending; gives = next adds goes_on all.gives }
       ]

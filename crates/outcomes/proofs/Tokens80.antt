@@ -1,7 +1,7 @@
 -- Each line has tokens up to its end or its first fault.
-use Rattle.std.proofs.Common.{◌≡◌, ◌≢◌, ℕ, suc, ◌≤◌, ◌<◌, ◌+◌, zero, ◌||◌, List, [], ◌∷◌, length, take, drop, Bool, true, false, Option, Some, None, refl, arith, inl, inr, ◌⊎◌, ◌==◌, nat_lt, if◌then◌else◌}
+use Rattle.std.proofs.Common.{◌≡◌, ◌≢◌, ℕ, suc, ◌≤◌, ◌<◌, ◌+◌, zero, ◌||◌, List, [], ◌∷◌, length, take, drop, Bool, true, false, Option, Some, None, refl, arith, inl, inr, ◌==◌, nat_lt, if◌then◌else◌}
 use Rattle.std.specs.List.{list_all, prefix_len}
-use Rattle.std.proofs.lemmas.Bool.{cases_eq}
+use Rattle.std.proofs.lemmas.Bool.{cases_Bool, cases_eq}
 use Rattle.std.proofs.lemmas.List.{length-drop}
 use Rattle.asm80_tokens.specs.declared.fault.LineRule.{LineRule}
 use Rattle.asm80_tokens.specs.declared.token.Token.{Token}
@@ -9,10 +9,6 @@ use Rattle.asm80_tokens.specs.Letters.{is_digit, is_upper, is_lower, is_inside, 
 use Rattle.asm80_tokens.specs.Numbers.{number_of}
 use Rattle.asm80_tokens.specs.Strings.{with_char, quoted}
 use Rattle.asm80_tokens.specs.Tokens.{Scanned, Got, Bad, number_found, number_at, word_at, string_found, string_at, token_at, Lexes, ends, blank, comment, token, faulty}
-
-pub two_cases : (b : Bool) → (b ≡ true) ⊎ (b ≡ false)
-two_cases true = inl refl
-two_cases false = inr refl
 
 -- ---- a token and the bytes behind it
 
@@ -119,7 +115,7 @@ front_lexed b bytes e ne shorter (Bad r) is h = record { tokens = []; fault = So
 lexed_to : (n : ℕ) (bytes : List ℕ) → length bytes ≤ n → Lexed bytes
 lexed_to n [] le = record { tokens = []; fault = None; lexes = ends }
 lexed_to zero (b ∷ bytes) le = absurd (omega (arith, le))
-lexed_to (suc n) (b ∷ bytes) le = elim (two_cases (is_blank b)) [
+lexed_to (suc n) (b ∷ bytes) le = elim (cases_Bool (is_blank b)) [
   | inl e ↦ let l = lexed_to n bytes (omega (arith, le)) in record { tokens = l.tokens; fault = l.fault; lexes = blank e l.lexes }
   | inr e ↦ elim (cases_eq b 59) [
     | inl q ↦

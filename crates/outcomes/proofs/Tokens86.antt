@@ -1,13 +1,12 @@
 -- Each line of an ASM-86 text has tokens up to its end or the first place that has none.
 use Rattle.std.proofs.Common.{◌≡◌, ◌≢◌, ℕ, suc, zero, ◌+◌, ◌≤◌, ◌<◌, List, [], ◌∷◌, length, take, drop, Bool, true, false, cond, Option, Some, None, refl, arith, inl, inr}
 use Rattle.std.specs.List.{prefix_len}
-use Rattle.std.proofs.lemmas.Bool.{cases_eq}
+use Rattle.std.proofs.lemmas.Bool.{cases_Bool, cases_eq}
 use Rattle.std.proofs.lemmas.List.{length-drop}
 use Rattle.text_lines86.specs.declared.token.Token.{Token}
 use Rattle.text_lines86.specs.Letters.{is_blank, is_inside, sign_of, inside_len}
 use Rattle.text_lines86.specs.Words.{word_token}
 use Rattle.text_lines86.specs.Tokens.{found_before, token_at, Lexes, ends, comment, blank, token, faulty}
-use Rattle.outcomes.proofs.Tokens80.{two_cases}
 
 -- a token leaves fewer bytes than this
 abbrev Leaves : ℕ → Option (Token × List ℕ) → Type 0
@@ -49,7 +48,7 @@ front_lexed b bytes e ne shorter None is h = record { tokens = []; sound = false
 lexed_to : (n : ℕ) (bytes : List ℕ) → length bytes ≤ n → Lexed bytes
 lexed_to n [] le = record { tokens = []; sound = true; lexes = ends }
 lexed_to zero (b ∷ bytes) le = absurd (omega (arith, le))
-lexed_to (suc n) (b ∷ bytes) le = elim (two_cases (is_blank b)) [
+lexed_to (suc n) (b ∷ bytes) le = elim (cases_Bool (is_blank b)) [
   | inl e ↦ let l = lexed_to n bytes (omega (arith, le)) in record { tokens = l.tokens; sound = l.sound; lexes = blank e l.lexes }
   | inr e ↦ elim (cases_eq b 0x3B) [
     | inl q ↦ rw q (record { tokens = []; sound = true; lexes = comment })
