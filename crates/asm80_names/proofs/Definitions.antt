@@ -7,7 +7,7 @@ use Rattle.std.specs.Map.{keys_of, lookup}
 use Rattle.std.specs.Option.{option_map, MatchOption}
 use Rattle.std.specs.Str.{bytes_eq}
 use Rattle.indexmap.specs.IndexMap.{insert_entry}
-use Rattle.source80.specs.Names.{Name, named, most_names, is_settable, renamed, clashes_with, clashes, overflows_by, overflows, defined_by, defined}
+use Rattle.asm80_source.specs.Names.{Name, named, most_names, is_settable, renamed, clashes_with, clashes, overflows_by, overflows, defined_by, defined}
 use Rattle.asm80_names.specs.declared.names.Entry.{Entry}
 use Rattle.asm80_names.specs.Entries.{name_of}
 

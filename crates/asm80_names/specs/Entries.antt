@@ -1,6 +1,6 @@
 -- The names as a map from texts.
 use Rattle.std.specs.Prelude.{ℕ, List}
-use Rattle.source80.specs.Names.{Name}
+use Rattle.asm80_source.specs.Names.{Name}
 use Rattle.asm80_names.specs.declared.names.Entry.{Entry}
 
 -- an entry of the map is a name

@@ -1,7 +1,7 @@
 //! Arithmetic of 16 bits.
 
 ghost use Rattle.std.specs.Prelude.{◌≡◌, ◌-◌, ◌%◌};
-ghost use Rattle.source80.specs.Values.{binary, divides};
+ghost use Rattle.asm80_source.specs.Values.{binary, divides};
 
 use asm80_tokens::Two;
 

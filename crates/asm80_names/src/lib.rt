@@ -14,6 +14,3 @@ pub use operand::{
 };
 pub use scope::Scope;
 pub use values::{divides_by_zero, has_register, has_unknown, meaning_of, number_of, place_alone};
-
-#[cfg(test)]
-mod tests;

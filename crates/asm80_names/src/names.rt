@@ -1,14 +1,14 @@
 //! The names of a source.
 
 ghost use Rattle.std.specs.Prelude.{◌≡◌, ◌||◌, [], Some, None, false, MatchOption, OnOk, OnErr, not, filter, option_map};
-ghost use Rattle.source80.specs.declared.meaning.NameKind.{NameKind};
-ghost use Rattle.source80.specs.Names.{Name, named, clashes, overflows, defined, is_settable};
-ghost use Rattle.source80.specs.Walk.{meaning_in};
+ghost use Rattle.asm80_source.specs.declared.meaning.NameKind.{NameKind};
+ghost use Rattle.asm80_source.specs.Names.{Name, named, clashes, overflows, defined, is_settable};
+ghost use Rattle.asm80_source.specs.Walk.{meaning_in};
 ghost use Rattle.asm80_names.specs.Entries.{name_of};
 
+use asm80_source::{Meaning, NameKind};
 use asm80_tokens::Name80;
 use indexmap::IndexMap;
-use source80::{Meaning, NameKind};
 use std::alloc::{AllocError, Global};
 use std::marker::Model;
 
@@ -30,7 +30,7 @@ pub struct Names {
 
 impl Model for Names {
     ghost use Rattle.std.specs.Prelude.{List, map};
-    ghost use Rattle.source80.specs.Names.{Name};
+    ghost use Rattle.asm80_source.specs.Names.{Name};
 
     ghost Value = { List Name };
 

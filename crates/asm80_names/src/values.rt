@@ -4,16 +4,16 @@ ghost use Rattle.std.specs.Prelude.{◌≡◌, ◌||◌, false, cond, is_none, o
 ghost use Rattle.std.specs.List.{list_any};
 ghost use Rattle.asm80_tokens.specs.Tree.{tree_of};
 ghost use Rattle.asm80_tokens.specs.Words.{is_register};
-ghost use Rattle.address_set.specs.Addresses.{has_address};
+ghost use Rattle.base_addresses.specs.Addresses.{has_address};
 ghost use Rattle.asm80_names.specs.Scopes.{scope_of};
-ghost use Rattle.source80.specs.Values.{meaning_of_name, number_of, has_register, has_unknown, divides, divides_by_zero, is_zero, place_of_name, places_in, places_inside, place_alone};
-ghost use Rattle.source80.specs.Walk.{meaning_in, meaning_of, or_unknown};
+ghost use Rattle.asm80_source.specs.Values.{meaning_of_name, number_of, has_register, has_unknown, divides, divides_by_zero, is_zero, place_of_name, places_in, places_inside, place_alone};
+ghost use Rattle.asm80_source.specs.Walk.{meaning_in, meaning_of, or_unknown};
 
 use crate::arithmetic::{binary, divides, inverted, negated};
 use crate::scope::Scope;
-use address_set::AddressSet;
+use asm80_source::Meaning;
 use asm80_tokens::{Expr, Name80, is_register};
-use source80::Meaning;
+use base_addresses::AddressSet;
 
 // What a name stands for; a register's name is no value.
 fn meaning_of_name(scope: &Scope<'_>, name: &Name80) -> Option<Meaning>

@@ -6,10 +6,10 @@ use Rattle.asm80_operands.specs.declared.fault.FormFault.{FormFault}
 use Rattle.asm80_operands.specs.declared.fault.FormFault.TheVariants.{Rule, Memory}
 use Rattle.asm80_operands.specs.declared.form.Form.{Form}
 use Rattle.asm80_operands.specs.declared.form.Form.TheVariants.{Nothing, Instruction, Data}
-use Rattle.source80.specs.declared.operation.Operation.{Operation}
-use Rattle.source80.specs.Items.{Setting, instruction, data_by, is_instruction_op, is_data_op}
-use Rattle.source80.specs.Layout.{is_foreign_by, operands_by, misses, computes, loads_code}
-use Rattle.source80.specs.Operands.{rule_of_operands}
+use Rattle.asm80_source.specs.declared.operation.Operation.{Operation}
+use Rattle.asm80_source.specs.Items.{Setting, instruction, data_by, is_instruction_op, is_data_op}
+use Rattle.asm80_source.specs.Layout.{is_foreign_by, operands_by, misses, computes, loads_code}
+use Rattle.asm80_source.specs.Operands.{rule_of_operands}
 
 -- the operands' instruction or cells, and the rules of the layout that they break
 abbrev pub IsForm : Setting → Operation → List Operand → Form → Type 0

@@ -1,8 +1,8 @@
 -- What a setting stands for.
-use Rattle.address_set.specs.Addresses.{has_address}
+use Rattle.base_addresses.specs.Addresses.{has_address}
 use Rattle.asm80_names.specs.Scopes.{scope_of}
 use Rattle.asm80_operands.specs.declared.setting.Setting.{Setting}
-use Rattle.source80.specs.Items.{Setting as Seen}
+use Rattle.asm80_source.specs.Items.{Setting as Seen}
 
 abbrev pub setting_of : Setting → Seen
 setting_of t = record { scope = scope_of t.scope; is_start = has_address t.starts.now }

@@ -2,7 +2,7 @@
 ghost use Rattle.std.specs.Prelude.{◌≡◌, ◌++◌, IfOk, OnOk, map, flat_map};
 ghost use Rattle.asm80_tokens.specs.Tree.{operand_of};
 ghost use Rattle.asm80_operands.specs.Settings.{setting_of};
-ghost use Rattle.source80.specs.Items.{numbers, cells_of_byte, cells_of_word};
+ghost use Rattle.asm80_source.specs.Items.{numbers, cells_of_byte, cells_of_word};
 
 use crate::setting::{Setting, byte, code_address, value};
 use asm80_tokens::Arg;

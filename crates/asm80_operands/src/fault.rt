@@ -1,7 +1,7 @@
 // Why operands make nothing.
 ghost use Rattle.std.specs.Prelude.{◌≡◌};
 
-use source80::AsmRule;
+use asm80_source::AsmRule;
 use std::alloc::{AllocError, AllocFailed};
 use thiserror::Error;
 

@@ -2,13 +2,13 @@
 ghost use Rattle.std.specs.Prelude.{◌≡◌, ◌==◌, [], ◌∷◌, cond, Some, None, map};
 ghost use Rattle.asm80_tokens.specs.Tree.{operand_of};
 ghost use Rattle.asm80_operands.specs.Settings.{setting_of};
-ghost use Rattle.source80.specs.Items.{goal, instruction, word_of};
+ghost use Rattle.asm80_source.specs.Items.{goal, instruction, word_of};
 
 use crate::registers::{indirect_of, pair_of, src_of, stack_of};
 use crate::setting::{Setting, byte, code_address, value};
+use asm80_source::Operation;
 use asm80_tokens::Arg;
 use i80::{Goal, Instr80, Pair, Word};
-use source80::Operation;
 
 // The immediate word of LXI; that of LXI SP is a number always.
 fn word_of(setting: &Setting<'_>, pair: Pair, arg: &Arg) -> Word

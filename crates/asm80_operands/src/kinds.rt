@@ -1,9 +1,9 @@
 // The operands that each operation takes.
 ghost use Rattle.std.specs.Prelude.{◌≡◌, option_map};
-ghost use Rattle.source80.specs.Operations.{kinds};
-ghost use Rattle.source80.specs.Operands.{is_value_kind};
+ghost use Rattle.asm80_source.specs.Operations.{kinds};
+ghost use Rattle.asm80_source.specs.Operands.{is_value_kind};
 
-use source80::{Kind, Operation};
+use asm80_source::{Kind, Operation};
 
 /// The kinds of the operands of an instruction; None of a directive.
 pub fn kinds_of(operation: Operation) -> Option<&'static [Kind]>

@@ -11,8 +11,6 @@ mod profile;
 mod registers;
 mod rules;
 mod setting;
-#[cfg(test)]
-mod tests;
 
 pub use fault::FormFault;
 pub use form::{Data, Form, Instruction, form_of};

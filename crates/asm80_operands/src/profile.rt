@@ -3,17 +3,17 @@ ghost use Rattle.std.specs.Prelude.{◌≡◌, ◌==◌, ◌||◌, not, false, S
 ghost use Rattle.std.specs.List.{list_any};
 ghost use Rattle.asm80_tokens.specs.Tree.{operand_of};
 ghost use Rattle.asm80_operands.specs.Settings.{setting_of};
-ghost use Rattle.source80.specs.Items.{is_data_op};
-ghost use Rattle.source80.specs.Operands as operands;
-ghost use Rattle.source80.specs.Layout.{is_foreign_by, misses, misses_by, computes, computes_by, has_code_inside, loads_code, loads_code_by, loads_sp, operands_by, same_kind};
+ghost use Rattle.asm80_source.specs.Items.{is_data_op};
+ghost use Rattle.asm80_source.specs.Operands as operands;
+ghost use Rattle.asm80_source.specs.Layout.{is_foreign_by, misses, misses_by, computes, computes_by, has_code_inside, loads_code, loads_code_by, loads_sp, operands_by, same_kind};
 
 use crate::kinds::kinds_of;
 use crate::registers::pair_of;
 use crate::setting::{Setting, code_address, value};
 use asm80_names::has_place_inside;
+use asm80_source::{Kind, Operation};
 use asm80_tokens::Arg;
 use i80::Pair;
-use source80::{Kind, Operation};
 
 /// S1: whether an instruction is not of the profile: HLT, EI, DI, IN, OUT, and RST of a number other than 0.
 pub fn is_foreign(setting: &Setting<'_>, operation: Operation, args: &[Arg]) -> bool
@@ -107,7 +107,7 @@ fn loads_sp(args: &[Arg]) -> bool
 }
 
 fn is_stack_pointer(arg: &Arg) -> bool
-    ensures { result ≡ Rattle.source80.specs.Layout.is_stack_pointer (operands.pair_of (operand_of arg.now)) }
+    ensures { result ≡ Rattle.asm80_source.specs.Layout.is_stack_pointer (operands.pair_of (operand_of arg.now)) }
 {
     matches!(pair_of(arg), Some(Pair::Sp))
 }

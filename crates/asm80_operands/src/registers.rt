@@ -1,7 +1,7 @@
 // Registers as operands.
 ghost use Rattle.std.specs.Prelude.{◌≡◌, option_map};
 ghost use Rattle.asm80_tokens.specs.Tree.{operand_of};
-ghost use Rattle.source80.specs.Operands.{register_name, src_named, pair_named, indirect_named, stack_named, src_of, pair_of, indirect_of, stack_of};
+ghost use Rattle.asm80_source.specs.Operands.{register_name, src_named, pair_named, indirect_named, stack_named, src_of, pair_of, indirect_of, stack_of};
 
 use asm80_tokens::{Arg, Expr, Name80};
 use i80::{Pair, Reg, Src, StackPair};

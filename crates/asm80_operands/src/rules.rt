@@ -3,19 +3,19 @@ ghost use Rattle.std.specs.Prelude.{◌≡◌, ◌&&◌, ◌||◌, Some, None, f
 ghost use Rattle.std.specs.List.{list_any};
 ghost use Rattle.asm80_tokens.specs.Tree.{operand_of};
 ghost use Rattle.asm80_names.specs.Scopes.{scope_of};
-ghost use Rattle.source80.specs.declared.rule.AsmRule.TheVariants.{V1, V3, V4};
-ghost use Rattle.source80.specs.FirstFaults.{rule_if};
-ghost use Rattle.source80.specs.Operands.{is_value_kind, values_break, is_of_kind, are_of_kinds, moves_memory, is_byte, fits_kind, is_unfit, rule_of_values, rule_of_instruction, is_no_byte_item, item_is_unfit, rule_of_bytes, rule_of_words, rule_of_operands};
-ghost use Rattle.source80.specs.Values.{is_no_value, operand_has_unknown, operand_divides_by_zero};
+ghost use Rattle.asm80_source.specs.declared.rule.AsmRule.TheVariants.{V1, V3, V4};
+ghost use Rattle.asm80_source.specs.FirstFaults.{rule_if};
+ghost use Rattle.asm80_source.specs.Operands.{is_value_kind, values_break, is_of_kind, are_of_kinds, moves_memory, is_byte, fits_kind, is_unfit, rule_of_values, rule_of_instruction, is_no_byte_item, item_is_unfit, rule_of_bytes, rule_of_words, rule_of_operands};
+ghost use Rattle.asm80_source.specs.Values.{is_no_value, operand_has_unknown, operand_divides_by_zero};
 
 use crate::kinds::{is_value_kind, kinds_of};
 use crate::registers::{indirect_of, pair_of, src_of, stack_of};
 use asm80_names::{
     Scope, is_no_value, operand_divides_by_zero, operand_has_unknown, operand_number,
 };
+use asm80_source::{AsmRule, Kind, Operation};
 use asm80_tokens::Arg;
 use i80::Src;
-use source80::{AsmRule, Kind, Operation};
 
 // Whether an operand is of a kind.
 fn is_of_kind(kind: Kind, arg: &Arg) -> bool
@@ -56,7 +56,7 @@ fn moves_memory(operation: Operation, args: &[Arg]) -> bool
 }
 
 fn is_memory(arg: &Arg) -> bool
-    ensures { result ≡ Rattle.source80.specs.Operands.is_memory (Rattle.source80.specs.Operands.src_of (operand_of arg.now)) }
+    ensures { result ≡ Rattle.asm80_source.specs.Operands.is_memory (Rattle.asm80_source.specs.Operands.src_of (operand_of arg.now)) }
 {
     matches!(src_of(arg), Some(Src::Mem))
 }

@@ -2,11 +2,11 @@
 ghost use Rattle.std.specs.Prelude.{◌≡◌};
 ghost use Rattle.asm80_tokens.specs.Tree.{operand_of};
 ghost use Rattle.asm80_operands.specs.Settings.{setting_of};
-ghost use Rattle.source80.specs.Items.{value, byte, code_address};
+ghost use Rattle.asm80_source.specs.Items.{value, byte, code_address};
 
-use address_set::AddressSet;
 use asm80_names::{Scope, operand_number, operand_place};
 use asm80_tokens::Arg;
+use base_addresses::AddressSet;
 
 /// Where operands are evaluated: what they see, and the addresses at which instructions start.
 #[derive(Clone, Copy)]

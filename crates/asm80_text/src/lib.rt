@@ -9,6 +9,3 @@ mod reader;
 pub use asm80_tokens::{Arg, Args, Bytes, Expr, LineRule, Name80, ReadFault, Stmt80, Two};
 pub use parse::statement_has_one_tree;
 pub use reader::{Lines, stream_has_one_outcome};
-
-#[cfg(test)]
-mod tests;

@@ -12,19 +12,19 @@ use Rattle.i80.specs.declared.Instr80.{Instr80}
 use Rattle.i80.specs.declared.Instr80.TheVariants as i80
 use Rattle.i80.specs.Columns.{is_well_formed, length80}
 use Rattle.asm80_tokens.specs.Tree.{Operand, Statement}
-use Rattle.source80.specs.declared.operation.Operation.{Operation}
-use Rattle.source80.specs.declared.operation.Operation.TheVariants as op
-use Rattle.source80.specs.declared.operation.Kind.{Kind}
-use Rattle.source80.specs.declared.operation.Kind.TheVariants.{Register, Pair, Indirect, Stack, Byte, Word, Address, Target, Restart}
-use Rattle.source80.specs.declared.rule.AsmRule.{AsmRule}
-use Rattle.source80.specs.declared.rule.AsmRule.TheVariants.{V5}
-use Rattle.source80.specs.FirstFaults.{rule_if}
-use Rattle.source80.specs.Operations.{operations, operation_of, kinds}
-use Rattle.source80.specs.Values.{Scope}
-use Rattle.source80.specs.Walk.{size_of_kinds, size_by}
-use Rattle.source80.specs.Operands.{register_name, indirect_named, src_of, pair_of, indirect_of, stack_of, is_of_kind, are_of_kinds, is_memory, moves_memory, rule_of_values, rule_by_kinds, rule_of_operands}
-use Rattle.source80.specs.Items.{Setting, value, byte, word_of, move, is_instruction_op, instruction}
-use Rattle.source80.specs.Layout.{is_foreign_by}
+use Rattle.asm80_source.specs.declared.operation.Operation.{Operation}
+use Rattle.asm80_source.specs.declared.operation.Operation.TheVariants as op
+use Rattle.asm80_source.specs.declared.operation.Kind.{Kind}
+use Rattle.asm80_source.specs.declared.operation.Kind.TheVariants.{Register, Pair, Indirect, Stack, Byte, Word, Address, Target, Restart}
+use Rattle.asm80_source.specs.declared.rule.AsmRule.{AsmRule}
+use Rattle.asm80_source.specs.declared.rule.AsmRule.TheVariants.{V5}
+use Rattle.asm80_source.specs.FirstFaults.{rule_if}
+use Rattle.asm80_source.specs.Operations.{operations, operation_of, kinds}
+use Rattle.asm80_source.specs.Values.{Scope}
+use Rattle.asm80_source.specs.Walk.{size_of_kinds, size_by}
+use Rattle.asm80_source.specs.Operands.{register_name, indirect_named, src_of, pair_of, indirect_of, stack_of, is_of_kind, are_of_kinds, is_memory, moves_memory, rule_of_values, rule_by_kinds, rule_of_operands}
+use Rattle.asm80_source.specs.Items.{Setting, value, byte, word_of, move, is_instruction_op, instruction}
+use Rattle.asm80_source.specs.Layout.{is_foreign_by}
 
 -- ---- what the second walk's rules say of the operands of an instruction
 

@@ -4,17 +4,17 @@ use Rattle.std.specs.Option.{option_or, option_to_list}
 use Rattle.std.proofs.Math.Path.{fun_ext}
 use Rattle.asm80_tokens.specs.declared.stmt.Stmt80.{Stmt80}
 use Rattle.asm80_tokens.specs.Tree.{statement_of}
-use Rattle.address_set.specs.Addresses.{has_address, StandsFor}
+use Rattle.base_addresses.specs.Addresses.{has_address, StandsFor}
 use Rattle.asm80_walk.specs.declared.walked.Taken.{Taken}
 use Rattle.asm80_walk.specs.declared.walked.AsmFault.TheVariants.{Refused}
 use Rattle.asm80_walk.specs.Walked.{StandsFor as StandsForRow, Stand}
-use Rattle.source80.specs.declared.rule.AsmRule.{AsmRule}
-use Rattle.source80.specs.declared.meaning.Meaning.{Meaning}
-use Rattle.source80.specs.Names.{Name}
-use Rattle.source80.specs.Walk.{Walk, Row, rows, walked, meaning_in, row_is_taken, row_operation}
-use Rattle.source80.specs.FirstFaults.{with_line, first_fault}
-use Rattle.source80.specs.Operands.{operand_scope, meaning_seen, rule_of_operands, second_rule, second_fault}
-use Rattle.source80.specs.Items.{Setting, setting, is_instruction_op, is_data_op, fills_cells, items as rows_that_fill, starts_in, starts_at}
+use Rattle.asm80_source.specs.declared.rule.AsmRule.{AsmRule}
+use Rattle.asm80_source.specs.declared.meaning.Meaning.{Meaning}
+use Rattle.asm80_source.specs.Names.{Name}
+use Rattle.asm80_source.specs.Walk.{Walk, Row, rows, walked, meaning_in, row_is_taken, row_operation}
+use Rattle.asm80_source.specs.FirstFaults.{with_line, first_fault}
+use Rattle.asm80_source.specs.Operands.{operand_scope, meaning_seen, rule_of_operands, second_rule, second_fault}
+use Rattle.asm80_source.specs.Items.{Setting, setting, is_instruction_op, is_data_op, fills_cells, items as rows_that_fill, starts_in, starts_at}
 use Rattle.asm80_values.specs.declared.item.Item.{Item}
 use Rattle.asm80_values.specs.Items.{IsItem, AreItems}
 use Rattle.asm80_values.specs.Second.{taken_rows, seen_in, names_set, IsItemOf, GivesItem}

@@ -3,15 +3,15 @@ use Rattle.std.proofs.Common.{◌≡◌, ℕ, ◌+◌, suc, Bool, ◌<◌, ◌�
 use Rattle.std.specs.Option.{option_to_list}
 use Rattle.asm80_tokens.specs.declared.stmt.Stmt80.{Stmt80}
 use Rattle.asm80_tokens.specs.Tree.{statement_of}
-use Rattle.address_set.specs.Addresses.{StandsFor}
+use Rattle.base_addresses.specs.Addresses.{StandsFor}
 use Rattle.asm80_walk.specs.declared.walked.Taken.{Taken}
 use Rattle.asm80_walk.specs.declared.walked.AsmFault.{AsmFault}
 use Rattle.asm80_walk.specs.declared.walked.AsmFault.TheVariants.{Refused, Memory}
 use Rattle.asm80_walk.specs.Walked.{StandsFor as StandsForRow, Stand}
-use Rattle.source80.specs.Names.{Name}
-use Rattle.source80.specs.Walk.{Row, rows, walked}
-use Rattle.source80.specs.Operands.{second_fault}
-use Rattle.source80.specs.Items.{fills_cells, items as rows_that_fill, starts_in}
+use Rattle.asm80_source.specs.Names.{Name}
+use Rattle.asm80_source.specs.Walk.{Row, rows, walked}
+use Rattle.asm80_source.specs.Operands.{second_fault}
+use Rattle.asm80_source.specs.Items.{fills_cells, items as rows_that_fill, starts_in}
 use Rattle.asm80_values.specs.declared.item.Item.{Item}
 use Rattle.asm80_values.specs.Items.{AreItems}
 use Rattle.asm80_values.specs.Second.{seen_in, names_set, GivesItem, AreItemsOf, AreRefused}

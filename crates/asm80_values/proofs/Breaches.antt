@@ -6,14 +6,14 @@ use Rattle.std.proofs.lemmas.Bool.Decides.{nat_tests}
 use Rattle.asm80_tokens.specs.Tree.{Operand}
 use Rattle.asm80_operands.specs.declared.form.Form.{Form}
 use Rattle.asm80_operands.specs.declared.form.Form.TheVariants.{Nothing, Instruction, Data}
-use Rattle.source80.specs.declared.operation.Operation.{Operation}
-use Rattle.source80.specs.declared.operation.Operation.TheVariants.{Db, Dw, Rst, Foreign, Port}
-use Rattle.source80.specs.declared.operation.Kind.TheVariants.{Byte, Word}
-use Rattle.source80.specs.declared.rule.AsmRule.{AsmRule}
-use Rattle.source80.specs.declared.rule.AsmRule.TheVariants.{S1, S2, S3, S4, S5, S6, S7}
-use Rattle.source80.specs.Walk.{Walk, Row, row_operation}
-use Rattle.source80.specs.Items.{Setting, setting, address, items, starts_in, starts_at, is_instruction_op, is_data_op}
-use Rattle.source80.specs.Layout.{cells_of, layout_fault, counted_from, is_filled, first_overlap, is_outside, stands_outside as row_stands_outside, refused_at, is_foreign_by, same_kind, operands_by, misses, computes, loads_code, is_foreign, has_operand}
+use Rattle.asm80_source.specs.declared.operation.Operation.{Operation}
+use Rattle.asm80_source.specs.declared.operation.Operation.TheVariants.{Db, Dw, Rst, Foreign, Port}
+use Rattle.asm80_source.specs.declared.operation.Kind.TheVariants.{Byte, Word}
+use Rattle.asm80_source.specs.declared.rule.AsmRule.{AsmRule}
+use Rattle.asm80_source.specs.declared.rule.AsmRule.TheVariants.{S1, S2, S3, S4, S5, S6, S7}
+use Rattle.asm80_source.specs.Walk.{Walk, Row, row_operation}
+use Rattle.asm80_source.specs.Items.{Setting, setting, address, items, starts_in, starts_at, is_instruction_op, is_data_op}
+use Rattle.asm80_source.specs.Layout.{cells_of, layout_fault, counted_from, is_filled, first_overlap, is_outside, stands_outside as row_stands_outside, refused_at, is_foreign_by, same_kind, operands_by, misses, computes, loads_code, is_foreign, has_operand}
 use Rattle.asm80_values.specs.declared.item.Item.{Item}
 use Rattle.asm80_values.specs.Items.{IsFormBy, IsItem, AreItems, cells_of_item, overlap_from, stands_outside, form_breaks, breaks, refused_item, profile_fault}
 use Rattle.asm80_values.proofs.Cells.{inside, outside, below_area}

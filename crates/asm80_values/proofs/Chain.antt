@@ -2,14 +2,14 @@
 use Rattle.std.proofs.Common.{◌≡◌, ℕ, ◌≤◌, Bool, true, false, cond, List, [], ◌∷◌, length, filter, Option, Some, None, option_map, refl, sym, ap, subst, ◌∙◌, arith}
 use Rattle.std.specs.Option.{option_or}
 use Rattle.asm80_tokens.specs.Tree.{Statement}
-use Rattle.source80.specs.declared.operation.Operation.{Operation}
-use Rattle.source80.specs.declared.operation.Operation.TheVariants.{Equ, Set}
-use Rattle.source80.specs.declared.rule.AsmRule.{AsmRule}
-use Rattle.source80.specs.declared.rule.AsmRule.TheVariants.{V1, V2, V4, V5, V6, V7}
-use Rattle.source80.specs.Names.{Name, named, is_settable, defined}
-use Rattle.source80.specs.Walk.{Walk, Row, operation_in, is_taken, meaning_in, kind_of_label, definition, names_by, after_by, after, ends, rows_from, walk_from, at_start, rows, walked, row_is_taken}
-use Rattle.source80.specs.FirstFaults.{breaks_v6, label_clashes, label_overflows, breaks_v5, breaks_v1, breaks_v4, rule_of_taken, rule_of_row, with_line, first_fault, rule_if}
-use Rattle.source80.specs.Operands.{meaning_by, meaning_seen}
+use Rattle.asm80_source.specs.declared.operation.Operation.{Operation}
+use Rattle.asm80_source.specs.declared.operation.Operation.TheVariants.{Equ, Set}
+use Rattle.asm80_source.specs.declared.rule.AsmRule.{AsmRule}
+use Rattle.asm80_source.specs.declared.rule.AsmRule.TheVariants.{V1, V2, V4, V5, V6, V7}
+use Rattle.asm80_source.specs.Names.{Name, named, is_settable, defined}
+use Rattle.asm80_source.specs.Walk.{Walk, Row, operation_in, is_taken, meaning_in, kind_of_label, definition, names_by, after_by, after, ends, rows_from, walk_from, at_start, rows, walked, row_is_taken}
+use Rattle.asm80_source.specs.FirstFaults.{breaks_v6, label_clashes, label_overflows, breaks_v5, breaks_v1, breaks_v4, rule_of_taken, rule_of_row, with_line, first_fault, rule_if}
+use Rattle.asm80_source.specs.Operands.{meaning_by, meaning_seen}
 use Rattle.asm80_values.specs.Second.{set_by, names_set}
 use Rattle.asm80_values.proofs.SetNames.{Made, made, Distinct, distinct_made}
 use Rattle.asm80_values.proofs.SetAgain.{room_made, Stays, stays-refl, stays_made, fixed, Beside, beside_label, beside_set, beside_start, seen_by}

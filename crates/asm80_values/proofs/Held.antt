@@ -8,19 +8,19 @@ use Rattle.std.proofs.lemmas.Option.{none-some}
 use Rattle.std.proofs.lemmas.List.Sorted.{IsPermutation-sym, Contains-permutation}
 use Rattle.cells.specs.declared.Cell.{Cell}
 use Rattle.i80.specs.declared.Instr80.{Instr80}
-use Rattle.program80.specs.declared.program.Placed.{Placed}
-use Rattle.program80.specs.Program.{Program, is_top, IsProgram}
+use Rattle.asm80_program.specs.declared.program.Placed.{Placed}
+use Rattle.asm80_program.specs.Program.{Program, is_top, IsProgram}
 use Rattle.asm80_tokens.specs.Tree.{Operand}
 use Rattle.asm80_operands.specs.declared.form.Form.{Form}
 use Rattle.asm80_operands.specs.declared.form.Form.TheVariants.{Nothing, Instruction, Data}
-use Rattle.source80.specs.declared.operation.Operation.{Operation}
-use Rattle.source80.specs.declared.operation.Operation.TheVariants.{Db, Dw}
-use Rattle.source80.specs.declared.rule.AsmRule.{AsmRule}
-use Rattle.source80.specs.declared.rule.AsmRule.TheVariants.{S1, S2, S3, S4, S5, S6, S7}
-use Rattle.source80.specs.Walk.{Walk, Row, row_is_taken, row_operation}
-use Rattle.source80.specs.Items.{Setting, setting, address, items, starts_in, starts_at, is_instruction_op, is_data_op, is_instruction, is_data, fills_cells, instruction_by, instruction_of, placed_row, placed, data_by, laid_from, data_of_row, data_cells}
-use Rattle.source80.specs.Layout.{layout_fault}
-use Rattle.source80.specs.Assembly.{Holds}
+use Rattle.asm80_source.specs.declared.operation.Operation.{Operation}
+use Rattle.asm80_source.specs.declared.operation.Operation.TheVariants.{Db, Dw}
+use Rattle.asm80_source.specs.declared.rule.AsmRule.{AsmRule}
+use Rattle.asm80_source.specs.declared.rule.AsmRule.TheVariants.{S1, S2, S3, S4, S5, S6, S7}
+use Rattle.asm80_source.specs.Walk.{Walk, Row, row_is_taken, row_operation}
+use Rattle.asm80_source.specs.Items.{Setting, setting, address, items, starts_in, starts_at, is_instruction_op, is_data_op, is_instruction, is_data, fills_cells, instruction_by, instruction_of, placed_row, placed, data_by, laid_from, data_of_row, data_cells}
+use Rattle.asm80_source.specs.Layout.{layout_fault}
+use Rattle.asm80_source.specs.Assembly.{Holds}
 use Rattle.asm80_values.specs.declared.item.Item.{Item}
 use Rattle.asm80_values.specs.Items.{IsFormBy, IsItem, AreItems, overlap_from, breaks, refused_item, profile_fault}
 use Rattle.asm80_values.specs.Programs.{placed_by, placed_form, placed_item, data_form, data_item, is_instruction_form, starts_item, IsSound, AreLawful}

@@ -5,7 +5,7 @@ use Rattle.std.specs.Option.{option_to_list}
 use Rattle.std.proofs.lemmas.List.{take_more, length-take-le}
 use Rattle.std.proofs.lemmas.List.Elements.{filter_map-append}
 use Rattle.cells.specs.declared.Cell.{Cell}
-use Rattle.source80.specs.Items.{laid_from}
+use Rattle.asm80_source.specs.Items.{laid_from}
 
 pub cons_option-one : {X : Type 0} (o : Option X) → cons_option o [] ≡ option_to_list o
 cons_option-one None = refl

@@ -5,18 +5,18 @@ use Rattle.std.proofs.lemmas.Option.{none-some}
 use Rattle.std.proofs.lemmas.List.Elements.{All-contains, All-cons, Contains-append_right, Contains-append_cases, Contains-append_left, Contains-push}
 use Rattle.cells.specs.declared.Cell.{Cell}
 use Rattle.i80.specs.Columns.{length80}
-use Rattle.program80.specs.declared.program.Placed.{Placed}
-use Rattle.program80.specs.Program.{Program, program_of, AreLaid, CellsAreLaid}
+use Rattle.asm80_program.specs.declared.program.Placed.{Placed}
+use Rattle.asm80_program.specs.Program.{Program, program_of, AreLaid, CellsAreLaid}
 use Rattle.asm80_tokens.specs.Tree.{Statement}
 use Rattle.asm80_tokens.specs.declared.fault.LineRule.{LineRule}
 use Rattle.asm80_tokens.specs.declared.fault.ReadFault.{ReadFault}
 use Rattle.asm80_tokens.specs.declared.fault.ReadFault.TheVariants.{Syntax}
 use Rattle.asm80_text.specs.Stream.{StreamGives}
-use Rattle.source80.specs.declared.rule.AsmRule.{AsmRule}
-use Rattle.source80.specs.FirstFaults.{Refusal}
-use Rattle.source80.specs.Walk.{Walk, Row, rows, walked}
-use Rattle.source80.specs.Assembly.{Holds, IsRefused, refusal}
-use Rattle.source80.specs.Source.{IsSource, IsNoSource, SourceRule, OfLine, OfProgram, faulty, refused}
+use Rattle.asm80_source.specs.declared.rule.AsmRule.{AsmRule}
+use Rattle.asm80_source.specs.FirstFaults.{Refusal}
+use Rattle.asm80_source.specs.Walk.{Walk, Row, rows, walked}
+use Rattle.asm80_source.specs.Assembly.{Holds, IsRefused, refusal}
+use Rattle.asm80_source.specs.Source.{IsSource, IsNoSource, SourceRule, OfLine, OfProgram, faulty, refused}
 use Rattle.asm80_values.proofs.Placing.{length80-positive}
 
 -- ---- ascending lists with the same members

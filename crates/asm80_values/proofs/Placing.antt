@@ -11,13 +11,13 @@ use Rattle.cells.specs.declared.Cell.{Cell}
 use Rattle.i80.specs.declared.Instr80.{Instr80}
 use Rattle.i80.specs.declared.Instr80.TheVariants.{Nop}
 use Rattle.i80.specs.Columns.{length80, is_well_formed}
-use Rattle.program80.specs.declared.program.Placed.{Placed}
-use Rattle.program80.specs.Program.{covers, placed_in, is_top, AreLaid, CellsAreLaid, IsLaid, IsProgram, program_of}
+use Rattle.asm80_program.specs.declared.program.Placed.{Placed}
+use Rattle.asm80_program.specs.Program.{covers, placed_in, is_top, AreLaid, CellsAreLaid, IsLaid, IsProgram, program_of}
 use Rattle.asm80_operands.specs.declared.form.Form.{Form}
 use Rattle.asm80_operands.specs.declared.form.Form.TheVariants.{Nothing, Instruction, Data}
-use Rattle.source80.specs.declared.rule.AsmRule.TheVariants.{S1, S7}
-use Rattle.source80.specs.Items.{laid_from}
-use Rattle.source80.specs.Layout.{counted_from, is_filled}
+use Rattle.asm80_source.specs.declared.rule.AsmRule.TheVariants.{S1, S7}
+use Rattle.asm80_source.specs.Items.{laid_from}
+use Rattle.asm80_source.specs.Layout.{counted_from, is_filled}
 use Rattle.asm80_values.specs.declared.item.Item.{Item}
 use Rattle.asm80_values.specs.Items.{cells_of_item, overlap_from, stands_outside, form_breaks, breaks}
 use Rattle.asm80_values.specs.Programs.{placed_by, placed_form, placed_item, data_form, data_item, is_instruction_form, starts_item, IsSoundForm, IsSound, AreLawful}

@@ -8,9 +8,9 @@ use Rattle.asm80_operands.specs.declared.form.Form.TheVariants.{Nothing, Instruc
 use Rattle.asm80_operands.specs.declared.form.Instruction.{Instruction as Instr}
 use Rattle.asm80_operands.specs.declared.form.Data.{Data as Cells}
 use Rattle.asm80_operands.specs.Forms.{IsForm, GivesForm}
-use Rattle.source80.specs.declared.operation.Operation.{Operation}
-use Rattle.source80.specs.Items.{Setting, is_instruction_op}
-use Rattle.source80.specs.Walk.{Row, row_operation}
+use Rattle.asm80_source.specs.declared.operation.Operation.{Operation}
+use Rattle.asm80_source.specs.Items.{Setting, is_instruction_op}
+use Rattle.asm80_source.specs.Walk.{Row, row_operation}
 use Rattle.asm80_values.specs.declared.item.Item.{Item}
 use Rattle.asm80_values.specs.Second.{GivesItem, IsItemOf, fault_on, fills}
 

@@ -4,13 +4,13 @@ use Rattle.std.proofs.lemmas.List.Elements.{All-head, All-tail, All-cons, filter
 use Rattle.asm80_tokens.specs.Tree.{Statement}
 use Rattle.asm80_operands.specs.declared.form.Form.{Form}
 use Rattle.asm80_operands.specs.declared.form.Form.TheVariants.{Nothing, Instruction, Data}
-use Rattle.source80.specs.declared.operation.Operation.{Operation}
-use Rattle.source80.specs.declared.rule.AsmRule.{AsmRule}
-use Rattle.source80.specs.Operations.{kinds}
-use Rattle.source80.specs.Walk.{Walk, Row, operation_in, size_by, size_of_kinds, row_is_taken, row_operation}
-use Rattle.source80.specs.Operands.{operand_scope, rule_of_operands}
-use Rattle.source80.specs.Items.{Setting, setting, is_instruction_op, is_data_op, fills_cells, items, instruction}
-use Rattle.source80.specs.Layout.{is_foreign_by}
+use Rattle.asm80_source.specs.declared.operation.Operation.{Operation}
+use Rattle.asm80_source.specs.declared.rule.AsmRule.{AsmRule}
+use Rattle.asm80_source.specs.Operations.{kinds}
+use Rattle.asm80_source.specs.Walk.{Walk, Row, operation_in, size_by, size_of_kinds, row_is_taken, row_operation}
+use Rattle.asm80_source.specs.Operands.{operand_scope, rule_of_operands}
+use Rattle.asm80_source.specs.Items.{Setting, setting, is_instruction_op, is_data_op, fills_cells, items, instruction}
+use Rattle.asm80_source.specs.Layout.{is_foreign_by}
 use Rattle.asm80_values.specs.declared.item.Item.{Item}
 use Rattle.asm80_values.specs.Items.{IsFormBy, IsItem, AreItems}
 use Rattle.asm80_values.specs.Programs.{IsSoundForm, IsSound}

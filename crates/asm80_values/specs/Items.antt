@@ -6,14 +6,14 @@ use Rattle.asm80_tokens.specs.Tree.{Operand}
 use Rattle.asm80_operands.specs.declared.form.Form.{Form}
 use Rattle.asm80_operands.specs.declared.form.Form.TheVariants.{Instruction, Data}
 use Rattle.asm80_operands.specs.Forms.{IsForm}
-use Rattle.source80.specs.declared.operation.Operation.{Operation}
-use Rattle.source80.specs.declared.rule.AsmRule.{AsmRule}
-use Rattle.source80.specs.declared.rule.AsmRule.TheVariants.{S1, S2, S4, S5, S7}
-use Rattle.source80.specs.Walk.{Walk, Row, row_operation, size_of}
-use Rattle.source80.specs.FirstFaults.{Refusal}
-use Rattle.source80.specs.Operands.{second_rule}
-use Rattle.source80.specs.Items.{Setting, setting, address}
-use Rattle.source80.specs.Layout.{counted_from, is_filled}
+use Rattle.asm80_source.specs.declared.operation.Operation.{Operation}
+use Rattle.asm80_source.specs.declared.rule.AsmRule.{AsmRule}
+use Rattle.asm80_source.specs.declared.rule.AsmRule.TheVariants.{S1, S2, S4, S5, S7}
+use Rattle.asm80_source.specs.Walk.{Walk, Row, row_operation, size_of}
+use Rattle.asm80_source.specs.FirstFaults.{Refusal}
+use Rattle.asm80_source.specs.Operands.{second_rule}
+use Rattle.asm80_source.specs.Items.{Setting, setting, address}
+use Rattle.asm80_source.specs.Layout.{counted_from, is_filled}
 use Rattle.asm80_values.specs.declared.item.Item.{Item}
 
 abbrev pub IsFormBy : Setting → List Operand → Option Operation → Form → Type 0

@@ -4,12 +4,12 @@ use Rattle.std.specs.List.{list_any}
 use Rattle.cells.specs.declared.Cell.{Cell}
 use Rattle.i80.specs.declared.Instr80.{Instr80}
 use Rattle.i80.specs.Columns.{length80, is_well_formed}
-use Rattle.program80.specs.declared.program.Placed.{Placed}
-use Rattle.program80.specs.Program.{is_top}
+use Rattle.asm80_program.specs.declared.program.Placed.{Placed}
+use Rattle.asm80_program.specs.Program.{is_top}
 use Rattle.asm80_operands.specs.declared.form.Form.{Form}
 use Rattle.asm80_operands.specs.declared.form.Form.TheVariants.{Nothing, Instruction, Data}
-use Rattle.source80.specs.declared.rule.AsmRule.TheVariants.{S1, S7}
-use Rattle.source80.specs.Items.{laid_from}
+use Rattle.asm80_source.specs.declared.rule.AsmRule.TheVariants.{S1, S7}
+use Rattle.asm80_source.specs.Items.{laid_from}
 use Rattle.asm80_values.specs.declared.item.Item.{Item}
 use Rattle.asm80_values.specs.Items.{overlap_from, breaks}
 

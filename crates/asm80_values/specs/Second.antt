@@ -2,18 +2,18 @@
 use Rattle.std.specs.Prelude.{◌≡◌, ℕ, ◌^◌, ◌<◌, ◌||◌, Bool, true, false, cond, List, map, filter, Option, Some, None, Result, Ok, Err}
 use Rattle.asm80_tokens.specs.declared.stmt.Stmt80.{Stmt80}
 use Rattle.asm80_tokens.specs.Tree.{statement_of}
-use Rattle.address_set.specs.Addresses.{has_address}
+use Rattle.base_addresses.specs.Addresses.{has_address}
 use Rattle.asm80_operands.specs.declared.fault.FormFault.{FormFault}
 use Rattle.asm80_operands.specs.declared.fault.FormFault.TheVariants.{Rule, Memory as NoRoom}
 use Rattle.asm80_walk.specs.declared.walked.Taken.{Taken}
 use Rattle.asm80_walk.specs.declared.walked.AsmFault.{AsmFault}
 use Rattle.asm80_walk.specs.declared.walked.AsmFault.TheVariants.{Refused, Memory}
-use Rattle.source80.specs.declared.operation.Operation.{Operation}
-use Rattle.source80.specs.declared.operation.Operation.TheVariants.{Set}
-use Rattle.source80.specs.Names.{Name, defined}
-use Rattle.source80.specs.Walk.{Row, rows, walked, meaning_in, row_is_taken, row_operation, size_of, definition}
-use Rattle.source80.specs.Operands.{rule_of_operands, second_fault}
-use Rattle.source80.specs.Items.{Setting, address, is_instruction_op, is_data_op, items}
+use Rattle.asm80_source.specs.declared.operation.Operation.{Operation}
+use Rattle.asm80_source.specs.declared.operation.Operation.TheVariants.{Set}
+use Rattle.asm80_source.specs.Names.{Name, defined}
+use Rattle.asm80_source.specs.Walk.{Row, rows, walked, meaning_in, row_is_taken, row_operation, size_of, definition}
+use Rattle.asm80_source.specs.Operands.{rule_of_operands, second_fault}
+use Rattle.asm80_source.specs.Items.{Setting, address, is_instruction_op, is_data_op, items}
 use Rattle.asm80_values.specs.declared.item.Item.{Item}
 use Rattle.asm80_values.specs.Items.{IsFormBy, AreItems}
 

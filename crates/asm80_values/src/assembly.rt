@@ -1,16 +1,16 @@
 // From the statements of a source to its program.
 ghost use Rattle.std.specs.Prelude.{◌≡◌, ℕ, true, map, IfOk, Err};
 ghost use Rattle.asm80_tokens.specs.Tree.{statement_of};
-ghost use Rattle.program80.specs.Program.{is_top};
-ghost use Rattle.source80.specs.declared.rule.AsmRule.{AsmRule};
-ghost use Rattle.source80.specs.Assembly.{IsAssembled, IsRefused};
+ghost use Rattle.asm80_program.specs.Program.{is_top};
+ghost use Rattle.asm80_source.specs.declared.rule.AsmRule.{AsmRule};
+ghost use Rattle.asm80_source.specs.Assembly.{IsAssembled, IsRefused};
 
 use crate::layout::layout_fault;
 use crate::program::program_of_items;
 use crate::second_walk::{items_of, starts_of};
+use asm80_program::Program80;
 use asm80_tokens::Stmt80;
 use asm80_walk::{AsmFault, walk};
-use program80::Program80;
 use std::alloc::Global;
 
 /// The program of the statements of a source, for a top of the program area, which is 4000H, 8000H, 0C000H or 0F000H. A refusal

@@ -1,7 +1,7 @@
 // Laws of sources.
 ghost use Rattle.std.specs.Prelude.{◌≡◌, ℕ, List};
-ghost use Rattle.program80.specs.Program.{Program};
-ghost use Rattle.source80.specs.Source.{IsSource, IsNoSource, SourceRule};
+ghost use Rattle.asm80_program.specs.Program.{Program};
+ghost use Rattle.asm80_source.specs.Source.{IsSource, IsNoSource, SourceRule};
 
 use asm80_text::stream_has_one_outcome;
 

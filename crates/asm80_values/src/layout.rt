@@ -2,16 +2,16 @@
 ghost use Rattle.std.specs.Prelude.{◌≡◌, ◌||◌, ℕ, [], ◌++◌, cond, find, List, IfOk, Some, None};
 ghost use Rattle.std.specs.List.{list_any};
 ghost use Rattle.std.specs.Option.{option_or};
-ghost use Rattle.address_set.specs.Addresses.{has_address, StandsFor};
-ghost use Rattle.source80.specs.Walk.{Walk, Row};
-ghost use Rattle.source80.specs.Items.{items as rows_that_fill, starts_in};
-ghost use Rattle.source80.specs.Layout.{layout_fault};
+ghost use Rattle.base_addresses.specs.Addresses.{has_address, StandsFor};
+ghost use Rattle.asm80_source.specs.Walk.{Walk, Row};
+ghost use Rattle.asm80_source.specs.Items.{items as rows_that_fill, starts_in};
+ghost use Rattle.asm80_source.specs.Layout.{layout_fault};
 ghost use Rattle.asm80_values.specs.Items.{AreItems, cells_of_item, overlap_from, stands_outside, breaks, refused_item, profile_fault};
 
 use crate::item::{Item, address_of_cell};
-use address_set::AddressSet;
 use asm80_operands::Form;
-use source80::AsmRule;
+use asm80_source::AsmRule;
+use base_addresses::AddressSet;
 use std::alloc::{AllocError, Global};
 
 // Whether a cell of an item is in a set.

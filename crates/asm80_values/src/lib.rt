@@ -8,11 +8,8 @@ mod layout;
 mod program;
 mod second_walk;
 
+pub use asm80_program::Program80;
+pub use asm80_source::AsmRule;
 pub use asm80_walk::AsmFault;
 pub use assembly::assemble;
 pub use laws::source_has_one_outcome;
-pub use program80::Program80;
-pub use source80::AsmRule;
-
-#[cfg(test)]
-mod tests;

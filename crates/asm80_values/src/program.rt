@@ -2,14 +2,14 @@
 ghost use Rattle.std.specs.Prelude.{◌≡◌, ◌++◌, option_to_list, IfOk, OnOk};
 ghost use Rattle.std.specs.List.{filter_map, flat_map};
 ghost use Rattle.std.specs.List.Sorted.{IsPermutation, IsNonDecreasingBy};
-ghost use Rattle.program80.specs.Program.{Program, IsProgram};
-ghost use Rattle.source80.specs.Items.{laid_from};
+ghost use Rattle.asm80_program.specs.Program.{Program, IsProgram};
+ghost use Rattle.asm80_source.specs.Items.{laid_from};
 ghost use Rattle.asm80_values.specs.Programs.{AreLawful, placed_item, data_item};
 
 use crate::item::{Item, address_of_cell};
 use asm80_operands::Form;
+use asm80_program::{Placed, Program80};
 use cells::Cell;
-use program80::{Placed, Program80};
 use std::alloc::{AllocError, Global};
 
 // The instruction of an item, at its address.

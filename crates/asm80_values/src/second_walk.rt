@@ -1,21 +1,21 @@
 // The second walk: the operands of instructions, DB and DW.
 ghost use Rattle.std.specs.Prelude.{◌≡◌, ◌||◌, ℕ, List, option_to_list, map, Some, OnOk, IfOk, MatchResult};
-ghost use Rattle.address_set.specs.Addresses.{has_address, is_among, StandsFor};
+ghost use Rattle.base_addresses.specs.Addresses.{has_address, is_among, StandsFor};
 ghost use Rattle.asm80_tokens.specs.declared.stmt.Stmt80.{Stmt80};
 ghost use Rattle.asm80_tokens.specs.Tree.{Statement, operand_of, statement_of};
 ghost use Rattle.asm80_operands.specs.Forms.{IsForm};
 ghost use Rattle.asm80_walk.specs.Walked.{StandsFor as StandsForRow, Stand, IsWalked};
-ghost use Rattle.source80.specs.Walk.{Row, row_operation, size_by, rows};
-ghost use Rattle.source80.specs.Items.{Setting as Seen, address, is_instruction_op, starts_in};
+ghost use Rattle.asm80_source.specs.Walk.{Row, row_operation, size_by, rows};
+ghost use Rattle.asm80_source.specs.Items.{Setting as Seen, address, is_instruction_op, starts_in};
 ghost use Rattle.asm80_values.specs.Second.{taken_rows, start_of, seen_in, names_set, fault_on, IsItemOf, GivesItem, AreItemsOf, AreRefused};
 
 use crate::item::Item;
-use address_set::AddressSet;
 use asm80_names::{Names, Scope};
 use asm80_operands::{Form, FormFault, Setting, form_of, kinds_of};
+use asm80_source::{NameKind, Operation};
 use asm80_tokens::{Arg, Stmt80};
 use asm80_walk::{AsmFault, Taken, Walked, size_of};
-use source80::{NameKind, Operation};
+use base_addresses::AddressSet;
 use std::alloc::{AllocError, Global};
 
 fn is_instruction(operation: Option<Operation>) -> bool

@@ -5,10 +5,10 @@ use Rattle.std.specs.List.{list_any}
 use Rattle.std.proofs.lemmas.List.{map-append, reverse-append, append-nil}
 use Rattle.std.proofs.lemmas.List.Sorted.{list_any-IsPermutation, IsPermutation-reverse}
 use Rattle.asm80_tokens.specs.Tree.{Statement}
-use Rattle.source80.specs.declared.operation.Operation.{Operation}
-use Rattle.source80.specs.declared.operation.Operation.TheVariants.{If, EndIf}
-use Rattle.source80.specs.Walk.{Walk, operation_in, is_endif, is_taken, directive_meaning, is_true, ifs_by, skipped_ifs}
-use Rattle.source80.specs.FirstFaults.{Refusal}
+use Rattle.asm80_source.specs.declared.operation.Operation.{Operation}
+use Rattle.asm80_source.specs.declared.operation.Operation.TheVariants.{If, EndIf}
+use Rattle.asm80_source.specs.Walk.{Walk, operation_in, is_endif, is_taken, directive_meaning, is_true, ifs_by, skipped_ifs}
+use Rattle.asm80_source.specs.FirstFaults.{Refusal}
 use Rattle.asm80_walk.specs.declared.ifs.OpenIf.{OpenIf}
 use Rattle.asm80_walk.specs.State.{State, taken_flags, refusals, all_but_last, refusals_by, nested_ifs, walk_of}
 

@@ -4,8 +4,8 @@ use Rattle.std.specs.Prelude.{filter}
 use Rattle.std.proofs.lemmas.List.{append-nil, length-map, get_or-map, get_or_default, drop_all}
 use Rattle.asm80_tokens.specs.declared.stmt.Stmt80.{Stmt80}
 use Rattle.asm80_tokens.specs.Tree.{Statement, statement_of}
-use Rattle.source80.specs.Walk.{Walk, Row, is_taken, after, ends, rows_from, walk_from, rows, walked, row_is_taken}
-use Rattle.source80.specs.FirstFaults.{first_fault}
+use Rattle.asm80_source.specs.Walk.{Walk, Row, is_taken, after, ends, rows_from, walk_from, rows, walked, row_is_taken}
+use Rattle.asm80_source.specs.FirstFaults.{first_fault}
 use Rattle.asm80_walk.specs.declared.walked.Taken.{Taken}
 use Rattle.asm80_walk.specs.Walked.{StandsFor, Stand}
 use Rattle.asm80_walk.specs.State.{State, walk_of, taken_row, Steps, start, Done}

@@ -3,15 +3,15 @@ use Rattle.std.proofs.Common.{◌≡◌, ℕ, List, [], ◌∷◌, ◌++◌, Boo
 use Rattle.std.specs.Prelude.{cond, reverse}
 use Rattle.std.specs.Option.{option_or}
 use Rattle.asm80_tokens.specs.Tree.{Statement}
-use Rattle.source80.specs.declared.operation.Operation.{Operation}
-use Rattle.source80.specs.declared.operation.Operation.TheVariants.{Org, End, Equ, Set, If, Ds}
-use Rattle.source80.specs.declared.rule.AsmRule.{AsmRule}
-use Rattle.source80.specs.declared.rule.AsmRule.TheVariants.{V1, V2, V4, V5, V6, V7}
-use Rattle.source80.specs.declared.meaning.Meaning.{Meaning}
-use Rattle.source80.specs.declared.meaning.NameKind.{NameKind}
-use Rattle.source80.specs.Names.{Name, clashes, overflows}
-use Rattle.source80.specs.Walk.{Walk, operation_in, is_taken, is_true, scope, directive_meaning, names_after, address_after, after_by, kind_of_label, label_meaning_by}
-use Rattle.source80.specs.FirstFaults.{rule_if, rule_of_taken, with_line, breaks_v1, breaks_v4, breaks_v5, label_clashes, label_overflows}
+use Rattle.asm80_source.specs.declared.operation.Operation.{Operation}
+use Rattle.asm80_source.specs.declared.operation.Operation.TheVariants.{Org, End, Equ, Set, If, Ds}
+use Rattle.asm80_source.specs.declared.rule.AsmRule.{AsmRule}
+use Rattle.asm80_source.specs.declared.rule.AsmRule.TheVariants.{V1, V2, V4, V5, V6, V7}
+use Rattle.asm80_source.specs.declared.meaning.Meaning.{Meaning}
+use Rattle.asm80_source.specs.declared.meaning.NameKind.{NameKind}
+use Rattle.asm80_source.specs.Names.{Name, clashes, overflows}
+use Rattle.asm80_source.specs.Walk.{Walk, operation_in, is_taken, is_true, scope, directive_meaning, names_after, address_after, after_by, kind_of_label, label_meaning_by}
+use Rattle.asm80_source.specs.FirstFaults.{rule_if, rule_of_taken, with_line, breaks_v1, breaks_v4, breaks_v5, label_clashes, label_overflows}
 use Rattle.asm80_walk.specs.State.{State, taken_flags, walk_of, nested_ifs, breaks_nesting, sure_rule, taken_row, Steps, rule_of_values, is_evaluated, rule_above, rule_at_end}
 use Rattle.asm80_walk.proofs.Nesting.{flags_skipped, flags_taken, refusals_nested}
 

@@ -5,12 +5,12 @@ use Rattle.std.specs.Option.{option_or}
 use Rattle.std.proofs.lemmas.Bool.{le-leb, lt-leb}
 use Rattle.std.proofs.lemmas.List.{length-map, length-reverse}
 use Rattle.asm80_tokens.specs.Tree.{Statement}
-use Rattle.source80.specs.declared.operation.Operation.{Operation}
-use Rattle.source80.specs.declared.operation.Operation.TheVariants.{If, EndIf}
-use Rattle.source80.specs.declared.rule.AsmRule.{AsmRule}
-use Rattle.source80.specs.declared.rule.AsmRule.TheVariants.{V6}
-use Rattle.source80.specs.Walk.{Walk, Row, operation_in, is_if, is_endif, is_taken, rows_from, walk_from}
-use Rattle.source80.specs.FirstFaults.{Refusal, rule_if, most_ifs, is_closed, rule_of_taken, with_line, first_fault}
+use Rattle.asm80_source.specs.declared.operation.Operation.{Operation}
+use Rattle.asm80_source.specs.declared.operation.Operation.TheVariants.{If, EndIf}
+use Rattle.asm80_source.specs.declared.rule.AsmRule.{AsmRule}
+use Rattle.asm80_source.specs.declared.rule.AsmRule.TheVariants.{V6}
+use Rattle.asm80_source.specs.Walk.{Walk, Row, operation_in, is_if, is_endif, is_taken, rows_from, walk_from}
+use Rattle.asm80_source.specs.FirstFaults.{Refusal, rule_if, most_ifs, is_closed, rule_of_taken, with_line, first_fault}
 use Rattle.asm80_walk.specs.declared.ifs.OpenIf.{OpenIf}
 use Rattle.asm80_walk.specs.State.{State, taken_flags, refusals, walk_of, sure_rule, if_unclosed, all_but_last, refusals_by, Steps, final}
 

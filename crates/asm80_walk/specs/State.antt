@@ -4,14 +4,14 @@ use Rattle.std.specs.Option.{option_or}
 use Rattle.std.specs.List.{list_any}
 use Rattle.asm80_tokens.specs.declared.stmt.Stmt80.{Stmt80}
 use Rattle.asm80_tokens.specs.Tree.{Operand, Statement, statement_of}
-use Rattle.source80.specs.declared.operation.Operation.{Operation}
-use Rattle.source80.specs.declared.operation.Operation.TheVariants.{Org, Equ, Set, If, EndIf, Ds}
-use Rattle.source80.specs.declared.rule.AsmRule.{AsmRule}
-use Rattle.source80.specs.declared.rule.AsmRule.TheVariants.{V1, V2, V4, V5, V6, V7}
-use Rattle.source80.specs.Values.{Scope, operand_has_unknown, operand_divides_by_zero}
-use Rattle.source80.specs.Names.{Name}
-use Rattle.source80.specs.Walk.{Walk, operation_in, is_if, is_endif, is_end, is_taken, scope, meaning_in, directive_meaning, after, rows, walked, row_is_taken}
-use Rattle.source80.specs.FirstFaults.{Refusal, rule_if, most_ifs, label_clashes, label_overflows, breaks_v5, rule_of_taken, with_line, first_fault}
+use Rattle.asm80_source.specs.declared.operation.Operation.{Operation}
+use Rattle.asm80_source.specs.declared.operation.Operation.TheVariants.{Org, Equ, Set, If, EndIf, Ds}
+use Rattle.asm80_source.specs.declared.rule.AsmRule.{AsmRule}
+use Rattle.asm80_source.specs.declared.rule.AsmRule.TheVariants.{V1, V2, V4, V5, V6, V7}
+use Rattle.asm80_source.specs.Values.{Scope, operand_has_unknown, operand_divides_by_zero}
+use Rattle.asm80_source.specs.Names.{Name}
+use Rattle.asm80_source.specs.Walk.{Walk, operation_in, is_if, is_endif, is_end, is_taken, scope, meaning_in, directive_meaning, after, rows, walked, row_is_taken}
+use Rattle.asm80_source.specs.FirstFaults.{Refusal, rule_if, most_ifs, label_clashes, label_overflows, breaks_v5, rule_of_taken, with_line, first_fault}
 use Rattle.asm80_walk.specs.declared.walked.Taken.{Taken}
 use Rattle.asm80_walk.specs.declared.ifs.OpenIf.{OpenIf}
 use Rattle.asm80_walk.specs.Walked.{Stand}

@@ -2,8 +2,8 @@
 use Rattle.std.specs.Prelude.{◌≡◌, ◌<◌, List, [], ◌∷◌, length, map, filter, get_or, Some, None, Result, Ok, Err}
 use Rattle.asm80_tokens.specs.declared.stmt.Stmt80.{Stmt80}
 use Rattle.asm80_tokens.specs.Tree.{statement_of}
-use Rattle.source80.specs.Walk.{Row, rows, walked, row_is_taken, row_operation, directive_meaning}
-use Rattle.source80.specs.FirstFaults.{first_fault}
+use Rattle.asm80_source.specs.Walk.{Row, rows, walked, row_is_taken, row_operation, directive_meaning}
+use Rattle.asm80_source.specs.FirstFaults.{first_fault}
 use Rattle.asm80_walk.specs.declared.walked.Taken.{Taken}
 use Rattle.asm80_walk.specs.declared.walked.Walked.{Walked}
 use Rattle.asm80_walk.specs.declared.walked.AsmFault.{AsmFault}

@@ -5,16 +5,16 @@ ghost use Rattle.std.specs.List.{list_any};
 ghost use Rattle.asm80_tokens.specs.declared.arg.Arg.{Arg};
 ghost use Rattle.asm80_tokens.specs.Tree.{Operand, operand_of, Statement, statement_of};
 ghost use Rattle.asm80_names.specs.Scopes.{scope_of};
-ghost use Rattle.source80.specs.Values.{operand_has_unknown, operand_divides_by_zero};
-ghost use Rattle.source80.specs.Walk.{Walk, operation_in, operand_meaning, directive_meaning, label_meaning_by, kind_of_label, address_by, is_end, is_endif, is_true, or_at, size_by};
-ghost use Rattle.source80.specs.FirstFaults.{is_one_value, breaks_v5};
+ghost use Rattle.asm80_source.specs.Values.{operand_has_unknown, operand_divides_by_zero};
+ghost use Rattle.asm80_source.specs.Walk.{Walk, operation_in, operand_meaning, directive_meaning, label_meaning_by, kind_of_label, address_by, is_end, is_endif, is_true, or_at, size_by};
+ghost use Rattle.asm80_source.specs.FirstFaults.{is_one_value, breaks_v5};
 ghost use Rattle.asm80_walk.specs.State.{rule_of_values, is_evaluated};
 
 use crate::operations::operation_of;
 use crate::size::size_of;
 use asm80_names::{Scope, is_no_value, meaning_of, operand_divides_by_zero, operand_has_unknown};
+use asm80_source::{AsmRule, Meaning, NameKind, Operation};
 use asm80_tokens::{Arg, Stmt80};
-use source80::{AsmRule, Meaning, NameKind, Operation};
 
 /// What a fault hides.
 const UNKNOWN: Meaning = Meaning {

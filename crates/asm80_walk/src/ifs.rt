@@ -4,7 +4,7 @@ ghost use Rattle.std.specs.Prelude.{◌≡◌, not};
 ghost use Rattle.std.specs.List.{list_any};
 ghost use Rattle.asm80_walk.specs.declared.ifs.OpenIf.{OpenIf};
 
-use source80::AsmRule;
+use asm80_source::AsmRule;
 
 /// An IF that is open.
 #[derive(Clone, Copy)]

@@ -14,6 +14,3 @@ pub use first_walk::walk;
 pub use operations::{operation_of, operations_are_words};
 pub use size::size_of;
 pub use walked::{AsmFault, Taken, Walked};
-
-#[cfg(test)]
-mod tests;

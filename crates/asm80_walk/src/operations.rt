@@ -4,12 +4,12 @@ ghost use Rattle.std.specs.Prelude.{◌≡◌, List, ℕ, find, map, option_map,
 ghost use Rattle.std.specs.Borrow.{Bor};
 ghost use Rattle.std.specs.Str.{bytes_eq};
 ghost use Rattle.asm80_tokens.specs.Words.{is_operation};
-ghost use Rattle.source80.specs.declared.operation.Operation.{Operation};
-ghost use Rattle.source80.specs.Operations.{operation_of};
+ghost use Rattle.asm80_source.specs.declared.operation.Operation.{Operation};
+ghost use Rattle.asm80_source.specs.Operations.{operation_of};
 
+use asm80_source::Operation;
 use cells::Cond;
 use i80::{Instr80, Op};
-use source80::Operation;
 
 /// Each operation's name with what it is (Intel 8080 Assembly Language Programming Manual, chapter 2; CP/M 2.2 Operating
 /// System Manual, the assembler, "Assembler directives").

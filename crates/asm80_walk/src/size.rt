@@ -2,11 +2,11 @@
 
 ghost use Rattle.std.specs.Prelude.{◌≡◌, ◌*◌, ◌%◌, length, map, sum_by};
 ghost use Rattle.asm80_tokens.specs.Tree.{operand_of, Statement};
-ghost use Rattle.source80.specs.Operations.{kinds};
-ghost use Rattle.source80.specs.Walk.{bytes_of_item, size_by, size_of_kinds};
+ghost use Rattle.asm80_source.specs.Operations.{kinds};
+ghost use Rattle.asm80_source.specs.Walk.{bytes_of_item, size_by, size_of_kinds};
 
+use asm80_source::Operation;
 use asm80_tokens::Arg;
-use source80::Operation;
 
 /// The cells that a statement fills, modulo 65,536, also where its operands are refused later.
 pub fn size_of(operation: Option<Operation>, args: &[Arg]) -> u16

@@ -4,7 +4,7 @@ ghost use Rattle.std.specs.Prelude.{◌≡◌};
 ghost use Rattle.asm80_walk.specs.declared.walked.AsmFault.TheVariants as fault;
 
 use asm80_names::Names;
-use source80::{AsmRule, Meaning, Operation};
+use asm80_source::{AsmRule, Meaning, Operation};
 use std::alloc::{AllocError, AllocFailed};
 use thiserror::Error;
 

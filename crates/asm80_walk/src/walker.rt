@@ -4,11 +4,11 @@ ghost use Rattle.std.specs.Prelude.{◌≡◌, ◌∷◌, [], ◌++◌, true, fa
 ghost use Rattle.std.specs.Option.{option_or};
 ghost use Rattle.asm80_tokens.specs.Tree.{operand_of, Statement, statement_of};
 ghost use Rattle.asm80_names.specs.Scopes.{scope_of};
-ghost use Rattle.source80.specs.declared.rule.AsmRule.TheVariants.{V2, V5, V6, V7};
-ghost use Rattle.source80.specs.declared.meaning.Meaning.{Meaning};
-ghost use Rattle.source80.specs.Names.{clashes, overflows};
-ghost use Rattle.source80.specs.Walk.{directive_meaning, ends, is_taken, names_after, operation_in, scope};
-ghost use Rattle.source80.specs.FirstFaults.{breaks_v5, label_clashes, label_overflows, rule_if, with_line};
+ghost use Rattle.asm80_source.specs.declared.rule.AsmRule.TheVariants.{V2, V5, V6, V7};
+ghost use Rattle.asm80_source.specs.declared.meaning.Meaning.{Meaning};
+ghost use Rattle.asm80_source.specs.Names.{clashes, overflows};
+ghost use Rattle.asm80_source.specs.Walk.{directive_meaning, ends, is_taken, names_after, operation_in, scope};
+ghost use Rattle.asm80_source.specs.FirstFaults.{breaks_v5, label_clashes, label_overflows, rule_if, with_line};
 ghost use Rattle.asm80_walk.specs.State.{Done, Steps, all_but_last, breaks_nesting, final, if_unclosed, is_evaluated, nested_ifs, refusals, rule_above, rule_at_end, rule_of_values, start, walk_of};
 
 use crate::directives::{
@@ -18,8 +18,8 @@ use crate::directives::{
 use crate::ifs::{OpenIf, some_skips};
 use crate::walked::Taken;
 use asm80_names::{Names, Scope};
+use asm80_source::{AsmRule, Meaning, NameKind, Operation};
 use asm80_tokens::{Arg, Name80, Stmt80};
-use source80::{AsmRule, Meaning, NameKind, Operation};
 use std::alloc::{AllocError, Global};
 use std::marker::Model;
 

@@ -6,12 +6,12 @@ use Rattle.dialogue.specs.declared.request.Request.{Request}
 use Rattle.dialogue.specs.declared.request.Reply.{Reply}
 use Rattle.dialogue.specs.declared.request.Event.{Event}
 use Rattle.dialogue.specs.declared.request.Event.TheVariants.{Call, End}
-use Rattle.machine.specs.Run.{Answer, Ran, Asks, Ends, Stops, Status, Going, Waiting, Over, Stopped, Run, turn, settle, take_reply, start_run}
-use Rattle.machine.proofs.Turns.{turns_add}
-use Rattle.program80.specs.Program.{Program}
-use Rattle.step80.specs.State.{State80}
-use Rattle.step80.specs.Start.{start80, run80}
-use Rattle.step80.specs.Step.{step80, replied80, machine80}
+use Rattle.base_runs.specs.Run.{Answer, Ran, Asks, Ends, Stops, Status, Going, Waiting, Over, Stopped, Run, turn, settle, take_reply, start_run}
+use Rattle.base_runs.proofs.Turns.{turns_add}
+use Rattle.asm80_program.specs.Program.{Program}
+use Rattle.cpu80_steps.specs.State.{State80}
+use Rattle.cpu80_steps.specs.Start.{start80, run80}
+use Rattle.cpu80_steps.specs.Step.{step80, replied80, machine80}
 use Rattle.cpu80.specs.declared.processor.Cpu80.{Cpu80}
 use Rattle.cpu80.specs.declared.processor.Step80.TheVariants.{Ran as DidRun, Asked as DidAsk, Ended as DidEnd, Left}
 use Rattle.cpu80.specs.State.{state_of}

@@ -15,13 +15,13 @@ use Rattle.dialogue.specs.declared.request.Shape.{Shape}
 use Rattle.dialogue.specs.Shape.{shape_of}
 use Rattle.dialogue.specs.Table.{row_of}
 use Rattle.dialogue.specs.Tried.{try_then}
-use Rattle.machine.specs.Run.{Answer, Ran, Asks, Ends, Stops}
-use Rattle.program80.specs.Program.{Program, instr_at, is_start}
-use Rattle.step80.specs.State.{State80, num_of, wrap}
-use Rattle.step80.specs.Memory.{Halves, read_word}
-use Rattle.step80.specs.Effect.{effect, push}
-use Rattle.step80.specs.Call.{Return, ask, ask_after, call_by, is_just_below, seen_by, place_if, is_place, same_place, place_in, popped_return, return_after}
-use Rattle.step80.specs.Step.{go_to, go_on, leave_to, go_by, go_back, jump, enter, call, where_holds, holds, act, act_at, step_at, step80, return_of, return_at}
+use Rattle.base_runs.specs.Run.{Answer, Ran, Asks, Ends, Stops}
+use Rattle.asm80_program.specs.Program.{Program, instr_at, is_start}
+use Rattle.cpu80_steps.specs.State.{State80, num_of, wrap}
+use Rattle.cpu80_steps.specs.Memory.{Halves, read_word}
+use Rattle.cpu80_steps.specs.Effect.{effect, push}
+use Rattle.cpu80_steps.specs.Call.{Return, ask, ask_after, call_by, is_just_below, seen_by, place_if, is_place, same_place, place_in, popped_return, return_after}
+use Rattle.cpu80_steps.specs.Step.{go_to, go_on, leave_to, go_by, go_back, jump, enter, call, where_holds, holds, act, act_at, step_at, step80, return_of, return_at}
 
 -- where the answer ran on, an instruction comes next, or the end
 abbrev pub GoesOn : Program → Answer State80 Rule → Type 0

@@ -17,17 +17,17 @@ use Rattle.dialogue.specs.Shape.{Seen, argument_of, address_of, is_readable, ran
 use Rattle.dialogue.specs.Fits.{fills, writes_fit, line_fits, line_bytes_fit, answer_fits, fits, fits_row}
 use Rattle.dialogue.specs.Lawful.{IsLawful, IsShapeOver}
 use Rattle.dialogue.proofs.LawfulShapes.{made, made-lawful}
-use Rattle.machine.specs.Run.{Asks}
-use Rattle.program80.specs.Program.{Program}
-use Rattle.step80.specs.State.{State80, num_of}
-use Rattle.step80.specs.Call.{seen_by, is_place}
-use Rattle.step80.specs.Step.{step80, replied80, replied_to}
-use Rattle.tagged80.specs.declared.turn.Return.{Return}
-use Rattle.tagged80.specs.Area.{HasClosed}
-use Rattle.tagged80.specs.Draft.{memory_of}
-use Rattle.tagged80.specs.Sight.{closed_in}
-use Rattle.tagged80.specs.Turn.{shape_at}
-use Rattle.tagged80.proofs.Sights.{same_closed, same_seen}
+use Rattle.base_runs.specs.Run.{Asks}
+use Rattle.asm80_program.specs.Program.{Program}
+use Rattle.cpu80_steps.specs.State.{State80, num_of}
+use Rattle.cpu80_steps.specs.Call.{seen_by, is_place}
+use Rattle.cpu80_steps.specs.Step.{step80, replied80, replied_to}
+use Rattle.cpu80_effects.specs.declared.turn.Return.{Return}
+use Rattle.cpu80_effects.specs.Area.{HasClosed}
+use Rattle.cpu80_effects.specs.Draft.{memory_of}
+use Rattle.cpu80_effects.specs.Sight.{closed_in}
+use Rattle.cpu80_effects.specs.Turn.{shape_at}
+use Rattle.cpu80_effects.proofs.Sights.{same_closed, same_seen}
 use Rattle.cpu80.proofs.Places.{Returns, returns_to}
 use Rattle.cpu80.specs.declared.processor.Cpu80.{Cpu80}
 use Rattle.cpu80.specs.State.{state_of, seen_of, shape_in}

@@ -4,8 +4,8 @@ use mathlib.Core.Path.{fun_ext}
 use Rattle.std.proofs.lemmas.Bool.Decides.{nat_tests}
 use Rattle.cells.specs.declared.Cell.{Cell}
 use Rattle.cells.specs.declared.Cell.TheVariants.{Junk}
-use Rattle.step80.specs.State.{wrap}
-use Rattle.step80.specs.Memory.{put}
+use Rattle.cpu80_steps.specs.State.{wrap}
+use Rattle.cpu80_steps.specs.Memory.{put}
 use Rattle.cpu80.specs.Reply.{spoiled}
 
 -- how far a cell is below SP

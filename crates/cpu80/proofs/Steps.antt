@@ -2,17 +2,17 @@
 use Rattle.std.proofs.Common.{◌≡◌, ◌≢◌, Bool, true, List, Some, Result, Ok, Err, is_ok, refl, sym, ap, ◌∙◌, subst}
 use Rattle.cells.specs.declared.Rule.{Rule}
 use Rattle.dialogue.specs.declared.request.Shape.{Shape}
-use Rattle.machine.specs.Run.{Ran}
-use Rattle.program80.specs.Program.{Program}
-use Rattle.step80.specs.State.{State80, num_of}
-use Rattle.step80.specs.Call.{ask, is_place}
-use Rattle.step80.specs.Step.{step80, return_at}
-use Rattle.tagged80.specs.declared.turn.Return.{Return as KeptReturn}
-use Rattle.tagged80.specs.declared.turn.Turn.{Turn}
-use Rattle.tagged80.specs.declared.turn.Turn.TheVariants.{Ran as TurnRan, Asked as TurnAsked}
-use Rattle.tagged80.specs.Turn.{return_of, shape_at, answer_of, IsCall}
+use Rattle.base_runs.specs.Run.{Ran}
+use Rattle.asm80_program.specs.Program.{Program}
+use Rattle.cpu80_steps.specs.State.{State80, num_of}
+use Rattle.cpu80_steps.specs.Call.{ask, is_place}
+use Rattle.cpu80_steps.specs.Step.{step80, return_at}
+use Rattle.cpu80_effects.specs.declared.turn.Return.{Return as KeptReturn}
+use Rattle.cpu80_effects.specs.declared.turn.Turn.{Turn}
+use Rattle.cpu80_effects.specs.declared.turn.Turn.TheVariants.{Ran as TurnRan, Asked as TurnAsked}
+use Rattle.cpu80_effects.specs.Turn.{return_of, shape_at, answer_of, IsCall}
 use Rattle.cpu80.specs.declared.processor.Step80.TheVariants.{Asked as DidAsk}
-use Rattle.tagged80.specs.Area.{HasClosed}
+use Rattle.cpu80_effects.specs.Area.{HasClosed}
 use Rattle.cpu80.specs.declared.processor.Cpu80.{Cpu80}
 use Rattle.cpu80.specs.declared.processor.Phase.TheVariants.{Running}
 use Rattle.cpu80.specs.State.{state_of}

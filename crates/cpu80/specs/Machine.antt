@@ -8,14 +8,14 @@ use Rattle.dialogue.specs.declared.request.Event.TheVariants.{Call}
 use Rattle.dialogue.specs.Shape.{request_of}
 use Rattle.dialogue.specs.Fits.{fits}
 use Rattle.dialogue.specs.Lawful.{IsLawful}
-use Rattle.machine.specs.Run.{Answer, Ran, Asks, Ends, Stops}
-use Rattle.program80.specs.Program.{Program}
-use Rattle.step80.specs.State.{State80, num_of}
-use Rattle.step80.specs.Call.{is_place, seen_by}
-use Rattle.step80.specs.Step.{step80, return_at, replied80}
-use Rattle.tagged80.specs.declared.turn.Return.{Return}
-use Rattle.tagged80.specs.Area.{HasClosed}
-use Rattle.tagged80.specs.Turn.{return_of, shape_at}
+use Rattle.base_runs.specs.Run.{Answer, Ran, Asks, Ends, Stops}
+use Rattle.asm80_program.specs.Program.{Program}
+use Rattle.cpu80_steps.specs.State.{State80, num_of}
+use Rattle.cpu80_steps.specs.Call.{is_place, seen_by}
+use Rattle.cpu80_steps.specs.Step.{step80, return_at, replied80}
+use Rattle.cpu80_effects.specs.declared.turn.Return.{Return}
+use Rattle.cpu80_effects.specs.Area.{HasClosed}
+use Rattle.cpu80_effects.specs.Turn.{return_of, shape_at}
 use Rattle.cpu80.specs.declared.processor.Cpu80.{Cpu80}
 use Rattle.cpu80.specs.declared.processor.Phase.{Phase}
 use Rattle.cpu80.specs.declared.processor.Phase.TheVariants.{Running, Asking, Ended}

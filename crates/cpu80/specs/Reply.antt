@@ -2,13 +2,14 @@
 use Rattle.std.specs.Prelude.{ℕ, ◌+◌, ◌-◌, ◌≤◌, nat_lt, ◌&&◌, not, Bool, cond, length}
 use Rattle.cells.specs.declared.Cell.{Cell}
 use Rattle.cells.specs.declared.Cell.TheVariants.{Junk}
+use Rattle.cells.specs.Conditions.{unknown_flags}
 use Rattle.dialogue.specs.declared.blocks.Block.{Block}
 use Rattle.dialogue.specs.declared.request.Request.{Request}
 use Rattle.dialogue.specs.declared.request.Reply.{Reply}
 use Rattle.dialogue.specs.Fits.{answer_of, dma_after}
-use Rattle.step80.specs.State.{State80, wrap, no_flags}
-use Rattle.step80.specs.Call.{put_blocks, answered}
-use Rattle.tagged80.specs.declared.turn.Return.{Return}
+use Rattle.cpu80_steps.specs.State.{State80, wrap}
+use Rattle.cpu80_steps.specs.Call.{put_blocks, answered}
+use Rattle.cpu80_effects.specs.declared.turn.Return.{Return}
 
 -- of the k cells below SP nothing is known, but for those that are closed
 abbrev pub spoiled : ℕ → (ℕ → Bool) → ℕ → (ℕ → Cell) → ℕ → Cell
@@ -21,7 +22,7 @@ Fits b = b.at + length b.bytes ≤ 0x10000
 abbrev pub taken : (ℕ → Bool) → State80 → Return → Request → Reply → State80
 taken closed s back q y = record {
   regs = answered (answer_of q) y.answer;
-  flags = no_flags;
+  flags = unknown_flags;
   sp = back.sp;
   mem = spoiled 8 closed s.sp (put_blocks s.mem y.writes);
   place = back.place;

@@ -3,9 +3,9 @@ use Rattle.std.specs.Prelude.{Bool, true, false, Result}
 use Rattle.cells.specs.declared.Rule.{Rule}
 use Rattle.dialogue.specs.declared.request.Shape.{Shape}
 use Rattle.dialogue.specs.Shape.{Seen, shape_of}
-use Rattle.step80.specs.State.{State80, num_of}
-use Rattle.tagged80.specs.Draft.{regs_of, memory_of}
-use Rattle.tagged80.specs.Sight.{seen_over, closed_in}
+use Rattle.cpu80_steps.specs.State.{State80, num_of}
+use Rattle.cpu80_effects.specs.Draft.{regs_of, memory_of}
+use Rattle.cpu80_effects.specs.Sight.{seen_over, closed_in}
 use Rattle.cpu80.specs.declared.processor.Cpu80.{Cpu80}
 use Rattle.cpu80.specs.declared.processor.Phase.{Phase}
 use Rattle.cpu80.specs.declared.processor.Phase.TheVariants.{Running, Asking, Ended}

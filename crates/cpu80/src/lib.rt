@@ -5,11 +5,7 @@ mod memory;
 mod processor;
 mod replies;
 mod runs;
-#[cfg(test)]
-mod single_steps;
 mod start;
-#[cfg(test)]
-mod tests;
 
 pub use processor::{Cpu80, Step80};
 pub use runs::calls_give_runs;

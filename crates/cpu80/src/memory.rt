@@ -1,15 +1,15 @@
 // Writes to the 64K of cells.
 ghost use Rattle.std.specs.Prelude.{◌≡◌, ◌+◌, ◌≤◌, length, IsTrue, All};
-ghost use Rattle.step80.specs.Memory.{put};
-ghost use Rattle.step80.specs.Call.{put_bytes, put_blocks};
-ghost use Rattle.tagged80.specs.Draft.{memory_of, written};
-ghost use Rattle.tagged80.specs.Sight.{closed_in};
-ghost use Rattle.tagged80.specs.Write.{write_fits};
+ghost use Rattle.cpu80_steps.specs.Memory.{put};
+ghost use Rattle.cpu80_steps.specs.Call.{put_bytes, put_blocks};
+ghost use Rattle.cpu80_effects.specs.Draft.{memory_of, written};
+ghost use Rattle.cpu80_effects.specs.Sight.{closed_in};
+ghost use Rattle.cpu80_effects.specs.Write.{write_fits};
 ghost use Rattle.cpu80.specs.Reply.{Fits, spoiled};
 
 use cells::Cell;
-use dialogue::blocks::Block;
-use tagged80::draft::Write;
+use cpu80_effects::draft::Write;
+use dialogue::Block;
 
 // A cell becomes another.
 fn put(memory: &mut [Cell], at: u16, cell: Cell)

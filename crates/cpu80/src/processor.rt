@@ -3,19 +3,16 @@ ghost use Rattle.std.specs.Prelude.{◌≡◌, length};
 
 use crate::memory::{make, put_blocks, spoil};
 use crate::replies::answered;
+use asm80_program::Program80;
 use cells::{Cell, Flags, Place, Rule};
-use dialogue::blocks::Blocks;
-use dialogue::replies::{answer_of, dma_after, fits};
-use dialogue::request::{Reply, Request, Shape};
-use dialogue::shape::{request_of, shape_of};
-use program80::Program80;
+use cpu80_effects::area::Area;
+use cpu80_effects::draft::{Draft, Write};
+use cpu80_effects::numbers::number_in;
+use cpu80_effects::registers::Registers;
+use cpu80_effects::sight::Sight;
+use cpu80_effects::turn::{Return, Turn};
+use dialogue::{Blocks, Reply, Request, Shape, answer_of, dma_after, fits, request_of, shape_of};
 use std::alloc::{AllocError, Global};
-use tagged80::area::Area;
-use tagged80::draft::{Draft, Write};
-use tagged80::numbers::number_in;
-use tagged80::registers::Registers;
-use tagged80::sight::Sight;
-use tagged80::turn::{Return, Turn};
 
 /// What a step answered: the instruction ran; it asks the system and waits for a reply; the program has ended; or it left
 /// the profile by a rule.
@@ -55,10 +52,10 @@ impl Cpu80 {
     ghost use Rattle.std.specs.Prelude.{IfOk, true, false, All};
     ghost use Rattle.dialogue.specs.Fits.{fits};
     ghost use Rattle.dialogue.specs.Shape.{seen_by};
-    ghost use Rattle.program80.specs.Program.{Program};
-    ghost use Rattle.step80.specs.Step.{step80};
-    ghost use Rattle.tagged80.specs.Draft.{memory_of};
-    ghost use Rattle.tagged80.specs.Sight.{byte_over, writable_over, closed_in};
+    ghost use Rattle.asm80_program.specs.Program.{Program};
+    ghost use Rattle.cpu80_steps.specs.Step.{step80};
+    ghost use Rattle.cpu80_effects.specs.Draft.{memory_of};
+    ghost use Rattle.cpu80_effects.specs.Sight.{byte_over, writable_over, closed_in};
     ghost use Rattle.cpu80.specs.State.{state_of, asks, seen_of, shape_in};
     ghost use Rattle.cpu80.specs.Reply.{Fits, taken};
     ghost use Rattle.cpu80.specs.Machine.{IsMachineOf, IsStep, has_asked, IsAsked, IsReply};

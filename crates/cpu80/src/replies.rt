@@ -1,13 +1,13 @@
 // What a reply leaves in the registers.
 ghost use Rattle.std.specs.Prelude.{◌≡◌, IsTrue};
 ghost use Rattle.dialogue.specs.Fits.{answer_fits};
-ghost use Rattle.step80.specs.Call.{answered};
-ghost use Rattle.step80.specs.State.{junk_regs};
-ghost use Rattle.tagged80.specs.Draft.{regs_of};
+ghost use Rattle.cpu80_steps.specs.Call.{answered};
+ghost use Rattle.cpu80_steps.specs.State.{junk_regs};
+ghost use Rattle.cpu80_effects.specs.Draft.{regs_of};
 
 use cells::Cell;
-use dialogue::table::AnswerKind;
-use tagged80::registers::Registers;
+use cpu80_effects::registers::Registers;
+use dialogue::AnswerKind;
 
 /// Registers of which nothing is known.
 pub fn junk() -> Registers

@@ -1,16 +1,16 @@
 // The start of a program.
 ghost use Rattle.std.specs.Prelude.{◌≡◌, ◌<◌, ◌≤◌, length, IfOk};
-ghost use Rattle.program80.specs.Program.{IsProgram};
-ghost use Rattle.step80.specs.Memory.{is_closed};
-ghost use Rattle.step80.specs.Start.{start_cell80};
-ghost use Rattle.tagged80.specs.Area.{HasClosed};
-ghost use Rattle.tagged80.specs.Draft.{memory_of};
+ghost use Rattle.asm80_program.specs.Program.{IsProgram};
+ghost use Rattle.cpu80_steps.specs.Memory.{is_closed};
+ghost use Rattle.cpu80_steps.specs.Start.{start_cell80};
+ghost use Rattle.cpu80_effects.specs.Area.{HasClosed};
+ghost use Rattle.cpu80_effects.specs.Draft.{memory_of};
 
 use crate::processor::{Cpu80, Phase};
 use crate::replies::junk;
+use asm80_program::Program80;
 use cells::{Cell, Flags, Place};
-use dialogue::start_page::Page;
-use program80::Program80;
+use dialogue::Page;
 use std::alloc::{AllocError, Global};
 
 /// The number of cells.
@@ -77,7 +77,7 @@ fn start_memory(alloc: Global, program: &Program80, page: &[u8]) -> Result<Vec<C
 
 impl Cpu80 {
     ghost use Rattle.std.specs.Prelude.{false};
-    ghost use Rattle.step80.specs.Start.{start80};
+    ghost use Rattle.cpu80_steps.specs.Start.{start80};
     ghost use Rattle.cpu80.specs.State.{state_of, asks};
     ghost use Rattle.cpu80.specs.Machine.{IsMachineOf};
 

@@ -5,12 +5,12 @@ use Rattle.i86.specs.declared.Instr86.{Instr86}
 use Rattle.dialogue.specs.declared.request.Reply.{Reply}
 use Rattle.dialogue.specs.declared.request.Event.{Event}
 use Rattle.dialogue.specs.declared.request.Event.TheVariants.{Call, End}
-use Rattle.machine.specs.Run.{Answer, Ran, Asks, Ends, Stops, Status, Going, Waiting, Over, Stopped, Run, choice_at, answers, turn, turns, settle, take_reply, start_run}
-use Rattle.machine.proofs.Turns.{turns_add}
-use Rattle.step86.specs.State.{State86}
-use Rattle.step86.specs.Call.{Stop, NoInstruction, StackSegment, OddCall, replied86}
-use Rattle.step86.specs.Step.{step86, machine86}
-use Rattle.step86.specs.Start.{start86}
+use Rattle.base_runs.specs.Run.{Answer, Ran, Asks, Ends, Stops, Status, Going, Waiting, Over, Stopped, Run, choice_at, answers, turn, turns, settle, take_reply, start_run}
+use Rattle.base_runs.proofs.Turns.{turns_add}
+use Rattle.cpu86_steps.specs.State.{State86}
+use Rattle.cpu86_steps.specs.Call.{Stop, NoInstruction, StackSegment, OddCall, replied86}
+use Rattle.cpu86_steps.specs.Step.{step86, machine86}
+use Rattle.cpu86_steps.specs.Start.{start86}
 use Rattle.cpu86.specs.declared.cpu.Step86.{Step86}
 use Rattle.cpu86.specs.Standing.{Standing}
 use Rattle.cpu86.specs.Calls.{stop_of, stepped_by, replied_by, IsTold, IsTaken}

@@ -8,10 +8,10 @@ use Rattle.dialogue.specs.declared.request.Reply.{Reply}
 use Rattle.dialogue.specs.declared.request.Event.{Event}
 use Rattle.dialogue.specs.declared.request.Event.TheVariants.{Call, End}
 use Rattle.dialogue.specs.declared.request.Request.{Request}
-use Rattle.machine.specs.Run.{Answer, Asks, Ends, Stops, Status, Going, Waiting, Over, Stopped, Run, choice_at, answers, take_reply, settle, turn_by, turn, turns}
-use Rattle.step86.specs.State.{State86}
-use Rattle.step86.specs.Call.{Stop, replied86}
-use Rattle.step86.specs.Step.{step86, machine86}
+use Rattle.base_runs.specs.Run.{Answer, Asks, Ends, Stops, Status, Going, Waiting, Over, Stopped, Run, choice_at, answers, take_reply, settle, turn_by, turn, turns}
+use Rattle.cpu86_steps.specs.State.{State86}
+use Rattle.cpu86_steps.specs.Call.{Stop, replied86}
+use Rattle.cpu86_steps.specs.Step.{step86, machine86}
 use Rattle.cpu86.specs.Standing.{Standing, request_in}
 
 module _ (fetch : ℕ → Option Instr86) (cs : List ℕ) where

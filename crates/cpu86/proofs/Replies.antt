@@ -9,9 +9,9 @@ use Rattle.dialogue.specs.declared.request.Event.TheVariants.{Call}
 use Rattle.dialogue.specs.Table.{Row, row_of}
 use Rattle.dialogue.specs.Shape.{request_of}
 use Rattle.dialogue.specs.Fits.{fits_row, fits}
-use Rattle.machine.specs.Run.{answers}
-use Rattle.step86.specs.State.{State86}
-use Rattle.step86.specs.Call.{seen_by, replied86}
+use Rattle.base_runs.specs.Run.{answers}
+use Rattle.cpu86_steps.specs.State.{State86}
+use Rattle.cpu86_steps.specs.Call.{seen_by, replied86}
 use Rattle.cpu86.specs.declared.cpu.Pending.{Pending}
 use Rattle.cpu86.specs.declared.cpu.Pending.TheVariants.{Answer}
 use Rattle.cpu86.specs.Standing.{Standing, said_by}

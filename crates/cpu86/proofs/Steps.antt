@@ -2,10 +2,10 @@
 use Rattle.std.proofs.Common.{◌≡◌, ℕ, ◌==◌, ◌&&◌, not, false, cond, None, refl, sym, ap, ◌∙◌, subst}
 use Rattle.i86.specs.declared.Instr86.{Instr86}
 use Rattle.i86.specs.declared.Instr86.TheVariants.{Int224}
-use Rattle.machine.specs.Run.{Answer, Ran, Asks, Ends, Stops}
-use Rattle.step86.specs.State.{State86}
-use Rattle.step86.specs.Call.{Stop, NoInstruction, StackSegment, OddCall, call_system}
-use Rattle.step86.specs.Step.{uses_stack, act, act_from}
+use Rattle.base_runs.specs.Run.{Answer, Ran, Asks, Ends, Stops}
+use Rattle.cpu86_steps.specs.State.{State86}
+use Rattle.cpu86_steps.specs.Call.{Stop, NoInstruction, StackSegment, OddCall, call_system}
+use Rattle.cpu86_steps.specs.Step.{uses_stack, act, act_from}
 use Rattle.cpu86.specs.declared.cpu.Step86.{Step86}
 use Rattle.cpu86.specs.Standing.{Standing}
 use Rattle.cpu86.specs.Calls.{stop_of, settled, IsTold}

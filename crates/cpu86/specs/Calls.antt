@@ -4,10 +4,10 @@ use Rattle.i86.specs.declared.Instr86.{Instr86}
 use Rattle.dialogue.specs.declared.request.Event.{Event}
 use Rattle.dialogue.specs.declared.request.Event.TheVariants.{Call, End}
 use Rattle.dialogue.specs.declared.request.Reply.{Reply}
-use Rattle.machine.specs.Run.{Answer, Ran, Asks, Ends, Stops, answers}
-use Rattle.step86.specs.State.{State86}
-use Rattle.step86.specs.Call.{Stop, NoInstruction, StackSegment, OddCall, replied86}
-use Rattle.step86.specs.Step.{step86}
+use Rattle.base_runs.specs.Run.{Answer, Ran, Asks, Ends, Stops, answers}
+use Rattle.cpu86_steps.specs.State.{State86}
+use Rattle.cpu86_steps.specs.Call.{Stop, NoInstruction, StackSegment, OddCall, replied86}
+use Rattle.cpu86_steps.specs.Step.{step86}
 use Rattle.cpu86.specs.declared.cpu.Step86.{Step86}
 use Rattle.cpu86.specs.declared.cpu.Step86.TheVariants.{Ran as DidRun, Asked, Ended, NoInstruction as HasNone, StackSegment as HasSegment, OddCall as HasOdd}
 use Rattle.cpu86.specs.Standing.{Standing, request_in}

@@ -4,9 +4,9 @@ use Rattle.dialogue.specs.declared.request.Event.{Event}
 use Rattle.dialogue.specs.declared.request.Event.TheVariants.{Call, End}
 use Rattle.dialogue.specs.declared.request.Request.{Request}
 use Rattle.dialogue.specs.Shape.{request_of}
-use Rattle.step86.specs.State.{State86}
-use Rattle.step86.specs.Call.{seen_by}
-use Rattle.processor86.specs.State.{state_of}
+use Rattle.cpu86_steps.specs.State.{State86}
+use Rattle.cpu86_steps.specs.Call.{seen_by}
+use Rattle.cpu86_effects.specs.State.{state_of}
 use Rattle.cpu86.specs.declared.cpu.Pending.{Pending}
 use Rattle.cpu86.specs.declared.cpu.Pending.TheVariants.{Nothing, Answer, Ending}
 use Rattle.cpu86.specs.declared.cpu.Cpu86.{Cpu86}

@@ -1,24 +1,20 @@
 // The machine: code, a processor, and what it has said last.
 ghost use Rattle.std.specs.Prelude.{◌≡◌, ℕ, Option, Some, length};
 ghost use Rattle.dialogue.specs.declared.request.Shape.{Shape};
-ghost use Rattle.step86.specs.Step.{uses_stack};
-ghost use Rattle.processor86.specs.State.{state_of};
-ghost use Rattle.processor86.specs.System.{IsAsked};
+ghost use Rattle.cpu86_steps.specs.Step.{uses_stack};
+ghost use Rattle.cpu86_effects.specs.State.{state_of};
+ghost use Rattle.cpu86_effects.specs.System.{IsAsked};
 ghost use Rattle.cpu86.specs.declared.cpu.Pending.TheVariants.{Answer};
 ghost use Rattle.std.proofs.Props.{props};
 
 use crate::start::Start86;
-use asm86::Image86;
-use dialogue::blocks::Blocks;
-use dialogue::replies::fits;
-use dialogue::request::{Reply, Request, Shape};
-use dialogue::shape::request_of;
-use dialogue::start_page::Page;
+use asm86_image::Image86;
+use cpu86_effects::flags::Flags;
+use cpu86_effects::processor::Processor;
+use cpu86_effects::start::start_memory;
+use cpu86_effects::system::Interrupt;
+use dialogue::{Blocks, Page, Reply, Request, Shape, fits, request_of};
 use i86::{Instr86, decode_at};
-use processor86::flags::Flags;
-use processor86::processor::Processor;
-use processor86::start::start_memory;
-use processor86::system::Interrupt;
 use std::alloc::{AllocError, Global};
 
 /// What a step answers. The stops carry the offset of the instruction, or the function of the call.
@@ -62,9 +58,9 @@ impl Cpu86 {
     ghost use Rattle.dialogue.specs.Lawful.{IsLawful};
     ghost use Rattle.i86.specs.declared.Instr86.{Instr86};
     ghost use Rattle.i86.specs.Code.{Reads};
-    ghost use Rattle.step86.specs.Call.{call_system};
-    ghost use Rattle.step86.specs.Step.{step86, act_from};
-    ghost use Rattle.step86.specs.Start.{start86};
+    ghost use Rattle.cpu86_steps.specs.Call.{call_system};
+    ghost use Rattle.cpu86_steps.specs.Step.{step86, act_from};
+    ghost use Rattle.cpu86_steps.specs.Start.{start86};
     ghost use Rattle.cpu86.specs.Starts.{start_of};
     ghost use Rattle.cpu86.specs.Standing.{standing, code_of, request_in};
     ghost use Rattle.cpu86.specs.Calls.{settled, stepped, replied, IsOpen, IsTold, IsTaken};

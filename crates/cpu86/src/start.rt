@@ -1,8 +1,8 @@
 // The start of a program.
 ghost use Rattle.std.specs.Prelude.{◌≡◌, ◌/◌, ◌%◌};
-ghost use Rattle.processor86.specs.State.{regs_of};
+ghost use Rattle.cpu86_effects.specs.State.{regs_of};
 
-use processor86::registers::Registers;
+use cpu86_effects::registers::Registers;
 
 /// What the registers, segments and flags hold at the start. Bits 0 to 4 of `flags` are SF, ZF, AF, PF and CF; its other bits
 /// are not looked at.

@@ -1,11 +1,16 @@
 // System calls: what a program asks of the BDOS, what the BDOS may answer, and the page that a program starts with.
 #![tactic(auto)]
 
-pub mod blocks;
-pub mod replies;
-pub mod request;
-pub mod shape;
-pub mod start_page;
-pub mod table;
-#[cfg(test)]
-mod tests;
+mod blocks;
+mod replies;
+mod request;
+mod shape;
+mod start_page;
+mod table;
+
+pub use blocks::{Block, Blocks, Bytes};
+pub use replies::{answer_of, dma_after, fits};
+pub use request::{ArgWord, Event, Range, Reply, Request, Shape, View};
+pub use shape::{request_of, shape_of};
+pub use start_page::Page;
+pub use table::{AnswerKind, Argument, Extent, Row, row_of};

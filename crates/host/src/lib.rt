@@ -5,8 +5,6 @@ ghost use Rattle.std.specs.Prelude.{◌≡◌, ◌<◌, ◌≤◌, [], take, len
 
 mod mem;
 mod real;
-#[cfg(test)]
-mod tests;
 
 pub use mem::MemHost;
 pub use real::RealHost;

@@ -5,8 +5,6 @@ ghost use Rattle.std.specs.Prelude.{◌≡◌, IsTrue};
 ghost use Rattle.i80.specs.Columns.{is_well_formed, length80, uses80, defs80, ends80};
 
 mod parts;
-#[cfg(test)]
-mod tests;
 
 use cells::{Cond, Keep, Part};
 use parts::{

@@ -3,8 +3,6 @@
 
 mod decoding;
 mod encoding;
-#[cfg(test)]
-mod tests;
 
 pub use decoding::{code_has_one_reader, decode, decode_at};
 pub use encoding::{Code, encode, encodings_are_prefix_free, length_of};

@@ -1,8 +1,8 @@
 -- Lines that are numbered as they come.
 use Rattle.std.proofs.Common.{◌≡◌, ℕ, ◌+◌, List, [], ◌∷◌, ◌++◌, length, ap, arith}
-use Rattle.lines86.specs.declared.line.Line86.{Line86}
-use Rattle.lines86.specs.declared.line.Stmt86.{Stmt86}
-use Rattle.lines86.specs.Image.{statements}
+use Rattle.asm86_lines.specs.declared.line.Line86.{Line86}
+use Rattle.asm86_lines.specs.declared.line.Stmt86.{Stmt86}
+use Rattle.asm86_lines.specs.Image.{statements}
 use Rattle.templates.specs.Plain.{numbered}
 
 -- lines are numbered from a number on

@@ -11,13 +11,13 @@ use Rattle.i86.specs.declared.Operand8.TheVariants.{Reg as Reg_8}
 use Rattle.i86.specs.declared.Operand16.TheVariants.{Reg as Reg_16}
 use Rattle.i86.specs.declared.Jump.TheVariants.{Jz}
 use Rattle.i86.specs.declared.Instr86.TheVariants.{MovReg8, MovNum8, MovNum16, MovReg16, MovDirect16, MovAxDs, MovSsAx, OrClCl, Push, Ret, Int224}
-use Rattle.lines86.specs.declared.line.Label.TheVariants.{At, Sys, End}
-use Rattle.lines86.specs.declared.line.Value16.TheVariants.{Offset}
-use Rattle.lines86.specs.declared.line.Stmt86.{Stmt86}
-use Rattle.lines86.specs.declared.line.Stmt86.TheVariants.{Cseg, Dseg, Org, Rb, Db, Dw, Mark, Run, MovOffset, Jcc, EndText}
-use Rattle.lines86.specs.declared.line.Line86.{Line86}
-use Rattle.program80.specs.declared.program.Placed.{Placed}
-use Rattle.program80.specs.Program.{Program}
+use Rattle.asm86_lines.specs.declared.line.Label.TheVariants.{At, Sys, End}
+use Rattle.asm86_lines.specs.declared.line.Value16.TheVariants.{Offset}
+use Rattle.asm86_lines.specs.declared.line.Stmt86.{Stmt86}
+use Rattle.asm86_lines.specs.declared.line.Stmt86.TheVariants.{Cseg, Dseg, Org, Rb, Db, Dw, Mark, Run, MovOffset, Jcc, EndText}
+use Rattle.asm86_lines.specs.declared.line.Line86.{Line86}
+use Rattle.asm80_program.specs.declared.program.Placed.{Placed}
+use Rattle.asm80_program.specs.Program.{Program}
 use Rattle.templates.specs.Template.{template}
 
 -- what runs first: the top of the area into the word at 6, the data segment as stack segment, and the end's offset pushed

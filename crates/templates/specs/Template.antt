@@ -35,10 +35,10 @@ use Rattle.i86.specs.declared.Rotate.TheVariants.{Rol, Ror, Rcl, Rcr}
 use Rattle.i86.specs.declared.Jump.{Jump}
 use Rattle.i86.specs.declared.Jump.TheVariants.{Jb, Jnb, Jz, Jnz, Js, Jns, Jp, Jnp}
 use Rattle.i86.specs.declared.Instr86.TheVariants.{MovReg8, MovMem8, MovAlDirect, MovDirectAl, MovNum8, MovNum16, MovMemNum, MovReg16, MovDirect16, Alu as Alu_86, AluNum, Add16, Count8, Count16, Push as Push_86, Pop as Pop_86, Xchg8, Xchg16, Rotate8, Rotate16, Not8, Daa as Daa_86, Sahf, Lahf, Cmc as Cmc_86, Stc as Stc_86, Nop as Nop_86, JmpBx, Ret as Ret_86}
-use Rattle.lines86.specs.declared.line.Label.{Label}
-use Rattle.lines86.specs.declared.line.Label.TheVariants.{At as Line, Skip, Sys, End}
-use Rattle.lines86.specs.declared.line.Stmt86.{Stmt86}
-use Rattle.lines86.specs.declared.line.Stmt86.TheVariants.{Mark, Run, MovOffset, Jmp as JmpTo, Jcc, Call as CallTo}
+use Rattle.asm86_lines.specs.declared.line.Label.{Label}
+use Rattle.asm86_lines.specs.declared.line.Label.TheVariants.{At as Line, Skip, Sys, End}
+use Rattle.asm86_lines.specs.declared.line.Stmt86.{Stmt86}
+use Rattle.asm86_lines.specs.declared.line.Stmt86.TheVariants.{Mark, Run, MovOffset, Jmp as JmpTo, Jcc, Call as CallTo}
 
 -- the byte register of a register
 abbrev pub reg_of : Reg → Reg8

@@ -3,8 +3,8 @@ ghost use Rattle.std.specs.Prelude.{◌≡◌, ◌<◌};
 ghost use Rattle.templates.specs.Plain.{prologue, runtime, ending};
 
 use crate::sequence::Sequence;
+use asm86_lines::{Label, Stmt86};
 use i86::{Instr86, Jump, Operand8, Operand16, Reg8, Reg16, StackReg};
-use lines86::{Label, Stmt86};
 
 /// What runs first: the top of the area into the word at 6, the data segment as stack segment, and the offset of the end
 /// pushed, so that a return from the program ends it.

@@ -12,6 +12,3 @@ pub use frame::{prologue, runtime};
 pub use plain::plain_text;
 pub use rows::template;
 pub use sequence::Sequence;
-
-#[cfg(test)]
-mod tests;

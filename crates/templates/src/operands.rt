@@ -2,10 +2,10 @@
 ghost use Rattle.std.specs.Prelude.{◌≡◌};
 ghost use Rattle.templates.specs.Template.{reg_of, operand_of, pair_of, op_of, unless, label_of};
 
+use asm86_lines::Label;
 use cells::Cond;
 use i80::{Goal, Op, Pair, Reg, Src};
 use i86::{AluOp, Jump, Operand8, Ptr, Reg8, Reg16};
-use lines86::Label;
 
 /// The byte register of a register.
 pub fn reg_of(reg: Reg) -> Reg8

@@ -6,9 +6,9 @@ ghost use Rattle.templates.specs.Plain.{body, org_at, cell_statement, data_from,
 use crate::frame::{ending, prologue, runtime};
 use crate::rows::template;
 use crate::text::Text;
+use asm80_program::Program80;
+use asm86_lines::{Label, Line86, Stmt86, Value16};
 use cells::{Cell, Place};
-use lines86::{Label, Line86, Stmt86, Value16};
-use program80::Program80;
 use std::alloc::{AllocError, Global};
 
 // Each instruction's label and its statements with a save: 13 at most.

@@ -5,10 +5,10 @@ ghost use Rattle.templates.specs.Template.{mov, mvi, lxi, saved, dad, push, pop,
 
 use crate::operands::{label_of, op_of, operand_of, pair_of, reg_of, unless};
 use crate::sequence::Sequence;
+use asm86_lines::{Label, Stmt86};
 use cells::Cond;
 use i80::{Goal, Instr80, Pair, Src, StackPair, Word};
 use i86::{Count, Instr86, Operand8, Operand16, Ptr, Reg8, Reg16, Rotate, StackReg};
-use lines86::{Label, Stmt86};
 
 // One instruction.
 fn run(i: Instr86) -> Sequence

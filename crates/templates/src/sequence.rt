@@ -1,7 +1,7 @@
 // A few statements, in an array.
 ghost use Rattle.std.specs.Prelude.{◌≡◌, ◌+◌, ◌≤◌, [], ◌∷◌, ◌++◌, length};
 
-use lines86::Stmt86;
+use asm86_lines::Stmt86;
 use std::marker::Model;
 
 /// A list of at most 12 statements.
@@ -13,7 +13,7 @@ pub struct Sequence {
 
 impl Model for Sequence {
     ghost use Rattle.std.specs.Prelude.{List, take, ◌≤◌};
-    ghost use Rattle.lines86.specs.declared.line.Stmt86.{Stmt86};
+    ghost use Rattle.asm86_lines.specs.declared.line.Stmt86.{Stmt86};
 
     ghost Value = { List Stmt86 };
 

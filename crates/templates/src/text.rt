@@ -1,9 +1,9 @@
 // The lines of a text, numbered as they come.
 ghost use Rattle.std.specs.Prelude.{◌≡◌, ◌+◌, ◌^◌, ◌<◌, [], ◌∷◌, ◌++◌, length, OnOk, IsTrue};
-ghost use Rattle.lines86.specs.Image.{statements};
+ghost use Rattle.asm86_lines.specs.Image.{statements};
 ghost use Rattle.templates.specs.Plain.{numbered};
 
-use lines86::{Line86, Stmt86};
+use asm86_lines::{Line86, Stmt86};
 use std::alloc::{AllocError, Global};
 use std::marker::Model;
 
@@ -15,8 +15,8 @@ pub struct Text {
 
 impl Model for Text {
     ghost use Rattle.std.specs.Prelude.{List, ◌≡◌};
-    ghost use Rattle.lines86.specs.declared.line.Stmt86.{Stmt86};
-    ghost use Rattle.lines86.specs.Image.{statements};
+    ghost use Rattle.asm86_lines.specs.declared.line.Stmt86.{Stmt86};
+    ghost use Rattle.asm86_lines.specs.Image.{statements};
     ghost use Rattle.templates.specs.Plain.{numbered};
 
     ghost Value = { List Stmt86 };

@@ -1,19 +1,19 @@
 -- What a command's answer is among the clauses of the program: words are one command at most.
 use Rattle.std.proofs.Common.{◌≡◌, ℕ, List, Ok, refl, sym, subst, arith}
 use Rattle.host.specs.Host.{HostState, SameFiles}
-use Rattle.lines86.specs.Written.{text_of}
-use Rattle.program80.specs.Program.{Program, IsProgram}
+use Rattle.asm86_lines.specs.Written.{text_of}
+use Rattle.asm80_program.specs.Program.{Program, IsProgram}
 use Rattle.templates.specs.Plain.{plain}
-use Rattle.text86.specs.Stream.{TextGives}
-use Rattle.command_words.specs.Words.{Translate, Run80, Run86, Translates, Runs80, Runs86, IsCommand, IsNoCommand}
-use Rattle.command_words.proofs.Commands.{one_command}
-use Rattle.reports.specs.Said.{IsRefusedWords}
+use Rattle.asm86_text.specs.Stream.{TextGives}
+use Rattle.cmd_words.specs.Words.{Translate, Run80, Run86, Translates, Runs80, Runs86, IsCommand, IsNoCommand}
+use Rattle.cmd_words.proofs.Commands.{one_command}
+use Rattle.cmd_reports.specs.Said.{IsRefusedWords}
 use Rattle.xlt_core.specs.First.{IsFirst}
-use Rattle.translating.specs.Translates as translation
-use Rattle.running.specs.Runs80 as source
-use Rattle.running.specs.Completes80 as source_completes
-use Rattle.running.specs.Runs86 as text
-use Rattle.running.specs.Completes86 as text_completes
+use Rattle.cmd_translate.specs.Translates as translation
+use Rattle.cmd_run.specs.Runs80 as source
+use Rattle.cmd_run.specs.Completes80 as source_completes
+use Rattle.cmd_run.specs.Runs86 as text
+use Rattle.cmd_run.specs.Completes86 as text_completes
 use Rattle.xlt_app.specs.Top.{Headline, IsStatus, Outcomes}
 use Rattle.xlt_app.proofs.Statuses.{of_translation, of_run80, of_run86}
 

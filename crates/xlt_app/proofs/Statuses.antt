@@ -3,15 +3,15 @@ use Rattle.std.proofs.Common.{◌≡◌, ℕ, List, refl, sym, subst, arith}
 use Rattle.host.specs.declared.HostFault.{HostFault}
 use Rattle.host.specs.declared.HostFault.TheVariants.{Failed, Memory}
 use Rattle.host.specs.Host.{HostState}
-use Rattle.command_words.specs.Words.{Translate, Run80, Run86}
-use Rattle.reports.specs.declared.stop.Stop.{Stop}
-use Rattle.reports.specs.declared.stop.Stop.TheVariants.{SourceLine, SourceProgram, ReadFailed, WriteFailed, OutOfMemory, LeftProfile, StepLimit, InputEnded, TextLine, ShortJump, NoInstruction, StackSegment, OddCall, NoDrive, CodeTooLarge, FileTooLong}
-use Rattle.reports.specs.Lines.{status_of, ended_line}
-use Rattle.reports.specs.Said.{IsDone, whole, failed, no_memory, Closes, said, unsaid}
-use Rattle.run_parts.specs.Ends.{unsaid_status}
-use Rattle.translating.specs.Translates as translation
-use Rattle.running.specs.Runs80 as source
-use Rattle.running.specs.Runs86 as text
+use Rattle.cmd_words.specs.Words.{Translate, Run80, Run86}
+use Rattle.cmd_reports.specs.declared.stop.Stop.{Stop}
+use Rattle.cmd_reports.specs.declared.stop.Stop.TheVariants.{SourceLine, SourceProgram, ReadFailed, WriteFailed, OutOfMemory, LeftProfile, StepLimit, InputEnded, TextLine, ShortJump, NoInstruction, StackSegment, OddCall, NoDrive, CodeTooLarge, FileTooLong}
+use Rattle.cmd_reports.specs.Lines.{status_of, ended_line}
+use Rattle.cmd_reports.specs.Said.{IsDone, whole, failed, no_memory, Closes, said, unsaid}
+use Rattle.cmd_run.specs.Ends.{unsaid_status}
+use Rattle.cmd_translate.specs.Translates as translation
+use Rattle.cmd_run.specs.Runs80 as source
+use Rattle.cmd_run.specs.Runs86 as text
 use Rattle.xlt_app.specs.Top.{IsStatus}
 
 -- a status that is not that of refused words

@@ -2,13 +2,13 @@
 use Rattle.std.proofs.Common.{◌≡◌, ℕ, ◌⊎◌, inl, inr, ⊎_elim, List, refl, ap, subst}
 use Rattle.std.specs.Prelude.{Bool, true, false, ◌==◌, ◌||◌, Option, Some, None, option_map, option_and_then, if◌then◌else◌}
 use Rattle.std.proofs.lemmas.Bool.{eqb-true}
-use Rattle.program80.specs.Program.{is_top}
-use Rattle.command_words.specs.declared.table.CommandName.{CommandName}
-use Rattle.command_words.specs.declared.table.CommandName.TheVariants as named
-use Rattle.command_words.specs.Table.{Word}
-use Rattle.command_words.specs.Values.{top_among, top_value, number_in}
-use Rattle.command_words.specs.Given.{Gathered}
-use Rattle.command_words.specs.Words.{Translate, Run80, Translates, Runs80, Runs86, IsCommand, command_of, translate_of, run80_of, run86_of, run_options_of, once, one_file, two_files, top_of, text_or}
+use Rattle.asm80_program.specs.Program.{is_top}
+use Rattle.cmd_words.specs.declared.table.CommandName.{CommandName}
+use Rattle.cmd_words.specs.declared.table.CommandName.TheVariants as named
+use Rattle.cmd_words.specs.Table.{Word}
+use Rattle.cmd_words.specs.Values.{top_among, top_value, number_in}
+use Rattle.cmd_words.specs.Given.{Gathered}
+use Rattle.cmd_words.specs.Words.{Translate, Run80, Translates, Runs80, Runs86, IsCommand, command_of, translate_of, run80_of, run86_of, run_options_of, once, one_file, two_files, top_of, text_or}
 
 if_some : (b : Bool) (x y : ℕ) → (if b then Some x else None) ≡ Some y → (b ≡ true) × (x ≡ y)
 if_some true x y e = (refl, cc)

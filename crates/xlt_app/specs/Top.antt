@@ -2,17 +2,17 @@
 -- command.
 use Rattle.std.specs.Prelude.{◌≡◌, ℕ, List, [], ◌∷◌, Contains}
 use Rattle.host.specs.Host.{HostState, IsFile, SameFiles, Rewrites}
-use Rattle.lines86.specs.Image.{Image}
-use Rattle.program80.specs.Program.{Program}
-use Rattle.source80.specs.Source.{IsSource}
-use Rattle.command_words.specs.Words.{Translate, Run80, Run86, Translates, Runs80, Runs86, IsCommand, IsNoCommand}
-use Rattle.reports.specs.Said.{IsRefusedWords}
-use Rattle.run_parts.specs.Texts.{HasImage}
-use Rattle.translating.specs.Translates as translation
-use Rattle.running.specs.Runs80 as source
-use Rattle.running.specs.Completes80 as source_completes
-use Rattle.running.specs.Runs86 as text
-use Rattle.running.specs.Completes86 as text_completes
+use Rattle.asm86_lines.specs.Image.{Image}
+use Rattle.asm80_program.specs.Program.{Program}
+use Rattle.asm80_source.specs.Source.{IsSource}
+use Rattle.cmd_words.specs.Words.{Translate, Run80, Run86, Translates, Runs80, Runs86, IsCommand, IsNoCommand}
+use Rattle.cmd_reports.specs.Said.{IsRefusedWords}
+use Rattle.cmd_inputs.specs.Texts.{HasImage}
+use Rattle.cmd_translate.specs.Translates as translation
+use Rattle.cmd_run.specs.Runs80 as source
+use Rattle.cmd_run.specs.Completes80 as source_completes
+use Rattle.cmd_run.specs.Runs86 as text
+use Rattle.cmd_run.specs.Completes86 as text_completes
 use Rattle.i86.specs.Decode.{HasReader}
 use Rattle.xlt_core.specs.Same.{Same}
 

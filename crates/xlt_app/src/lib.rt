@@ -1,20 +1,18 @@
 // The program `xlt`: which command its words are, and what that comes to.
 #![tactic(auto)]
 
-#[cfg(test)]
-mod tests;
-
 ghost use Rattle.std.specs.Prelude.{◌≡◌, map};
 ghost use Rattle.std.specs.String.{string_bytes};
-ghost use Rattle.command_words.specs.Words.{Translate, Translates, IsCommand};
+ghost use Rattle.cmd_words.specs.Words.{Translate, Translates, IsCommand};
 ghost use Rattle.xlt_app.specs.Top.{Headline, Outcomes};
 
-use command_words::{Command, read_words};
+pub use cmd_files::write_out;
+use cmd_reports::words_refused;
+use cmd_run::{run80, run86};
+use cmd_translate::translate;
+use cmd_words::{Command, read_words};
 use host::Host;
-use reports::words_refused;
-use running::{run80, run86};
 use std::alloc::Global;
-use translating::translate;
 use xlt_core::first_is_same;
 
 /// What the program does with the words after its name: it answers the status that the process ends with. The files of the

@@ -8,15 +8,15 @@ use Rattle.i80.specs.declared.Goal.{Goal}
 use Rattle.i80.specs.declared.Goal.TheVariants.{At, Boot, Bdos}
 use Rattle.i80.specs.Columns.{length80}
 use Rattle.i86.specs.declared.Jump.{Jump}
-use Rattle.lines86.specs.declared.line.Label.{Label}
-use Rattle.lines86.specs.declared.line.Label.TheVariants.{At as Line, Skip, User, Sys, End}
-use Rattle.lines86.specs.declared.line.Stmt86.{Stmt86}
-use Rattle.lines86.specs.declared.line.Stmt86.TheVariants.{Mark, Jcc}
-use Rattle.lines86.specs.Layout.{sizes_of, size_of, marks, offset_from, offset_of, place_of, code_of, same_label}
-use Rattle.lines86.specs.Order.{Reading, CodeGroup, at_start, in_order}
-use Rattle.lines86.specs.Image.{statements, cells_from, count_marks, IsDefinedOnce, UsesDefined, reaches, AllReach, Assembles}
-use Rattle.program80.specs.declared.program.Placed.{Placed}
-use Rattle.program80.specs.Program.{Program, program_of, placed_in, AreLaid}
+use Rattle.asm86_lines.specs.declared.line.Label.{Label}
+use Rattle.asm86_lines.specs.declared.line.Label.TheVariants.{At as Line, Skip, User, Sys, End}
+use Rattle.asm86_lines.specs.declared.line.Stmt86.{Stmt86}
+use Rattle.asm86_lines.specs.declared.line.Stmt86.TheVariants.{Mark, Jcc}
+use Rattle.asm86_lines.specs.Layout.{sizes_of, size_of, marks, offset_from, offset_of, place_of, code_of, same_label}
+use Rattle.asm86_lines.specs.Order.{Reading, CodeGroup, at_start, in_order}
+use Rattle.asm86_lines.specs.Image.{statements, cells_from, count_marks, IsDefinedOnce, UsesDefined, reaches, AllReach, Assembles}
+use Rattle.asm80_program.specs.declared.program.Placed.{Placed}
+use Rattle.asm80_program.specs.Program.{Program, program_of, placed_in, AreLaid}
 use Rattle.templates.specs.Template.{label_of, template}
 use Rattle.templates.specs.Plain.{body, plain_statements, numbered, plain}
 use Rattle.xlt_core.proofs.Standing.{sizes_of-append, MarksNot, marks_not-append}

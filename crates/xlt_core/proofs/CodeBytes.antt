@@ -17,11 +17,11 @@ use Rattle.i86.specs.Enc86.{code8, code16, reg_of_stack, code_of_ptr, code_of_al
 use Rattle.i86.specs.Decode.{HasReader}
 use Rattle.i86.proofs.Tables.{code8_small, code16_small, ptr_small, count_small, rotate_small}
 use Rattle.i86.proofs.Readers.{one_reader}
-use Rattle.lines86.specs.declared.line.Label.{Label}
-use Rattle.lines86.specs.declared.line.Stmt86.{Stmt86}
-use Rattle.lines86.specs.declared.line.Stmt86.TheVariants.{Cseg, Dseg, Org, Rb, Db, Dw, Mark, Run, MovOffset, Jmp, Jmps, Jcc, Call, EndText}
-use Rattle.lines86.specs.Layout.{size_of, sizes_of, marks, offset_from, offset_of, place_of, distance16, bytes_at, code_from, code_of}
-use Rattle.text_lines86.specs.ReadBack.{instr_fits, has_line}
+use Rattle.asm86_lines.specs.declared.line.Label.{Label}
+use Rattle.asm86_lines.specs.declared.line.Stmt86.{Stmt86}
+use Rattle.asm86_lines.specs.declared.line.Stmt86.TheVariants.{Cseg, Dseg, Org, Rb, Db, Dw, Mark, Run, MovOffset, Jmp, Jmps, Jcc, Call, EndText}
+use Rattle.asm86_lines.specs.Layout.{size_of, sizes_of, marks, offset_from, offset_of, place_of, distance16, bytes_at, code_from, code_of}
+use Rattle.asm86_line_reader.specs.ReadBack.{instr_fits, has_line}
 
 -- each statement of a list has a written line
 abbrev pub HaveLines : List Stmt86 → Type 0

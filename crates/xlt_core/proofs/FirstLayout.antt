@@ -5,10 +5,10 @@ use Rattle.std.proofs.lemmas.Bool.Decides.{nat_tests}
 use Rattle.std.proofs.lemmas.List.Elements.{All-nil, All-cons, All-head, All-tail}
 use Rattle.i80.specs.declared.Instr80.{Instr80}
 use Rattle.i80.specs.Columns.{length80}
-use Rattle.lines86.specs.Layout.{sizes_of}
-use Rattle.lines86.specs.Image.{Assembles}
-use Rattle.program80.specs.declared.program.Placed.{Placed}
-use Rattle.program80.specs.Program.{Program, program_of, is_top, AreLaid, IsProgram}
+use Rattle.asm86_lines.specs.Layout.{sizes_of}
+use Rattle.asm86_lines.specs.Image.{Assembles}
+use Rattle.asm80_program.specs.declared.program.Placed.{Placed}
+use Rattle.asm80_program.specs.Program.{Program, program_of, is_top, AreLaid, IsProgram}
 use Rattle.templates.specs.Template.{template}
 use Rattle.templates.specs.Plain.{body, plain_statements, plain}
 use Rattle.xlt_core.specs.First.{IsFirstInstr, function, argument, system, finish, HoldsFirst, IsFirst}

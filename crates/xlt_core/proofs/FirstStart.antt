@@ -14,23 +14,23 @@ use Rattle.i86.specs.declared.Instr86.TheVariants.{MovNum16, MovDirect16, MovAxD
 use Rattle.i86.specs.Enc86.{enc86}
 use Rattle.i86.specs.Code.{HasBytes, Reads}
 use Rattle.dialogue.specs.declared.request.Reply.{Reply}
-use Rattle.lines86.specs.declared.line.Label.{Label}
-use Rattle.lines86.specs.declared.line.Label.TheVariants.{At as Line, End}
-use Rattle.lines86.specs.declared.line.Stmt86.{Stmt86}
-use Rattle.lines86.specs.Layout.{place_of, code_of}
-use Rattle.lines86.specs.Image.{Image, cells_from, by_address, labels_from, image_of}
-use Rattle.machine.specs.Run.{Machine, Status, Going, Waiting, Over, Stopped, Run, IsNotStopped, choice_at, settle, turn, turns, start_run}
-use Rattle.machine.specs.Same.{SameDialogue}
-use Rattle.machine.proofs.FollowBlocks.{BothStill, Block, blocks_same}
-use Rattle.program80.specs.declared.program.Placed.{Placed}
-use Rattle.program80.specs.Program.{Program, program_of, placed_in, AreLaid, IsProgram}
-use Rattle.step80.specs.State.{State80}
-use Rattle.step80.specs.Step.{machine80}
-use Rattle.step80.specs.Start.{start_cell80, start80, run80}
-use Rattle.step86.specs.State.{State86, wrap, back, put_word}
-use Rattle.step86.specs.Call.{Stop}
-use Rattle.step86.specs.Step.{act_from, machine86}
-use Rattle.step86.specs.Start.{Start, start_byte, start86, run86}
+use Rattle.asm86_lines.specs.declared.line.Label.{Label}
+use Rattle.asm86_lines.specs.declared.line.Label.TheVariants.{At as Line, End}
+use Rattle.asm86_lines.specs.declared.line.Stmt86.{Stmt86}
+use Rattle.asm86_lines.specs.Layout.{place_of, code_of}
+use Rattle.asm86_lines.specs.Image.{Image, cells_from, by_address, labels_from, image_of}
+use Rattle.base_runs.specs.Run.{Machine, Status, Going, Waiting, Over, Stopped, Run, IsNotStopped, choice_at, settle, turn, turns, start_run}
+use Rattle.base_runs.specs.Same.{SameDialogue}
+use Rattle.base_runs.proofs.FollowBlocks.{BothStill, Block, blocks_same}
+use Rattle.asm80_program.specs.declared.program.Placed.{Placed}
+use Rattle.asm80_program.specs.Program.{Program, program_of, placed_in, AreLaid, IsProgram}
+use Rattle.cpu80_steps.specs.State.{State80}
+use Rattle.cpu80_steps.specs.Step.{machine80}
+use Rattle.cpu80_steps.specs.Start.{start_cell80, start80, run80}
+use Rattle.cpu86_steps.specs.State.{State86, wrap, back, put_word}
+use Rattle.cpu86_steps.specs.Call.{Stop}
+use Rattle.cpu86_steps.specs.Step.{act_from, machine86}
+use Rattle.cpu86_steps.specs.Start.{Start, start_byte, start86, run86}
 use Rattle.templates.specs.Plain.{plain_statements, plain}
 use Rattle.xlt_core.specs.First.{IsFirstInstr, HoldsFirst, IsFirst}
 use Rattle.xlt_core.specs.Same.{Same}

@@ -6,18 +6,18 @@ use Rattle.std.proofs.lemmas.Bool.Decides.{nat_tests}
 use Rattle.std.proofs.lemmas.List.Elements.{All-head, All-tail}
 use Rattle.i80.specs.declared.Instr80.{Instr80}
 use Rattle.i80.specs.Columns.{length80}
-use Rattle.lines86.specs.declared.line.Stmt86.{Stmt86}
-use Rattle.lines86.specs.declared.line.Stmt86.TheVariants.{Dseg}
-use Rattle.lines86.specs.Order.{is_end}
-use Rattle.lines86.specs.Image.{statements, image_of, Assembles}
-use Rattle.lines86.specs.Written.{text_of}
-use Rattle.program80.specs.declared.program.Placed.{Placed}
-use Rattle.program80.specs.Program.{Program, program_of, AreLaid, IsProgram}
+use Rattle.asm86_lines.specs.declared.line.Stmt86.{Stmt86}
+use Rattle.asm86_lines.specs.declared.line.Stmt86.TheVariants.{Dseg}
+use Rattle.asm86_lines.specs.Order.{is_end}
+use Rattle.asm86_lines.specs.Image.{statements, image_of, Assembles}
+use Rattle.asm86_lines.specs.Written.{text_of}
+use Rattle.asm80_program.specs.declared.program.Placed.{Placed}
+use Rattle.asm80_program.specs.Program.{Program, program_of, AreLaid, IsProgram}
 use Rattle.templates.specs.Template.{template}
 use Rattle.templates.specs.Plain.{runtime, body, ending, plain_statements, numbered, plain}
-use Rattle.text86.specs.Back.{AreWritten}
-use Rattle.text86.specs.Stream.{TextGives}
-use Rattle.text86.proofs.Back.{reads_back}
+use Rattle.asm86_text.specs.Back.{AreWritten}
+use Rattle.asm86_text.specs.Stream.{TextGives}
+use Rattle.asm86_text.proofs.Back.{reads_back}
 use Rattle.xlt_core.specs.First.{IsFirstInstr, function, argument, system, finish, HoldsFirst, IsFirst}
 use Rattle.i86.specs.Decode.{HasReader}
 use Rattle.xlt_core.proofs.Assembling.{statements-numbered}

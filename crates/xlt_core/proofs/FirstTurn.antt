@@ -27,23 +27,23 @@ use Rattle.dialogue.specs.declared.request.Event.TheVariants.{Call as Asked, End
 use Rattle.dialogue.specs.Table.{row_of}
 use Rattle.dialogue.specs.Shape.{shape_of}
 use Rattle.dialogue.specs.Fits.{fits}
-use Rattle.lines86.specs.declared.line.Label.{Label}
-use Rattle.lines86.specs.declared.line.Label.TheVariants.{At as Line, Sys, End}
-use Rattle.lines86.specs.Layout.{sizes_of, distance8, distance16, place_of, offset_of}
-use Rattle.machine.specs.Run.{Answer, Ran, Asks, Ends, Stops, Machine, Going, Waiting, Run, choice_at, take_reply, settle, turn_by, turn, turns, IsNotStopped}
-use Rattle.machine.proofs.Turns.{turns_add}
-use Rattle.machine.proofs.FollowBlocks.{BothStill}
-use Rattle.program80.specs.declared.program.Placed.{Placed}
-use Rattle.program80.specs.Program.{Program, instr_at, instr_of_placed, placed_in, is_start}
-use Rattle.step80.specs.State.{State80, reg80, with_reg80, junk_regs}
-use Rattle.step80.specs.Memory.{is_closed}
-use Rattle.step80.specs.Call.{Return, is_just_below, put_blocks, after_reply, place_if}
-use Rattle.step80.specs.Step.{act_at, step_at, return_of, return_at, replied_to, replied80, machine80}
-use Rattle.step86.specs.State.{State86, Regs86, bit_of, reg8, with8, wrap, back, put_word, word_at, push}
-use Rattle.step86.specs.Flags.{flags_by}
-use Rattle.step86.specs.Effect.{distance}
-use Rattle.step86.specs.Call.{Stop, StackSegment, OddCall, spoiled, seen_by, ask, ask_system, call_system, put_blocks as put_blocks86, after_reply as after_reply86}
-use Rattle.step86.specs.Step.{act_from, act_at as act_at86, machine86}
+use Rattle.asm86_lines.specs.declared.line.Label.{Label}
+use Rattle.asm86_lines.specs.declared.line.Label.TheVariants.{At as Line, Sys, End}
+use Rattle.asm86_lines.specs.Layout.{sizes_of, distance8, distance16, place_of, offset_of}
+use Rattle.base_runs.specs.Run.{Answer, Ran, Asks, Ends, Stops, Machine, Going, Waiting, Run, choice_at, take_reply, settle, turn_by, turn, turns, IsNotStopped}
+use Rattle.base_runs.proofs.Turns.{turns_add}
+use Rattle.base_runs.proofs.FollowBlocks.{BothStill}
+use Rattle.asm80_program.specs.declared.program.Placed.{Placed}
+use Rattle.asm80_program.specs.Program.{Program, instr_at, instr_of_placed, placed_in, is_start}
+use Rattle.cpu80_steps.specs.State.{State80, reg80, with_reg80, junk_regs}
+use Rattle.cpu80_steps.specs.Memory.{is_closed}
+use Rattle.cpu80_steps.specs.Call.{Return, is_just_below, put_blocks, after_reply, place_if}
+use Rattle.cpu80_steps.specs.Step.{act_at, step_at, return_of, return_at, replied_to, replied80, machine80}
+use Rattle.cpu86_steps.specs.State.{State86, Regs86, bit_of, reg8, with8, wrap, back, put_word, word_at, push}
+use Rattle.cpu86_steps.specs.Flags.{flags_by}
+use Rattle.cpu86_steps.specs.Effect.{distance}
+use Rattle.cpu86_steps.specs.Call.{Stop, StackSegment, OddCall, spoiled, seen_by, ask, ask_system, call_system, put_blocks as put_blocks86, after_reply as after_reply86}
+use Rattle.cpu86_steps.specs.Step.{act_from, act_at as act_at86, machine86}
 use Rattle.templates.specs.Template.{template, reg_of}
 use Rattle.templates.specs.Plain.{plain_statements}
 use Rattle.xlt_core.specs.First.{IsFirstInstr, function, argument, system, finish}

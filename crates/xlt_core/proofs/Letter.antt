@@ -14,11 +14,11 @@ use Rattle.dialogue.specs.Tried.{try_then}
 use Rattle.dialogue.specs.Table.{row_of}
 use Rattle.dialogue.specs.Shape.{shape_of}
 use Rattle.dialogue.specs.Fits.{writes_fit, fits}
-use Rattle.lines86.specs.declared.line.Label.{Label}
-use Rattle.machine.specs.Run.{Answer, Ran, Asks, Ends, Stops}
-use Rattle.program80.specs.Program.{Program, is_start}
-use Rattle.step80.specs.State.{State80, num_of}
-use Rattle.step80.specs.Call.{Return, is_just_below, seen_by, ask, ask_after, call_by, call_system, place_if, return_after}
+use Rattle.asm86_lines.specs.declared.line.Label.{Label}
+use Rattle.base_runs.specs.Run.{Answer, Ran, Asks, Ends, Stops}
+use Rattle.asm80_program.specs.Program.{Program, is_start}
+use Rattle.cpu80_steps.specs.State.{State80, num_of}
+use Rattle.cpu80_steps.specs.Call.{Return, is_just_below, seen_by, ask, ask_after, call_by, call_system, place_if, return_after}
 use Rattle.xlt_core.proofs.Link.{Stands, IsLetterOrLost}
 
 -- a step that does not stop

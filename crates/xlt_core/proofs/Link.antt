@@ -8,14 +8,14 @@ use Rattle.cells.specs.declared.Cell.TheVariants.{Num, Lo, Hi, Psw, Junk}
 use Rattle.cells.specs.declared.Rule.{Rule}
 use Rattle.i80.specs.declared.Reg.{Reg}
 use Rattle.i80.specs.declared.Reg.TheVariants.{A, B, C, D, E, H, L}
-use Rattle.lines86.specs.declared.line.Label.{Label}
-use Rattle.lines86.specs.declared.line.Label.TheVariants.{At as Line, End}
-use Rattle.machine.specs.Run.{Going, Run}
-use Rattle.program80.specs.Program.{Program}
-use Rattle.step80.specs.State.{State80, Regs80, reg80, with_reg80, num_of}
-use Rattle.step80.specs.Memory.{is_closed}
-use Rattle.step86.specs.State.{State86, Regs86, Flags86, reg8, with8, bit_of}
-use Rattle.step86.specs.Call.{Stop}
+use Rattle.asm86_lines.specs.declared.line.Label.{Label}
+use Rattle.asm86_lines.specs.declared.line.Label.TheVariants.{At as Line, End}
+use Rattle.base_runs.specs.Run.{Going, Run}
+use Rattle.asm80_program.specs.Program.{Program}
+use Rattle.cpu80_steps.specs.State.{State80, Regs80, reg80, with_reg80, num_of}
+use Rattle.cpu80_steps.specs.Memory.{is_closed}
+use Rattle.cpu86_steps.specs.State.{State86, Regs86, Flags86, reg8, with8, bit_of}
+use Rattle.cpu86_steps.specs.Call.{Stop}
 use Rattle.templates.specs.Template.{reg_of}
 
 -- the label of a place

@@ -6,12 +6,12 @@ use Rattle.std.proofs.lemmas.List.Elements.{All-head, All-tail}
 use Rattle.i80.specs.declared.Instr80.{Instr80}
 use Rattle.i80.specs.declared.Instr80.TheVariants.{Nop}
 use Rattle.i80.specs.Columns.{length80}
-use Rattle.lines86.specs.declared.line.Label.{Label}
-use Rattle.lines86.specs.declared.line.Label.TheVariants.{At as Line, Skip}
-use Rattle.lines86.specs.declared.line.Stmt86.{Stmt86}
-use Rattle.lines86.specs.Layout.{sizes_of, offset_from, same_label}
-use Rattle.program80.specs.declared.program.Placed.{Placed}
-use Rattle.program80.specs.Program.{placed_in, AreLaid}
+use Rattle.asm86_lines.specs.declared.line.Label.{Label}
+use Rattle.asm86_lines.specs.declared.line.Label.TheVariants.{At as Line, Skip}
+use Rattle.asm86_lines.specs.declared.line.Stmt86.{Stmt86}
+use Rattle.asm86_lines.specs.Layout.{sizes_of, offset_from, same_label}
+use Rattle.asm80_program.specs.declared.program.Placed.{Placed}
+use Rattle.asm80_program.specs.Program.{placed_in, AreLaid}
 use Rattle.templates.specs.Template.{template}
 use Rattle.templates.specs.Plain.{body}
 use Rattle.xlt_core.proofs.Words.{eq_true, eq_false}

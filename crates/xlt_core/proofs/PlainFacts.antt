@@ -1,13 +1,13 @@
 -- What the proofs of runs know of a plain text: its opening, its instructions, and its runtime, in its code.
 use Rattle.std.proofs.Common.{◌≡◌, ℕ, ◌+◌, List, [], ◌∷◌, ◌++◌, Some, refl, sym, ap, ◌∙◌, subst, arith, true, false}
 use Rattle.std.specs.Prelude.{unwrap_or}
-use Rattle.lines86.specs.declared.line.Label.{Label}
-use Rattle.lines86.specs.declared.line.Label.TheVariants.{At as Line, Skip, Sys, End}
-use Rattle.lines86.specs.declared.line.Stmt86.{Stmt86}
-use Rattle.lines86.specs.declared.line.Stmt86.TheVariants.{Cseg, Dseg, Mark}
-use Rattle.lines86.specs.Layout.{sizes_of, same_label, offset_of, place_of, code_of}
-use Rattle.program80.specs.declared.program.Placed.{Placed}
-use Rattle.program80.specs.Program.{Program, placed_in, AreLaid}
+use Rattle.asm86_lines.specs.declared.line.Label.{Label}
+use Rattle.asm86_lines.specs.declared.line.Label.TheVariants.{At as Line, Skip, Sys, End}
+use Rattle.asm86_lines.specs.declared.line.Stmt86.{Stmt86}
+use Rattle.asm86_lines.specs.declared.line.Stmt86.TheVariants.{Cseg, Dseg, Mark}
+use Rattle.asm86_lines.specs.Layout.{sizes_of, same_label, offset_of, place_of, code_of}
+use Rattle.asm80_program.specs.declared.program.Placed.{Placed}
+use Rattle.asm80_program.specs.Program.{Program, placed_in, AreLaid}
 use Rattle.templates.specs.Template.{template}
 use Rattle.templates.specs.Plain.{prologue, call_code, end_code, runtime, body, data_from, ending, plain_statements}
 use Rattle.xlt_core.proofs.Standing.{StandAll, bytes_all, stand_all, stand_front, stand_back, past_mark, MarksNot, marks_not-append, offset_past}

@@ -8,12 +8,12 @@ use Rattle.i80.specs.declared.Instr80.TheVariants.{Mvi, Jmp, Call}
 use Rattle.dialogue.specs.declared.request.Reply.{Reply}
 use Rattle.dialogue.specs.declared.request.Event.TheVariants.{Call as Calls, End}
 use Rattle.dialogue.specs.Table.{row_of}
-use Rattle.machine.specs.Run.{Going, Over}
-use Rattle.program80.specs.declared.program.Placed.{Placed}
-use Rattle.program80.specs.Program.{Program, program_of}
-use Rattle.step80.specs.Start.{run80}
+use Rattle.base_runs.specs.Run.{Going, Over}
+use Rattle.asm80_program.specs.declared.program.Placed.{Placed}
+use Rattle.asm80_program.specs.Program.{Program, program_of}
+use Rattle.cpu80_steps.specs.Start.{run80}
 use Rattle.xlt_core.proofs.Letter.{letter}
-use Rattle.lines86.specs.Layout.{code_of}
+use Rattle.asm86_lines.specs.Layout.{code_of}
 use Rattle.templates.specs.Plain.{plain_statements}
 
 abbrev line : ℕ → ℕ → Instr80 → Placed

@@ -10,11 +10,11 @@ use Rattle.i80.specs.declared.Instr80.TheVariants.{Mov, Mvi, Lxi, Ldax, Stax, Xt
 use Rattle.i86.specs.declared.Reg16.{Reg16}
 use Rattle.i86.specs.declared.Jump.{Jump}
 use Rattle.i86.specs.declared.Instr86.{Instr86}
-use Rattle.lines86.specs.declared.line.Label.{Label}
-use Rattle.lines86.specs.declared.line.Label.TheVariants.{At as Line, Skip}
-use Rattle.lines86.specs.declared.line.Stmt86.{Stmt86}
-use Rattle.lines86.specs.declared.line.Stmt86.TheVariants.{Mark, Run, MovOffset, Jmp as JmpTo, Jcc, Call as CallTo}
-use Rattle.lines86.specs.Layout.{size_of, marks, same_label}
+use Rattle.asm86_lines.specs.declared.line.Label.{Label}
+use Rattle.asm86_lines.specs.declared.line.Label.TheVariants.{At as Line, Skip}
+use Rattle.asm86_lines.specs.declared.line.Stmt86.{Stmt86}
+use Rattle.asm86_lines.specs.declared.line.Stmt86.TheVariants.{Mark, Run, MovOffset, Jmp as JmpTo, Jcc, Call as CallTo}
+use Rattle.asm86_lines.specs.Layout.{size_of, marks, same_label}
 use Rattle.templates.specs.Template.{label_of, template}
 use Rattle.xlt_core.proofs.Standing.{MarksNot}
 

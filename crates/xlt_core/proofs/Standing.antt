@@ -5,10 +5,10 @@ use Rattle.std.specs.Prelude.{slice_get}
 use Rattle.std.proofs.lemmas.Option.{slice_get-get_or, slice_get_past}
 use Rattle.std.proofs.lemmas.Bool.{cases_lt}
 use Rattle.i86.specs.Code.{HasBytes}
-use Rattle.lines86.specs.declared.line.Label.{Label}
-use Rattle.lines86.specs.declared.line.Stmt86.{Stmt86}
-use Rattle.lines86.specs.declared.line.Stmt86.TheVariants.{Cseg, Dseg, Org, Rb, Db, Dw, Mark, Run, MovOffset, Jmp, Jmps, Jcc as JccTo, Call, EndText}
-use Rattle.lines86.specs.Layout.{size_of, sizes_of, marks, offset_from, bytes_at, code_from}
+use Rattle.asm86_lines.specs.declared.line.Label.{Label}
+use Rattle.asm86_lines.specs.declared.line.Stmt86.{Stmt86}
+use Rattle.asm86_lines.specs.declared.line.Stmt86.TheVariants.{Cseg, Dseg, Org, Rb, Db, Dw, Mark, Run, MovOffset, Jmp, Jmps, Jcc as JccTo, Call, EndText}
+use Rattle.asm86_lines.specs.Layout.{size_of, sizes_of, marks, offset_from, bytes_at, code_from}
 
 pub bytes_front : (code : List ℕ) (at : ℕ) (a b : List ℕ) → HasBytes code at (a ++ b) → HasBytes code at a
 bytes_front code at [] b h = tt

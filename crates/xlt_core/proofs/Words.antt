@@ -1,10 +1,10 @@
 -- Words of 16 bits, and the cells below a stack pointer.
 use Rattle.std.proofs.Common.{◌≡◌, ◌≢◌, ℕ, ◌+◌, ◌-◌, ◌/◌, ◌%◌, ◌≤◌, ◌<◌, List, [], ◌∷◌, length, refl, ap, ◌∙◌, arith, true, false, cond, ◌==◌, nat_lt}
 use Rattle.std.proofs.lemmas.Bool.Decides.{nat_tests}
-use Rattle.lines86.specs.Layout.{distance16}
-use Rattle.step80.specs.Call.{is_just_below}
-use Rattle.step86.specs.State.{wrap, back, put, put_word, word_at, word, put_bytes}
-use Rattle.step86.specs.Call.{chosen_six, spoiled}
+use Rattle.asm86_lines.specs.Layout.{distance16}
+use Rattle.cpu80_steps.specs.Call.{is_just_below}
+use Rattle.cpu86_steps.specs.State.{wrap, back, put, put_word, word_at, word, put_bytes}
+use Rattle.cpu86_steps.specs.Call.{chosen_six, spoiled}
 
 pub wrap_small : (w : ℕ) → w < 0x10000 → wrap w ≡ w
 wrap_small w h = omega arith

@@ -5,8 +5,8 @@ use Rattle.i80.specs.declared.Src.TheVariants.{Reg}
 use Rattle.i80.specs.declared.Goal.TheVariants.{Boot, Bdos}
 use Rattle.i80.specs.declared.Instr80.{Instr80}
 use Rattle.i80.specs.declared.Instr80.TheVariants.{Mvi, Jmp, Call}
-use Rattle.program80.specs.declared.program.Placed.{Placed}
-use Rattle.program80.specs.Program.{Program}
+use Rattle.asm80_program.specs.declared.program.Placed.{Placed}
+use Rattle.asm80_program.specs.Program.{Program}
 
 -- MVI C,2, MVI E with a byte, CALL 5 and JMP 0
 pub data IsFirstInstr : Instr80 → Type 0 where

@@ -6,14 +6,14 @@ use Rattle.dialogue.specs.declared.blocks.Block.{Block}
 use Rattle.dialogue.specs.declared.request.Reply.{Reply}
 use Rattle.i86.specs.declared.Instr86.{Instr86}
 use Rattle.i86.specs.Code.{Reads}
-use Rattle.lines86.specs.Image.{Image}
-use Rattle.machine.specs.Same.{SameDialogue}
-use Rattle.program80.specs.Program.{Program}
-use Rattle.step80.specs.State.{State80}
-use Rattle.step80.specs.Start.{IsPage, run80}
-use Rattle.step86.specs.State.{State86}
-use Rattle.step86.specs.Call.{Stop}
-use Rattle.step86.specs.Start.{Start, IsStart, IsFill, AreChoices, run86}
+use Rattle.asm86_lines.specs.Image.{Image}
+use Rattle.base_runs.specs.Same.{SameDialogue}
+use Rattle.asm80_program.specs.Program.{Program}
+use Rattle.cpu80_steps.specs.State.{State80}
+use Rattle.cpu80_steps.specs.Start.{IsPage, run80}
+use Rattle.cpu86_steps.specs.State.{State86}
+use Rattle.cpu86_steps.specs.Call.{Stop}
+use Rattle.cpu86_steps.specs.Start.{Start, IsStart, IsFill, AreChoices, run86}
 
 -- a reply: a word, and blocks of bytes at addresses below 65,536
 pub record IsBlock (b : Block) : Type 0 where

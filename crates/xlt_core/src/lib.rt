@@ -2,11 +2,11 @@
 #![tactic(auto)]
 
 ghost use Rattle.std.specs.Prelude.{Ok};
-ghost use Rattle.lines86.specs.Image.{Assembles, image_of};
-ghost use Rattle.lines86.specs.Written.{text_of};
-ghost use Rattle.program80.specs.Program.{Program, IsProgram};
+ghost use Rattle.asm86_lines.specs.Image.{Assembles, image_of};
+ghost use Rattle.asm86_lines.specs.Written.{text_of};
+ghost use Rattle.asm80_program.specs.Program.{Program, IsProgram};
 ghost use Rattle.templates.specs.Plain.{plain};
-ghost use Rattle.text86.specs.Stream.{TextGives};
+ghost use Rattle.asm86_text.specs.Stream.{TextGives};
 ghost use Rattle.xlt_core.specs.First.{IsFirst};
 ghost use Rattle.i86.specs.Decode.{HasReader};
 ghost use Rattle.xlt_core.specs.Same.{Same};

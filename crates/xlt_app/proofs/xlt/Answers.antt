@@ -1,8 +1,8 @@
 use Rattle.std.proofs.Common.{map, subst}
 use Rattle.std.specs.String.{string_bytes}
-use Rattle.command_words.specs.declared.command.Command.TheVariants as read
-use Rattle.command_words.specs.ReadCommands.{command_read, translate_read, run80_read, run86_read}
-use Rattle.command_words.specs.Words.{IsCommand, IsNoCommand}
+use Rattle.cmd_words.specs.declared.command.Command.TheVariants as read
+use Rattle.cmd_words.specs.ReadCommands.{command_read, translate_read, run80_read, run86_read}
+use Rattle.cmd_words.specs.Words.{IsCommand, IsNoCommand}
 use Rattle.xlt_app.specs.Top.{Outcomes}
 use Rattle.xlt_app.proofs.Outcomes.{by_translation, by_run80, by_run86, by_no_command, has_headline}
 use Rattle.xlt_app.proofs.Tops.{translation_has_top, run80_has_top}

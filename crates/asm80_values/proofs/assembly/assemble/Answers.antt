@@ -1,10 +1,10 @@
 use Rattle.std.proofs.Common.{◌≡◌, map, List, None, refl, sym, ◌∙◌}
 use Rattle.asm80_tokens.specs.Tree.{Statement, statement_of}
-use Rattle.address_set.specs.Addresses.{StandsFor}
+use Rattle.base_addresses.specs.Addresses.{StandsFor}
 use Rattle.asm80_walk.specs.Walked.{IsWalked}
-use Rattle.source80.specs.Walk.{rows, walked}
-use Rattle.source80.specs.Items.{starts_in}
-use Rattle.source80.specs.Layout.{layout_fault}
+use Rattle.asm80_source.specs.Walk.{rows, walked}
+use Rattle.asm80_source.specs.Items.{starts_in}
+use Rattle.asm80_source.specs.Layout.{layout_fault}
 use Rattle.asm80_values.specs.Second.{AreItemsOf}
 use Rattle.asm80_values.proofs.Sound.{are_sound}
 use Rattle.asm80_values.proofs.Held.{lawful, held}

@@ -2,9 +2,9 @@ use Rattle.std.proofs.Common.{◌≡◌, List, ℕ, length, take, map, ap, ◌�
 use Rattle.std.specs.List.{filter_map}
 use Rattle.std.proofs.Math.Seq.{take-length}
 use Rattle.asm80_tokens.specs.Tree.{statement_of}
-use Rattle.address_set.specs.Addresses.{is_among}
+use Rattle.base_addresses.specs.Addresses.{is_among}
 use Rattle.asm80_walk.specs.declared.walked.Taken.{Taken}
-use Rattle.source80.specs.Walk.{rows}
+use Rattle.asm80_source.specs.Walk.{rows}
 use Rattle.asm80_values.specs.Second.{start_of}
 use Rattle.asm80_values.proofs.second_walk.starts_of.Goals as goal
 use Rattle.asm80_values.proofs.Starts.{starts_more, starts_found}

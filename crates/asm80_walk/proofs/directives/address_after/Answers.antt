@@ -1,8 +1,8 @@
 use Rattle.std.proofs.Common.{◌≡◌, ◌∙◌, ◌+◌, ◌%◌, refl, Option, Some, None}
 use Rattle.asm80_tokens.specs.Tree.{Statement}
-use Rattle.source80.specs.declared.operation.Operation.{Operation}
-use Rattle.source80.specs.declared.operation.Operation.TheVariants.{Org, Ds}
-use Rattle.source80.specs.Walk.{Walk, address_by, size_by}
+use Rattle.asm80_source.specs.declared.operation.Operation.{Operation}
+use Rattle.asm80_source.specs.declared.operation.Operation.TheVariants.{Org, Ds}
+use Rattle.asm80_source.specs.Walk.{Walk, address_by, size_by}
 use Rattle.asm80_walk.proofs.directives.address_after.Goals as goal
 
 plain : (w : Walk) (s : Statement) (o : Operation) → (o ≡ Org → ⊥) → (o ≡ Ds → ⊥) → (w.at + size_by s (Some o)) % 0x10000 ≡ address_by w s (Some o)

@@ -1,7 +1,7 @@
 use Rattle.std.proofs.Common.{◌∙◌, List, ℕ}
 use Rattle.std.specs.Borrow.{Bor}
 use Rattle.std.specs.Str.{bytes_eq}
-use Rattle.source80.specs.declared.operation.Operation.{Operation}
+use Rattle.asm80_source.specs.declared.operation.Operation.{Operation}
 use Rattle.asm80_walk.proofs.Lists.{find_mapped}
 use Rattle.asm80_walk.proofs.operations.find_in.Goals as goal
 

@@ -1,5 +1,5 @@
 use Rattle.std.proofs.Common.{refl}
-use Rattle.source80.specs.Operations.{operations}
+use Rattle.asm80_source.specs.Operations.{operations}
 use Rattle.asm80_walk.proofs.operations.operation_of.Goals as goal
 
 pub returns : goal.returns

@@ -3,8 +3,8 @@ use Rattle.std.specs.Prelude.{find, option_map, is_some}
 use Rattle.std.specs.List.{list_any}
 use Rattle.std.specs.Str.{bytes_eq}
 use Rattle.asm80_tokens.specs.Words.{operations as words}
-use Rattle.source80.specs.declared.operation.Operation.{Operation}
-use Rattle.source80.specs.Operations.{operations}
+use Rattle.asm80_source.specs.declared.operation.Operation.{Operation}
+use Rattle.asm80_source.specs.Operations.{operations}
 use Rattle.asm80_walk.proofs.operations.operations_are_words.Goals as goal
 
 abbrev what : List ℕ × Operation → Operation

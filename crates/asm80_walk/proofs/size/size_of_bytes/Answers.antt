@@ -2,7 +2,7 @@ use Rattle.std.proofs.Common.{◌∙◌, sym, ap, map, arith}
 use Rattle.std.proofs.lemmas.List.{get_or-map, length-map, take_all}
 use Rattle.std.proofs.lemmas.List.Sums.{sum_by_more}
 use Rattle.asm80_tokens.specs.Tree.{operand_of}
-use Rattle.source80.specs.Walk.{bytes_of_item}
+use Rattle.asm80_source.specs.Walk.{bytes_of_item}
 use Rattle.asm80_walk.proofs.size.size_of_bytes.Goals as goal
 
 pub loop-arg-preserved : goal.loop-arg-preserved

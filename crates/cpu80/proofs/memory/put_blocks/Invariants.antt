@@ -1,6 +1,6 @@
 use Rattle.std.proofs.Common.{◌≡◌, drop}
-use Rattle.step80.specs.Call.{put_blocks}
-use Rattle.tagged80.specs.Draft.{memory_of}
+use Rattle.cpu80_steps.specs.Call.{put_blocks}
+use Rattle.cpu80_effects.specs.Draft.{memory_of}
 use Rattle.cpu80.proofs.memory.put_blocks.Given as goal
 
 abbrev pub invariant-loop-block : goal.invariant-loop-block

@@ -1,6 +1,6 @@
 use Rattle.std.proofs.Common.{◌≡◌}
-use Rattle.tagged80.specs.Draft.{memory_of}
-use Rattle.tagged80.specs.Sight.{closed_in}
+use Rattle.cpu80_effects.specs.Draft.{memory_of}
+use Rattle.cpu80_effects.specs.Sight.{closed_in}
 use Rattle.cpu80.specs.Reply.{spoiled}
 use Rattle.cpu80.proofs.memory.spoil.Given as goal
 

@@ -1,4 +1,4 @@
-use Rattle.step80.specs.Start.{start_cell80}
+use Rattle.cpu80_steps.specs.Start.{start_cell80}
 use Rattle.cpu80.proofs.Starts.{Filled}
 use Rattle.cpu80.proofs.start.start_memory.Given as goal
 

@@ -2,7 +2,7 @@ use Rattle.std.proofs.Common.{ap, sym, subst, map, ◌||◌, ◌∙◌}
 use Rattle.std.specs.List.{IsDistinct}
 use Rattle.std.specs.Map.{keys_of}
 use Rattle.asm80_tokens.specs.contracts.name.Name80PartialEq.TheImpl.{eq-value}
-use Rattle.source80.specs.Names.{Name, clashes, overflows, defined}
+use Rattle.asm80_source.specs.Names.{Name, clashes, overflows, defined}
 use Rattle.asm80_names.specs.declared.names.Entry.{Entry}
 use Rattle.asm80_names.specs.Entries.{name_of}
 use Rattle.asm80_names.proofs.Definitions.{not_made, made}

@@ -1,7 +1,7 @@
 use Rattle.std.proofs.Common.{ap, sym, ◌∙◌}
 use Rattle.std.specs.Option.{option_map}
 use Rattle.asm80_tokens.specs.contracts.name.Name80PartialEq.TheImpl.{eq-value}
-use Rattle.source80.specs.Names.{named}
+use Rattle.asm80_source.specs.Names.{named}
 use Rattle.asm80_names.specs.Entries.{name_of}
 use Rattle.asm80_names.proofs.Definitions.{found, answers}
 use Rattle.asm80_names.proofs.Keys.{key_flips}

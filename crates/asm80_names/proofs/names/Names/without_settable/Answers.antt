@@ -1,6 +1,6 @@
 use Rattle.std.proofs.Common.{rules, ap, ◌∙◌, map, filter, not}
 use Rattle.indexmap.proofs.CallerLemmas.{filter-RetainsPairs}
-use Rattle.source80.specs.Names.{Name, is_settable}
+use Rattle.asm80_source.specs.Names.{Name, is_settable}
 use Rattle.asm80_names.specs.Entries.{name_of}
 use Rattle.asm80_names.proofs.Definitions.{kept}
 use Rattle.asm80_names.proofs.names.Names.without_settable.Goals as goal

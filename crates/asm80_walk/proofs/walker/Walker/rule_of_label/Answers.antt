@@ -1,6 +1,6 @@
 use Rattle.std.proofs.Common.{◌∙◌, ap}
 use Rattle.asm80_tokens.specs.Tree.{statement_of}
-use Rattle.source80.specs.Walk.{kind_of_label}
+use Rattle.asm80_source.specs.Walk.{kind_of_label}
 use Rattle.asm80_walk.specs.State.{State, walk_of}
 use Rattle.asm80_walk.proofs.Stepping.{rule_of_label}
 use Rattle.asm80_walk.proofs.walker.Walker.rule_of_label.Goals as goal

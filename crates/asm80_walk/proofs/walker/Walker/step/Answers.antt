@@ -1,6 +1,6 @@
 use Rattle.std.proofs.Common.{◌∙◌, sym, refl, ap}
 use Rattle.asm80_tokens.specs.Tree.{statement_of}
-use Rattle.source80.specs.Walk.{is_end}
+use Rattle.asm80_source.specs.Walk.{is_end}
 use Rattle.asm80_walk.proofs.walker.Walker.step.Goals as goal
 
 pub take-requires-clause-taken : goal.take-requires-clause-taken

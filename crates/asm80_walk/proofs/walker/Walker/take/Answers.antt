@@ -1,9 +1,9 @@
 use Rattle.std.proofs.Common.{◌≡◌, ◌∙◌, sym, ap, map, List, Option}
 use Rattle.asm80_tokens.specs.declared.arg.Arg.{Arg}
 use Rattle.asm80_tokens.specs.Tree.{operand_of, statement_of}
-use Rattle.source80.specs.declared.operation.Operation.{Operation}
-use Rattle.source80.specs.Values.{Scope}
-use Rattle.source80.specs.Walk.{address_by, directive_meaning, operand_meaning, scope}
+use Rattle.asm80_source.specs.declared.operation.Operation.{Operation}
+use Rattle.asm80_source.specs.Values.{Scope}
+use Rattle.asm80_source.specs.Walk.{address_by, directive_meaning, operand_meaning, scope}
 use Rattle.asm80_walk.specs.State.{walk_of}
 use Rattle.asm80_walk.proofs.Stepping.{takes_through}
 use Rattle.asm80_walk.proofs.walker.Walker.take.Goals as goal

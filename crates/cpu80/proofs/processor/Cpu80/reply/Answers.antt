@@ -1,9 +1,9 @@
 use Rattle.std.proofs.Common.{◌≡◌, Ok, true, refl, sym, ap, ◌∙◌, subst}
 use Rattle.dialogue.specs.declared.request.Request.{Request}
 use Rattle.dialogue.specs.Fits.{fits}
-use Rattle.step80.specs.State.{State80}
-use Rattle.step80.specs.Call.{is_place}
-use Rattle.tagged80.specs.Sight.{closed_in}
+use Rattle.cpu80_steps.specs.State.{State80}
+use Rattle.cpu80_steps.specs.Call.{is_place}
+use Rattle.cpu80_effects.specs.Sight.{closed_in}
 use Rattle.cpu80.specs.State.{state_of, shape_in, waits}
 use Rattle.cpu80.specs.Machine.{IsPhase, IsWaiting, IsMachineOf}
 use Rattle.cpu80.proofs.Steps.{runs_on}

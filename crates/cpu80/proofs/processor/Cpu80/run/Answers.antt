@@ -1,9 +1,9 @@
 use Rattle.std.proofs.Common.{◌≡◌, List, refl, ap}
 use Rattle.cells.specs.declared.Cell.{Cell}
-use Rattle.machine.specs.Run.{Ran}
-use Rattle.step80.specs.State.{State80}
-use Rattle.step80.specs.Step.{step80}
-use Rattle.tagged80.specs.Draft.{memory_of, state_of as draft_state}
+use Rattle.base_runs.specs.Run.{Ran}
+use Rattle.cpu80_steps.specs.State.{State80}
+use Rattle.cpu80_steps.specs.Step.{step80}
+use Rattle.cpu80_effects.specs.Draft.{memory_of, state_of as draft_state}
 use Rattle.cpu80.specs.State.{state_of}
 use Rattle.cpu80.proofs.Steps.{ran_answer, ran_place, asked_waits, runs_on, waiting_step}
 use Rattle.cpu80.proofs.processor.Cpu80.run.Goals as goal

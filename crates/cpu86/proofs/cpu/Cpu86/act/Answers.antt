@@ -1,5 +1,5 @@
 use Rattle.std.proofs.Common.{sym, ap, ◌∙◌}
-use Rattle.processor86.specs.State.{state_of}
+use Rattle.cpu86_effects.specs.State.{state_of}
 use Rattle.cpu86.specs.Calls.{settled}
 use Rattle.cpu86.proofs.Steps.{interrupts}
 use Rattle.cpu86.proofs.cpu.Cpu86.act.Goals as goal

@@ -1,5 +1,5 @@
 use Rattle.std.proofs.Common.{sym, ◌∙◌}
-use Rattle.processor86.specs.State.{state_of}
+use Rattle.cpu86_effects.specs.State.{state_of}
 use Rattle.cpu86.proofs.Replies.{not_taken, not_taken_told}
 use Rattle.cpu86.proofs.cpu.Cpu86.reply.Goals as goal
 

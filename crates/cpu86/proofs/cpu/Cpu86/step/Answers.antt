@@ -1,6 +1,6 @@
 use Rattle.std.proofs.Common.{sym, ap, ◌∙◌}
-use Rattle.processor86.specs.State.{state_of, mem_of}
-use Rattle.step86.specs.Step.{step86}
+use Rattle.cpu86_effects.specs.State.{state_of, mem_of}
+use Rattle.cpu86_steps.specs.Step.{step86}
 use Rattle.cpu86.specs.Standing.{standing, said_by}
 use Rattle.cpu86.specs.Calls.{stepped_by}
 use Rattle.cpu86.proofs.Steps.{told}

@@ -1,0 +1,90 @@
+//! The forms of DB and DW, and of any operation.
+
+ghost use Rattle.std.specs.Prelude.{◌≡◌, IsTrue, is_some};
+ghost use Rattle.std.specs.List.{list_all};
+ghost use Rattle.asm86_line_reader.specs.Forms.{formed, items};
+ghost use Rattle.asm86_line_reader.specs.Operands.{each};
+ghost use Rattle.asm86_line_reader.specs.Results.{Answers, all_checked, checked, item_of};
+
+use crate::bytes::byte;
+use crate::fault::LineFault;
+use crate::forms::single;
+use crate::token::{Operand, Operation};
+use asm86_lines::{Stmt86, TextRule, Value16};
+use std::alloc::Global;
+
+/// What an item fills.
+#[derive(Clone, Copy)]
+enum Size {
+    Byte,
+    Word,
+}
+
+/// The statements of an operation with its operands.
+pub fn formed(
+    alloc: Global,
+    operation: Operation,
+    operands: &[Operand],
+) -> Result<Vec<Stmt86>, LineFault>
+    ensures { Answers (λ r. r ≡ all_checked (formed operation operands.now)) result }
+{
+    match operation {
+        Operation::Db => items(alloc, Size::Byte, operands),
+        Operation::Dw => items(alloc, Size::Word, operands),
+        _ => {
+            let mut statements = Vec::new(alloc);
+            statements.push(single(operation, operands)?)?;
+            Ok(statements)
+        }
+    }
+}
+
+// One item or more, each a statement of its own.
+fn items(alloc: Global, size: Size, operands: &[Operand]) -> Result<Vec<Stmt86>, LineFault>
+    ensures { Answers (λ r. r ≡ all_checked (items (item_of size) operands.now)) result }
+{
+    if operands.is_empty() {
+        return Err(LineFault::Rule(TextRule::M2));
+    }
+    if !are_items(size, operands) {
+        return Err(LineFault::Rule(TextRule::M2));
+    }
+    each_item(alloc, size, operands)
+}
+
+fn are_items(size: Size, operands: &[Operand]) -> bool
+    ensures { result ≡ list_all (λ operand. is_some (item_of size operand)) operands.now }
+{
+    operands.iter().all(|operand| is_item(size, *operand))
+}
+
+fn is_item(size: Size, operand: Operand) -> bool
+    ensures { result ≡ is_some (item_of size operand) }
+{
+    match (size, operand) {
+        (_, Operand::Number(_)) | (Size::Word, Operand::Offset(_)) => true,
+        _ => false,
+    }
+}
+
+fn each_item(alloc: Global, size: Size, operands: &[Operand]) -> Result<Vec<Stmt86>, LineFault>
+    requires { IsTrue (list_all (λ operand. is_some (item_of size operand)) operands.now) }
+    ensures { Answers (λ r. r ≡ all_checked (each (item_of size) operands.now)) result }
+{
+    let mut statements = Vec::new(alloc);
+    for operand in operands {
+        statements.push(item(size, *operand)?)?;
+    }
+    Ok(statements)
+}
+
+fn item(size: Size, operand: Operand) -> Result<Stmt86, TextRule>
+    ensures { result ≡ checked (item_of size operand) }
+{
+    match (size, operand) {
+        (Size::Byte, Operand::Number(n)) => Ok(Stmt86::Db(byte(n)?)),
+        (Size::Word, Operand::Number(w)) => Ok(Stmt86::Dw(Value16::Num(w))),
+        (Size::Word, Operand::Offset(label)) => Ok(Stmt86::Dw(Value16::Offset(label))),
+        _ => Err(TextRule::M2),
+    }
+}

@@ -1,0 +1,63 @@
+//! The bytes of a line.
+
+ghost use Rattle.std.specs.Prelude.{◌≡◌, ◌≤◌, ◌∷◌, [], IfOk, MatchOption, length, map};
+ghost use Rattle.asm86_line_reader.specs.Letters.{inside_len, is_blank, is_inside, sign_of, upper};
+
+use crate::token::Token;
+use std::alloc::{AllocError, Global};
+
+/// The line in capitals.
+pub fn in_capitals(alloc: Global, line: &[u8]) -> Result<Vec<u8>, AllocError>
+    ensures { IfOk result (λ v. v.items ≡ map upper line.now) }
+{
+    line.iter().map(|b| upper(*b)).collect(alloc)
+}
+
+fn upper(b: u8) -> u8
+    ensures { result ≡ upper b }
+{
+    b.to_ascii_uppercase()
+}
+
+pub fn is_blank(b: u8) -> bool
+    ensures { result ≡ is_blank b }
+{
+    b == b' ' || b == b'\t'
+}
+
+/// Whether a byte of a line in capitals belongs to a word.
+pub fn is_inside(b: u8) -> bool
+    ensures { result ≡ is_inside b }
+{
+    b.is_ascii_digit() || b.is_ascii_uppercase() || b == b'_'
+}
+
+/// How many bytes at the front belong to the word or the number that begins there.
+pub fn inside_len(bytes: &[u8]) -> usize
+    ensures value { result ≡ inside_len bytes.now }
+    ensures within { result ≤ length bytes.now }
+{
+    bytes.iter().take_while(|b| is_inside(**b)).count()
+}
+
+/// The sign that a byte is.
+pub fn sign_of(b: u8) -> Option<Token>
+    ensures { result ≡ sign_of b }
+{
+    match b {
+        b':' => Some(Token::Colon),
+        b',' => Some(Token::Comma),
+        b'.' => Some(Token::Dot),
+        b'[' => Some(Token::Open),
+        b']' => Some(Token::Close),
+        _ => None,
+    }
+}
+
+/// The first byte, and those after it.
+pub fn first_byte(bytes: &[u8]) -> Option<(u8, &[u8])>
+    ensures { MatchOption result (bytes.now ≡ []) (λ p. bytes.now ≡ p.0 ∷ p.1.now) }
+{
+    let (b, rest) = bytes.split_first()?;
+    Some((*b, rest))
+}

@@ -1,0 +1,19 @@
+// The lines of a text: how it is cut, and the line that is not complete yet.
+#![tactic(auto)]
+
+ghost use Rattle.std.specs.Prelude.{◌≡◌};
+ghost use Rattle.base_lines.specs.Cut.{without_cr};
+
+mod held;
+
+pub use held::HeldLine;
+
+/// A line that LF ended, without the CR at its end.
+pub fn without_cr(line: &[u8]) -> &[u8]
+    ensures { result.now ≡ without_cr line.now }
+{
+    let Some((last, front)) = line.split_last() else {
+        return line;
+    };
+    if *last == b'\r' { front } else { line }
+}

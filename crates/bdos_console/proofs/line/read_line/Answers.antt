@@ -1,0 +1,26 @@
+use Rattle.std.proofs.Common.{◌≡◌, ◌≢◌, ◌+◌, length, get_or, ◌==◌, false, subst, sym, arith}
+use Rattle.std.proofs.lemmas.Bool.{ne_eqb, eq-eqb, not_from_false, not_from_true}
+use Rattle.std.proofs.lemmas.Grind.{common_steps}
+use Rattle.bdos_console.specs.Console.{is_lf}
+use Rattle.bdos_console.proofs.Lines.{Stands, stands_skipped, stands_kept}
+use Rattle.bdos_console.proofs.line.read_line.Goals.{then-byte-ne-CARRIAGE_RETURN+in_ok-push, else-byte-ne-CARRIAGE_RETURN}
+use Rattle.bdos_console.proofs.line.read_line.Goals as goal
+
+-- one more byte, kept or not
+pub loop-used-preserved : goal.loop-used-preserved
+loop-used-preserved c =
+    let room = c.args.room in
+    let input = c.args.input.now in
+    let so_far = c.loop-used.bytes.items in
+    let i = c.loop-used.used in
+    let b = get_or input i 0 in
+    let ne : length so_far ≢ room = λ e. c.if-len-from.false (grind (arith, common_steps)) in
+    let other : is_lf b ≡ false = ne_eqb b 10 c.if-byte-eq-LINE_FEED.false in
+    let on = c.loop-used.invariant in
+    let lt = c.loop-used-test.true in
+    elim c.if-byte-ne-CARRIAGE_RETURN.branch [
+      | then-byte-ne-CARRIAGE_RETURN+in_ok-push w ↦
+          subst (λ bytes. Stands room input bytes.items (i + 1)) (sym w.bytes-is) (subst (λ l. Stands room input l (i + 1)) (sym w.in_ok-push.ensures.items) (stands_kept room input so_far i 0 lt on ne other (not_from_false (b == 13) (ne_eqb b 13 w.if-byte-ne-CARRIAGE_RETURN.true))))
+      | else-byte-ne-CARRIAGE_RETURN w ↦
+          subst (λ bytes. Stands room input bytes.items (i + 1)) (sym w.bytes-is) (stands_skipped room input so_far i 0 lt on ne other (not_from_true (b == 13) (eq-eqb b 13 w.if-byte-ne-CARRIAGE_RETURN.false)))
+    ]

@@ -1,0 +1,178 @@
+// The console and its answers (CP/M 2.2 Operating System Manual, section 5.3, "BDOS functions").
+ghost use Rattle.std.specs.Prelude.{◌≡◌, ◌≢◌, ◌+◌, ◌<◌, [], ◌∷◌, length, IfOk, OnErr};
+ghost use Rattle.dialogue.specs.Shape.{address_of};
+ghost use Rattle.dialogue.specs.Lawful.{first_byte, IsLawful};
+ghost use Rattle.bdos_console.specs.Console.{disk_selected, place_in};
+
+use crate::line::{Line, read_line};
+use dialogue::{ArgWord, Block, Blocks, Bytes, Range, Reply, Request};
+use std::alloc::{AllocError, Global};
+use std::marker::Model;
+
+/// The version that function 12 tells: CP/M 2.2.
+const VERSION: u16 = 0x22;
+
+/// What the console answers a call: a reply; that it has no input left for it; or that the call needs a drive that is not
+/// there.
+#[derive(Drop)]
+pub enum Answer {
+    Reply(Reply),
+    InputEnded,
+    NoDrive,
+}
+
+/// A console, seen as the input that is left.
+#[derive(Drop)]
+pub struct Console {
+    input: Vec<u8>,
+    taken: usize,
+}
+
+impl Model for Console {
+    ghost use Rattle.std.specs.Prelude.{ℕ, List, drop, length, ◌≤◌};
+
+    ghost Value = { List ℕ };
+
+    ghost view = { λ c. drop c.taken c.input.items };
+
+    ghost invariant = { λ c. c.taken ≤ length c.input.items };
+}
+
+impl Console {
+    ghost use Rattle.bdos_console.specs.Console.{Answered, console_answer, read_byte, read_console_line, status_of, FitsRequest, IsByte, TakesByReply};
+
+    /// A console with this input.
+    pub fn new(input: Vec<u8>) -> Console
+        ensures { result ≡ input.items }
+    {
+        Console { input, taken: 0 }
+    }
+
+    /// The answer to a call. Only a reply takes input, so that after another answer or want of memory the call can be answered
+    /// anew; only a line wants memory. Function 0 ends a program and is not asked; it is answered `NoDrive`, as the functions of a disk are.
+    pub fn answer(&mut self, alloc: Global, request: &Request) -> Result<Answer, AllocError>
+        requires { IsLawful request.now }
+        ensures answer { IfOk result (λ a. ◌≡◌ {A = Answered} (record { answer = a; left = self.new }) (console_answer self.old request.now)) }
+        ensures fits { IfOk result (λ a. FitsRequest request.now a) }
+        ensures takes { IfOk result (λ a. TakesByReply a self.old self.new) }
+        ensures memory { OnErr result (self.new ≡ self.old) }
+        ensures wanted { OnErr result ((request.now.shape.function ≡ 10) × (self.old ≢ [])) }
+    {
+        match request.shape.function {
+            1 => Ok(self.read_byte(alloc)),
+            10 => self.read_line(alloc, request),
+            11 => Ok(told(alloc, self.status())),
+            12 => Ok(told(alloc, VERSION)),
+            14 => Ok(select_disk(alloc, request.shape.arg)),
+            2 | 9 | 13 | 25 | 26 => Ok(told(alloc, 0)),
+            _ => Ok(Answer::NoDrive),
+        }
+    }
+
+    // The input that is left.
+    fn left(&self) -> &[u8]
+        ensures { result.now ≡ self.now }
+    {
+        &self.input[self.taken..]
+    }
+
+    // Function 1: the next byte.
+    fn read_byte(&mut self, alloc: Global) -> Answer
+        ensures byte { IsByte result }
+        ensures answer { ◌≡◌ {A = Answered} (record { answer = result; left = self.new }) (read_byte self.old) }
+    {
+        match self.left().first() {
+            None => Answer::InputEnded,
+            Some(byte) => {
+                let byte = *byte;
+                self.taken += 1;
+                told(alloc, u16::from(byte))
+            }
+        }
+    }
+
+    // Function 11: whether a byte waits.
+    fn status(&self) -> u16
+        ensures { result ≡ status_of self.now }
+    {
+        if self.left().is_empty() { 0 } else { 0xFF }
+    }
+
+    // Function 10: a line, written where the range begins that the call may write.
+    fn read_line(&mut self, alloc: Global, request: &Request) -> Result<Answer, AllocError>
+        requires lawful { IsLawful request.now }
+        requires line { request.now.shape.function ≡ 10 }
+        ensures answer { IfOk result (λ a. ◌≡◌ {A = Answered} (record { answer = a; left = self.new }) (read_console_line (address_of request.now.shape.arg + 1) (first_byte request.now.blocks) self.old)) }
+        ensures fits { IfOk result (λ a. FitsRequest request.now a) }
+        ensures memory { OnErr result (self.new ≡ self.old) }
+        ensures wanted { OnErr result (self.old ≢ []) }
+    {
+        if self.left().is_empty() {
+            return Ok(Answer::InputEnded);
+        }
+        let Line { bytes, used } = read_line(alloc, self.left(), room_of(request))?;
+        let reply = written(alloc, place_in(request.shape.writes), bytes.as_slice())?;
+        self.taken += used;
+        Ok(Answer::Reply(reply))
+    }
+}
+
+// A reply that writes nothing.
+fn told(alloc: Global, answer: u16) -> Answer
+    ensures { result ≡ Answer.Reply (record { answer = answer; writes = [] }) }
+{
+    Answer::Reply(Reply {
+        answer,
+        writes: Blocks::from_vec(Vec::new(alloc)),
+    })
+}
+
+// Function 14: drive A is 0, and there is no other.
+fn select_disk(alloc: Global, arg: ArgWord) -> Answer
+    ensures { result ≡ disk_selected arg }
+{
+    match arg {
+        ArgWord::Byte(0) => told(alloc, 0),
+        _ => Answer::NoDrive,
+    }
+}
+
+// How many bytes a line may have that a call reads: the first of its buffer.
+fn room_of(request: &Request) -> u8
+    ensures { result ≡ first_byte request.now.blocks }
+{
+    match request.blocks.as_slice().first() {
+        None => 0,
+        Some(block) => block.bytes.as_slice().first().copied().unwrap_or(0),
+    }
+}
+
+// Where the first range begins that a call may write.
+fn place_in(places: [Option<Range>; 2]) -> u16
+    ensures { result ≡ place_in places }
+{
+    let [first, _] = places;
+    match first {
+        None => 0,
+        Some(range) => range.at,
+    }
+}
+
+// The reply that writes a line, its length first.
+fn written(alloc: Global, at: u16, line: &[u8]) -> Result<Reply, AllocError>
+    requires { length line.now < 256 }
+    ensures { IfOk result (λ y. y ≡ record { answer = 0; writes = record { at = at; bytes = length line.now ∷ line.now } ∷ [] }) }
+{
+    let mut bytes = Vec::new(alloc);
+    bytes.push(line.len() as u8)?;
+    bytes.extend_from_slice(line)?;
+    let mut writes = Vec::new(alloc);
+    writes.push(Block {
+        at,
+        bytes: Bytes::from_vec(bytes),
+    })?;
+    Ok(Reply {
+        answer: 0,
+        writes: Blocks::from_vec(writes),
+    })
+}

@@ -1,0 +1,51 @@
+use Rattle.std.proofs.Common.{◌≡◌, ℕ, List, [], refl, sym, ap, ◌∙◌, subst}
+use Rattle.std.specs.Prelude.{IfErr}
+use Rattle.std.proofs.lemmas.Result.{IfOk-weaker}
+use Rattle.dialogue.specs.declared.request.Reply.{Reply}
+use Rattle.cpu80_steps.specs.Start.{start80}
+use Rattle.cpu80_steps.specs.Step.{machine80}
+use Rattle.cpu80.specs.State.{state_of}
+use Rattle.bdos_talk.specs.declared.fault.TalkFault.TheVariants.{Memory}
+use Rattle.bdos_talk.specs.Talk.{Seen, SaysRun, IsCutOff}
+use Rattle.bdos_talk.specs.Turns.{nothing}
+use Rattle.bdos_talk.proofs.OneRun.{one_run}
+use Rattle.bdos_talk.proofs.Exact.{says_none}
+use Rattle.bdos_talk.proofs.Said.{on_fault}
+use Rattle.bdos_emulation.specs.Courses.{why80, course80, course80_from}
+use Rattle.bdos_emulation.proofs.commands.run_80.Goals as goal
+
+pub returns-in_err-machine-clause-cut : goal.returns-in_err-machine-clause-cut
+returns-in_err-machine-clause-cut g c =
+    let p = c.args.program.now in
+    let page = c.args.page.now in
+    let limit = c.args.limit in
+    let host = g.H.Host.state c.args.host.now in
+    on_fault c.from_residual.result (λ h. h ≡ Memory) (IsCutOff (course80 p page) c.args.input.items limit host host) c.from_residual.ensures.1
+    (λ h is. subst (IsCutOff (course80 p page) c.args.input.items limit host host) (sym is)
+    (says_none (course80 p page) (one_run (machine80 p) [] why80 (start80 p page)) c.args.input.items limit host, record { reads = refl; writes = refl }))
+
+pub returns-clause-cut : goal.returns-clause-cut
+returns-clause-cut g c =
+    let m = c.in_ok-machine.machine in
+    let p = c.args.program.now in
+    let page = c.args.page.now in
+    let limit = c.args.limit in
+    let old = g.H.Host.state c.args.host.now in
+    let new = g.H.Host.state c.converse.new.host in
+    let first : List Reply → ℕ → Seen = course80_from m.program.now (state_of m.cpu) nothing in
+    let is : first ≡ course80 p page = ap (λ q. course80_from q (state_of m.cpu) nothing) c.in_ok-machine.ensures.program ∙ ap (λ s. course80_from p s nothing) c.in_ok-machine.ensures.start in
+    subst (λ i. IfErr c.converse.result (IsCutOff (course80 p page) i limit old new)) c.new-console.ensures
+    (subst (λ course. IfErr c.converse.result (IsCutOff course c.new-console.result limit old new)) is c.converse.ensures.cut)
+
+pub returns-clause-run : goal.returns-clause-run
+returns-clause-run g c =
+    let m = c.in_ok-machine.machine in
+    let p = c.args.program.now in
+    let page = c.args.page.now in
+    let limit = c.args.limit in
+    let old = g.H.Host.state c.args.host.now in
+    let new = g.H.Host.state c.converse.new.host in
+    let first : List Reply → ℕ → Seen = course80_from m.program.now (state_of m.cpu) nothing in
+    let is : first ≡ course80 p page = ap (λ q. course80_from q (state_of m.cpu) nothing) c.in_ok-machine.ensures.program ∙ ap (λ s. course80_from p s nothing) c.in_ok-machine.ensures.start in
+    let input : c.new-console.result ≡ c.args.input.items = c.new-console.ensures in
+    IfOk-weaker c.converse.result (λ o. SaysRun first c.new-console.result limit o old new) (λ o. SaysRun (course80 p page) c.args.input.items limit o old new) (λ o h. subst (λ i. SaysRun (course80 p page) i limit o old new) input (subst (λ course. SaysRun course c.new-console.result limit o old new) is h)) c.converse.ensures.run

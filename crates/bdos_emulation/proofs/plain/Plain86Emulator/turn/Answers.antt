@@ -1,0 +1,90 @@
+use Rattle.std.proofs.Common.{◌≡◌, sym, ap, ◌∙◌, subst, Some}
+use Rattle.i86.specs.Decoder.{decoded}
+use Rattle.dialogue.specs.declared.request.Event.TheVariants.{Call}
+use Rattle.base_runs.specs.Run.{Asks}
+use Rattle.cpu86_steps.specs.Call.{NoInstruction, StackSegment, OddCall, replied86}
+use Rattle.cpu86_steps.specs.Step.{step86}
+use Rattle.cpu86.specs.Standing.{Standing, standing, code_of, request_in}
+use Rattle.cpu86.proofs.Courses.{call_of}
+use Rattle.bdos_talk.specs.declared.emulator.Why.TheVariants.{OddCall as HasOdd}
+use Rattle.bdos_talk.specs.declared.emulator.Turn.TheVariants.{Ran, Asks as HasAsked, Stopped}
+use Rattle.bdos_talk.specs.Turns.{IsTurn}
+use Rattle.bdos_emulation.specs.Courses.{course86_from}
+use Rattle.bdos_emulation.proofs.Machine86.{ran86, ended86, stopped86, asked86}
+use Rattle.bdos_emulation.proofs.plain.Plain86Emulator.turn.Goals as goal
+
+pub returns-in-Ran-clause-turn : goal.returns-in-Ran-clause-turn
+returns-in-Ran-clause-turn c =
+    let cpu = c.args.self.now.cpu in
+    let choice = c.args.self.now.choice in
+    let s = (standing cpu).state in
+    let t = (standing c.step.new.self).state in
+    let told = c.in-Ran.ensures.told (decoded (code_of cpu)) c.requires.1 c.requires.0 in
+    subst (λ code. IsTurn (course86_from (code_of cpu) choice s) (course86_from code choice t) (λ q y. course86_from code choice t) Ran) (sym c.step.ensures.code) (ran86 (code_of cpu) choice s t (λ q y. course86_from (code_of cpu) choice t) told.0)
+
+pub returns-in-Some-clause-turn : goal.returns-in-Some-clause-turn
+returns-in-Some-clause-turn c =
+    let cpu = c.args.self.now.cpu in
+    let choice = c.args.self.now.choice in
+    let q = c.in-Some.request in
+    let s = (standing cpu).state in
+    let t = (standing c.step.new.self).state in
+    let told = c.in-Asked.ensures.told (decoded (code_of cpu)) c.requires.1 c.requires.0 in
+    let told_q : request_in (Some told.0) ≡ Some q = sym (ap request_in told.1.1) ∙ sym c.in_ok-request-in-Asked.ensures.request ∙ c.in-Some.is in
+    let asks : step86 (decoded (code_of cpu)) s choice ≡ Asks (Call q) t = told.1.0 ∙ ap (λ e. Asks e t) (call_of told.0 q told_q) in
+    subst (λ code. IsTurn (course86_from (code_of cpu) choice s) (course86_from code choice t) (λ q y. course86_from code choice (replied86 t (Call q) y choice)) (HasAsked q)) (sym c.step.ensures.code) (asked86 (code_of cpu) choice s t q asks)
+
+pub returns-in-Ended-clause-turn : goal.returns-in-Ended-clause-turn
+returns-in-Ended-clause-turn c =
+    let cpu = c.args.self.now.cpu in
+    let choice = c.args.self.now.choice in
+    let s = (standing cpu).state in
+    let told = c.in-Ended.ensures.told (decoded (code_of cpu)) c.requires.1 c.requires.0 in
+    ended86 (code_of cpu) choice s s (λ q y. course86_from (code_of cpu) choice s) told.0
+
+pub returns-in-NoInstruction-clause-turn : goal.returns-in-NoInstruction-clause-turn
+returns-in-NoInstruction-clause-turn c =
+    let cpu = c.args.self.now.cpu in
+    let choice = c.args.self.now.choice in
+    let s = (standing cpu).state in
+    let told = c.in-NoInstruction.ensures.told (decoded (code_of cpu)) c.requires.1 c.requires.0 in
+    stopped86 (code_of cpu) choice s s (λ q y. course86_from (code_of cpu) choice s) (NoInstruction c.in-NoInstruction.at) told.0
+
+pub returns-in-StackSegment-clause-turn : goal.returns-in-StackSegment-clause-turn
+returns-in-StackSegment-clause-turn c =
+    let cpu = c.args.self.now.cpu in
+    let choice = c.args.self.now.choice in
+    let s = (standing cpu).state in
+    let told = c.in-StackSegment.ensures.told (decoded (code_of cpu)) c.requires.1 c.requires.0 in
+    stopped86 (code_of cpu) choice s s (λ q y. course86_from (code_of cpu) choice s) (StackSegment c.in-StackSegment.at) told.0
+
+pub returns-in-OddCall-clause-turn : goal.returns-in-OddCall-clause-turn
+returns-in-OddCall-clause-turn c =
+    let cpu = c.args.self.now.cpu in
+    let choice = c.args.self.now.choice in
+    let s = (standing cpu).state in
+    let f = c.in-OddCall.function in
+    let told = c.in-OddCall.ensures.told (decoded (code_of cpu)) c.requires.1 c.requires.0 in
+    let at : s.ip ≡ c.ip.result = sym (c.ip.ensures ∙ ap (λ (x : Standing). x.state.ip) told.1) in
+    subst (λ ip. IsTurn (course86_from (code_of cpu) choice s) (course86_from (code_of cpu) choice s) (λ q y. course86_from (code_of cpu) choice s) (Stopped (HasOdd ip f))) at (stopped86 (code_of cpu) choice s s (λ q y. course86_from (code_of cpu) choice s) (OddCall f) told.0)
+
+pub returns-in-NoInstruction-clause-still : goal.returns-in-NoInstruction-clause-still
+returns-in-NoInstruction-clause-still c =
+    let cpu = c.args.self.now.cpu in
+    let choice = c.args.self.now.choice in
+    let told = c.in-NoInstruction.ensures.told (decoded (code_of cpu)) c.requires.1 c.requires.0 in
+    ap (λ code. course86_from code choice (standing c.step.new.self).state) c.step.ensures.code ∙ ap (λ (x : Standing). course86_from (code_of cpu) choice x.state) told.1
+
+pub returns-in-StackSegment-clause-still : goal.returns-in-StackSegment-clause-still
+returns-in-StackSegment-clause-still c =
+    let cpu = c.args.self.now.cpu in
+    let choice = c.args.self.now.choice in
+    let told = c.in-StackSegment.ensures.told (decoded (code_of cpu)) c.requires.1 c.requires.0 in
+    ap (λ code. course86_from code choice (standing c.step.new.self).state) c.step.ensures.code ∙ ap (λ (x : Standing). course86_from (code_of cpu) choice x.state) told.1
+
+pub returns-in-OddCall-clause-still : goal.returns-in-OddCall-clause-still
+returns-in-OddCall-clause-still c =
+    let cpu = c.args.self.now.cpu in
+    let choice = c.args.self.now.choice in
+    let told = c.in-OddCall.ensures.told (decoded (code_of cpu)) c.requires.1 c.requires.0 in
+    ap (λ code. course86_from code choice (standing c.step.new.self).state) c.step.ensures.code ∙ ap (λ (x : Standing). course86_from (code_of cpu) choice x.state) told.1

@@ -1,0 +1,64 @@
+-- How the runs of the two processors go, as they are seen from outside.
+use Rattle.std.specs.Prelude.{◌≡◌, ℕ, true, List, [], ◌∷◌, Option, None, Some}
+use Rattle.cells.specs.declared.Rule.{Rule}
+use Rattle.i86.specs.declared.Instr86.{Instr86}
+use Rattle.i86.specs.Code.{Reads}
+use Rattle.i86.specs.Decoder.{decoded}
+use Rattle.dialogue.specs.declared.request.Request.{Request}
+use Rattle.dialogue.specs.declared.request.Reply.{Reply}
+use Rattle.dialogue.specs.declared.request.Event.TheVariants.{Call}
+use Rattle.base_runs.specs.Run.{Asks}
+use Rattle.asm80_program.specs.Program.{Program}
+use Rattle.asm86_lines.specs.Image.{Image}
+use Rattle.cpu80_steps.specs.State.{State80}
+use Rattle.cpu80_steps.specs.Start.{run80}
+use Rattle.cpu80_steps.specs.Step.{step80, machine80}
+use Rattle.cpu86_steps.specs.State.{State86}
+use Rattle.cpu86_steps.specs.Call.{Stop, NoInstruction, StackSegment, OddCall}
+use Rattle.cpu86_steps.specs.Start.{Start, run86}
+use Rattle.cpu86_steps.specs.Step.{machine86}
+use Rattle.cpu80.specs.declared.processor.Cpu80.{Cpu80}
+use Rattle.cpu80.specs.State.{state_of, asks}
+use Rattle.cpu80.specs.Machine.{IsMachineOf}
+use Rattle.cpu86.specs.declared.cpu.Cpu86.{Cpu86}
+use Rattle.cpu86.specs.Standing.{standing, code_of}
+use Rattle.bdos_talk.specs.declared.emulator.Why.{Why}
+use Rattle.bdos_talk.specs.declared.emulator.Why.TheVariants.{Left, NoInstruction as HasNone, StackSegment as HasSegment, OddCall as HasOdd}
+use Rattle.bdos_talk.specs.Talk.{Seen, seen}
+use Rattle.bdos_talk.specs.Turns.{Course, course_from}
+
+-- the 8080 left the profile by a rule, at its state's place
+abbrev pub why80 : State80 → Rule → Why
+why80 s rule = Left s.place rule
+
+-- the 8086 stopped; where a call is odd, at its state's ip
+abbrev pub why86 : State86 → Stop → Why
+why86 s (NoInstruction at) = HasNone at
+why86 s (StackSegment at) = HasSegment at
+why86 s (OddCall function) = HasOdd s.ip function
+
+-- how a run goes, by the replies that it is given and the number of turns
+abbrev pub course80 : Program → List ℕ → List Reply → ℕ → Seen
+course80 p page replies n = seen why80 (run80 p page replies n)
+
+abbrev pub course86 : (ℕ → Option Instr86) → Image → List ℕ → List ℕ → Start → List ℕ → List Reply → ℕ → Seen
+course86 fetch image page fill start choices replies n =
+    seen why86 (run86 fetch image page fill start choices replies n)
+
+-- the same from a state on
+abbrev pub course80_from : Program → State80 → Course
+course80_from p s = course_from (machine80 p) [] why80 s
+
+abbrev pub course86_from : List ℕ → ℕ → State86 → Course
+course86_from code choice s = course_from (machine86 (decoded code)) (choice ∷ []) why86 s
+
+-- the 8080 waits for the reply to this
+abbrev pub Waits80 : Program → Cpu80 → Request → Type 0
+Waits80 p c q = IsMachineOf p c × (asks c ≡ true) × (step80 p (state_of c) ≡ Asks (Call q) (state_of c))
+
+-- the 8086 has nothing open, or waits for the reply to this
+abbrev pub Runs86 : Cpu86 → Type 0
+Runs86 c = ((standing c).said ≡ None) × Reads (code_of c) (decoded (code_of c))
+
+abbrev pub Waits86 : Cpu86 → Request → Type 0
+Waits86 c q = ((standing c).said ≡ Some (Call q)) × Reads (code_of c) (decoded (code_of c))

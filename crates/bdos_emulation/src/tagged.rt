@@ -1,0 +1,75 @@
+// The tagged 8080 with its program.
+ghost use Rattle.std.specs.Prelude.{◌≡◌, IfOk};
+
+use asm80_program::Program80;
+use bdos_talk::{Emulator, Turn, Why};
+use cpu80::{Cpu80, Step80};
+use dialogue::{Page, Reply, Request};
+use std::alloc::{AllocError, Global};
+
+/// The tagged 8080 with its program.
+#[derive(Drop)]
+pub struct Tagged80<'a> {
+    cpu: Cpu80,
+    program: &'a Program80,
+}
+
+impl<'a> Tagged80<'a> {
+    ghost use Rattle.cpu80_steps.specs.Start.{start80};
+    ghost use Rattle.cpu80.specs.State.{state_of};
+    ghost use Rattle.cpu80.specs.Machine.{IsMachineOf};
+
+    /// The machine as its program begins, with a start page.
+    pub fn new(
+        alloc: Global,
+        program: &'a Program80,
+        page: &Page,
+    ) -> Result<Tagged80<'a>, AllocError>
+        ensures start { IfOk result (λ m. state_of m.cpu ≡ start80 program.now page.now) }
+        ensures program { IfOk result (λ m. m.program.now ≡ program.now) }
+        ensures machine { IfOk result (λ m. IsMachineOf m.program.now m.cpu) }
+    {
+        let cpu = Cpu80::new(alloc, program, page)?;
+        Ok(Tagged80 { cpu, program })
+    }
+}
+
+impl<'a> Emulator for Tagged80<'a> {
+    ghost use Rattle.std.specs.Prelude.{refl, []};
+    ghost use Rattle.dialogue.specs.declared.request.Event.TheVariants.{Call};
+    ghost use Rattle.cpu80_steps.specs.Step.{machine80, replied80};
+    ghost use Rattle.cpu80.specs.State.{state_of};
+    ghost use Rattle.cpu80.specs.Machine.{IsMachineOf};
+    ghost use Rattle.bdos_emulation.specs.Courses.{why80, course80_from, Waits80};
+    ghost use Rattle.bdos_talk.proofs.OneRun.{one_run};
+
+    ghost runs = { λ m. IsMachineOf m.program.now m.cpu };
+
+    ghost waits = { λ m q. Waits80 m.program.now m.cpu q };
+
+    ghost course = { λ m. course80_from m.program.now (state_of m.cpu) };
+
+    ghost answered = { λ m q y. course80_from m.program.now (replied80 m.program.now (state_of m.cpu) (Call q) y) };
+
+    fn turn(&mut self, alloc: Global) -> Result<Turn, AllocError> {
+        match self.cpu.step(self.program) {
+            Step80::Ran => Ok(Turn::Ran),
+            Step80::Asked => match self.cpu.asked(alloc)? {
+                Some(request) => Ok(Turn::Asks(request)),
+                None => Ok(Turn::Ended),
+            },
+            Step80::Ended => Ok(Turn::Ended),
+            Step80::Left(rule) => Ok(Turn::Stopped(Why::Left(self.cpu.place(), rule))),
+        }
+    }
+
+    fn reply(&mut self, _request: &Request, reply: &Reply) {
+        self.cpu.reply(reply);
+    }
+
+    ghost begins = { λ m t ys. refl };
+
+    ghost takes = { λ m q y t ys. refl };
+
+    ghost single = { λ m. one_run (machine80 m.program.now) [] why80 (state_of m.cpu) };
+}

@@ -1,0 +1,79 @@
+use Rattle.std.proofs.Common.{◌≡◌, ◌+◌, refl, sym, subst, arith}
+use Rattle.std.proofs.lemmas.Grind.{common_steps}
+use Rattle.host.proofs.HostLemmas.{OnlySays-trans}
+use Rattle.bdos_talk.specs.declared.running.RunEnd.TheVariants.{StepLimit}
+use Rattle.bdos_talk.specs.Talk.{SaysRun, IsCutOff}
+use Rattle.bdos_talk.specs.Turns.{nothing}
+use Rattle.bdos_talk.specs.Advance.{Advance, Rest, IsTurnDone}
+use Rattle.bdos_talk.proofs.Said.{on_fault}
+use Rattle.bdos_talk.proofs.Ends.{advance_none, advance_then, says_limit, says_end, cut_off}
+use Rattle.bdos_talk.proofs.running.converse.Goals as goal
+
+-- before the first turn
+pub loop-count-init : goal.loop-count-init
+loop-count-init g c =
+    let host = g.H.Host.state c.args.host.now in
+    record {
+      runs = c.requires;
+      advance = advance_none (g.E.Emulator.course c.args.machine.now) c.args.console.now host;
+      only = record { files = λ name. refl; reads = refl; writes = omega arith };
+      counted = record { reads = refl; writes = refl };
+    }
+
+-- one more turn
+pub loop-count-preserved : goal.loop-count-preserved
+loop-count-preserved g c =
+    let j = c.loop-count.count in
+    let first = g.E.Emulator.course c.args.machine.now in
+    let before = g.E.Emulator.course c.loop-count.machine in
+    let after = g.E.Emulator.course c.turn.new.machine in
+    let old = g.H.Host.state c.args.host.now in
+    let mid = g.H.Host.state c.loop-count.host in
+    let new = g.H.Host.state c.turn.new.host in
+    let done : Advance 1 before after c.loop-count.console c.turn.new.console mid new = subst (IsTurnDone (j + 1) before after c.loop-count.console c.turn.new.console mid new) c.in_default.is c.in_ok-end.ensures.done in
+    record {
+      runs = c.in_ok-end.ensures.ready (cc);
+      advance = advance_then j first before after c.args.console.now c.loop-count.console c.turn.new.console old mid new c.loop-count.invariant.advance done;
+      only = OnlySays-trans c.loop-count.invariant.only c.turn.ensures.only;
+      counted = grind (arith, common_steps, c.in_ok-end.ensures.counted);
+    }
+
+-- the last turn
+pub returns-in-Some-clause-run : goal.returns-in-Some-clause-run
+returns-in-Some-clause-run g c =
+    let j = c.loop-count.count in
+    let end = c.in-Some.end in
+    let first = g.E.Emulator.course c.args.machine.now in
+    let before = g.E.Emulator.course c.loop-count.machine in
+    let after = g.E.Emulator.course c.turn.new.machine in
+    let old = g.H.Host.state c.args.host.now in
+    let mid = g.H.Host.state c.loop-count.host in
+    let new = g.H.Host.state c.turn.new.host in
+    let input = c.args.console.now in
+    let left = c.loop-count.console in
+    let done : Rest end (j + 1) before left mid new = subst (IsTurnDone (j + 1) before after left c.turn.new.console mid new) c.in-Some.is c.in_ok-end.ensures.done in
+    says_end first before (g.met.E.Emulator.single c.args.machine.now) input left old mid new j c.loop-count.invariant.advance end (j + 1) c.args.limit (g.met.E.Emulator.begins c.loop-count.machine) (omega arith) (omega arith) done
+
+-- no turn is left
+pub returns-clause-run : goal.returns-clause-run
+returns-clause-run g c =
+    let first = g.E.Emulator.course c.args.machine.now in
+    let before = g.E.Emulator.course c.loop-count.machine in
+    let old = g.H.Host.state c.args.host.now in
+    let mid = g.H.Host.state c.loop-count.host in
+    let all : c.loop-count.count ≡ c.args.limit = omega arith in
+    subst (λ n. SaysRun (first nothing) c.args.console.now n StepLimit old mid) all (says_limit first before (g.met.E.Emulator.single c.args.machine.now) c.args.console.now c.loop-count.console old mid mid c.loop-count.count c.loop-count.invariant.advance (g.met.E.Emulator.begins c.loop-count.machine))
+
+-- a fault
+pub returns-in_err-end-clause-cut : goal.returns-in_err-end-clause-cut
+returns-in_err-end-clause-cut g c =
+    let first = g.E.Emulator.course c.args.machine.now in
+    let before = g.E.Emulator.course c.loop-count.machine in
+    let old = g.H.Host.state c.args.host.now in
+    let mid = g.H.Host.state c.loop-count.host in
+    let new = g.H.Host.state c.turn.new.host in
+    let e = c.in_err-end in
+    let known = c.loop-count.invariant in
+    on_fault c.from_residual.result (λ h. h ≡ e.field-0.0) (IsCutOff (first nothing) c.args.console.now c.args.limit old new) c.from_residual.ensures.1
+    (λ h is. subst (IsCutOff (first nothing) c.args.console.now c.args.limit old new) (sym is)
+    (cut_off first before (g.met.E.Emulator.single c.args.machine.now) c.args.console.now c.loop-count.console old mid new c.loop-count.count known.advance c.args.limit (omega arith) known.counted e.field-0.0 e.ensures.cut))

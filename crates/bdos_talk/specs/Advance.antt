@@ -1,0 +1,86 @@
+-- How far a run over a console has come, in a form that can be put together turn by turn.
+use Rattle.std.specs.Prelude.{◌≡◌, ℕ, ◌+◌, ◌≤◌, suc, List, [], ◌∷◌, ◌++◌, Option, Some, None, true}
+use Rattle.dialogue.specs.declared.request.Request.{Request}
+use Rattle.dialogue.specs.declared.request.Reply.{Reply}
+use Rattle.dialogue.specs.declared.request.Event.{Event}
+use Rattle.dialogue.specs.Fits.{fits}
+use Rattle.bdos_console.specs.declared.answers.Answer.TheVariants.{Reply as Replies}
+use Rattle.bdos_console.specs.Console.{Answered, console_answer}
+use Rattle.base_runs.specs.Run.{Status, Waiting, Over, Stopped}
+use Rattle.host.specs.Host.{HostState, SameSaid, Says, SameFaults, WriteFailed}
+use Rattle.cmd_files.specs.Transfer.{CutsLine}
+use Rattle.bdos_talk.specs.declared.emulator.Why.{Why}
+use Rattle.bdos_talk.specs.declared.fault.TalkFault.{TalkFault}
+use Rattle.bdos_talk.specs.declared.fault.TalkFault.TheVariants.{Unsaid, Memory}
+use Rattle.bdos_talk.specs.declared.running.RunEnd.{RunEnd}
+use Rattle.bdos_talk.specs.declared.running.RunEnd.TheVariants.{Ended, Stopped as HasStopped, StepLimit, InputEnded, NoDrive}
+use Rattle.bdos_talk.specs.Lines.{event_line, event_lines}
+use Rattle.bdos_talk.specs.Talk.{console_replies, refusal_then, refusal}
+use Rattle.bdos_talk.specs.Turns.{Past, Course, standing}
+
+-- after k more turns, in which the console took a part of its input, the run goes on; the events of these turns were said
+pub record Advance (k : ℕ) (before after : Course) (input left : List ℕ) (old new : HostState) : Type 0 where
+  pub events : List Event
+  pub taken : List Reply
+  pub next : Past → Past
+  pub dialogue : (t : Past) → (next t).dialogue ≡ t.dialogue ++ events
+  pub goes : (t : Past) (ys : List Reply) (n : ℕ) → before t (taken ++ ys) (k + n) ≡ after (next t) ys n
+  pub replies : (es : List Event) → console_replies input (events ++ es) ≡ taken ++ console_replies left es
+  pub refuses : (es : List Event) → refusal input (events ++ es) ≡ refusal left es
+  pub says : Says old new (event_lines events)
+
+-- the end of a run, by its status, the number of its last turn, and what the console refuses
+abbrev pub IsEnd : RunEnd → ℕ → Status Why → Option RunEnd → Type 0
+IsEnd (Ended steps) count status refused = (status ≡ Over) × (steps ≡ count)
+IsEnd (HasStopped why) count status refused = status ≡ Stopped why
+IsEnd StepLimit count status refused = ⊥
+IsEnd InputEnded count status refused = (status ≡ Waiting) × (refused ≡ Some InputEnded)
+IsEnd (NoDrive function) count status refused = (status ≡ Waiting) × (refused ≡ Some (NoDrive function))
+
+-- after one more turn, the one of this number, the run goes on no more; its events were said
+pub record Rest (o : RunEnd) (count : ℕ) (before : Course) (input : List ℕ) (old new : HostState) : Type 0 where
+  pub events : List Event
+  pub status : Status Why
+  pub goes : (t : Past) (n : ℕ) → before t [] (suc n) ≡ standing status (t.dialogue ++ events)
+  pub none : console_replies input events ≡ []
+  pub end : IsEnd o count status (refusal input events)
+  pub says : Says old new (event_lines events)
+
+-- after one more turn, or before it, the dialogue has these events more
+pub record Grows (before : Course) (events : List Event) : Type 0 where
+  pub turns : ℕ
+  pub few : turns ≤ 1
+  pub dialogue : (t : Past) (ys : List Reply) → (before t ys turns).dialogue ≡ t.dialogue ++ events
+
+-- the line of what the next turn brings was said, or nothing yet
+pub record SaysTurn (before : Course) (old new : HostState) : Type 0 where
+  pub events : List Event
+  pub grows : Grows before events
+  pub says : Says old new (event_lines events)
+
+-- the line of what the next turn brings was cut off
+pub record CutsTurn (before : Course) (old new : HostState) : Type 0 where
+  pub event : Event
+  pub grows : Grows before (event ∷ [])
+  pub cut : CutsLine (event_line event) old new
+
+-- what was said in a turn up to a fault
+abbrev pub IsTurnCutOff : Course → HostState → HostState → TalkFault → Type 0
+IsTurnCutOff before old new (Unsaid fault) = CutsTurn before old new × WriteFailed old new
+IsTurnCutOff before old new Memory = SaysTurn before old new × SameFaults old new
+
+-- what was said of a line up to a fault: a call of the host failed within it; or none failed, and memory ran out before it
+abbrev pub IsLineCutOff : List ℕ → HostState → HostState → TalkFault → Type 0
+IsLineCutOff line old new (Unsaid fault) = CutsLine line old new × WriteFailed old new
+IsLineCutOff line old new Memory = SameSaid old new × SameFaults old new
+
+-- what a turn comes to: the end of the run, if it is its last
+abbrev pub IsTurnDone : ℕ → Course → Course → List ℕ → List ℕ → HostState → HostState → Option RunEnd → Type 0
+IsTurnDone count before after input left old new None = Advance 1 before after input left old new
+IsTurnDone count before after input left old new (Some o) = Rest o count before input old new
+
+-- what the console's answer comes to, of a machine that waits
+abbrev pub IsAnswered : Request → (Reply → Course) → Course → List ℕ → List ℕ → Option RunEnd → Type 0
+IsAnswered q answered after input left None =
+    (y : Reply) × (◌≡◌ {A = Answered} (console_answer input q) (record { answer = Replies y; left = left })) × (fits q y ≡ true) × (after ≡ answered y)
+IsAnswered q answered after input left (Some o) = refusal_then (console_answer input q).answer q None ≡ Some o

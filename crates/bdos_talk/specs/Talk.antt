@@ -1,0 +1,126 @@
+-- A run over a console: its replies are the console's to its own calls. What it comes to, and what it says meanwhile.
+use Rattle.std.specs.Prelude.{◌≡◌, ℕ, suc, ◌≤◌, List, [], ◌∷◌, ◌++◌, Option, Some, None}
+use Rattle.dialogue.specs.declared.request.Request.{Request}
+use Rattle.dialogue.specs.declared.request.Reply.{Reply}
+use Rattle.dialogue.specs.declared.request.Event.{Event}
+use Rattle.dialogue.specs.declared.request.Event.TheVariants.{Call, End}
+use Rattle.bdos_console.specs.declared.answers.Answer.TheVariants.{Reply as Replies, InputEnded as Ends, NoDrive as Refuses}
+use Rattle.bdos_console.specs.declared.answers.Answer.{Answer}
+use Rattle.bdos_console.specs.Console.{console_answer}
+use Rattle.base_runs.specs.Run.{Status, Going, Waiting, Over, Stopped, Run, IsFrontOf}
+use Rattle.host.specs.Host.{HostState, Says, SameFaults, WriteFailed}
+use Rattle.cmd_files.specs.Transfer.{CutsLine}
+use Rattle.bdos_talk.specs.declared.emulator.Why.{Why}
+use Rattle.bdos_talk.specs.declared.fault.TalkFault.{TalkFault}
+use Rattle.bdos_talk.specs.declared.fault.TalkFault.TheVariants.{Unsaid, Memory}
+use Rattle.bdos_talk.specs.declared.running.RunEnd.{RunEnd}
+use Rattle.bdos_talk.specs.declared.running.RunEnd.TheVariants.{Ended, Stopped as HasStopped, StepLimit, InputEnded, NoDrive}
+use Rattle.bdos_talk.specs.Lines.{event_line, event_lines}
+
+-- a run as it is seen from outside: whether it goes on, or else why not, and its dialogue
+pub record Seen : Type 0 where
+  pub status : Status Why
+  pub dialogue : List Event
+
+-- why a run does not go on, told by its state
+abbrev pub told_status : {X : Type 0} → (X → Why) → Status X → Status Why
+told_status why Going = Going
+told_status why Waiting = Waiting
+told_status why Over = Over
+told_status why (Stopped x) = Stopped (why x)
+
+abbrev pub seen : {S X : Type 0} → (S → X → Why) → Run S X → Seen
+seen why r = record { status = told_status (why r.state) r.status; dialogue = r.dialogue }
+
+-- the replies of a console to the calls of a dialogue, up to the first call that gets none
+abbrev pub reply_then : Answer → List Reply → List Reply
+reply_then (Replies y) rest = y ∷ rest
+reply_then Ends rest = []
+reply_then Refuses rest = []
+
+abbrev pub console_replies : List ℕ → List Event → List Reply
+console_replies input [] = []
+console_replies input (End ∷ es) = []
+console_replies input (Call q ∷ es) =
+    reply_then (console_answer input q).answer (console_replies (console_answer input q).left es)
+
+-- what a run comes to by the first call of its dialogue that gets no reply
+abbrev pub refusal_then : Answer → Request → Option RunEnd → Option RunEnd
+refusal_then (Replies y) q rest = rest
+refusal_then Ends q rest = Some InputEnded
+refusal_then Refuses q rest = Some (NoDrive q.shape.function)
+
+abbrev pub refusal : List ℕ → List Event → Option RunEnd
+refusal input [] = None
+refusal input (End ∷ es) = None
+refusal input (Call q ∷ es) =
+    refusal_then (console_answer input q).answer q (refusal (console_answer input q).left es)
+
+-- the run over a console after n turns: given the console's replies to its own dialogue, it is so
+abbrev pub IsAt : (List Reply → ℕ → Seen) → List ℕ → ℕ → Seen → Type 0
+IsAt course input n v = v ≡ course (console_replies input v.dialogue) n
+
+-- over any console there is one run: it is one after each number of turns, its dialogues grow, and once it is over it stays
+-- as it is
+pub record HasOneRun (course : List Reply → ℕ → Seen) : Type 0 where
+  pub some : (input : List ℕ) (n : ℕ) → (v : Seen) × IsAt course input n v
+  pub one : (input : List ℕ) (n : ℕ) (v w : Seen) → IsAt course input n v → IsAt course input n w → v ≡ w
+  pub grows : (input : List ℕ) (i n : ℕ) (v w : Seen) → i ≤ n → IsAt course input i v → IsAt course input n w → IsFrontOf v.dialogue w.dialogue
+  pub over : (ys : List Reply) (i n : ℕ) → i ≤ n → (course ys i).status ≡ Over → course ys n ≡ course ys i
+
+module _ (course : List Reply → ℕ → Seen) (input : List ℕ) (limit : ℕ) where
+  -- so many instructions ran, the last of them ended the program, and this is within the limit
+  pub record EndsAfter (steps : ℕ) (v : Seen) : Type 0 where
+    pub before : ℕ
+    pub count : steps ≡ suc before
+    pub within : steps ≤ limit
+    pub was : Seen
+    pub was_at : IsAt course input before was
+    pub went_on : was.status ≡ Going
+    pub at : IsAt course input steps v
+
+  -- what the run over a console comes to, by how it stands at the limit
+  abbrev pub IsCause : RunEnd → Seen → Type 0
+  IsCause (Ended steps) v = (v.status ≡ Over) × EndsAfter steps v
+  IsCause (HasStopped why) v = v.status ≡ Stopped why
+  IsCause StepLimit v = v.status ≡ Going
+  IsCause InputEnded v = (v.status ≡ Waiting) × (refusal input v.dialogue ≡ Some InputEnded)
+  IsCause (NoDrive function) v = (v.status ≡ Waiting) × (refusal input v.dialogue ≡ Some (NoDrive function))
+
+  pub record IsOutcome (o : RunEnd) (v : Seen) : Type 0 where
+    pub at : IsAt course input limit v
+    pub cause : IsCause o v
+
+  -- the run comes to this and no run over the console to anything else, and its whole dialogue was said
+  pub record SaysRun (o : RunEnd) (old new : HostState) : Type 0 where
+    pub run : Seen
+    pub outcome : IsOutcome o run
+    pub only : (e : RunEnd) (v : Seen) → IsOutcome e v → (e ≡ o) × (v ≡ run)
+    pub says : Says old new (event_lines run.dialogue)
+
+  -- these are the first events of the dialogue that the run has at the limit
+  pub record HasFirst (events : List Event) : Type 0 where
+    pub run : Seen
+    pub at : IsAt course input limit run
+    pub only : (v : Seen) → IsAt course input limit v → v ≡ run
+    pub front : IsFrontOf events run.dialogue
+
+  -- the lines of some first events of the run were said
+  pub record SaysFirst (old new : HostState) : Type 0 where
+    pub events : List Event
+    pub first : HasFirst events
+    pub says : Says old new (event_lines events)
+
+  -- the same, and then the line of the next event was cut off
+  pub record SaysCut (old new : HostState) : Type 0 where
+    pub events : List Event
+    pub next : Event
+    pub first : HasFirst (events ++ next ∷ [])
+    pub mid : HostState
+    pub says : Says old mid (event_lines events)
+    pub cut : CutsLine (event_line next) mid new
+
+  -- what was said up to a fault: a call of the host failed within a line; or none failed and memory ran out between two lines
+  abbrev pub IsCutOff : HostState → HostState → TalkFault → Type 0
+  IsCutOff old new (Unsaid fault) = SaysCut old new × WriteFailed old new
+  IsCutOff old new Memory = SaysFirst old new × SameFaults old new

@@ -1,0 +1,73 @@
+// What the loop knows of a machine: it takes turns, and its run is known from outside.
+ghost use Rattle.std.specs.Prelude.{IfOk};
+
+use cells::{Place, Rule};
+use dialogue::{Reply, Request};
+use std::alloc::{AllocError, Global};
+
+/// Why a machine stopped, and where.
+#[derive(Clone, Copy, PartialEq, Eq)]
+pub enum Why {
+    /// The 8080 left the profile, at the instruction of this place and by this rule.
+    Left(Place, Rule),
+    /// No instruction of the 8086's subset stands at this offset.
+    NoInstruction(u16),
+    /// The instruction at this offset uses the stack, and SS is not DS.
+    StackSegment(u16),
+    /// The INT at this offset calls this function in a way that the profile lacks.
+    OddCall(u16, u8),
+}
+
+/// What one turn comes to: an instruction ran; it asks the system and waits for a reply; it ended the program; or the machine
+/// has stopped, and is as before.
+#[derive(Drop)]
+pub enum Turn {
+    Ran,
+    Asks(Request),
+    Ended,
+    Stopped(Why),
+}
+
+/// A machine that talks to a system, with its program.
+pub trait Emulator {
+    ghost use Rattle.std.specs.Prelude.{◌≡◌, ℕ, List, true};
+    ghost use Rattle.dialogue.specs.Fits.{fits};
+    ghost use Rattle.dialogue.specs.declared.request.Request.{Request};
+    ghost use Rattle.dialogue.specs.declared.request.Reply.{Reply};
+    ghost use Rattle.bdos_talk.specs.Talk.{Seen, HasOneRun};
+    ghost use Rattle.bdos_talk.specs.Turns.{Past, nothing, IsTurn, StopsInPlace, AsksLawfully, IsReady, Begins};
+
+    // It may take a turn; it waits for the reply to a request.
+    ghost runs: { Self → Type 0 };
+
+    ghost waits: { Self → Request → Type 0 };
+
+    // How its run goes on, seen from outside, by what is past, the replies that come, and the number of turns.
+    ghost course: { Self → Past → List Reply → ℕ → Seen };
+
+    // The same of a machine that waits, where it gets a reply first.
+    ghost answered: { Self → Request → Reply → Past → List Reply → ℕ → Seen };
+
+    /// One turn.
+    fn turn(&mut self, alloc: Global) -> Result<Turn, AllocError>
+        requires { runs self.old }
+        ensures turn { IfOk result (λ t. IsTurn (course self.old) (course self.new) (answered self.new) t) }
+        ensures still { IfOk result (λ t. StopsInPlace (course self.old) (course self.new) t) }
+        ensures lawful { IfOk result (λ t. AsksLawfully t) }
+        ensures ready { IfOk result (λ t. IsReady (runs self.new) (waits self.new) t) };
+
+    /// Takes the reply to what it asked.
+    fn reply(&mut self, request: &Request, reply: &Reply)
+        requires waits { waits self.old request.now }
+        requires fits { fits request.now reply.now ≡ true }
+        ensures answered { course self.new ≡ answered self.old request.now reply.now }
+        ensures ready { runs self.new };
+
+    // Before more turns a run stands as it is.
+    ghost begins: { (m : Self) → Begins (course m) };
+
+    ghost takes: { (m : Self) (q : Request) (y : Reply) → Begins (answered m q y) };
+
+    // Over any console it has one run.
+    ghost single: { (m : Self) → HasOneRun (course m nothing) };
+}

@@ -1,0 +1,97 @@
+// The lines of events.
+ghost use Rattle.std.specs.Prelude.{◌≡◌, ◌<◌, ◌++◌, [], ◌∷◌, length, IfOk, IfErr, OnOk, OnErr, codes};
+ghost use Rattle.host.specs.Host.{Says, SameFaults, OnlySays, WriteFailed};
+ghost use Rattle.hex.specs.Hex.{encode_lower};
+ghost use Rattle.cmd_files.specs.Transfer.{CutsLine};
+ghost use Rattle.bdos_talk.specs.Advance.{IsLineCutOff};
+ghost use Rattle.bdos_talk.specs.Lines.{blank_then, arg_text, bytes_text, blocks_text, call_line};
+
+use crate::fault::TalkFault;
+use cmd_files::say_line;
+use dialogue::{ArgWord, Block, Request};
+use host::{Host, HostFault};
+use std::alloc::{AllocError, Global};
+
+/// Says a call of the system.
+pub fn say_call<H: Host>(alloc: Global, host: &mut H, request: &Request) -> Result<(), TalkFault>
+    ensures only { OnlySays (H.state host.old) (H.state host.new) }
+    ensures ok { OnOk result (Says (H.state host.old) (H.state host.new) (call_line request.now)) }
+    ensures counted { OnOk result (SameFaults (H.state host.old) (H.state host.new)) }
+    ensures cut { IfErr result (IsLineCutOff (call_line request.now) (H.state host.old) (H.state host.new)) }
+{
+    let line = call_line(alloc, request)?;
+    Ok(say_line(host, line.as_slice())?)
+}
+
+/// Says that the program has ended.
+pub fn say_end<H: Host>(host: &mut H) -> Result<(), HostFault>
+    ensures only { OnlySays (H.state host.old) (H.state host.new) }
+    ensures ok { OnOk result (Says (H.state host.old) (H.state host.new) (codes "end\n")) }
+    ensures counted { OnOk result (SameFaults (H.state host.old) (H.state host.new)) }
+    ensures cut { OnErr result (CutsLine (codes "end\n") (H.state host.old) (H.state host.new)) }
+    ensures failed { OnErr result (WriteFailed (H.state host.old) (H.state host.new)) }
+{
+    say_line(host, b"end\n")
+}
+
+// The line of a call.
+fn call_line(alloc: Global, request: &Request) -> Result<Vec<u8>, AllocError>
+    ensures { IfOk result (λ line. line.items ≡ call_line request.now) }
+{
+    let mut line = Vec::new(alloc);
+    push_digits(alloc, &mut line, &[request.shape.function])?;
+    push_argument(alloc, &mut line, request.shape.arg)?;
+    push_blocks(alloc, &mut line, request.blocks.as_slice())?;
+    line.push(b'\n')?;
+    Ok(line)
+}
+
+// Bytes in hexadecimal digits.
+fn push_digits(alloc: Global, line: &mut Vec<u8>, bytes: &[u8]) -> Result<(), AllocError>
+    ensures { OnOk result (line.new.items ≡ line.old.items ++ encode_lower bytes.now) }
+{
+    let digits = hex::encode(alloc, bytes)?;
+    line.extend_from_slice(digits.as_bytes())
+}
+
+// A blank, and the digits of bytes.
+fn push_spaced(alloc: Global, line: &mut Vec<u8>, bytes: &[u8]) -> Result<(), AllocError>
+    ensures { OnOk result (line.new.items ≡ line.old.items ++ blank_then bytes.now) }
+{
+    line.push(b' ')?;
+    push_digits(alloc, line, bytes)
+}
+
+// The argument of a call.
+fn push_argument(alloc: Global, line: &mut Vec<u8>, arg: ArgWord) -> Result<(), AllocError>
+    ensures { OnOk result (line.new.items ≡ line.old.items ++ arg_text arg) }
+{
+    match arg {
+        ArgWord::None => Ok(()),
+        ArgWord::Byte(byte) => push_spaced(alloc, line, &[byte]),
+        ArgWord::Word(word) => {
+            push_spaced(alloc, line, &[(word / 256) as u8, (word % 256) as u8])
+        }
+    }
+}
+
+// The bytes of a block, or a dash where it is empty.
+fn push_block(alloc: Global, line: &mut Vec<u8>, bytes: &[u8]) -> Result<(), AllocError>
+    ensures { OnOk result (line.new.items ≡ line.old.items ++ bytes_text bytes.now) }
+{
+    if bytes.is_empty() {
+        line.extend_from_slice(b" -")
+    } else {
+        push_spaced(alloc, line, bytes)
+    }
+}
+
+// The blocks of a call.
+fn push_blocks(alloc: Global, line: &mut Vec<u8>, blocks: &[Block]) -> Result<(), AllocError>
+    ensures { OnOk result (line.new.items ≡ line.old.items ++ blocks_text blocks.now) }
+{
+    for block in blocks {
+        push_block(alloc, line, block.bytes.as_slice())?;
+    }
+    Ok(())
+}

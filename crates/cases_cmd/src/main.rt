@@ -1,0 +1,117 @@
+// The program over files in memory, a case a line: `WORDS | P | I | N`. The words stand behind the program's name, `;` parts those
+// of several calls. The files P and I have these lines, which ` \ ` parts, and `N * LINE` is as many lines; the file OUT holds
+// `before`. The call of the host with the number N fails. A line without a bar is a source of the 8080 from 100H on, which runs.
+//
+// The answer is the status of each call, what is said, where ` / ` parts the lines, and behind an arrow, if OUT no longer holds
+// `before`, what it holds, of a long text its length. An empty line and one that begins with `#` are repeated.
+#![tactic(auto)]
+
+use host::MemHost;
+use std::alloc::{AllocError, Global};
+use std::io;
+use xlt_app::xlt;
+
+fn words_of(alloc: Global, text: &str) -> Result<Vec<String>, AllocError> {
+    let mut words = Vec::new(alloc);
+    for word in text.split_whitespace() {
+        words.push(String::from_str(alloc, word)?)?;
+    }
+    Ok(words)
+}
+
+// A line, and how often it stands.
+fn repeated(line: &str) -> (u32, &str) {
+    if let Some((times, rest)) = line.split_once(" * ")
+        && let Ok(times) = times.parse::<u32>()
+    {
+        return (times, rest);
+    }
+    (1, line)
+}
+
+fn add_line(file: &mut String, line: &str) -> Result<(), AllocError> {
+    let (times, line) = repeated(line);
+    for _ in 0..times {
+        file.push_str(line)?;
+        file.push('\n')?;
+    }
+    Ok(())
+}
+
+// A file of these lines, behind a first line that may be empty.
+fn file_of(alloc: Global, first: &str, text: &str) -> Result<String, AllocError> {
+    let mut file = String::from_str(alloc, first)?;
+    if !text.is_empty() {
+        for line in text.split(" \\ ") {
+            add_line(&mut file, line)?;
+        }
+    }
+    Ok(file)
+}
+
+// A host with the files of a case.
+fn host_of(alloc: Global, first: &str, files: &str) -> Result<MemHost, AllocError> {
+    let mut parts = files.split('|');
+    let program = file_of(alloc, first, parts.next().unwrap_or("").trim())?;
+    let input = file_of(alloc, "", parts.next().unwrap_or("").trim())?;
+    let fails = parts.next().unwrap_or("").trim().parse::<u64>();
+    let mut host = MemHost::new(alloc);
+    host.put("P", program.as_bytes())?;
+    host.put("I", input.as_bytes())?;
+    host.put("OUT", b"before")?;
+    host.fail_at(fails.unwrap_or(0))?;
+    Ok(host)
+}
+
+// The statuses of the calls with these words, and what is said.
+fn told(alloc: Global, host: &mut MemHost, words: &str) -> Result<String, AllocError> {
+    let mut answer = String::new(alloc);
+    for call in words.split(';') {
+        let status = xlt(alloc, words_of(alloc, call)?, host);
+        let text = format!(in alloc; "{status}:")?;
+        answer.push_str(text.as_str())?;
+    }
+    let said = String::from_utf8_lossy(alloc, host.said())?;
+    for (number, line) in said.lines().enumerate() {
+        answer.push_str(if number == 0 { " " } else { " / " })?;
+        answer.push_str(line)?;
+    }
+    Ok(answer)
+}
+
+// What OUT holds, where it has changed.
+fn written(alloc: Global, host: &MemHost) -> Result<String, AllocError> {
+    let bytes = host.file("OUT").unwrap_or(&[]);
+    if bytes == b"before".as_slice() {
+        return Ok(String::new(alloc));
+    }
+    if bytes.len() > 1000 {
+        return format!(in alloc; " -> {} bytes", bytes.len());
+    }
+    let text = String::from_utf8_lossy(alloc, bytes)?;
+    format!(in alloc; " -> {text:?}")
+}
+
+fn answer(alloc: Global, case: &str) -> Result<String, AllocError> {
+    let (words, first, files) = match case.split_once('|') {
+        Some((words, files)) => (words, "", files),
+        None => ("run80 P", "ORG 100H\n", case),
+    };
+    let mut host = host_of(alloc, first, files)?;
+    let mut answer = told(alloc, &mut host, words)?;
+    let text = written(alloc, &host)?;
+    answer.push_str(text.as_str())?;
+    Ok(answer)
+}
+
+fn main(rt: HostRuntime) -> io::Result<()> {
+    for line in rt.lines(rt.alloc()) {
+        let line = line?;
+        if line.is_empty() || line.starts_with('#') {
+            println!(rt; "{line}")?;
+        } else {
+            println!(rt; "{}", answer(rt.alloc(), line.as_str())?)?;
+        }
+    }
+    Ok(())
+}

@@ -1,0 +1,48 @@
+use Rattle.std.proofs.Common.{◌++◌, drop, ◌∙◌, ◌+◌, arith}
+use Rattle.std.proofs.lemmas.Grind.{common_steps}
+use Rattle.std.proofs.lemmas.Result.{on_err_weaker}
+use Rattle.host.proofs.HostLemmas.{OnlyWrites-trans}
+use Rattle.asm86_lines.specs.declared.line.Line86.{Line86}
+use Rattle.asm86_lines.specs.declared.line.Stmt86.TheVariants.{Cseg}
+use Rattle.asm86_lines.specs.Written.{text_of}
+use Rattle.cmd_files.proofs.Fills.{on_err}
+use Rattle.cmd_files.proofs.Waits.{Waits, Waits-more, Waits-fault, Waits-line}
+use Rattle.cmd_files.proofs.write.write_out.Goals as goal
+
+-- what an index past the end would give
+abbrev any_line : Line86
+any_line = record { line = 0; stmt = Cseg }
+
+-- a fault at a line
+pub returns-in_err-add-clause-fault : goal.returns-in_err-add-clause-fault
+returns-in_err-add-clause-fault g c =
+    let lines = c.args.lines.now in
+    let i = c.loop-line.line-index in
+    let piece = c.loop-line.waiting in
+    let line = c.as_slice.result.now in
+    let waits = Waits-line piece line lines i any_line c.loop-line-test.true (c.as_slice.ensures.value ∙ c.write_line.ensures.value) c.loop-line.invariant.waits in
+    on_err c.from_residual-in_err-add.result (Waits-fault (g.H.Host.state c.add.new.host) (piece ++ line) (text_of (drop (i + 1) lines)) waits c.in_err-add.ensures.fault)
+
+-- one more line
+pub loop-line-preserved : goal.loop-line-preserved
+loop-line-preserved g c =
+    let lines = c.args.lines.now in
+    let i = c.loop-line.line-index in
+    let piece = c.loop-line.waiting in
+    let line = c.as_slice.result.now in
+    let waits = Waits-line piece line lines i any_line c.loop-line-test.true (c.as_slice.ensures.value ∙ c.write_line.ensures.value) c.loop-line.invariant.waits in
+    let added = c.in_ok-add.ensures.ok in
+    record {
+      room = c.in_ok-add.ensures.room;
+      only = OnlyWrites-trans c.loop-line.invariant.only c.add.ensures.only;
+      counted = grind (arith, common_steps, c.in_ok-add.ensures.counted);
+      waits = Waits-more (g.H.Host.state c.add.new.host) (piece ++ line) (text_of (drop (i + 1) lines)) c.add.new.piece added.0 waits added.1 added.2;
+    }
+
+-- a fault at the last piece
+pub returns-clause-fault : goal.returns-clause-fault
+returns-clause-fault g c =
+    let rest = text_of (drop c.loop-line.line-index c.args.lines.now) in
+    let piece = c.as_slice-2.result.now in
+    let waits : Waits (g.H.Host.state c.args.host.now) (g.H.Host.state c.loop-line.host) c.args.name.now (text_of c.args.lines.now) (piece ++ rest) = rw c.as_slice-2.ensures c.loop-line.invariant.waits in
+    on_err_weaker c.append_all.result (Waits-fault (g.H.Host.state c.append_all.new.host) piece rest waits) c.append_all.ensures.fault

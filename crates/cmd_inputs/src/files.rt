@@ -1,0 +1,56 @@
+// The files that a run reads.
+ghost use Rattle.std.specs.Prelude.{◌≡◌, ◌^◌, ◌≤◌, IfOk, IfErr, OnOk, option_copied};
+ghost use Rattle.host.specs.Host.{SameFaults, OnlyReads};
+ghost use Rattle.cmd_inputs.specs.Files.{IsWhole, IsInput, ReadStops, InputStops};
+
+use cmd_files::{ReadFault, read_file};
+use cmd_reports::Stop;
+use host::Host;
+use std::alloc::Global;
+
+/// The most bytes of a text.
+pub const TEXT_LIMIT: usize = 16_777_216;
+
+/// The most bytes of a source.
+pub const SOURCE_LIMIT: usize = 1_048_576;
+
+/// The most bytes of a console's input.
+const INPUT_LIMIT: usize = 1_048_576;
+
+/// Reads the file of a name.
+pub fn read_named<'a, H: Host>(
+    alloc: Global,
+    host: &mut H,
+    name: &'a str,
+    limit: usize,
+) -> Result<Vec<u8>, Stop<'a>>
+    requires { limit ≤ 2 ^ 31 }
+    ensures only { OnlyReads (H.state host.old) (H.state host.new) }
+    ensures read { IfOk result (λ bytes. IsWhole (H.state host.old) name.now limit bytes.items) }
+    ensures counted { OnOk result (SameFaults (H.state host.old) (H.state host.new)) }
+    ensures stopped { IfErr result (ReadStops name.now limit (H.state host.old) (H.state host.new)) }
+{
+    match read_file(alloc, host, name, limit) {
+        Ok(bytes) => Ok(bytes),
+        Err(ReadFault::Failed) => Err(Stop::ReadFailed(name)),
+        Err(ReadFault::TooLong) => Err(Stop::FileTooLong(name)),
+        Err(ReadFault::Memory) => Err(Stop::OutOfMemory),
+    }
+}
+
+/// Reads the console's input, if there is one.
+pub fn read_input<'a, H: Host>(
+    alloc: Global,
+    host: &mut H,
+    name: Option<&'a str>,
+) -> Result<Vec<u8>, Stop<'a>>
+    ensures only { OnlyReads (H.state host.old) (H.state host.new) }
+    ensures read { IfOk result (λ bytes. IsInput (H.state host.old) (option_copied name.entry) bytes.items) }
+    ensures counted { OnOk result (SameFaults (H.state host.old) (H.state host.new)) }
+    ensures stopped { IfErr result (InputStops (option_copied name.entry) (H.state host.old) (H.state host.new)) }
+{
+    match name {
+        None => Ok(Vec::new(alloc)),
+        Some(name) => read_named(alloc, host, name, INPUT_LIMIT),
+    }
+}

@@ -1,0 +1,28 @@
+// The lines of status 0.
+ghost use Rattle.std.specs.Prelude.{◌≡◌, IfOk};
+ghost use Rattle.std.specs.String.{string_bytes};
+ghost use Rattle.cmd_reports.specs.Lines.{translated_line, ended_line};
+
+use crate::stop::count_line;
+use std::alloc::{AllocError, Global};
+
+/// The line of a translation: how many 8080 instructions, data cells and bytes of 8086 code it has.
+pub fn translated_line(
+    alloc: Global,
+    instructions: usize,
+    cells: usize,
+    code: usize,
+) -> Result<String, AllocError>
+    ensures { IfOk result (λ line. string_bytes line ≡ translated_line instructions cells code) }
+{
+    format!(in alloc;
+        "translated: {instructions} instructions, {cells} data bytes, {code} code bytes\n"
+    )
+}
+
+/// The line of a run that ended: how many instructions ran.
+pub fn ended_line(alloc: Global, steps: u32) -> Result<String, AllocError>
+    ensures { IfOk result (λ line. string_bytes line ≡ ended_line steps) }
+{
+    count_line(alloc, "ended after ", steps, " instructions")
+}

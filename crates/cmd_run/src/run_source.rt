@@ -1,0 +1,130 @@
+// The work of `run80`: a source's program runs on the tagged 8080 over a console.
+ghost use Rattle.std.specs.Prelude.{◌≡◌, ℕ, true, IfOk, IfErr, OnOk};
+ghost use Rattle.std.specs.String.{string_bytes};
+ghost use Rattle.host.specs.Host.{SameFiles, SameFaults, OnlyReads, OnlySays};
+ghost use Rattle.asm80_program.specs.Program.{is_top};
+ghost use Rattle.cmd_words.specs.ReadCommands.{run80_read};
+ghost use Rattle.bdos_talk.specs.declared.running.RunEnd.TheVariants.{Stopped};
+ghost use Rattle.cmd_run.specs.Ends.{Halts};
+ghost use Rattle.cmd_run.specs.Completes80.{Completes};
+ghost use Rattle.cmd_run.specs.Runs80.{IsLineAt, IsLineOf, Loads, LoadStops, RunsTo, IsCut, HasEnded, IsHalted, Gives};
+
+use crate::ends::steps_of;
+use crate::halt::{Halt, unsaid_status};
+use asm80_program::Program80;
+use asm80_values::source_has_one_outcome;
+use bdos_emulation::{RunEnd, TalkFault, Why, run_80};
+use cells::Place;
+use cmd_inputs::{SOURCE_LIMIT, read_input, read_named, read_source};
+use cmd_reports::{ended_line, say_done, say_stop};
+use cmd_words::Run80;
+use host::Host;
+use std::alloc::Global;
+
+// What there is before the run: the program, and the console's input.
+#[derive(Drop)]
+struct Loaded {
+    program: Program80,
+    input: Vec<u8>,
+}
+
+/// Runs the source of a command over a console, says each event of its dialogue and then what the run came to, and answers
+/// the status. The top of the program area is 4000H, 8000H, 0C000H or 0F000H.
+pub fn run80<H: Host>(alloc: Global, host: &mut H, command: &Run80<'_>) -> u8
+    requires { is_top command.now.top ≡ true }
+    ensures gives { Gives (run80_read command.now) (H.state host.old) (H.state host.new) result }
+    ensures files { SameFiles (H.state host.old) (H.state host.new) }
+    ensures completes { Completes (run80_read command.now) (H.state host.old) (H.state host.new) result }
+{
+    source_has_one_outcome();
+    carry_out(alloc, host, command)
+}
+
+// The work, and what is said last.
+fn carry_out<H: Host>(alloc: Global, host: &mut H, command: &Run80<'_>) -> u8
+    requires { is_top command.now.top ≡ true }
+    ensures gives { Gives (run80_read command.now) (H.state host.old) (H.state host.new) result }
+    ensures files { SameFiles (H.state host.old) (H.state host.new) }
+{
+    match work(alloc, host, command) {
+        Ok(line) => say_done(host, line.as_str()),
+        Err(Halt::By(stop)) => say_stop(alloc, host, stop),
+        Err(Halt::Unsaid(fault)) => unsaid_status(fault),
+    }
+}
+
+// The work up to the last line, which is the answer where the run ended.
+fn work<'a, H: Host>(alloc: Global, host: &mut H, command: &Run80<'a>) -> Result<String, Halt<'a>>
+    requires { is_top command.now.top ≡ true }
+    ensures ended { IfOk result (λ line. HasEnded (run80_read command.now) (H.state host.old) (H.state host.new) (string_bytes line)) }
+    ensures halted { IfErr result (IsHalted (run80_read command.now) (H.state host.old) (H.state host.new)) }
+    ensures files { SameFiles (H.state host.old) (H.state host.new) }
+{
+    let loaded = load(alloc, host, command)?;
+    let Loaded { program, input } = loaded;
+    let end = run(alloc, host, command, &program, input)?;
+    let line = line_of(&program, end);
+    let steps = steps_of(end, command.run.steps, line)?;
+    Ok(ended_line(alloc, steps)?)
+}
+
+// Reads the files, and makes the program of the source.
+fn load<'a, H: Host>(alloc: Global, host: &mut H, command: &Run80<'a>) -> Result<Loaded, Halt<'a>>
+    requires { is_top command.now.top ≡ true }
+    ensures only { OnlyReads (H.state host.old) (H.state host.new) }
+    ensures loaded { IfOk result (λ l. Loads (run80_read command.now) (H.state host.old) l.program l.input.items) }
+    ensures counted { OnOk result (SameFaults (H.state host.old) (H.state host.new)) }
+    ensures stopped { IfErr result (Halts (LoadStops (run80_read command.now) (H.state host.old) (H.state host.new))) }
+{
+    let source = read_named(alloc, host, command.source, SOURCE_LIMIT)?;
+    let input = read_input(alloc, host, command.run.input)?;
+    let program = read_source(alloc, source.as_slice(), command.top)?;
+    Ok(Loaded { program, input })
+}
+
+// Runs the program over a console with the input.
+fn run<H: Host>(
+    alloc: Global,
+    host: &mut H,
+    command: &Run80<'_>,
+    program: &Program80,
+    input: Vec<u8>,
+) -> Result<RunEnd, TalkFault>
+    ensures run { IfOk result (λ o. RunsTo (run80_read command.now) program.now input.items o (H.state host.old) (H.state host.new)) }
+    ensures cut { IfErr result (IsCut (run80_read command.now) program.now input.items (H.state host.old) (H.state host.new)) }
+    ensures only { OnlySays (H.state host.old) (H.state host.new) }
+    ensures counted { OnOk result (SameFaults (H.state host.old) (H.state host.new)) }
+{
+    let steps = command.run.steps;
+    run_80(alloc, program, &command.run.page, input, steps, host)
+}
+
+// The line of the instruction at which a run left the profile.
+fn line_of(program: &Program80, end: RunEnd) -> u32
+    ensures { (line : ℕ) → IsLineOf program.now end line → result ≡ line }
+{
+    match end {
+        RunEnd::Stopped(why) => line_of_why(program, why),
+        RunEnd::Ended(_) | RunEnd::StepLimit | RunEnd::InputEnded | RunEnd::NoDrive(_) => 0,
+    }
+}
+
+// The same of a machine that stopped.
+fn line_of_why(program: &Program80, why: Why) -> u32
+    ensures { (line : ℕ) → IsLineOf program.now (Stopped why) line → result ≡ line }
+{
+    match why {
+        Why::Left(place, _) => line_at(program, place),
+        Why::NoInstruction(_) | Why::StackSegment(_) | Why::OddCall(_, _) => 0,
+    }
+}
+
+// The line of the instruction at a place.
+fn line_at(program: &Program80, place: Place) -> u32
+    ensures { (line : ℕ) → IsLineAt program.now place line → result ≡ line }
+{
+    match place {
+        Place::At(at) => program.line_at(at).unwrap_or(0),
+        Place::Exit => 0,
+    }
+}

@@ -1,0 +1,177 @@
+-- From the work and the last line to what the command gives.
+use Rattle.std.proofs.Common.{◌≡◌, ℕ, ◌<◌, ◌≤◌, true, false, inl, inr, ⊎_elim, List, length, take, refl, sym, ap, ◌∙◌, subst, arith}
+use Rattle.std.specs.Prelude.{codes}
+use Rattle.std.proofs.lemmas.List.{take_all}
+use Rattle.host.specs.declared.HostFault.{HostFault}
+use Rattle.host.specs.declared.HostFault.TheVariants.{Failed, Memory}
+use Rattle.host.specs.Host.{HostState, Holds, Missing, IsFile, HasRisen, OnlyFileChanged, SameSaid, Says, said_more, OnlySays, OnlyReads}
+use Rattle.asm86_lines.specs.Image.{Assembles, image_of}
+use Rattle.cmd_files.specs.Transfer.{CutsLine}
+use Rattle.asm80_program.specs.Program.{Program, IsProgram}
+use Rattle.asm80_source.specs.Source.{IsSource, SourceRule, OfLine, OfProgram}
+use Rattle.templates.specs.Plain.{plain}
+use Rattle.cmd_words.specs.Words.{Translate}
+use Rattle.xlt_core.specs.First.{IsFirst}
+use Rattle.i86.specs.Decode.{HasReader}
+use Rattle.xlt_core.specs.Same.{Same}
+use Rattle.cmd_reports.specs.declared.stop.Stop.{Stop}
+use Rattle.cmd_reports.specs.Lines.{named_line, memory_line}
+use Rattle.cmd_reports.specs.Said.{SaysLine, SaysLast, IsDone, whole, failed, no_memory, Closes, said, unsaid}
+use Rattle.cmd_inputs.specs.Files.{ReadStops, failed as read_failed, too_long as file_too_long, no_memory as no_memory_to_read, NoneFailed, IsTold, input_limit}
+use Rattle.cmd_translate.specs.Firsts.{IsRefused}
+use Rattle.cmd_translate.specs.Translates.{line_of_program, refusal_line, Accepts, Refuses, Writes, WritesPart, HasSame, SaysOfWrite, EndsWith, Gives, translated, refused, unread, unwritten, unsaid as line_unsaid, no_memory as no_room, no_memory_to_write, no_memory_to_say, too_long, stop_of_rule, Decides}
+use Rattle.cmd_translate.specs.Work.{Works, FailsToWrite, StopsBy, unread as stop_unread, refused as stop_refused, no_memory as stop_no_memory, unwritten as stop_unwritten, stop_of_write}
+use Rattle.cmd_translate.proofs.Verdicts.{SourceLaw, accepted_or_refused, refused_once}
+
+-- the law of programs of the first instructions
+pub record FirstLaw : Type 0 where
+  pub assembles : (p : Program) → IsProgram p → IsFirst p → Assembles (plain p)
+  pub reader : (p : Program) → IsProgram p → IsFirst p → HasReader (image_of (plain p)).code
+  pub same : (p : Program) → IsProgram p → IsFirst p → Same p (image_of (plain p))
+
+-- a count that rose before stays risen where it does not fall
+risen_on : (a b c : ℕ) → HasRisen a b → b ≤ c → HasRisen a c
+risen_on a b c h le = ⊎_elim (λ r. inl (omega (arith, r, le))) (λ l. inr (omega (arith, l, le))) h
+
+-- a count that rises behind one that did not
+risen_behind : (a b c : ℕ) → b ≡ a → HasRisen b c → HasRisen a c
+risen_behind a b c e h = subst (λ n. HasRisen n c) e h
+
+module _ (c : Translate) (old mid new : HostState) where
+  said_on : (text : List ℕ) → SameSaid old mid → Says mid new text → Says old new text
+  said_on text q s = s ∙ ap (λ o. said_more o text) q
+
+  others_on : OnlySays mid new → OnlyFileChanged old mid c.output → OnlyFileChanged old new c.output
+  others_on only others = λ other ne. only.files other ∙ others other ne
+
+  writes_on : (p : Program) → OnlySays mid new → Writes c old mid p → Writes c old new p
+  writes_on p only w = record { text = only.files c.output ∙ w.text; others = others_on only w.others }
+
+  part_on : (p : Program) → OnlySays mid new → WritesPart c old mid p → WritesPart c old new p
+  part_on p only w = record {
+    text = ⊎_elim (λ s. inl (only.files c.output ∙ s)) (λ k. inr (k.0, k.1, only.files c.output ∙ k.2)) w.text;
+    others = others_on only w.others;
+  }
+
+  -- a line was cut off, and nothing was said before
+  cut_on : (p : Program) (line : List ℕ) → line ≡ line_of_program p → SameSaid old mid → CutsLine line mid new → CutsLine (line_of_program p) old new
+  cut_on p line is q k = record {
+    count = k.count;
+    short = subst (λ l. k.count < length l) is k.short;
+    said = said_on (take k.count (line_of_program p)) q (subst (λ l. Says mid new (take k.count l)) is k.said);
+  }
+
+  line_on : (line : List ℕ) → OnlyReads old mid → SaysLine mid new line → SaysLine old new line
+  line_on line only s = record {
+    count = s.count;
+    said = said_on (take s.count line) only.said s.said;
+    whole = ⊎_elim (λ all. inl all) (λ r. inr (risen_behind old.write_faults mid.write_faults new.write_faults only.writes r)) s.whole;
+  }
+
+  has_same : FirstLaw → (p : Program) → Accepts c old p → HasSame c old new p
+  has_same law p a = record {
+    image = image_of (plain p);
+    assembled = record { assembles = law.assembles p a.source.program.program.lawful a.first; is = refl };
+    reader = law.reader p a.source.program.program.lawful a.first;
+    same = law.same p a.source.program.program.lawful a.first;
+  }
+
+  -- the text was written
+  pub worked : FirstLaw → (line : List ℕ) → Works c old mid line → (status : ℕ) → IsDone line mid new status → Gives c old new status
+  worked law line w _ (whole only s faults) =
+      translated w.program w.accepts (writes_on w.program only w.writes) (has_same law w.program w.accepts) (said_on (line_of_program w.program) w.quiet (subst (Says mid new) w.line s))
+      (record { reads = faults.reads ∙ w.faults.reads; writes = faults.writes ∙ w.faults.writes })
+  worked law line w _ (failed s) =
+      line_unsaid w.program w.accepts (writes_on w.program s.only w.writes) (risen_behind old.write_faults mid.write_faults new.write_faults w.faults.writes s.failed)
+      (cut_on w.program line w.line w.quiet s.cut)
+  worked law line w _ (no_memory s) =
+      no_memory_to_say w.program w.accepts (writes_on w.program s.only w.writes) (risen_behind old.write_faults mid.write_faults new.write_faults w.faults.writes s.failed)
+      (cut_on w.program line w.line w.quiet s.cut)
+
+  -- a line says what came of a write
+  of_write : (line : List ℕ) → FailsToWrite c old mid → SaysLast line mid new → SaysOfWrite c old new line
+  of_write line w l = record { mid = mid; quiet = w.quiet; failed = w.failed; only = l.only; says = l.line }
+
+  -- a line was said behind reads
+  ends_with : (line : List ℕ) → OnlyReads old mid → SaysLast line mid new → EndsWith c old new line
+  ends_with line only l = record { mid = mid; reads = only; says = l }
+
+  -- the line of want of memory was said
+  quiet_end : OnlyReads old mid → SaysLast memory_line mid new → Gives c old new 5
+  quiet_end only l = no_room (ends_with memory_line only l)
+
+  memory_end : (stop : Stop) → StopsBy c old mid stop → SaysLast memory_line mid new → Gives c old new 5
+  memory_end _ (stop_unread s only) l = quiet_end only l
+  memory_end _ (stop_refused line rule r e only same) l = quiet_end only l
+  memory_end _ (stop_no_memory only) l = quiet_end only l
+  memory_end _ (stop_unwritten fault w e) l = no_memory_to_write w.program w.accepts (part_on w.program l.only w.part) (of_write memory_line w l)
+
+  unread_end : (stop : Stop) → ReadStops c.input input_limit old mid stop → OnlyReads old mid → (status : ℕ) → Closes stop mid new status → Gives c old new status
+  unread_end stop s only status (unsaid n e l) = subst (Gives c old new) (sym e) (quiet_end only l)
+  unread_end _ (read_failed {n = n} is f) only status (said e l) =
+      subst (Gives c old new) (sym e)
+      (unread (⊎_elim (λ r. inl (subst (λ k. HasRisen old.read_faults k) (sym l.only.reads) r)) (λ m. inr m) f)
+      (subst (λ name. EndsWith c old new (named_line (codes "read failed: ") name)) is (ends_with (named_line (codes "read failed: ") n.now) only l)))
+  unread_end _ (file_too_long {n = n} is longer same) only status (said e l) =
+      subst (Gives c old new) (sym e)
+      (too_long longer
+      (subst (λ name. EndsWith c old new (named_line (codes "file too long: ") name)) is (ends_with (named_line (codes "file too long: ") n.now) only l)))
+  unread_end _ no_memory_to_read only status (said e l) = subst (Gives c old new) (sym e) (quiet_end only l)
+
+  refused_end : (line : ℕ) (rule : SourceRule) → Refuses c old line rule → OnlyReads old mid → (status : ℕ) → Closes (stop_of_rule line rule) mid new status → Gives c old new status
+  refused_end line rule r only status (unsaid n e l) = subst (Gives c old new) (sym e) (quiet_end only l)
+  refused_end line (OfLine rule) r only status (said e l) =
+      subst (Gives c old new) (sym e) (refused line (OfLine rule) r (ends_with (refusal_line line (OfLine rule)) only l))
+  refused_end line (OfProgram rule) r only status (said e l) =
+      subst (Gives c old new) (sym e) (refused line (OfProgram rule) r (ends_with (refusal_line line (OfProgram rule)) only l))
+
+  unwritten_end : (fault : HostFault) → FailsToWrite c old mid → (status : ℕ) → Closes (stop_of_write fault) mid new status → Gives c old new status
+  unwritten_end Failed w status (unsaid n e l) = let fixed : true ≡ false = n in absurd cc
+  unwritten_end Memory w status (unsaid n e l) = let fixed : true ≡ false = n in absurd cc
+  unwritten_end Failed w status (said e l) =
+      subst (Gives c old new) (sym e) (unwritten w.program w.accepts (part_on w.program l.only w.part) (of_write (codes "write failed\n") w l))
+  unwritten_end Memory w status (said e l) =
+      subst (Gives c old new) (sym e) (no_memory_to_write w.program w.accepts (part_on w.program l.only w.part) (of_write memory_line w l))
+
+  -- the work ended early
+  pub stopped : (stop : Stop) → StopsBy c old mid stop → (status : ℕ) → Closes stop mid new status → Gives c old new status
+  stopped stop (stop_unread s only) status closes = unread_end stop s only status closes
+  stopped stop (stop_refused line rule r e only same) status closes = refused_end line rule r only status (subst (λ s. Closes s mid new status) e closes)
+  stopped _ (stop_no_memory only) status (said e l) = subst (Gives c old new) (sym e) (quiet_end only l)
+  stopped _ (stop_no_memory only) status (unsaid n e l) = subst (Gives c old new) (sym e) (quiet_end only l)
+  stopped stop (stop_unwritten fault w e) status closes = unwritten_end fault w status (subst (λ s. Closes s mid new status) e closes)
+
+module _ (law : SourceLaw) (c : Translate) (old new : HostState) (none : NoneFailed old new) (bytes : List ℕ) (told : IsTold old c.input input_limit bytes) where
+  -- the source's bytes are those that the host tells
+  same_bytes : (others : List ℕ) → IsFile (old.file c.input) others → others ≡ bytes
+  same_bytes others f = sym (subst (λ t. IsFile t others) told.0 f)
+
+  source_told : (p : Program) (a : Accepts c old p) → IsSource bytes c.top p
+  source_told p a = subst (λ b. IsSource b c.top p) (same_bytes a.bytes a.file.0) a.source
+
+  refusal_told : (line : ℕ) (rule : SourceRule) (r : Refuses c old line rule) → IsRefused bytes c.top line rule
+  refusal_told line rule r = subst (λ b. IsRefused b c.top line rule) (same_bytes r.bytes r.file.0) r.refused
+
+  whole_line : (line : List ℕ) → EndsWith c old new line → Says old new line
+  whole_line line e = let s = line_on c old e.mid new line e.reads e.says.line in ⊎_elim (λ all. subst (Says old new) (take_all s.count line all) s.said) (λ r. absurd (none.writes r)) s.whole
+
+  pub decides : (status : ℕ) → (status ≡ 5 → ⊥) → Gives c old new status → Decides c old new bytes status
+  decides _ ne (translated p a w h s f) = record {
+    two = inl refl;
+    accepted = (λ e. (p, source_told p a, a.first), λ x. refl);
+    refused = λ line rule r. absurd (accepted_or_refused law bytes c.top p (source_told p a) a.first line rule r);
+  }
+  decides _ ne (refused line rule r ends) = record {
+    two = inr refl;
+    accepted = (λ e. absurd (omega arith), λ x. absurd (accepted_or_refused law bytes c.top x.0 x.1 x.2 line rule (refusal_told line rule r)));
+    refused = λ other kind s.
+        let e = refused_once law bytes c.top line other rule kind (refusal_told line rule r) s in
+        (refl, subst (λ k. Says old new (refusal_line other k)) e.1 (subst (λ n. Says old new (refusal_line n rule)) e.0 (whole_line (refusal_line line rule) ends)));
+  }
+  decides _ ne (unread f ends) = absurd (⊎_elim none.reads (λ m. let there : Missing ≡ Holds bytes = sym m ∙ told.0 in cc) f)
+  decides _ ne (unwritten p a w s) = absurd (none.writes (risen_on old.write_faults s.mid.write_faults new.write_faults s.failed s.only.writes))
+  decides _ ne (line_unsaid p a w f s) = absurd (none.writes f)
+  decides _ ne (no_room ends) = absurd (ne refl)
+  decides _ ne (no_memory_to_write p a w s) = absurd (ne refl)
+  decides _ ne (no_memory_to_say p a w f s) = absurd (ne refl)
+  decides _ ne (too_long longer ends) = let e = ap length (same_bytes longer.0 longer.1) in let more = longer.2 in absurd (omega (arith, e, more, told.1))

@@ -1,0 +1,72 @@
+-- What the steps of the work come to.
+use Rattle.std.proofs.Common.{◌≡◌, ℕ, ◌<◌, inl, inr, ⊎_elim, List, length, take, refl, ap, ◌∙◌, subst}
+use Rattle.std.specs.Prelude.{Result, Ok, Err, IsErrAnd, IfErr}
+use Rattle.host.specs.Host.{HostState, HasRisen, OnlyReads, OnlyWrites, SameFaults, Rewrites, rewritten}
+use Rattle.asm86_lines.specs.Written.{text_of}
+use Rattle.asm80_program.specs.Program.{Program}
+use Rattle.asm80_source.specs.Source.{IsSource, OfLine, OfProgram}
+use Rattle.templates.specs.Plain.{plain}
+use Rattle.cmd_words.specs.Words.{Translate}
+use Rattle.xlt_core.specs.First.{IsFirst}
+use Rattle.cmd_reports.specs.declared.stop.Stop.{Stop}
+use Rattle.cmd_inputs.specs.Files.{IsWhole, input_limit}
+use Rattle.cmd_inputs.specs.Sources.{SourceStops, of_line, of_program, no_memory as no_memory_to_read}
+use Rattle.cmd_translate.specs.Firsts.{IsRefused, no_source}
+use Rattle.cmd_translate.specs.Translates.{line_of_program, Accepts}
+use Rattle.cmd_translate.specs.Work.{FirstStops, is_refused, no_room, Works, WriteStops, StopsBy, refused, no_memory, unwritten}
+
+-- a result that is an error is judged as one
+pub stops : {T : Type 0} (r : Result T Stop) (P Q : Stop → Type 0) → IsErrAnd r P → ((stop : Stop) → P stop → Q stop) → IfErr r Q
+stops (Ok x) P Q e f = absurd e
+stops (Err stop) P Q e f = f stop e
+
+-- a source that is no source is refused
+pub first_stop : (bytes : List ℕ) (top : ℕ) (stop : Stop) → SourceStops bytes top stop → FirstStops bytes top stop
+first_stop bytes top _ (of_line {line = line} {rule = rule} n) = is_refused line (OfLine rule) (no_source n) refl
+first_stop bytes top _ (of_program {line = line} {rule = rule} n) = is_refused line (OfProgram rule) (no_source n) refl
+first_stop bytes top _ no_memory_to_read = no_room
+
+module _ (c : Translate) (old mid new : HostState) (bytes : List ℕ) (file : IsWhole old c.input input_limit bytes) (reads : OnlyReads old mid) (counted : SameFaults old mid) where
+  -- the bytes were read, and are refused
+  pub source_stop : (given : List ℕ) → given ≡ bytes → (stop : Stop) → FirstStops given c.top stop → StopsBy c old mid stop
+  source_stop given e stop (is_refused line rule r is) =
+      refused line rule (record { bytes = bytes; file = file; refused = subst (λ b. IsRefused b c.top line rule) e r }) is reads counted
+  source_stop given e _ no_room = no_memory reads
+
+  module _ (given : List ℕ) (same : given ≡ bytes) (p : Program) (source : IsSource given c.top p) (first : IsFirst p) where
+    accepts : Accepts c old p
+    accepts = record { bytes = bytes; file = file; source = subst (λ b. IsSource b c.top p) same source; first = first }
+
+    module _ (text : List ℕ) (is : text ≡ text_of (plain p)) (writes : OnlyWrites mid new c.output) where
+      rewrites_old : (bytes : List ℕ) → Rewrites mid new c.output bytes → Rewrites old new c.output bytes
+      rewrites_old bytes w = w ∙ ap (λ told. rewritten told bytes) (reads.files c.output)
+
+      -- the writing of the text failed
+      pub write_stop : (stop : Stop) → WriteStops mid new c.output text stop → StopsBy c old new stop
+      write_stop stop w =
+          unwritten w.fault
+          (record {
+            program = p;
+            accepts = accepts;
+            part = record {
+              text = ⊎_elim (λ s. inl (s ∙ reads.files c.output)) (λ k. inr (k.0, subst (λ t. k.0 < length t) is k.1, subst (λ t. Rewrites old new c.output (take k.0 t)) is (rewrites_old (take k.0 text) k.2))) w.part;
+              others = λ other ne. writes.files other ne ∙ reads.files other;
+            };
+            quiet = writes.said ∙ reads.said;
+            failed = subst (λ n. HasRisen n new.write_faults) reads.writes w.failed;
+          })
+          w.is
+
+      -- the text was written
+      pub works : Rewrites mid new c.output text → SameFaults mid new → (line : List ℕ) → line ≡ line_of_program p → Works c old new line
+      works w s line said = record {
+        program = p;
+        accepts = accepts;
+        writes = record {
+          text = subst (Rewrites old new c.output) is (rewrites_old text w);
+          others = λ other ne. writes.files other ne ∙ reads.files other;
+        };
+        quiet = writes.said ∙ reads.said;
+        faults = record { reads = s.reads ∙ counted.reads; writes = s.writes ∙ counted.writes };
+        line = said;
+      }

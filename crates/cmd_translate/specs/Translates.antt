@@ -1,0 +1,109 @@
+-- What `translate` gives, by its status: the causes, the files, what is said, and after status 0 the headline.
+use Rattle.std.specs.Prelude.{◌≡◌, ◌≢◌, ℕ, ◌⊎◌, ◌↔◌, List, codes, length}
+use Rattle.host.specs.Host.{HostState, OnlyFileChanged, Says, Rewrites, SameFaults, OnlyReads, OnlySays, ReadFailed, WriteFailed}
+use Rattle.asm86_lines.specs.Layout.{sizes_of}
+use Rattle.asm86_lines.specs.Image.{Image, IsImage}
+use Rattle.asm86_lines.specs.Written.{text_of}
+use Rattle.asm80_program.specs.Program.{Program}
+use Rattle.asm80_source.specs.Source.{IsSource, SourceRule, OfLine, OfProgram}
+use Rattle.templates.specs.Plain.{plain, plain_statements}
+use Rattle.cmd_files.specs.Transfer.{IsLonger, IsBeforeOrPart, CutsLine}
+use Rattle.cmd_words.specs.Words.{Translate}
+use Rattle.xlt_core.specs.First.{IsFirst}
+use Rattle.i86.specs.Decode.{HasReader}
+use Rattle.xlt_core.specs.Same.{Same}
+use Rattle.cmd_reports.specs.declared.stop.Stop.{Stop}
+use Rattle.cmd_reports.specs.declared.stop.Stop.TheVariants.{SourceLine, SourceProgram}
+use Rattle.cmd_reports.specs.Lines.{line_of, named_line, memory_line, translated_line}
+use Rattle.cmd_reports.specs.Said.{SaysLine, SaysLast}
+use Rattle.cmd_inputs.specs.Files.{IsWhole, NoneFailed, IsTold, input_limit}
+use Rattle.cmd_translate.specs.Firsts.{IsRefused}
+
+-- the line of status 0: the program's instructions and data cells, and the bytes of its plain text's code
+abbrev pub line_of_program : Program → List ℕ
+line_of_program p = translated_line (length p.instrs) (length p.cells) (sizes_of (plain_statements p))
+
+-- the line of status 1, which is that of a stop
+abbrev pub stop_of_rule : ℕ → SourceRule → Stop
+stop_of_rule line (OfLine rule) = SourceLine line rule
+stop_of_rule line (OfProgram rule) = SourceProgram line rule
+
+abbrev pub refusal_line : ℕ → SourceRule → List ℕ
+refusal_line line rule = line_of (stop_of_rule line rule)
+
+module _ (c : Translate) (old : HostState) where
+  -- the source's file has this program, which is one of those that are translated
+  pub record Accepts (p : Program) : Type 0 where
+    pub bytes : List ℕ
+    pub file : IsWhole old c.input input_limit bytes
+    pub source : IsSource bytes c.top p
+    pub first : IsFirst p
+
+  -- the source's file is refused at a line for a rule
+  pub record Refuses (line : ℕ) (rule : SourceRule) : Type 0 where
+    pub bytes : List ℕ
+    pub file : IsWhole old c.input input_limit bytes
+    pub refused : IsRefused bytes c.top line rule
+
+  module _ (new : HostState) where
+    -- the plain text of a program took the output's place, and no other file has changed
+    pub record Writes (p : Program) : Type 0 where
+      pub text : Rewrites old new c.output (text_of (plain p))
+      pub others : OnlyFileChanged old new c.output
+
+    -- the output is as before, or first bytes of that text, but not all, took its place, and no other file has changed
+    pub record WritesPart (p : Program) : Type 0 where
+      pub text : IsBeforeOrPart old new c.output (text_of (plain p))
+      pub others : OnlyFileChanged old new c.output
+
+    -- the headline: the text that was written has an image, whose code is read in one way, and source and image make the same
+    -- system calls
+    pub record HasSame (p : Program) : Type 0 where
+      pub image : Image
+      pub assembled : IsImage (plain p) image
+      pub reader : HasReader image.code
+      pub same : Same p image
+
+    -- a write of the text failed and nothing was said before; a line says what came of it
+    pub record SaysOfWrite (line : List ℕ) : Type 0 where
+      pub mid : HostState
+      pub quiet : mid.said ≡ old.said
+      pub failed : WriteFailed old mid
+      pub only : OnlySays mid new
+      pub says : SaysLine mid new line
+
+    -- the files were read and nothing else was done, and then a line was said
+    pub record EndsWith (line : List ℕ) : Type 0 where
+      pub mid : HostState
+      pub reads : OnlyReads old mid
+      pub says : SaysLast line mid new
+
+    -- each way to a status
+    pub data Gives : ℕ → Type 0 where
+      -- the text is written, and its line said, and no call failed
+      translated : (p : Program) → Accepts p → Writes p → HasSame p → Says old new (line_of_program p) → SameFaults old new → Gives 0
+      -- the source is refused
+      refused : (line : ℕ) (rule : SourceRule) → Refuses line rule → EndsWith (refusal_line line rule) → Gives 1
+      -- the source's file was not read
+      unread : ReadFailed old new c.input → EndsWith (named_line (codes "read failed: ") c.input) → Gives 3
+      -- the text was not written, or its line not said
+      unwritten : (p : Program) → Accepts p → WritesPart p → SaysOfWrite (codes "write failed\n") → Gives 4
+      unsaid : (p : Program) → Accepts p → Writes p → WriteFailed old new → CutsLine (line_of_program p) old new → Gives 4
+      -- memory ran out: before the text is written, while the host writes it, or while the host says its line
+      no_memory : EndsWith memory_line → Gives 5
+      no_memory_to_write : (p : Program) → Accepts p → WritesPart p → SaysOfWrite memory_line → Gives 5
+      no_memory_to_say : (p : Program) → Accepts p → Writes p → WriteFailed old new → CutsLine (line_of_program p) old new → Gives 5
+      -- the source's file is longer than its limit
+      too_long : IsLonger (old.file c.input) input_limit → EndsWith (named_line (codes "file too long: ") c.input) → Gives 14
+
+    -- what the status of a source is, want of memory aside: 0 exactly where it is that of a program that is translated, and
+    -- else 1 with the line and the rule at which it is refused
+    pub record Decides (bytes : List ℕ) (status : ℕ) : Type 0 where
+      pub two : (status ≡ 0) ⊎ (status ≡ 1)
+      pub accepted : (status ≡ 0) ↔ ((p : Program) × IsSource bytes c.top p × IsFirst p)
+      pub refused : (line : ℕ) (rule : SourceRule) → IsRefused bytes c.top line rule → (status ≡ 1) × Says old new (refusal_line line rule)
+
+    -- so it is where no call failed and the host tells a source within its limit
+    abbrev pub Completes : ℕ → Type 0
+    Completes status =
+        NoneFailed old new → (bytes : List ℕ) → IsTold old c.input input_limit bytes → status ≢ 5 → Decides bytes status

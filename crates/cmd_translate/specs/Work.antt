@@ -1,0 +1,63 @@
+-- What the work of `translate` comes to, before its last line is said.
+use Rattle.std.specs.Prelude.{◌≡◌, ℕ, List, All, Option, Some, None}
+use Rattle.host.specs.declared.HostFault.{HostFault}
+use Rattle.host.specs.declared.HostFault.TheVariants.{Failed, Memory}
+use Rattle.host.specs.Host.{HostState, SameSaid, SameFaults, OnlyReads}
+use Rattle.host.specs.Host.{WriteFailed as WriteFails}
+use Rattle.asm80_program.specs.declared.program.Placed.{Placed}
+use Rattle.asm80_program.specs.Program.{Program}
+use Rattle.asm80_source.specs.Source.{SourceRule}
+use Rattle.cmd_files.specs.Transfer.{IsBeforeOrPart}
+use Rattle.cmd_words.specs.Words.{Translate}
+use Rattle.xlt_core.specs.First.{HoldsFirst}
+use Rattle.cmd_reports.specs.declared.stop.Stop.{Stop}
+use Rattle.cmd_reports.specs.declared.stop.Stop.TheVariants.{WriteFailed, OutOfMemory}
+use Rattle.cmd_inputs.specs.Files.{ReadStops, input_limit}
+use Rattle.cmd_translate.specs.Firsts.{IsOtherLine, IsRefused}
+use Rattle.cmd_translate.specs.Translates.{stop_of_rule, line_of_program, Accepts, Refuses, Writes, WritesPart}
+
+-- a stop is a refusal of the bytes, or want of memory
+pub data FirstStops (bytes : List ℕ) (top : ℕ) : Stop → Type 0 where
+  is_refused : {stop : Stop} (line : ℕ) (rule : SourceRule) → IsRefused bytes top line rule → stop ≡ stop_of_rule line rule → FirstStops bytes top stop
+  no_room : FirstStops bytes top OutOfMemory
+
+abbrev pub stop_of_write : HostFault → Stop
+stop_of_write Failed = WriteFailed
+stop_of_write Memory = OutOfMemory
+
+-- the source was read and the plain text of its program written; the line says how much it was
+pub record Works (c : Translate) (old new : HostState) (text : List ℕ) : Type 0 where
+  pub program : Program
+  pub accepts : Accepts c old program
+  pub writes : Writes c old new program
+  pub quiet : SameSaid old new
+  pub faults : SameFaults old new
+  pub line : text ≡ line_of_program program
+
+module _ (c : Translate) (old new : HostState) where
+  -- a write of the text failed
+  pub record FailsToWrite : Type 0 where
+    pub program : Program
+    pub accepts : Accepts c old program
+    pub part : WritesPart c old new program
+    pub quiet : SameSaid old new
+    pub failed : WriteFails old new
+
+  -- why the work ended early
+  pub data StopsBy : Stop → Type 0 where
+    unread : {stop : Stop} → ReadStops c.input input_limit old new stop → OnlyReads old new → StopsBy stop
+    refused : {stop : Stop} (line : ℕ) (rule : SourceRule) → Refuses c old line rule → stop ≡ stop_of_rule line rule → OnlyReads old new → SameFaults old new → StopsBy stop
+    no_memory : OnlyReads old new → StopsBy OutOfMemory
+    unwritten : {stop : Stop} (fault : HostFault) → FailsToWrite → stop ≡ stop_of_write fault → StopsBy stop
+
+-- the least line of instructions of another kind; None where there are none
+abbrev pub IsLeastOther : List Placed → Option ℕ → Type 0
+IsLeastOther xs None = All HoldsFirst xs
+IsLeastOther xs (Some line) = IsOtherLine xs line
+
+-- a write of a text failed, for the host or for want of its memory
+pub record WriteStops (old new : HostState) (name text : List ℕ) (stop : Stop) : Type 0 where
+  pub fault : HostFault
+  pub is : stop ≡ stop_of_write fault
+  pub part : IsBeforeOrPart old new name text
+  pub failed : WriteFails old new

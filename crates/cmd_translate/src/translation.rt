@@ -1,0 +1,128 @@
+// The work of `translate`: the source in, the plain text out.
+ghost use Rattle.std.specs.Prelude.{◌≡◌, ◌^◌, ◌<◌, true, IfOk, IfErr, OnOk, length};
+ghost use Rattle.std.specs.String.{string_bytes};
+ghost use Rattle.host.specs.Host.{SameFaults, OnlyWrites, Rewrites, WriteFailed};
+ghost use Rattle.asm86_lines.specs.Image.{statements};
+ghost use Rattle.asm86_lines.specs.Written.{text_of};
+ghost use Rattle.asm80_program.specs.Program.{is_top};
+ghost use Rattle.asm80_source.specs.Source.{IsSource};
+ghost use Rattle.xlt_core.specs.First.{IsFirst};
+ghost use Rattle.templates.specs.Plain.{plain, plain_statements};
+ghost use Rattle.cmd_words.specs.ReadCommands.{translate_read};
+ghost use Rattle.cmd_reports.specs.declared.stop.Stop.TheVariants.{OutOfMemory};
+ghost use Rattle.cmd_translate.specs.Translates.{line_of_program, Gives, Completes};
+ghost use Rattle.cmd_translate.specs.Work.{FirstStops, Works, StopsBy, WriteStops};
+
+use crate::first::line_beyond;
+use asm80_program::Program80;
+use asm80_source::AsmRule;
+use asm80_values::source_has_one_outcome;
+use asm86_lines::{Line86, code_size};
+use cmd_files::write_out;
+use cmd_inputs::{SOURCE_LIMIT, read_named, read_source};
+use cmd_reports::{Stop, say_done, say_stop, translated_line};
+use cmd_words::Translate;
+use host::{Host, HostFault};
+use std::alloc::{AllocError, Global};
+use templates::plain_text;
+use xlt_core::first_is_same;
+
+// The plain text of a program, and the line that says how much it is.
+#[derive(Drop)]
+struct Text {
+    lines: Vec<Line86>,
+    line: String,
+}
+
+/// Translates the source of a command to its plain text, says what came of it, and answers the status. The command's top is one
+/// that a program area may have.
+pub fn translate<H: Host>(alloc: Global, host: &mut H, command: &Translate<'_>) -> u8
+    requires { is_top command.now.top ≡ true }
+    ensures gives { Gives (translate_read command.now) (H.state host.old) (H.state host.new) result }
+    ensures completes { Completes (translate_read command.now) (H.state host.old) (H.state host.new) result }
+{
+    first_is_same();
+    source_has_one_outcome();
+    match work(alloc, host, command) {
+        Ok(line) => say_done(host, line.as_str()),
+        Err(stop) => say_stop(alloc, host, stop),
+    }
+}
+
+// The work up to the last line, which is the answer where the text was written. All memory is taken before the output is
+// touched.
+fn work<'a, H: Host>(
+    alloc: Global,
+    host: &mut H,
+    command: &Translate<'a>,
+) -> Result<String, Stop<'a>>
+    requires { is_top command.now.top ≡ true }
+    ensures worked { IfOk result (λ line. Works (translate_read command.now) (H.state host.old) (H.state host.new) (string_bytes line)) }
+    ensures stopped { IfErr result (StopsBy (translate_read command.now) (H.state host.old) (H.state host.new)) }
+{
+    let bytes = read_named(alloc, host, command.input, SOURCE_LIMIT)?;
+    let program = first_program(alloc, bytes.as_slice(), command.top)?;
+    let text = text_of_program(alloc, &program)?;
+    write_text(host, command.output, text.lines.as_slice())?;
+    Ok(text.line)
+}
+
+// The program of a source, which has first instructions alone.
+fn first_program<'a>(alloc: Global, bytes: &[u8], top: u16) -> Result<Program80, Stop<'a>>
+    requires { is_top top ≡ true }
+    ensures source { IfOk result (IsSource bytes.now top) }
+    ensures first { IfOk result IsFirst }
+    ensures stopped { IfErr result (FirstStops bytes.now top) }
+{
+    let program = read_source(alloc, bytes, top)?;
+    match line_beyond(&program) {
+        None => Ok(program),
+        Some(line) => Err(Stop::SourceProgram(line, AsmRule::S1)),
+    }
+}
+
+// The plain text of a program, with its line.
+fn text_of_program<'a>(alloc: Global, program: &Program80) -> Result<Text, Stop<'a>>
+    ensures lines { IfOk result (λ t. t.lines.items ≡ plain program.now) }
+    ensures line { IfOk result (λ t. string_bytes t.line ≡ line_of_program program.now) }
+    ensures stopped { IfErr result (λ stop. stop ≡ OutOfMemory) }
+{
+    match plain_with_line(alloc, program) {
+        Ok(text) => Ok(text),
+        Err(_) => Err(Stop::OutOfMemory),
+    }
+}
+
+fn plain_with_line(alloc: Global, program: &Program80) -> Result<Text, AllocError>
+    ensures lines { IfOk result (λ t. t.lines.items ≡ plain program.now) }
+    ensures line { IfOk result (λ t. string_bytes t.line ≡ line_of_program program.now) }
+{
+    let lines = plain_text(alloc, program)?;
+    let line = line_of(alloc, program, lines.as_slice())?;
+    Ok(Text { lines, line })
+}
+
+// The line of a program's plain text.
+fn line_of(alloc: Global, program: &Program80, lines: &[Line86]) -> Result<String, AllocError>
+    requires lines { statements lines.now ≡ plain_statements program.now }
+    requires few { length lines.now < 2 ^ 20 }
+    ensures { IfOk result (λ line. string_bytes line ≡ line_of_program program.now) }
+{
+    let instructions = program.instrs().len();
+    let cells = program.cells().len();
+    translated_line(alloc, instructions, cells, code_size(lines))
+}
+
+// Writes the text of lines to a file.
+fn write_text<'a, H: Host>(host: &mut H, name: &str, lines: &[Line86]) -> Result<(), Stop<'a>>
+    ensures only { OnlyWrites (H.state host.old) (H.state host.new) name.now }
+    ensures written { OnOk result (Rewrites (H.state host.old) (H.state host.new) name.now (text_of lines.now)) }
+    ensures counted { OnOk result (SameFaults (H.state host.old) (H.state host.new)) }
+    ensures stopped { IfErr result (WriteStops (H.state host.old) (H.state host.new) name.now (text_of lines.now)) }
+{
+    match write_out(host, name, lines) {
+        Ok(()) => Ok(()),
+        Err(HostFault::Failed) => Err(Stop::WriteFailed),
+        Err(HostFault::Memory) => Err(Stop::OutOfMemory),
+    }
+}

@@ -1,0 +1,26 @@
+-- What the code's commands stand for.
+use Rattle.std.specs.Prelude.{option_copied}
+use Rattle.cmd_words.specs.declared.command.Command.{Command as ReadCommand}
+use Rattle.cmd_words.specs.declared.command.Command.TheVariants as read
+use Rattle.cmd_words.specs.declared.command.Translate.{Translate as ReadTranslate}
+use Rattle.cmd_words.specs.declared.command.Run80.{Run80 as ReadRun80}
+use Rattle.cmd_words.specs.declared.command.Run86.{Run86 as ReadRun86}
+use Rattle.cmd_words.specs.declared.command.RunOptions.{RunOptions as ReadRunOptions}
+use Rattle.cmd_words.specs.Words.{Translate, RunOptions, Run80, Run86, Command, Translates, Runs80, Runs86}
+
+abbrev pub translate_read : ReadTranslate → Translate
+translate_read c = record { input = c.input.now; output = c.output.now; top = c.top }
+
+abbrev pub run_options_read : ReadRunOptions → RunOptions
+run_options_read r = record { input = option_copied r.input; page = r.page; steps = r.steps }
+
+abbrev pub run80_read : ReadRun80 → Run80
+run80_read c = record { source = c.source.now; top = c.top; run = run_options_read c.run }
+
+abbrev pub run86_read : ReadRun86 → Run86
+run86_read c = record { text = c.text.now; choice = c.choice; run = run_options_read c.run }
+
+abbrev pub command_read : ReadCommand → Command
+command_read (read.Translate c) = Translates (translate_read c)
+command_read (read.Run80 c) = Runs80 (run80_read c)
+command_read (read.Run86 c) = Runs86 (run86_read c)

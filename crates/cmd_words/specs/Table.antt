@@ -1,0 +1,47 @@
+-- The table of the commands: the word of each command and of each option, and the options that a command takes.
+use Rattle.std.specs.Prelude.{ℕ, List, [], ◌∷◌, codes, Option, find}
+use Rattle.std.specs.Str.{bytes_eq}
+use Rattle.cmd_words.specs.declared.table.CommandName.{CommandName}
+use Rattle.cmd_words.specs.declared.table.CommandName.TheVariants.{Translate, Run80, Run86}
+use Rattle.cmd_words.specs.declared.table.OptionName.{OptionName}
+use Rattle.cmd_words.specs.declared.table.OptionName.TheVariants.{Top, Choice, Input, Tail, Steps, Plain}
+
+-- a word is a list of bytes
+abbrev pub Word : Type 0
+Word = List ℕ
+
+abbrev pub commands : List CommandName
+commands = Translate ∷ (Run80 ∷ (Run86 ∷ []))
+
+abbrev pub command_word : CommandName → Word
+command_word Translate = codes "translate"
+command_word Run80 = codes "run80"
+command_word Run86 = codes "run86"
+
+abbrev pub option_word : OptionName → Word
+option_word Top = codes "--top"
+option_word Choice = codes "--choice"
+option_word Input = codes "--input"
+option_word Tail = codes "--tail"
+option_word Steps = codes "--steps"
+option_word Plain = codes "--plain"
+
+-- the options with a value that a command takes
+abbrev pub options_of : CommandName → List OptionName
+options_of Translate = Top ∷ []
+options_of Run80 = Top ∷ (Input ∷ (Tail ∷ (Steps ∷ [])))
+options_of Run86 = Choice ∷ (Input ∷ (Tail ∷ (Steps ∷ [])))
+
+-- the options without a value, its flags
+abbrev pub flags_of : CommandName → List OptionName
+flags_of Translate = Plain ∷ []
+flags_of Run80 = []
+flags_of Run86 = []
+
+-- the command of a word, which is exactly its word
+abbrev pub command_named : Word → Option CommandName
+command_named w = find (λ c. bytes_eq (command_word c) w) commands
+
+-- the option of a word among some
+abbrev pub named_among : List OptionName → Word → Option OptionName
+named_among options w = find (λ o. bytes_eq (option_word o) w) options

@@ -1,0 +1,197 @@
+//! The commands with their values.
+
+ghost use Rattle.std.specs.Prelude.{◌≡◌, ℕ, List, map, option_copied, option_map, MatchOption};
+ghost use Rattle.std.specs.String.{string_bytes};
+ghost use Rattle.cmd_words.specs.Read.{files_of, input_of, names_read, occurrence_of};
+ghost use Rattle.cmd_words.specs.ReadCommands.{command_read, run80_read, run86_read, run_options_read, translate_read};
+ghost use Rattle.cmd_words.specs.Words.{choice_of, command_of, input_file, once, one_file, page_of, run80_of, run86_of, run_options_of, steps_of, text_or, top_of, translate_of, two_files, Command as CommandValue, IsCommand, IsNoCommand};
+
+use crate::given::{Given, Names, Occurrence};
+use crate::items::first_word;
+use crate::table::CommandName;
+use crate::values::{choice_value, file_name, steps_value, top_value};
+use dialogue::Page;
+
+/// A command with its values.
+#[derive(Drop)]
+pub enum Command<'a> {
+    Translate(Translate<'a>),
+    Run80(Run80<'a>),
+    Run86(Run86<'a>),
+}
+
+/// `translate IN OUT --plain [--top H]`: a source's file, the file for its text, and the top of the program area.
+#[derive(Clone, Copy)]
+pub struct Translate<'a> {
+    pub input: &'a str,
+    pub output: &'a str,
+    pub top: u16,
+}
+
+/// `run80 IN [--top H]` and run options: a source's file, and the top of the program area.
+#[derive(Drop)]
+pub struct Run80<'a> {
+    pub source: &'a str,
+    pub top: u16,
+    pub run: RunOptions<'a>,
+}
+
+/// `run86 TEXT [--choice H]` and run options: a text's file, and the choice that fills what is unknown.
+#[derive(Drop)]
+pub struct Run86<'a> {
+    pub text: &'a str,
+    pub choice: u128,
+    pub run: RunOptions<'a>,
+}
+
+/// `[--input F] [--tail T] [--steps N]`: the file of the console's input, if there is one, the start page, and the most
+/// instructions that run.
+#[derive(Drop)]
+pub struct RunOptions<'a> {
+    pub input: Option<&'a str>,
+    pub page: Page,
+    pub steps: u32,
+}
+
+impl<'a> Names<'a> {
+    fn one_file(self) -> Option<&'a str>
+        ensures { option_copied result ≡ one_file (names_read self.entry) }
+    {
+        match self {
+            Names::One(name) => file_name(name),
+            Names::Zero | Names::Two(_, _) | Names::More => None,
+        }
+    }
+
+    fn two_files(self) -> Option<(&'a str, &'a str)>
+        ensures { files_of result ≡ two_files (names_read self.entry) }
+    {
+        match self {
+            Names::Two(first, second) => Some((file_name(first)?, file_name(second)?)),
+            Names::Zero | Names::One(_) | Names::More => None,
+        }
+    }
+}
+
+impl<'a> Occurrence<'a> {
+    // The text of an option that stands at most once.
+    fn text_or(self, default: &'static str) -> Option<&'a str>
+        ensures { option_copied result ≡ text_or default.now (occurrence_of self.entry) }
+    {
+        match self {
+            Occurrence::Absent => Some(default),
+            Occurrence::Once(text) => Some(text),
+            Occurrence::Repeated => None,
+        }
+    }
+
+    // The file of an input, if there is one.
+    fn input_file(self) -> Option<Option<&'a str>>
+        ensures { input_of result ≡ input_file (occurrence_of self.entry) }
+    {
+        match self {
+            Occurrence::Absent => Some(None),
+            Occurrence::Once(text) => Some(Some(file_name(text)?)),
+            Occurrence::Repeated => None,
+        }
+    }
+
+    // The text of a flag that must stand, once.
+    fn once(self) -> Option<&'a str>
+        ensures { option_copied result ≡ once (occurrence_of self.entry) }
+    {
+        match self {
+            Occurrence::Once(text) => Some(text),
+            Occurrence::Absent | Occurrence::Repeated => None,
+        }
+    }
+}
+
+impl<'a> Given<'a> {
+    fn top(&self) -> Option<u16>
+        ensures { result ≡ top_of self.now }
+    {
+        top_value(self.top.text_or("F000")?)
+    }
+
+    fn choice(&self) -> Option<u128>
+        ensures { result ≡ choice_of self.now }
+    {
+        choice_value(self.choice.text_or("0")?)
+    }
+
+    fn steps(&self) -> Option<u32>
+        ensures { result ≡ steps_of self.now }
+    {
+        steps_value(self.steps.text_or("1000000")?)
+    }
+
+    fn page(&self) -> Option<Page>
+        ensures { result ≡ page_of self.now }
+    {
+        Page::of_tail(self.tail.text_or("")?.as_bytes())
+    }
+
+    fn run_options(&self) -> Option<RunOptions<'a>>
+        ensures { option_map run_options_read result ≡ run_options_of self.now }
+    {
+        let input = self.input.input_file()?;
+        let page = self.page()?;
+        let steps = self.steps()?;
+        Some(RunOptions { input, page, steps })
+    }
+
+    fn translate(&self) -> Option<Translate<'a>>
+        ensures { option_map translate_read result ≡ translate_of self.now }
+    {
+        self.plain.once()?;
+        let (input, output) = self.names.two_files()?;
+        let top = self.top()?;
+        Some(Translate { input, output, top })
+    }
+
+    fn run80(&self) -> Option<Run80<'a>>
+        ensures { option_map run80_read result ≡ run80_of self.now }
+    {
+        let source = self.names.one_file()?;
+        let top = self.top()?;
+        let run = self.run_options()?;
+        Some(Run80 { source, top, run })
+    }
+
+    fn run86(&self) -> Option<Run86<'a>>
+        ensures { option_map run86_read result ≡ run86_of self.now }
+    {
+        let text = self.names.one_file()?;
+        let choice = self.choice()?;
+        let run = self.run_options()?;
+        Some(Run86 { text, choice, run })
+    }
+
+    // The command of a name.
+    fn command(&self, name: CommandName) -> Option<Command<'a>>
+        ensures { option_map command_read result ≡ command_of name self.now }
+    {
+        match name {
+            CommandName::Translate => Some(Command::Translate(self.translate()?)),
+            CommandName::Run80 => Some(Command::Run80(self.run80()?)),
+            CommandName::Run86 => Some(Command::Run86(self.run86()?)),
+        }
+    }
+}
+
+/// The command that the words are; None where they are no command.
+pub fn read_words(words: &[String]) -> Option<Command<'_>>
+    ensures { MatchOption result (IsNoCommand (map string_bytes words.now))
+        (λ command. IsCommand (map string_bytes words.now) (command_read command)) }
+{
+    let (first, rest) = first_word(words)?;
+    let name = CommandName::of_word(first)?;
+    let given = Given::of_words(name, rest)?;
+    given.command(name)
+}
+
+/// Words are one command at most.
+pub fn words_are_one_command()
+    ensures { (words : List (List ℕ)) (c d : CommandValue) → IsCommand words c → IsCommand words d → c ≡ d }
+{}

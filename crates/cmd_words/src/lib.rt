@@ -1,0 +1,12 @@
+// The words of the command line: one command with its values, or none.
+#![tactic(auto)]
+
+mod command;
+mod given;
+mod items;
+mod table;
+mod values;
+
+pub use command::{
+    Command, Run80, Run86, RunOptions, Translate, read_words, words_are_one_command,
+};

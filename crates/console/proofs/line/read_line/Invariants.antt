@@ -1,5 +1,0 @@
-use Rattle.console.proofs.Lines.{Stands}
-use Rattle.console.proofs.line.read_line.Given as goal
-
-abbrev pub invariant-loop-used : goal.invariant-loop-used
-invariant-loop-used l = Stands l.room l.input l.bytes.items l.used

@@ -1,9 +1,0 @@
-// A system that has a console and no disk: it answers the calls of a program from a list of input bytes.
-#![tactic(auto)]
-
-mod answers;
-mod line;
-#[cfg(test)]
-mod tests;
-
-pub use answers::{Answer, Console};

@@ -1,0 +1,12 @@
+use Rattle.std.proofs.Common.{ap, ◌∙◌, sym}
+use Rattle.cpu86_steps.specs.State.{back, put_bytes}
+use Rattle.cpu86_effects.specs.State.{state_of, mem_of, with_mem}
+use Rattle.cpu86_effects.proofs.Calls.{asked, odd, written_back}
+use Rattle.cpu86_effects.proofs.processor.Processor.interrupt.Goals as goal
+
+pub returns-in-Some : goal.returns-in-Some
+returns-in-Some c =
+    asked (record (state_of c.args.self.now) { ip = c.args.next }) c.args.choice (mem_of c.spoil.new.self) c.in-Some.shape c.if-function-eq0.false c.spoil.ensures (sym c.in-Some.ensures)
+
+pub returns-in-None : goal.returns-in-None
+returns-in-None c = (odd (record (state_of c.args.self.now) { ip = c.args.next }) c.args.choice (mem_of c.spoil.new.self) c.if-function-eq0.false c.spoil.ensures (sym c.in-None.ensures), ap (with_mem (state_of c.args.self.now)) (written_back (mem_of c.args.self.now.memory) (mem_of c.spoil.new.self) (mem_of c.set_bytes.new.self) c.args.self.now.sp c.args.choice c.spoil.ensures (c.set_bytes.ensures ∙ ap (put_bytes (mem_of c.spoil.new.self) (back c.args.self.now.sp 6)) c.six_at-before.ensures)))

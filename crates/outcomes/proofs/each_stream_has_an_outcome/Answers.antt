@@ -1,5 +1,0 @@
-use Rattle.outcomes.proofs.Streams80.{has_outcome}
-use Rattle.outcomes.proofs.each_stream_has_an_outcome.Goals as goal
-
-pub returns : goal.returns
-returns c = has_outcome

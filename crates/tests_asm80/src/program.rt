@@ -1,0 +1,51 @@
+// A small program with a data byte, asked by addresses.
+use asm80_text::Lines;
+use asm80_values::assemble;
+use cells::Cell;
+use i80::{Goal, Instr80, Reg, Src};
+use std::test::Fail;
+
+const ONE_LETTER: &[u8] = b"ORG 100H\nMVI C,2\nMVI E,41H\nCALL 5\nJMP 0\nDB 41H";
+
+// Addresses, and what is there: the line of an instruction that starts and the instruction, a data cell, and whether it is code.
+const THERE: [(u16, Option<u32>, Option<Instr80>, Option<Cell>, bool); 7] = [
+    (0xFF, None, None, None, false),
+    (
+        0x100,
+        Some(2),
+        Some(Instr80::Mvi(Src::Reg(Reg::C), 2)),
+        None,
+        true,
+    ),
+    (
+        0x102,
+        Some(3),
+        Some(Instr80::Mvi(Src::Reg(Reg::E), 0x41)),
+        None,
+        true,
+    ),
+    (0x103, None, None, None, true),
+    (0x107, Some(5), Some(Instr80::Jmp(Goal::Boot)), None, true),
+    (0x109, None, None, None, true),
+    (0x10A, None, None, Some(Cell::Num(0x41)), false),
+];
+
+#[test]
+fn a_program_answers_by_address(rt: HostRuntime) -> Result<(), Fail> {
+    let mut lines = Lines::new(rt.alloc())?;
+    lines.feed(ONE_LETTER)?;
+    let program = assemble(rt.alloc(), &lines.finish()?, 0xF000)?;
+    for (at, line, instr, cell, is_code) in THERE {
+        assert!(rt;
+            program.line_at(at) == line && program.instr_at(at) == instr,
+            "at {at}"
+        );
+        assert!(rt;
+            program.cell_at(at) == cell && program.is_code(at) == is_code,
+            "at {at}"
+        );
+    }
+    assert!(rt; program.starts() == [0x100, 0x102, 0x104, 0x107].as_slice());
+    assert!(rt; program.top() == 0xF000);
+    Ok(())
+}

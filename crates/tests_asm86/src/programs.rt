@@ -1,0 +1,166 @@
+// The bytes of some templates, the plain text of a small program, and the data of another.
+use asm80_program::{Placed, Program80};
+use asm86::{Stmt86, code_size, write_line};
+use cells::{Cell, Place};
+use i80::{Goal, Instr80, Pair, Reg, Src, StackPair};
+use std::alloc::Global;
+use std::test::Fail;
+use templates::{Sequence, plain_text, template};
+
+// The bytes of a list of instructions.
+fn bytes_of(alloc: Global, sequence: Sequence) -> Result<Vec<u8>, Fail> {
+    let mut bytes = Vec::new(alloc);
+    for statement in sequence.as_slice() {
+        match statement {
+            Stmt86::Run(i) => bytes.extend_from_slice(i86::encode(*i).bytes())?,
+            _ => {}
+        }
+    }
+    Ok(bytes)
+}
+
+#[test]
+fn dad_and_psw_templates(rt: HostRuntime) -> Result<(), Fail> {
+    let table: [(Instr80, bool, &[u8]); 4] = [
+        (
+            Instr80::Dad(Pair::D),
+            true,
+            &[0x9F, 0x03, 0xDA, 0xD1, 0xDE, 0x9E, 0xD1, 0xD6],
+        ),
+        (Instr80::Dad(Pair::D), false, &[0x03, 0xDA]),
+        (
+            Instr80::Push(StackPair::Psw),
+            true,
+            &[0x9F, 0x86, 0xC4, 0x50, 0x86, 0xC4],
+        ),
+        (
+            Instr80::Pop(StackPair::Psw),
+            true,
+            &[0x58, 0x86, 0xC4, 0x9E],
+        ),
+    ];
+    for (i, save, code) in table {
+        assert!(rt; i80::well_formed(i));
+        let bytes = bytes_of(rt.alloc(), template(i, 0x100, save))?;
+        assert_eq!(rt; bytes.as_slice(), code);
+    }
+    Ok(())
+}
+
+const ONE_LETTER: [&str; 30] = [
+    "\tCSEG\r\n",
+    "\tMOV\tSI,0F000H\r\n",
+    "\tMOV\tWORD PTR .00006H,SI\r\n",
+    "\tMOV\tAX,DS\r\n",
+    "\tMOV\tSS,AX\r\n",
+    "\tMOV\tSP,SI\r\n",
+    "\tMOV\tSI,OFFSET X_END\r\n",
+    "\tPUSH\tSI\r\n",
+    "L0100:\r\n",
+    "\tMOV\tCL,002H\r\n",
+    "L0102:\r\n",
+    "\tMOV\tDL,041H\r\n",
+    "L0104:\r\n",
+    "\tCALL\tX_SYS\r\n",
+    "L0107:\r\n",
+    "\tJMP\tX_END\r\n",
+    "X_SYS:\r\n",
+    "\tOR\tCL,CL\r\n",
+    "\tJZ\tX_END\r\n",
+    "\tINT\t224\r\n",
+    "\tMOV\tBL,AL\r\n",
+    "\tMOV\tCH,BH\r\n",
+    "\tRET\r\n",
+    "X_END:\r\n",
+    "\tMOV\tCL,000H\r\n",
+    "\tMOV\tDL,000H\r\n",
+    "\tINT\t224\r\n",
+    "\tDSEG\r\n",
+    "\tORG\t0EFFFH\r\n",
+    "\tRB\t00001H\r\n",
+];
+
+#[test]
+fn the_plain_text_of_one_letter(rt: HostRuntime) -> Result<(), Fail> {
+    let instrs = [
+        Placed {
+            at: 0x100,
+            line: 2,
+            instr: Instr80::Mvi(Src::Reg(Reg::C), 2),
+        },
+        Placed {
+            at: 0x102,
+            line: 3,
+            instr: Instr80::Mvi(Src::Reg(Reg::E), 0x41),
+        },
+        Placed {
+            at: 0x104,
+            line: 4,
+            instr: Instr80::Call(Goal::Bdos),
+        },
+        Placed {
+            at: 0x107,
+            line: 5,
+            instr: Instr80::Jmp(Goal::Boot),
+        },
+    ];
+    let program = Program80::new(
+        rt.alloc(),
+        instrs.to_vec(rt.alloc())?,
+        Vec::new(rt.alloc()),
+        0xF000,
+    )?;
+    let lines = plain_text(rt.alloc(), &program)?;
+    assert_eq!(rt; lines.len(), 31);
+    for (line, text) in lines.iter().zip(ONE_LETTER) {
+        assert_eq!(rt;
+            write_line(line.stmt).as_slice(),
+            text.as_bytes(),
+            "line {}",
+            line.line
+        );
+    }
+    assert!(rt; lines[30].line == 31 && lines[30].stmt == Stmt86::EndText);
+    assert_eq!(rt; code_size(&lines), 44);
+    Ok(())
+}
+
+const DATA: [&str; 5] = [
+    "\tORG\t00110H\r\n",
+    "\tDB\t041H\r\n",
+    "\tDB\t024H\r\n",
+    "\tORG\t00119H\r\n",
+    "\tDW\tOFFSET L0100\r\n",
+];
+
+#[test]
+fn runs_of_data(rt: HostRuntime) -> Result<(), Fail> {
+    let instrs = [Placed {
+        at: 0x100,
+        line: 2,
+        instr: Instr80::Jmp(Goal::Boot),
+    }];
+    let data = [
+        (0x110, Cell::Num(0x41)),
+        (0x111, Cell::Num(0x24)),
+        (0x119, Cell::Lo(Place::At(0x100))),
+        (0x11A, Cell::Hi(Place::At(0x100))),
+    ];
+    let program = Program80::new(
+        rt.alloc(),
+        instrs.to_vec(rt.alloc())?,
+        data.to_vec(rt.alloc())?,
+        0x4000,
+    )?;
+    let lines = plain_text(rt.alloc(), &program)?;
+    assert_eq!(rt; lines.len(), 30);
+    for (line, text) in lines[22..27].iter().zip(DATA) {
+        assert_eq!(rt;
+            write_line(line.stmt).as_slice(),
+            text.as_bytes(),
+            "line {}",
+            line.line
+        );
+    }
+    Ok(())
+}

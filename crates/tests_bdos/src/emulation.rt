@@ -1,0 +1,218 @@
+// What programs of both machines come to over a console, and what they say. More of them are cases of `cases_cmd`.
+ghost use Rattle.std.specs.Prelude.{◌≡◌, ◌^◌, ◌<◌, true, length, IfOk};
+ghost use Rattle.asm86_lines.specs.Image.{statements};
+ghost use Rattle.asm86_lines.specs.Order.{at_start, in_order};
+
+use asm80_program::{Placed, Program80};
+use asm86_image::image;
+use asm86_lines::{Jump, Label, Line86, Stmt86};
+use bdos_emulation::{RunEnd, TalkFault, Why, run_80, run_86};
+use cells::{Place, Rule};
+use dialogue::Page;
+use host::{HostFault, MemHost};
+use i80::{Goal, Instr80, Pair, Reg, Src, Word};
+use i86::{Instr86, Operand8, Operand16, Reg8, Reg16, StackReg};
+use std::alloc::{AllocError, Global};
+use std::process::Abort;
+use std::test::Fail;
+
+macro_rules! placed {
+    ($at:expr, $instr:expr) => {
+        Placed {
+            at: $at,
+            line: 1,
+            instr: $instr,
+        }
+    };
+}
+
+const CALL_5: Instr80 = Instr80::Call(Goal::Bdos);
+
+const JMP_0: Instr80 = Instr80::Jmp(Goal::Boot);
+
+/// Writes the letter A and ends.
+fn one_letter(alloc: Global) -> Result<Program80, AllocError> {
+    let instrs = [
+        placed!(0x100, Instr80::Mvi(Src::Reg(Reg::C), 2)),
+        placed!(0x102, Instr80::Mvi(Src::Reg(Reg::E), 0x41)),
+        placed!(0x104, CALL_5),
+        placed!(0x107, JMP_0),
+    ];
+    Program80::new(alloc, instrs.to_vec(alloc)?, Vec::new(alloc), 0xF000)
+}
+
+/// Reads a byte and ends.
+fn one_byte(alloc: Global) -> Result<Program80, AllocError> {
+    let instrs = [
+        placed!(0x100, Instr80::Mvi(Src::Reg(Reg::C), 1)),
+        placed!(0x102, CALL_5),
+        placed!(0x105, JMP_0),
+    ];
+    Program80::new(alloc, instrs.to_vec(alloc)?, Vec::new(alloc), 0xF000)
+}
+
+/// Jumps to a number that is no code address.
+fn number_as_code(alloc: Global) -> Result<Program80, AllocError> {
+    let instrs = [
+        placed!(0x100, Instr80::Lxi(Pair::H, Word::Num(0x103))),
+        placed!(0x103, Instr80::Pchl),
+        placed!(0x104, JMP_0),
+    ];
+    Program80::new(alloc, instrs.to_vec(alloc)?, Vec::new(alloc), 0xF000)
+}
+
+/// Opens the file that the start page's block names.
+fn opens_file(alloc: Global) -> Result<Program80, AllocError> {
+    let instrs = [
+        placed!(0x100, Instr80::Lxi(Pair::D, Word::Num(0x5C))),
+        placed!(0x103, Instr80::Mvi(Src::Reg(Reg::C), 15)),
+        placed!(0x105, CALL_5),
+        placed!(0x108, JMP_0),
+    ];
+    Program80::new(alloc, instrs.to_vec(alloc)?, Vec::new(alloc), 0xF000)
+}
+
+/// Whether an 8080 program over a console comes to this and says this, where the call of the host with this number fails.
+fn comes_to(
+    alloc: Global,
+    program: &Program80,
+    input: &str,
+    limit: u32,
+    fails: u64,
+    end: Result<RunEnd, TalkFault>,
+    said: &str,
+) -> Result<bool, Fail> {
+    let page = Page::of_tail(b"").ok_or("a page")?;
+    let mut host = MemHost::new(alloc);
+    host.fail_at(fails)?;
+    let input = Vec::from_slice(alloc, input.as_bytes())?;
+    let came = run_80(alloc, program, &page, input, limit, &mut host);
+    Ok(came == end && host.said() == said.as_bytes())
+}
+
+#[test]
+fn programs_say_their_events(rt: HostRuntime) -> Result<(), Fail> {
+    let alloc = rt.alloc();
+    let letter = one_letter(alloc)?;
+    let byte = one_byte(alloc)?;
+    let number = number_as_code(alloc)?;
+    let file = opens_file(alloc)?;
+    let left = RunEnd::Stopped(Why::Left(Place::At(0x103), Rule::P1));
+    let unsaid = Err(TalkFault::Unsaid(HostFault::Failed));
+    let opened = "0f 005c 00202020202020202020202000\n";
+    for (row, (program, input, limit, fails, end, said)) in [
+        (&letter, "", 3, 0, Ok(RunEnd::StepLimit), "02 41\n"),
+        (&letter, "", 4, 0, Ok(RunEnd::Ended(4)), "02 41\nend\n"),
+        (&letter, "", 10, 1, unsaid, ""),
+        (&letter, "", 10, 2, unsaid, "02 41\n"),
+        (&letter, "", 10, 3, Ok(RunEnd::Ended(4)), "02 41\nend\n"),
+        (&byte, "", 10, 0, Ok(RunEnd::InputEnded), "01\n"),
+        (&byte, "A", 10, 0, Ok(RunEnd::Ended(3)), "01\nend\n"),
+        (&number, "", 10, 0, Ok(left), ""),
+        (&file, "", 10, 0, Ok(RunEnd::NoDrive(15)), opened),
+    ]
+    .into_iter()
+    .enumerate()
+    {
+        let is_so = comes_to(alloc, program, input, limit, fails, end, said)?;
+        assert!(rt; is_so, "row {row}");
+    }
+    Ok(())
+}
+
+macro_rules! lines {
+    ($($number:literal $stmt:expr;)*) => {
+        [$(Line86 { line: $number, stmt: $stmt }),*]
+    };
+}
+
+/// The plain text of the program that writes the letter A.
+const ONE_LETTER: [Line86; 31] = lines! {
+    1 Stmt86::Cseg;
+    2 Stmt86::Run(Instr86::MovNum16(Reg16::Si, 0xF000));
+    3 Stmt86::Run(Instr86::MovDirect16(6, Reg16::Si));
+    4 Stmt86::Run(Instr86::MovAxDs);
+    5 Stmt86::Run(Instr86::MovSsAx);
+    6 Stmt86::Run(Instr86::MovReg16(Reg16::Sp, Operand16::Reg(Reg16::Si)));
+    7 Stmt86::MovOffset(Reg16::Si, Label::End);
+    8 Stmt86::Run(Instr86::Push(StackReg::Si));
+    9 Stmt86::Mark(Label::At(0x100));
+    10 Stmt86::Run(Instr86::MovNum8(Reg8::Cl, 2));
+    11 Stmt86::Mark(Label::At(0x102));
+    12 Stmt86::Run(Instr86::MovNum8(Reg8::Dl, 0x41));
+    13 Stmt86::Mark(Label::At(0x104));
+    14 Stmt86::Call(Label::Sys);
+    15 Stmt86::Mark(Label::At(0x107));
+    16 Stmt86::Jmp(Label::End);
+    17 Stmt86::Mark(Label::Sys);
+    18 Stmt86::Run(Instr86::OrClCl);
+    19 Stmt86::Jcc(Jump::Jz, Label::End);
+    20 Stmt86::Run(Instr86::Int224);
+    21 Stmt86::Run(Instr86::MovReg8(Reg8::Bl, Operand8::Reg(Reg8::Al)));
+    22 Stmt86::Run(Instr86::MovReg8(Reg8::Ch, Operand8::Reg(Reg8::Bh)));
+    23 Stmt86::Run(Instr86::Ret);
+    24 Stmt86::Mark(Label::End);
+    25 Stmt86::Run(Instr86::MovNum8(Reg8::Cl, 0));
+    26 Stmt86::Run(Instr86::MovNum8(Reg8::Dl, 0));
+    27 Stmt86::Run(Instr86::Int224);
+    28 Stmt86::Dseg;
+    29 Stmt86::Org(0xEFFF);
+    30 Stmt86::Rb(1);
+    31 Stmt86::EndText;
+};
+
+const PUSHES: [Line86; 2] = lines! {
+    1 Stmt86::Cseg;
+    2 Stmt86::Run(Instr86::Push(StackReg::Ax));
+};
+
+const FALLS_OFF: [Line86; 2] = lines! {
+    1 Stmt86::Cseg;
+    2 Stmt86::Run(Instr86::Nop);
+};
+
+/// Whether a text over a console comes to this and says this.
+fn text_comes_to(
+    alloc: Global,
+    rt: &impl Abort,
+    text: &[Line86],
+    choice: u128,
+    limit: u32,
+    end: RunEnd,
+    said: &str,
+) -> Result<bool, Fail>
+    requires order { in_order at_start (statements text.now) ≡ true }
+    requires few { length text.now < 2 ^ 28 }
+{
+    let image = image(alloc, text).ok().expect(rt, "a text that assembles");
+    let page = Page::of_tail(b"").ok_or("a page")?;
+    let fill = vec![in alloc; 0; 65536]?;
+    let mut host = MemHost::new(alloc);
+    let input = Vec::new(alloc);
+    let came = run_86(
+        alloc,
+        &image,
+        &page,
+        fill.as_slice(),
+        choice,
+        input,
+        limit,
+        &mut host,
+    );
+    Ok(came == Ok(end) && host.said() == said.as_bytes())
+}
+
+#[test]
+fn texts_say_their_events(rt: HostRuntime) -> Result<(), Fail> {
+    let alloc = rt.alloc();
+    let no_instruction = RunEnd::Stopped(Why::NoInstruction(1));
+    let stack_segment = RunEnd::Stopped(Why::StackSegment(0));
+    assert!(rt; text_comes_to(alloc, &rt, &ONE_LETTER, 0, 19, RunEnd::StepLimit, "02 41\n")?);
+    for choice in [0, u128::MAX] {
+        let end = RunEnd::Ended(20);
+        assert!(rt; text_comes_to(alloc, &rt, &ONE_LETTER, choice, 100, end, "02 41\nend\n")?);
+    }
+    assert!(rt; text_comes_to(alloc, &rt, &FALLS_OFF, 0, 10, no_instruction, "")?);
+    assert!(rt; text_comes_to(alloc, &rt, &PUSHES, 0, 10, stack_segment, "")?);
+    Ok(())
+}

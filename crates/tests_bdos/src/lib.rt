@@ -1,0 +1,15 @@
+// The calls of the BDOS, over public calls: their table, the answers of a console, and programs of both machines over it.
+#![tactic(auto)]
+
+#[cfg(test)]
+mod console;
+#[cfg(test)]
+mod emulation;
+#[cfg(test)]
+mod memory;
+#[cfg(test)]
+mod pages;
+#[cfg(test)]
+mod replies;
+#[cfg(test)]
+mod shapes;

@@ -1,0 +1,205 @@
+// What words are read as.
+use cmd_words::{Command, RunOptions, read_words};
+use std::alloc::{AllocError, Global};
+use std::process::Abort;
+use std::test::Fail;
+
+type Row = (&'static [&'static str], &'static str);
+
+const PLAIN: &str = "--plain";
+
+const TAIL_126: &str =
+    "--tail=012345678901234567890123456789012345678901234567890123456789012345678901234567890123456789012345678901234567890123456789012345";
+
+const TAIL_127: &str =
+    "--tail=0123456789012345678901234567890123456789012345678901234567890123456789012345678901234567890123456789012345678901234567890123456";
+
+const CHOICE_32: &str = "--choice=fFFFffffFFFFffffFFFFffffFFFFffff";
+
+const NAMES_AND_FLAGS: [Row; 22] = [
+    (&[], "none"),
+    (&["translate", "A", PLAIN], "none"),
+    (&["translate", "A", "B"], "none"),
+    (&["translate", "A", "B", PLAIN], "A B top f000"),
+    (&["translate", PLAIN, "A", "B"], "A B top f000"),
+    (&["translate", "A", PLAIN, "B"], "A B top f000"),
+    (&["translate", "A", "B", "C", PLAIN], "none"),
+    (&["Translate", "A", "B", PLAIN], "none"),
+    (&["trans", "A", "B", PLAIN], "none"),
+    (&["translate", "A", "B", "--plai"], "none"),
+    (&["translate", "A", "B", PLAIN, PLAIN], "none"),
+    (&["translate", "A", "B", "--plain="], "none"),
+    (&["translate", "A", "B", "--plain", "--"], "A B top f000"),
+    (&["translate", PLAIN, "--", "-x", "--"], "-x -- top f000"),
+    (
+        &["translate", PLAIN, "A", "--", "--top=8000"],
+        "A --top=8000 top f000",
+    ),
+    (&["translate", "A", "B", "--", PLAIN], "none"),
+    (&["translate", "A", "--", PLAIN], "none"),
+    (&["translate", "-", "-", PLAIN], "- - top f000"),
+    (&["translate", "-x", "B", PLAIN], "none"),
+    (&["translate", "", "B", PLAIN], "none"),
+    (&["translate", PLAIN, "--", "A", ""], "none"),
+    (&["run80", "A", PLAIN], "none"),
+];
+
+const OPTIONS_WITH_VALUES: [Row; 18] = [
+    (&["translate", "A", "B", PLAIN, "--top", "1234"], "none"),
+    (
+        &["translate", "A", "B", "--top=8000", PLAIN],
+        "A B top 8000",
+    ),
+    (
+        &["translate", "--top", "c000", "A", PLAIN, "B"],
+        "A B top c000",
+    ),
+    (
+        &["translate", "A", "--top=C000", "B", PLAIN],
+        "A B top c000",
+    ),
+    (
+        &["translate", "A", "B", PLAIN, "--top", "4000"],
+        "A B top 4000",
+    ),
+    (
+        &["translate", "A", "B", PLAIN, "--top", "--", "8000"],
+        "none",
+    ),
+    (&["translate", "A", "B", PLAIN, "--top"], "none"),
+    (&["translate", "A", "B", PLAIN, "--top="], "none"),
+    (&["translate", "A", "B", PLAIN, "--top=08000"], "none"),
+    (&["translate", "A", "B", PLAIN, "--top=+800"], "none"),
+    (&["translate", "A", "B", PLAIN, "--to=8000"], "none"),
+    (
+        &["translate", "A", "B", PLAIN, "--top=8000", "--top=8000"],
+        "none",
+    ),
+    (&["translate", "A", "B", PLAIN, "--steps=1"], "none"),
+    (&["run86", "T", "--top=8000"], "none"),
+    (&["run80", "A", "--choice=1"], "none"),
+    (
+        &["run86", "T", "--choice", "aB"],
+        "T choice ab input none tail 0 steps 1000000",
+    ),
+    (
+        &["run86", "T", CHOICE_32],
+        "T choice ffffffffffffffffffffffffffffffff input none tail 0 steps 1000000",
+    ),
+    (
+        &["run86", "T", "--choice=000000000000000000000000000000000"],
+        "none",
+    ),
+];
+
+const RUN_OPTIONS: [Row; 19] = [
+    (
+        &["run80", "A"],
+        "A top f000 input none tail 0 steps 1000000",
+    ),
+    (
+        &[
+            "run80",
+            "--input",
+            "F",
+            "A",
+            "--tail",
+            "x y",
+            "--steps=10000000",
+        ],
+        "A top f000 input F tail 4 steps 10000000",
+    ),
+    (
+        &["run80", "A", "--steps", "00000001"],
+        "A top f000 input none tail 0 steps 1",
+    ),
+    (&["run80", "A", "--steps=000000001"], "none"),
+    (&["run80", "A", "--steps=0"], "none"),
+    (&["run80", "A", "--steps=10000001"], "none"),
+    (&["run80", "A", "--steps=1f"], "none"),
+    (&["run80", "A", "--input="], "none"),
+    (&["run80", "A", "--input", ""], "none"),
+    (&["run80", "A", "--input", "-x"], "none"),
+    (
+        &["run80", "A", "--input=-x"],
+        "A top f000 input -x tail 0 steps 1000000",
+    ),
+    (
+        &["run80", "A", "--input", "-"],
+        "A top f000 input - tail 0 steps 1000000",
+    ),
+    (
+        &["run80", "A", "--tail="],
+        "A top f000 input none tail 0 steps 1000000",
+    ),
+    (
+        &["run80", "A", "--tail", ""],
+        "A top f000 input none tail 0 steps 1000000",
+    ),
+    (
+        &["run80", "A", "--tail=a=b"],
+        "A top f000 input none tail 4 steps 1000000",
+    ),
+    (
+        &["run80", "A", "--tail=--"],
+        "A top f000 input none tail 3 steps 1000000",
+    ),
+    (&["run80", "A", "--tail=a\tb"], "none"),
+    (
+        &["run80", "A", TAIL_126],
+        "A top f000 input none tail 127 steps 1000000",
+    ),
+    (&["run80", "A", TAIL_127], "none"),
+];
+
+fn list_of(alloc: Global, words: &[&str]) -> Result<Vec<String>, AllocError> {
+    let mut list = Vec::new(alloc);
+    for word in words {
+        list.push(String::from_str(alloc, word)?)?;
+    }
+    Ok(list)
+}
+
+// Run options by the input's file, the byte at 80H and the steps.
+fn run_text(alloc: Global, run: &RunOptions) -> Result<String, AllocError> {
+    let input = run.input.unwrap_or("none");
+    let count = run.page.bytes()[0x24];
+    format!(in alloc; "input {input} tail {count} steps {}", run.steps)
+}
+
+// The command that words are.
+fn told(alloc: Global, words: &[&str]) -> Result<String, AllocError> {
+    let list = list_of(alloc, words)?;
+    match read_words(list.as_slice()) {
+        None => String::from_str(alloc, "none"),
+        Some(Command::Translate(command)) => {
+            format!(in alloc;
+                "{} {} top {:x}",
+                command.input, command.output, command.top
+            )
+        }
+        Some(Command::Run80(command)) => {
+            let run = run_text(alloc, &command.run)?;
+            format!(in alloc; "{} top {:x} {run}", command.source, command.top)
+        }
+        Some(Command::Run86(command)) => {
+            let run = run_text(alloc, &command.run)?;
+            format!(in alloc; "{} choice {:x} {run}", command.text, command.choice)
+        }
+    }
+}
+
+fn expect_rows(rt: &impl Abort, alloc: Global, rows: &[Row]) -> Result<(), Fail> {
+    for (row, (words, expected)) in rows.iter().enumerate() {
+        let text = told(alloc, words)?;
+        assert_eq!(rt; text.as_str(), *expected, "row {row}");
+    }
+    Ok(())
+}
+
+#[test]
+fn words_are_read(rt: HostRuntime) -> Result<(), Fail> {
+    expect_rows(&rt, rt.alloc(), &NAMES_AND_FLAGS)?;
+    expect_rows(&rt, rt.alloc(), &OPTIONS_WITH_VALUES)?;
+    expect_rows(&rt, rt.alloc(), &RUN_OPTIONS)
+}

@@ -1,6 +1,0 @@
-use Rattle.std.proofs.Common.{◌≡◌, take, Some}
-use Rattle.text_lines86.specs.Operands.{each, operand_of}
-use Rattle.text_lines86.proofs.operands.each_operand.Given as goal
-
-abbrev pub invariant-loop-part : goal.invariant-loop-part
-invariant-loop-part l = each (λ part. operand_of part.now) (take l.part-index l.parts) ≡ Some l.operands.items

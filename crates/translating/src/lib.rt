@@ -1,9 +1,0 @@
-// The work of the command that translates: a source in, the plain text of its program out, and what is said of it.
-#![tactic(auto)]
-
-mod first;
-#[cfg(test)]
-mod tests;
-mod translation;
-
-pub use translation::translate;
