@@ -1,0 +1,202 @@
+-- Heads and their nodes: each gives the other back, and equal terms have equal heads.
+use Rattle.std.proofs.Common.{◌≡◌, ℕ, true, false, List, [], ◌∷◌, take, Some, refl, sym, ap, ◌∙◌}
+use Rattle.std.specs.List.{slice_get}
+use Rattle.std.proofs.lemmas.Option.{get_or_from_slice_get}
+use Rattle.cells.specs.declared.Place.TheVariants.{At, Exit}
+use Rattle.sym_terms.specs.declared.head.Term.{Term as TermId}
+use Rattle.sym_terms.specs.declared.head.Head.{Head}
+use Rattle.sym_terms.specs.declared.head.Head.TheVariants.{Num as NumHead, Start as StartHead, StartSp as StartSpHead, Loaded8 as Loaded8Head, Loaded16 as Loaded16Head, Alu as AluHead, Flag as FlagHead, Sum16 as Sum16Head, High as HighHead, Low as LowHead, Join as JoinHead, FlagByte as FlagByteHead, Bit as BitHead, Turn as TurnHead, Turned as TurnedHead, Adjust as AdjustHead, Code as CodeHead, Unknown as UnknownHead}
+use Rattle.sym_terms.specs.Numbers.{kind_of}
+use Rattle.sym_terms.specs.Term.{Start, Alu, Flag, Bit, Unknown}
+use Rattle.sym_terms.specs.Heads.{operands, is_flag_byte, node_of, head_by, number_of, term_of}
+use Rattle.sym_terms.specs.Trees.{Entry, Tree, Rest, tree_of, tree_at, tree_of_head, flags_with, entry_of, IsTree, AreTrees}
+use Rattle.sym_terms.specs.Forms.{HasRest}
+use Rattle.sym_terms.proofs.Codes.{part_of-part_number, op_of-op_number}
+use Rattle.sym_terms.proofs.Places.{get_from_cut}
+
+-- a node stands for the term of its head
+pub entry_back : (es : List Entry) (h : Head) (rest : ℕ) → HasRest es h rest → entry_of es (node_of h rest) ≡ Tree (tree_of_head es h)
+entry_back es (NumHead n) rest r = refl
+entry_back es (StartHead part) rest r = ap (λ part. Tree (Start part)) (part_of-part_number part)
+entry_back es StartSpHead rest r = refl
+entry_back es (Loaded8Head k) rest r = refl
+entry_back es (Loaded16Head k) rest r = refl
+entry_back es (AluHead op a b c) rest r = ap (λ op. Tree (Alu op (tree_at es (number_of a)) (tree_at es (number_of b)) (tree_at es (number_of c)))) (op_of-op_number op)
+entry_back es (FlagHead part r') rest r = ap (λ part. Tree (Flag part (tree_at es (number_of r')))) (part_of-part_number part)
+entry_back es (Sum16Head a b) rest r = refl
+entry_back es (HighHead w) rest r = refl
+entry_back es (LowHead w) rest r = refl
+entry_back es (JoinHead h l) rest r = refl
+entry_back es (FlagByteHead s z ac p cy) rest r = ap (λ x. Tree (flags_with (tree_at es (number_of s)) (tree_at es (number_of z)) x)) (get_or_from_slice_get es rest (Rest (tree_at es (number_of ac)) (tree_at es (number_of p)) (tree_at es (number_of cy))) (Tree Unknown) r)
+entry_back es (BitHead b part) rest r = ap (λ part. Tree (Bit (tree_at es (number_of b)) part)) (part_of-part_number part)
+entry_back es (TurnHead kind a c) rest r = refl
+entry_back es (TurnedHead c) rest r = refl
+entry_back es (AdjustHead a ac cy) rest r = refl
+entry_back es (CodeHead (At address) true) rest r = refl
+entry_back es (CodeHead (At address) false) rest r = refl
+entry_back es (CodeHead Exit true) rest r = refl
+entry_back es (CodeHead Exit false) rest r = refl
+entry_back es UnknownHead rest r = refl
+
+-- and gives its head back
+pub head_back : (h : Head) (rest : ℕ) → is_flag_byte h ≡ false → head_by (kind_of (node_of h rest).op) (node_of h rest) ≡ h
+head_back (NumHead n) rest f = refl
+head_back (StartHead part) rest f = ap StartHead (part_of-part_number part)
+head_back StartSpHead rest f = refl
+head_back (Loaded8Head k) rest f = refl
+head_back (Loaded16Head k) rest f = refl
+head_back (AluHead op a b c) rest f = ap (λ o. AluHead o a b c) (op_of-op_number op)
+head_back (FlagHead part r) rest f = ap (λ q. FlagHead q r) (part_of-part_number part)
+head_back (Sum16Head a b) rest f = refl
+head_back (HighHead w) rest f = refl
+head_back (LowHead w) rest f = refl
+head_back (JoinHead h l) rest f = refl
+head_back (FlagByteHead s z ac p cy) rest f = absurd (cc)
+head_back (BitHead b part) rest f = ap (λ q. BitHead b q) (part_of-part_number part)
+head_back (TurnHead kind a c) rest f = refl
+head_back (TurnedHead c) rest f = refl
+head_back (AdjustHead a ac cy) rest f = refl
+head_back (CodeHead (At address) true) rest f = refl
+head_back (CodeHead (At address) false) rest f = refl
+head_back (CodeHead Exit true) rest f = refl
+head_back (CodeHead Exit false) rest f = refl
+head_back UnknownHead rest f = refl
+
+-- no two ids stand for one term
+abbrev pub AreApart : List Entry → Type 0
+AreApart es = (i j : ℕ) (entry : Entry) → slice_get es i ≡ Some entry → slice_get es j ≡ Some entry → i ≡ j
+
+pub same_id : (es : List Entry) → AreApart es → (s t : TermId) → IsTree es s → IsTree es t → tree_at es (number_of s) ≡ tree_at es (number_of t) → s ≡ t
+same_id es d s t p q e =
+    let same : number_of s ≡ number_of t = d (number_of s) (number_of t) (Tree (tree_at es (number_of t))) (p ∙ ap (λ x. Some (Tree x)) e) q in
+    ap term_of same
+
+pub same_heads : (es : List Entry) → AreApart es → (h g : Head) → AreTrees es (operands h) → AreTrees es (operands g) → tree_of_head es h ≡ tree_of_head es g → h ≡ g
+same_heads es d (NumHead n) (NumHead n') g g' e =
+    let is_n : n ≡ n' = cc in
+    cc
+same_heads es d (StartHead part) (StartHead part') g g' e =
+    let is_part : part ≡ part' = cc in
+    cc
+same_heads es d StartSpHead StartSpHead g g' e =
+    cc
+same_heads es d (Loaded8Head k) (Loaded8Head k') g g' e =
+    let is_k : k ≡ k' = cc in
+    cc
+same_heads es d (Loaded16Head k) (Loaded16Head k') g g' e =
+    let is_k : k ≡ k' = cc in
+    cc
+same_heads es d (AluHead op a b c) (AluHead op' a' b' c') g g' e =
+    let is_a : a ≡ a' = same_id es d a a' g.0 g'.0 (cc) in
+    let is_b : b ≡ b' = same_id es d b b' g.1.0 g'.1.0 (cc) in
+    let is_c : c ≡ c' = same_id es d c c' g.1.1.0 g'.1.1.0 (cc) in
+    let is_op : op ≡ op' = cc in
+    cc
+same_heads es d (FlagHead part r) (FlagHead part' r') g g' e =
+    let is_r : r ≡ r' = same_id es d r r' g.0 g'.0 (cc) in
+    let is_part : part ≡ part' = cc in
+    cc
+same_heads es d (Sum16Head a b) (Sum16Head a' b') g g' e =
+    let is_a : a ≡ a' = same_id es d a a' g.0 g'.0 (cc) in
+    let is_b : b ≡ b' = same_id es d b b' g.1.0 g'.1.0 (cc) in
+    cc
+same_heads es d (HighHead w) (HighHead w') g g' e =
+    let is_w : w ≡ w' = same_id es d w w' g.0 g'.0 (cc) in
+    cc
+same_heads es d (LowHead w) (LowHead w') g g' e =
+    let is_w : w ≡ w' = same_id es d w w' g.0 g'.0 (cc) in
+    cc
+same_heads es d (JoinHead h l) (JoinHead h' l') g g' e =
+    let is_h : h ≡ h' = same_id es d h h' g.0 g'.0 (cc) in
+    let is_l : l ≡ l' = same_id es d l l' g.1.0 g'.1.0 (cc) in
+    cc
+same_heads es d (FlagByteHead s z ac p cy) (FlagByteHead s' z' ac' p' cy') g g' e =
+    let is_s : s ≡ s' = same_id es d s s' g.0 g'.0 (cc) in
+    let is_z : z ≡ z' = same_id es d z z' g.1.0 g'.1.0 (cc) in
+    let is_ac : ac ≡ ac' = same_id es d ac ac' g.1.1.0 g'.1.1.0 (cc) in
+    let is_p : p ≡ p' = same_id es d p p' g.1.1.1.0 g'.1.1.1.0 (cc) in
+    let is_cy : cy ≡ cy' = same_id es d cy cy' g.1.1.1.1.0 g'.1.1.1.1.0 (cc) in
+    cc
+same_heads es d (BitHead b part) (BitHead b' part') g g' e =
+    let is_b : b ≡ b' = same_id es d b b' g.0 g'.0 (cc) in
+    let is_part : part ≡ part' = cc in
+    cc
+same_heads es d (TurnHead kind a c) (TurnHead kind' a' c') g g' e =
+    let is_a : a ≡ a' = same_id es d a a' g.0 g'.0 (cc) in
+    let is_c : c ≡ c' = same_id es d c c' g.1.0 g'.1.0 (cc) in
+    let is_kind : kind ≡ kind' = cc in
+    cc
+same_heads es d (TurnedHead c) (TurnedHead c') g g' e =
+    let is_c : c ≡ c' = same_id es d c c' g.0 g'.0 (cc) in
+    cc
+same_heads es d (AdjustHead a ac cy) (AdjustHead a' ac' cy') g g' e =
+    let is_a : a ≡ a' = same_id es d a a' g.0 g'.0 (cc) in
+    let is_ac : ac ≡ ac' = same_id es d ac ac' g.1.0 g'.1.0 (cc) in
+    let is_cy : cy ≡ cy' = same_id es d cy cy' g.1.1.0 g'.1.1.0 (cc) in
+    cc
+same_heads es d (CodeHead q high) (CodeHead q' high') g g' e =
+    let is_q : q ≡ q' = cc in
+    let is_high : high ≡ high' = cc in
+    cc
+same_heads es d UnknownHead UnknownHead g g' e =
+    cc
+same_heads es d h g p q e = absurd (cc)
+
+-- what stands in the first entries stands in all
+
+pub lift_tree_at : (es : List Entry) (k : ℕ) (t : TermId) → IsTree (take k es) t → tree_at (take k es) (number_of t) ≡ tree_at es (number_of t)
+lift_tree_at es k t h = sym (ap tree_of (get_or_from_slice_get es (number_of t) (Tree (tree_at (take k es) (number_of t))) (Tree Unknown) (get_from_cut es (Tree (tree_at (take k es) (number_of t))) k (number_of t) h)))
+
+lift_tree : (es : List Entry) (k : ℕ) (t : TermId) → IsTree (take k es) t → IsTree es t
+lift_tree es k t h = get_from_cut es (Tree (tree_at (take k es) (number_of t))) k (number_of t) h ∙ ap (λ x. Some (Tree x)) (lift_tree_at es k t h)
+
+pub lift_trees : (es : List Entry) (k : ℕ) (ts : List TermId) → AreTrees (take k es) ts → AreTrees es ts
+lift_trees es k [] h = tt
+lift_trees es k (t ∷ ts) h = (lift_tree es k t h.0, lift_trees es k ts h.1)
+
+pub lift_head : (es : List Entry) (k : ℕ) (h : Head) → AreTrees (take k es) (operands h) → tree_of_head (take k es) h ≡ tree_of_head es h
+lift_head es k (AluHead op a b c) g =
+    let is_a : tree_at (take k es) (number_of a) ≡ tree_at es (number_of a) = lift_tree_at es k a g.0 in
+    let is_b : tree_at (take k es) (number_of b) ≡ tree_at es (number_of b) = lift_tree_at es k b g.1.0 in
+    let is_c : tree_at (take k es) (number_of c) ≡ tree_at es (number_of c) = lift_tree_at es k c g.1.1.0 in
+    cc
+lift_head es k (FlagHead part r) g =
+    let is_r : tree_at (take k es) (number_of r) ≡ tree_at es (number_of r) = lift_tree_at es k r g.0 in
+    cc
+lift_head es k (Sum16Head a b) g =
+    let is_a : tree_at (take k es) (number_of a) ≡ tree_at es (number_of a) = lift_tree_at es k a g.0 in
+    let is_b : tree_at (take k es) (number_of b) ≡ tree_at es (number_of b) = lift_tree_at es k b g.1.0 in
+    cc
+lift_head es k (HighHead w) g =
+    let is_w : tree_at (take k es) (number_of w) ≡ tree_at es (number_of w) = lift_tree_at es k w g.0 in
+    cc
+lift_head es k (LowHead w) g =
+    let is_w : tree_at (take k es) (number_of w) ≡ tree_at es (number_of w) = lift_tree_at es k w g.0 in
+    cc
+lift_head es k (JoinHead h l) g =
+    let is_h : tree_at (take k es) (number_of h) ≡ tree_at es (number_of h) = lift_tree_at es k h g.0 in
+    let is_l : tree_at (take k es) (number_of l) ≡ tree_at es (number_of l) = lift_tree_at es k l g.1.0 in
+    cc
+lift_head es k (FlagByteHead s z ac p cy) g =
+    let is_s : tree_at (take k es) (number_of s) ≡ tree_at es (number_of s) = lift_tree_at es k s g.0 in
+    let is_z : tree_at (take k es) (number_of z) ≡ tree_at es (number_of z) = lift_tree_at es k z g.1.0 in
+    let is_ac : tree_at (take k es) (number_of ac) ≡ tree_at es (number_of ac) = lift_tree_at es k ac g.1.1.0 in
+    let is_p : tree_at (take k es) (number_of p) ≡ tree_at es (number_of p) = lift_tree_at es k p g.1.1.1.0 in
+    let is_cy : tree_at (take k es) (number_of cy) ≡ tree_at es (number_of cy) = lift_tree_at es k cy g.1.1.1.1.0 in
+    cc
+lift_head es k (BitHead b part) g =
+    let is_b : tree_at (take k es) (number_of b) ≡ tree_at es (number_of b) = lift_tree_at es k b g.0 in
+    cc
+lift_head es k (TurnHead kind a c) g =
+    let is_a : tree_at (take k es) (number_of a) ≡ tree_at es (number_of a) = lift_tree_at es k a g.0 in
+    let is_c : tree_at (take k es) (number_of c) ≡ tree_at es (number_of c) = lift_tree_at es k c g.1.0 in
+    cc
+lift_head es k (TurnedHead c) g =
+    let is_c : tree_at (take k es) (number_of c) ≡ tree_at es (number_of c) = lift_tree_at es k c g.0 in
+    cc
+lift_head es k (AdjustHead a ac cy) g =
+    let is_a : tree_at (take k es) (number_of a) ≡ tree_at es (number_of a) = lift_tree_at es k a g.0 in
+    let is_ac : tree_at (take k es) (number_of ac) ≡ tree_at es (number_of ac) = lift_tree_at es k ac g.1.0 in
+    let is_cy : tree_at (take k es) (number_of cy) ≡ tree_at es (number_of cy) = lift_tree_at es k cy g.1.1.0 in
+    cc
+lift_head es k h g = refl

@@ -1,0 +1,17 @@
+pub mod Codes
+pub mod Equal
+pub mod Size
+pub mod Sorts
+pub mod One80
+pub mod One86
+pub mod Keep80
+pub mod Keep86
+pub mod Places
+pub mod Entries
+pub mod Heads
+pub mod Marks
+pub mod Growing
+pub mod Interning
+pub mod Reading
+pub mod Opening
+pub mod Making

@@ -1,0 +1,9 @@
+pub mod Numbers
+pub mod Term
+pub mod Making
+pub mod Values80
+pub mod Values86
+pub mod Laws
+pub mod Heads
+pub mod Trees
+pub mod Forms
