@@ -100,6 +100,19 @@ fn flags(terms: &mut Terms) -> Pairs {
     Some(carry == zero && half_carry == terms.unknown()? && sign != zero)
 }
 
+// CY of the other logic operations is 0 too, and of an addition it is a term of its own.
+fn carries(terms: &mut Terms) -> Pairs {
+    let a = terms.start(Part::A)?;
+    let zero = terms.number(0)?;
+    let exclusive = terms.alu(Op::Xra, a, a, zero)?;
+    let inclusive = terms.alu(Op::Ora, a, a, zero)?;
+    let sum = terms.alu(Op::Adc, a, a, zero)?;
+    let of_exclusive = terms.flag(Part::Cy, exclusive)?;
+    let of_inclusive = terms.flag(Part::Cy, inclusive)?;
+    let of_sum = terms.flag(Part::Cy, sum)?;
+    Some(of_exclusive == zero && of_inclusive == zero && of_sum != zero)
+}
+
 // AC of an addition is a term of its own, and of a subtraction it is not known.
 fn half_carries(terms: &mut Terms) -> Pairs {
     let a = terms.start(Part::A)?;
@@ -161,6 +174,7 @@ fn equations(rt: HostRuntime) -> Result<(), Fail> {
     assert!(rt; sums(&mut terms) == Some(true));
     assert!(rt; sums_with_nothing(&mut terms) == Some(true));
     assert!(rt; flags(&mut terms) == Some(true));
+    assert!(rt; carries(&mut terms) == Some(true));
     assert!(rt; half_carries(&mut terms) == Some(true));
     assert!(rt; unknowns(&mut terms) == Some(true));
     assert!(rt; turned_words(&mut terms) == Some(true));
