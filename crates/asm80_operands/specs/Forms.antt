@@ -1,6 +1,10 @@
 -- What the form of a statement's operands is, by the definition of the assembler.
-use Rattle.std.specs.Prelude.{◌≡◌, List, true, false, Some, None, Result, Ok, Err}
+use Rattle.std.specs.Prelude.{◌≡◌, ◌<◌, List, length, All, true, false, Some, None, IfSome, Result, Ok, Err}
 use Rattle.std.specs.List.{list_any}
+use Rattle.cells.specs.declared.Cell.{Cell}
+use Rattle.cells.specs.declared.Cell.TheVariants.{Num}
+use Rattle.i80.specs.declared.Instr80.{Instr80}
+use Rattle.asm80_program.specs.Program.{IsCoded}
 use Rattle.asm80_tokens.specs.Tree.{Operand}
 use Rattle.asm80_operands.specs.declared.fault.FormFault.{FormFault}
 use Rattle.asm80_operands.specs.declared.fault.FormFault.TheVariants.{Rule, Memory}
@@ -11,7 +15,12 @@ use Rattle.asm80_source.specs.Items.{Setting, instruction, data_by, is_instructi
 use Rattle.asm80_source.specs.Layout.{is_foreign_by, operands_by, misses, computes, loads_code}
 use Rattle.asm80_source.specs.Operands.{rule_of_operands}
 
--- the operands' instruction or cells, and the rules of the layout that they break
+-- a cell's number is a byte
+abbrev pub HoldsByte : Cell → Type 0
+HoldsByte (Num n) = n < 0x100
+HoldsByte c = Unit {0}
+
+-- the operands' instruction or cells, the numbers in them in their ranges, and the rules of the layout that they break
 abbrev pub IsForm : Setting → Operation → List Operand → Form → Type 0
 IsForm t o args Nothing = (is_instruction_op (Some o) ≡ false) × (is_data_op (Some o) ≡ false)
 IsForm t o args (Instruction i) =
@@ -21,10 +30,12 @@ IsForm t o args (Instruction i) =
     × (i.misses ≡ list_any (misses t) (operands_by args (Some o)))
     × (i.computes ≡ list_any (computes t) (operands_by args (Some o)))
     × (i.loads_code ≡ list_any (loads_code t) (operands_by args (Some o)))
+    × (0 < length args → IfSome i.instr (λ (x : Instr80). IsCoded x))
 IsForm t o args (Data d) =
     (is_data_op (Some o) ≡ true)
     × (d.cells.items ≡ data_by t args (Some o))
     × (d.computes ≡ list_any (computes t) (operands_by args (Some o)))
+    × All HoldsByte d.cells.items
 
 -- what is answered for operands: their form where they break no rule, else the first rule that they break. Memory is wanted
 -- for data alone that breaks none

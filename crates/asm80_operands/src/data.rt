@@ -1,6 +1,7 @@
 // The cells of DB and DW (CP/M 2.2 Operating System Manual, the assembler, "The DB directive", "The DW directive").
-ghost use Rattle.std.specs.Prelude.{◌≡◌, ◌++◌, IfOk, OnOk, map, flat_map};
+ghost use Rattle.std.specs.Prelude.{◌≡◌, ◌++◌, ◌<◌, All, IfOk, OnOk, map, flat_map};
 ghost use Rattle.asm80_tokens.specs.Tree.{operand_of};
+ghost use Rattle.asm80_operands.specs.Forms.{HoldsByte};
 ghost use Rattle.asm80_operands.specs.Settings.{setting_of};
 ghost use Rattle.asm80_source.specs.Items.{numbers, cells_of_byte, cells_of_word};
 
@@ -11,7 +12,8 @@ use std::alloc::{AllocError, Global};
 
 // Adds bytes.
 fn push_numbers(cells: &mut Vec<Cell>, bytes: &[u8]) -> Result<(), AllocError>
-    ensures { OnOk result (cells.new.items ≡ cells.old.items ++ numbers bytes.now) }
+    ensures cells { OnOk result (cells.new.items ≡ cells.old.items ++ numbers bytes.now) }
+    ensures bytes { OnOk result (All HoldsByte (numbers bytes.now)) }
 {
     for byte in bytes {
         cells.push(Cell::Num(*byte))?;
@@ -21,7 +23,8 @@ fn push_numbers(cells: &mut Vec<Cell>, bytes: &[u8]) -> Result<(), AllocError>
 
 // Adds an item of DB: a string's bytes, or a byte.
 fn push_byte(cells: &mut Vec<Cell>, setting: &Setting<'_>, arg: &Arg) -> Result<(), AllocError>
-    ensures { OnOk result (cells.new.items ≡ cells.old.items ++ cells_of_byte (setting_of setting.now) (operand_of arg.now)) }
+    ensures cells { OnOk result (cells.new.items ≡ cells.old.items ++ cells_of_byte (setting_of setting.now) (operand_of arg.now)) }
+    ensures bytes { OnOk result (All HoldsByte (cells_of_byte (setting_of setting.now) (operand_of arg.now))) }
 {
     match arg {
         Arg::Text(bytes) => push_numbers(cells, bytes.as_slice()),
@@ -34,7 +37,8 @@ fn push_byte(cells: &mut Vec<Cell>, setting: &Setting<'_>, arg: &Arg) -> Result<
 
 // The cells of a word, low byte first.
 fn word_cells(setting: &Setting<'_>, arg: &Arg) -> [Cell; 2]
-    ensures { result ≡ cells_of_word (setting_of setting.now) (operand_of arg.now) }
+    ensures cells { result ≡ cells_of_word (setting_of setting.now) (operand_of arg.now) }
+    ensures bytes { All HoldsByte (cells_of_word (setting_of setting.now) (operand_of arg.now)) }
 {
     match code_address(setting, arg) {
         Some(at) => [Cell::Lo(Place::At(at)), Cell::Hi(Place::At(at))],
@@ -47,7 +51,8 @@ fn word_cells(setting: &Setting<'_>, arg: &Arg) -> [Cell; 2]
 
 // Adds an item of DW.
 fn push_word(cells: &mut Vec<Cell>, setting: &Setting<'_>, arg: &Arg) -> Result<(), AllocError>
-    ensures { OnOk result (cells.new.items ≡ cells.old.items ++ cells_of_word (setting_of setting.now) (operand_of arg.now)) }
+    ensures cells { OnOk result (cells.new.items ≡ cells.old.items ++ cells_of_word (setting_of setting.now) (operand_of arg.now)) }
+    ensures bytes { OnOk result (All HoldsByte (cells_of_word (setting_of setting.now) (operand_of arg.now))) }
 {
     let [low, high] = word_cells(setting, arg);
     cells.push(low)?;
@@ -61,7 +66,8 @@ pub fn cells_of_bytes(
     setting: &Setting<'_>,
     args: &[Arg],
 ) -> Result<Vec<Cell>, AllocError>
-    ensures { IfOk result (λ cells. cells.items ≡ flat_map (cells_of_byte (setting_of setting.now)) (map operand_of args.now)) }
+    ensures cells { IfOk result (λ cells. cells.items ≡ flat_map (cells_of_byte (setting_of setting.now)) (map operand_of args.now)) }
+    ensures bytes { IfOk result (λ cells. All HoldsByte cells.items) }
 {
     let mut cells = Vec::new(alloc);
     for arg in args {
@@ -76,7 +82,8 @@ pub fn cells_of_words(
     setting: &Setting<'_>,
     args: &[Arg],
 ) -> Result<Vec<Cell>, AllocError>
-    ensures { IfOk result (λ cells. cells.items ≡ flat_map (cells_of_word (setting_of setting.now)) (map operand_of args.now)) }
+    ensures cells { IfOk result (λ cells. cells.items ≡ flat_map (cells_of_word (setting_of setting.now)) (map operand_of args.now)) }
+    ensures bytes { IfOk result (λ cells. All HoldsByte cells.items) }
 {
     let mut cells = Vec::new(alloc);
     for arg in args {

@@ -1,6 +1,7 @@
 // The instruction of an operation with its operands (Intel 8080 Assembly Language Programming Manual, chapter 2).
-ghost use Rattle.std.specs.Prelude.{◌≡◌, ◌==◌, [], ◌∷◌, cond, Some, None, map};
+ghost use Rattle.std.specs.Prelude.{◌≡◌, ◌==◌, ◌<◌, [], ◌∷◌, length, cond, Some, None, IfSome, map};
 ghost use Rattle.asm80_tokens.specs.Tree.{operand_of};
+ghost use Rattle.asm80_program.specs.Program.{IsCoded};
 ghost use Rattle.asm80_operands.specs.Settings.{setting_of};
 ghost use Rattle.asm80_source.specs.Items.{goal, instruction, word_of};
 
@@ -12,7 +13,8 @@ use i80::{Goal, Instr80, Pair, Word};
 
 // The immediate word of LXI; that of LXI SP is a number always.
 fn word_of(setting: &Setting<'_>, pair: Pair, arg: &Arg) -> Word
-    ensures { result ≡ word_of (setting_of setting.now) pair (operand_of arg.now) }
+    ensures word { result ≡ word_of (setting_of setting.now) pair (operand_of arg.now) }
+    ensures coded { (p : Pair) → IsCoded (Instr80.Lxi p result) }
 {
     match pair {
         Pair::Sp => Word::Num(value(setting, arg)),
@@ -22,7 +24,8 @@ fn word_of(setting: &Setting<'_>, pair: Pair, arg: &Arg) -> Word
 
 // A word: a code address or a number.
 fn word(setting: &Setting<'_>, arg: &Arg) -> Word
-    ensures { result ≡ word_of (setting_of setting.now) Pair.B (operand_of arg.now) }
+    ensures word { result ≡ word_of (setting_of setting.now) Pair.B (operand_of arg.now) }
+    ensures coded { (p : Pair) → IsCoded (Instr80.Lxi p result) }
 {
     match code_address(setting, arg) {
         Some(at) => Word::Code(at),
@@ -43,7 +46,8 @@ fn goal(at: u16) -> Goal
 
 // RST of a number; of the profile is RST 0 alone.
 fn restart(number: u16) -> Option<Instr80>
-    ensures { result ≡ cond (number == 0) (Some Instr80.Rst0) None }
+    ensures instr { result ≡ cond (number == 0) (Some Instr80.Rst0) None }
+    ensures coded { IfSome result (λ x. IsCoded x) }
 {
     if number == 0 {
         Some(Instr80::Rst0)
@@ -54,7 +58,8 @@ fn restart(number: u16) -> Option<Instr80>
 
 // LXI of a pair.
 fn load(setting: &Setting<'_>, a: &Arg, b: &Arg) -> Option<Instr80>
-    ensures { result ≡ instruction (setting_of setting.now) Operation.Lxi (operand_of a.now ∷ operand_of b.now ∷ []) }
+    ensures instr { result ≡ instruction (setting_of setting.now) Operation.Lxi (operand_of a.now ∷ operand_of b.now ∷ []) }
+    ensures coded { IfSome result (λ x. IsCoded x) }
 {
     let pair = pair_of(a)?;
     Some(Instr80::Lxi(pair, word_of(setting, pair, b)))
@@ -72,7 +77,8 @@ fn bare(setting: &Setting<'_>, operation: Operation) -> Option<Instr80>
 
 // An instruction with one operand.
 fn with_one(setting: &Setting<'_>, operation: Operation, arg: &Arg) -> Option<Instr80>
-    ensures { result ≡ instruction (setting_of setting.now) operation (operand_of arg.now ∷ []) }
+    ensures instr { result ≡ instruction (setting_of setting.now) operation (operand_of arg.now ∷ []) }
+    ensures coded { IfSome result (λ x. IsCoded x) }
 {
     match operation {
         Operation::Lda => Some(Instr80::Lda(value(setting, arg))),
@@ -94,6 +100,8 @@ fn with_one(setting: &Setting<'_>, operation: Operation, arg: &Arg) -> Option<In
         Operation::Jif(cond) => Some(Instr80::Jif(cond, goal(value(setting, arg)))),
         Operation::Call => Some(Instr80::Call(goal(value(setting, arg)))),
         Operation::Cif(cond) => Some(Instr80::Cif(cond, goal(value(setting, arg)))),
+        Operation::In => Some(Instr80::In(byte(setting, arg))),
+        Operation::Out => Some(Instr80::Out(byte(setting, arg))),
         Operation::Rst => restart(value(setting, arg)),
         _ => None,
     }
@@ -101,7 +109,8 @@ fn with_one(setting: &Setting<'_>, operation: Operation, arg: &Arg) -> Option<In
 
 // An instruction with two operands.
 fn with_two(setting: &Setting<'_>, operation: Operation, a: &Arg, b: &Arg) -> Option<Instr80>
-    ensures { result ≡ instruction (setting_of setting.now) operation (operand_of a.now ∷ operand_of b.now ∷ []) }
+    ensures instr { result ≡ instruction (setting_of setting.now) operation (operand_of a.now ∷ operand_of b.now ∷ []) }
+    ensures coded { IfSome result (λ x. IsCoded x) }
 {
     match operation {
         Operation::Mov => Some(Instr80::Mov(src_of(a)?, src_of(b)?)),
@@ -113,7 +122,8 @@ fn with_two(setting: &Setting<'_>, operation: Operation, a: &Arg, b: &Arg) -> Op
 
 /// The instruction of an operation with its operands; None where it is not of the profile.
 pub fn instruction(setting: &Setting<'_>, operation: Operation, args: &[Arg]) -> Option<Instr80>
-    ensures { result ≡ instruction (setting_of setting.now) operation (map operand_of args.now) }
+    ensures instr { result ≡ instruction (setting_of setting.now) operation (map operand_of args.now) }
+    ensures coded { 0 < length (map operand_of args.now) → IfSome result (λ x. IsCoded x) }
 {
     match args.len() {
         0 => bare(setting, operation),

@@ -28,7 +28,7 @@ pub fn kinds_of(operation: Operation) -> Option<&'static [Kind]>
         }
         Operation::Ldax | Operation::Stax => Some(&[Kind::Indirect]),
         Operation::Alu(_) | Operation::Inr | Operation::Dcr => Some(&[Kind::Register]),
-        Operation::AluI(_) | Operation::Port => Some(&[Kind::Byte]),
+        Operation::AluI(_) | Operation::In | Operation::Out => Some(&[Kind::Byte]),
         Operation::Inx | Operation::Dcx | Operation::Dad => Some(&[Kind::Pair]),
         Operation::Push | Operation::Pop => Some(&[Kind::Stack]),
         Operation::Jmp | Operation::Jif(_) | Operation::Call | Operation::Cif(_) => {

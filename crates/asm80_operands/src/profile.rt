@@ -15,12 +15,12 @@ use asm80_source::{Kind, Operation};
 use asm80_tokens::Arg;
 use i80::Pair;
 
-/// S1: whether an instruction is not of the profile: HLT, EI, DI, IN, OUT, and RST of a number other than 0.
+/// S1: whether an instruction is not of the profile: HLT, EI, DI, and RST of a number other than 0.
 pub fn is_foreign(setting: &Setting<'_>, operation: Operation, args: &[Arg]) -> bool
     ensures { result ≡ is_foreign_by (setting_of setting.now) (map operand_of args.now) (Some operation) }
 {
     match operation {
-        Operation::Foreign | Operation::Port => true,
+        Operation::Foreign => true,
         Operation::Rst => args.len() == 1 && value(setting, &args[0]) != 0,
         _ => false,
     }

@@ -3,7 +3,9 @@ use Rattle.std.proofs.Common.{◌≡◌, ℕ, zero, suc, ◌+◌, ◌-◌, ◌<�
 use Rattle.std.specs.List.Sorted.{IsBinarySearchResult}
 use Rattle.std.specs.Ordering.{nat_cmp}
 use Rattle.std.proofs.lemmas.List.{length-map, get_or-map}
+use Rattle.std.proofs.lemmas.Bool.{leb-true, and_parts}
 use Rattle.std.proofs.lemmas.Bool.Decides.{nat_tests}
+use Rattle.std.specs.Prelude.{◌%◌, ◌==◌, nat_le, ◌&&◌}
 use Rattle.std.proofs.lemmas.List.Sorted.{searched}
 use Rattle.i80.specs.declared.Instr80.{Instr80}
 use Rattle.i80.specs.declared.Instr80.TheVariants.{Nop}
@@ -150,5 +152,7 @@ length-laid (x ∷ xs) from limit laid le =
     omega (arith, laid.0, length80-positive x.instr, length-laid xs (x.at + length80 x.instr) limit laid.3 laid.1)
 
 -- the tops lie between the lowest and the highest
-pub top_range : (t : ℕ) → is_top t ≡ true → (0x4000 ≤ t) × (t ≤ 0xF000)
-top_range t h = (grind (arith, nat_tests), grind (arith, nat_tests))
+pub top_range : (t : ℕ) → is_top t ≡ true → (0x1000 ≤ t) × (t ≤ 0xFF00)
+top_range t h =
+    let bounds = and_parts (nat_le 0x1000 t) (nat_le t 0xFF00) (and_parts (t % 0x100 == 0) (nat_le 0x1000 t && nat_le t 0xFF00) h).1 in
+    (leb-true 0x1000 t bounds.0, leb-true t 0xFF00 bounds.1)

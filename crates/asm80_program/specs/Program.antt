@@ -1,8 +1,15 @@
 -- A program: a finite map from addresses to instructions with their lines, a finite map from addresses to data cells, and
 -- the top of the program area.
-use Rattle.std.specs.Prelude.{◌≡◌, ℕ, ◌+◌, ◌-◌, ◌<◌, ◌≤◌, ◌==◌, nat_lt, nat_le, ◌&&◌, ◌||◌, Bool, true, false, cond, List, [], ◌∷◌, map, length, slice_index, suc, Option, Some, None, is_some}
+use Rattle.std.specs.Prelude.{◌≡◌, ℕ, ◌+◌, ◌-◌, ◌%◌, ◌<◌, ◌≤◌, ◌==◌, nat_lt, nat_le, ◌&&◌, ◌||◌, Bool, true, false, cond, List, [], ◌∷◌, map, length, slice_index, suc, Option, Some, None, is_some, IfSome}
+use Rattle.cells.specs.declared.Place.TheVariants.{At as AtPlace, Exit}
 use Rattle.cells.specs.declared.Cell.{Cell}
+use Rattle.cells.specs.declared.Cell.TheVariants.{Num, Lo, Hi, Psw, Junk}
+use Rattle.i80.specs.declared.Word.{Word}
+use Rattle.i80.specs.declared.Word.TheVariants.{Num as Number, Code}
+use Rattle.i80.specs.declared.Goal.{Goal}
+use Rattle.i80.specs.declared.Goal.TheVariants.{At, Boot, Bdos}
 use Rattle.i80.specs.declared.Instr80.{Instr80}
+use Rattle.i80.specs.declared.Instr80.TheVariants.{Mvi, Lxi, Lda, Sta, Lhld, Shld, AluI, Jmp, Jif, Call, Cif, In, Out}
 use Rattle.i80.specs.Columns.{length80, is_well_formed}
 use Rattle.asm80_program.specs.declared.program.Placed.{Placed}
 
@@ -79,9 +86,9 @@ pub record IsLast (xs : List Placed) (a k : ℕ) : Type 0 where
   pub upto : slice_index (starts_of xs) k ≤ a
   pub past : suc k < length xs → a < slice_index (starts_of xs) (suc k)
 
--- the tops of a program area
+-- the tops of a program area: the multiples of 100H from 1000H to 0FF00H
 abbrev pub is_top : ℕ → Bool
-is_top t = (t == 0x4000) || ((t == 0x8000) || ((t == 0xC000) || (t == 0xF000)))
+is_top t = (t % 0x100 == 0) && (nat_le 0x1000 t && nat_le t 0xFF00)
 
 -- instructions one after the other from a place up, each of them well formed and wholly below a limit
 abbrev pub AreLaid : ℕ → ℕ → List Placed → Type 0
@@ -101,9 +108,69 @@ CellsAreLaid instrs from limit [] = Unit {0}
 CellsAreLaid instrs from limit (c ∷ cs) =
     (from ≤ c.0) × (c.0 < limit) × (is_covered instrs c.0 ≡ false) × CellsAreLaid instrs (c.0 + 1) limit cs
 
--- the layout of a program: an instruction starts at 100H, no cell belongs to two, and all are from 100H up and below T-2
+-- the address of an instruction that an instruction names: the target of a jump or call, unless it is 0 or 5, and the code
+-- address that LXI loads
+abbrev pub if_instr : Goal → Option ℕ
+if_instr (At a) = Some a
+if_instr Boot = None
+if_instr Bdos = None
+
+abbrev pub if_code : Word → Option ℕ
+if_code (Code a) = Some a
+if_code (Number w) = None
+
+abbrev pub named_by : Instr80 → Option ℕ
+named_by (Jmp t) = if_instr t
+named_by (Jif c t) = if_instr t
+named_by (Call t) = if_instr t
+named_by (Cif c t) = if_instr t
+named_by (Lxi pair w) = if_code w
+named_by i = None
+
+-- an instruction starts at each address that is named
+abbrev pub NameStarts : Program → List Placed → Type 0
+NameStarts p [] = Unit {0}
+NameStarts p (x ∷ xs) = IfSome (named_by x.instr) (λ a. is_start p a ≡ true) × NameStarts p xs
+
+-- a data cell is a number, or the low half of a code address with its high half in the next cell, or that high half with its
+-- low half in the cell before; an instruction starts at the code address
+abbrev pub IsDatum : Program → ℕ → Cell → Type 0
+IsDatum p a (Num n) = n < 0x100
+IsDatum p a (Lo (AtPlace q)) = (is_start p q ≡ true) × (cell_at p (a + 1) ≡ Some (Hi (AtPlace q)))
+IsDatum p a (Lo Exit) = ⊥
+IsDatum p a (Hi (AtPlace q)) = (is_start p q ≡ true) × (0 < a) × (cell_at p (a - 1) ≡ Some (Lo (AtPlace q)))
+IsDatum p a (Hi Exit) = ⊥
+IsDatum p a (Psw f) = ⊥
+IsDatum p a Junk = ⊥
+
+abbrev pub AreData : Program → List (ℕ × Cell) → Type 0
+AreData p [] = Unit {0}
+AreData p (c ∷ cs) = IsDatum p c.0 c.1 × AreData p cs
+
+-- the immediate bytes, words, addresses and ports of an instruction are in their ranges
+abbrev pub IsCoded : Instr80 → Type 0
+IsCoded (Mvi to n) = n < 0x100
+IsCoded (AluI op n) = n < 0x100
+IsCoded (In port) = port < 0x100
+IsCoded (Out port) = port < 0x100
+IsCoded (Lxi pair (Number w)) = w < 0x10000
+IsCoded (Lda a) = a < 0x10000
+IsCoded (Sta a) = a < 0x10000
+IsCoded (Lhld a) = a < 0x10000
+IsCoded (Shld a) = a < 0x10000
+IsCoded i = Unit {0}
+
+abbrev pub AreCoded : List Placed → Type 0
+AreCoded [] = Unit {0}
+AreCoded (x ∷ xs) = IsCoded x.instr × AreCoded xs
+
+-- a program: an instruction starts at 100H and at each address that an instruction or a code address among the data names; no
+-- cell belongs to two, and all are from 100H up and below T-2; what the data and the operands are
 pub record IsProgram (p : Program) : Type 0 where
   pub top : is_top p.top ≡ true
   pub first : is_start p 0x100 ≡ true
   pub instrs : AreLaid 0x100 (p.top - 2) p.instrs
+  pub named : NameStarts p p.instrs
+  pub coded : AreCoded p.instrs
   pub cells : CellsAreLaid p.instrs 0x100 (p.top - 2) p.cells
+  pub values : AreData p p.cells

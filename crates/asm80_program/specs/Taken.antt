@@ -4,23 +4,17 @@ use Rattle.std.specs.List.{list_any}
 use Rattle.cells.specs.declared.Cell.{Cell}
 use Rattle.cells.specs.declared.Cell.TheVariants.{Lo}
 use Rattle.cells.specs.declared.Place.TheVariants.{At as AtPlace}
-use Rattle.i80.specs.declared.Word.{Word}
-use Rattle.i80.specs.declared.Word.TheVariants.{Code}
 use Rattle.i80.specs.declared.Goal.{Goal}
 use Rattle.i80.specs.declared.Goal.TheVariants.{At}
 use Rattle.i80.specs.declared.Instr80.{Instr80}
 use Rattle.i80.specs.declared.Instr80.TheVariants.{Call, Cif, Lxi}
 use Rattle.asm80_program.specs.declared.program.Placed.{Placed}
-use Rattle.asm80_program.specs.Program.{Program, starts}
+use Rattle.asm80_program.specs.Program.{Program, if_code, starts}
 
 -- a place, behind a call of an instruction
 abbrev pub if_calls : ℕ → Goal → Option ℕ
 if_calls place (At a) = Some place
 if_calls place g = None
-
-abbrev pub if_code : Word → Option ℕ
-if_code (Code a) = Some a
-if_code w = None
 
 -- of an instruction at an address: behind a call of an instruction, the place at which it ends; the code address that LXI loads
 abbrev pub place_of : ℕ → Instr80 → Option ℕ

@@ -97,7 +97,7 @@ impl Program80 {
         ensures within { IfSome result (λ x. at + length80 x.instr + 2 ≤ self.now.top) }
         ensures from { IfSome result (λ _. 0x100 ≤ at) }
         ensures well_formed { IfSome result (λ x. IsTrue (is_well_formed x.instr)) }
-        ensures small { self.now.top ≤ 0xF000 }
+        ensures small { self.now.top ≤ 0xFF00 }
         ensures program { IsProgram self.now }
     {
         match self.last_from(at) {
@@ -112,7 +112,7 @@ impl Program80 {
         ensures within { IfSome result (λ i. at + length80 i + 2 ≤ self.now.top) }
         ensures from { IfSome result (λ _. 0x100 ≤ at) }
         ensures well_formed { IfSome result (λ i. IsTrue (is_well_formed i)) }
-        ensures small { self.now.top ≤ 0xF000 }
+        ensures small { self.now.top ≤ 0xFF00 }
         ensures program { IsProgram self.now }
     {
         match self.placed_at(at) {
@@ -169,30 +169,30 @@ impl Program80 {
         &self.taken_starts
     }
 
-    /// The instructions, ascending: at most 61,182, as many as there are cells from 100H up and below 0EFFEH.
+    /// The instructions, ascending: at most 65,022, as many as there are cells from 100H up and below 0FEFEH.
     pub fn instrs(&self) -> &[Placed]
         ensures value { result.now ≡ self.now.instrs }
         ensures laid { All (λ x. IsLaid 0x100 (self.now.top - 2) x) result.now }
-        ensures few { length result.now ≤ 61182 }
+        ensures few { length result.now ≤ 65022 }
         ensures program { IsProgram self.now }
     {
         &self.instrs
     }
 
-    /// The data cells, each with its address, ascending: at most 61,182.
+    /// The data cells, each with its address, ascending: at most 65,022.
     pub fn cells(&self) -> &[(u16, Cell)]
         ensures value { result.now ≡ self.now.cells }
         ensures laid { All (λ c. (0x100 ≤ c.0) × (c.0 + 2 < self.now.top)) result.now }
-        ensures few { length result.now ≤ 61182 }
+        ensures few { length result.now ≤ 65022 }
         ensures program { IsProgram self.now }
     {
         &self.cells
     }
 
-    /// The top of the program area: 4000H, 8000H, 0C000H or 0F000H.
+    /// The top of the program area, a multiple of 100H from 1000H to 0FF00H.
     pub fn top(&self) -> u16
         ensures value { result ≡ self.now.top }
-        ensures range { (0x4000 ≤ result) × (result ≤ 0xF000) }
+        ensures range { (0x1000 ≤ result) × (result ≤ 0xFF00) }
         ensures program { IsProgram self.now }
     {
         self.top

@@ -1,7 +1,8 @@
 // The places that are taken.
 ghost use Rattle.std.specs.Prelude.{◌≡◌, ◌||◌, ℕ, filter, filter_map, option_to_list, IfOk};
 ghost use Rattle.base_addresses.specs.Addresses.{has_address, is_among};
-ghost use Rattle.asm80_program.specs.Taken.{if_calls, if_code, place_placed, place_in_cell, is_taken};
+ghost use Rattle.asm80_program.specs.Program.{if_code};
+ghost use Rattle.asm80_program.specs.Taken.{if_calls, place_placed, place_in_cell, is_taken};
 
 use crate::program::Placed;
 use base_addresses::AddressSet;

@@ -125,6 +125,8 @@ instruction t op.Jmp (a ∷ []) = Some (i80.Jmp (goal (value t a)))
 instruction t (op.Jif c) (a ∷ []) = Some (i80.Jif c (goal (value t a)))
 instruction t op.Call (a ∷ []) = Some (i80.Call (goal (value t a)))
 instruction t (op.Cif c) (a ∷ []) = Some (i80.Cif c (goal (value t a)))
+instruction t op.In (a ∷ []) = Some (i80.In (byte t a))
+instruction t op.Out (a ∷ []) = Some (i80.Out (byte t a))
 instruction t op.Rst (a ∷ []) = cond (value t a == 0) (Some i80.Rst0) None
 instruction t o args = None
 

@@ -7,7 +7,7 @@ use Rattle.i80.specs.declared.Pair.{Pair as Pair80}
 use Rattle.i80.specs.declared.Pair.TheVariants as pairs
 use Rattle.asm80_tokens.specs.Tree.{Operand}
 use Rattle.asm80_source.specs.declared.operation.Operation.{Operation}
-use Rattle.asm80_source.specs.declared.operation.Operation.TheVariants.{Db, Dw, Lxi, Rst, Foreign, Port}
+use Rattle.asm80_source.specs.declared.operation.Operation.TheVariants.{Db, Dw, Lxi, Rst, Foreign}
 use Rattle.asm80_source.specs.declared.operation.Kind.{Kind}
 use Rattle.asm80_source.specs.declared.operation.Kind.TheVariants.{Byte, Word, Address, Target}
 use Rattle.asm80_source.specs.declared.rule.AsmRule.{AsmRule}
@@ -56,14 +56,13 @@ stands_outside top r = list_any (is_outside top) (cells_of r)
 
 -- ---- operands
 
--- S1: HLT, EI, DI, IN, OUT, and RST of a number other than 0
+-- S1: HLT, EI, DI, and RST of a number other than 0
 abbrev pub is_nonzero_restart : Setting → List Operand → Bool
 is_nonzero_restart t (a ∷ []) = not (value t a == 0)
 is_nonzero_restart t args = false
 
 abbrev pub is_foreign_by : Setting → List Operand → Option Operation → Bool
 is_foreign_by t args (Some Foreign) = true
-is_foreign_by t args (Some Port) = true
 is_foreign_by t args (Some Rst) = is_nonzero_restart t args
 is_foreign_by t args o = false
 

@@ -32,7 +32,7 @@ operations =
     ∷ (codes "RET", op.Bare Ret) ∷ (codes "RNZ", op.Bare (Rif Nz)) ∷ (codes "RZ", op.Bare (Rif Z)) ∷ (codes "RNC", op.Bare (Rif Nc)) ∷ (codes "RC", op.Bare (Rif C))
     ∷ (codes "RPO", op.Bare (Rif Po)) ∷ (codes "RPE", op.Bare (Rif Pe)) ∷ (codes "RP", op.Bare (Rif P)) ∷ (codes "RM", op.Bare (Rif M))
     ∷ (codes "RST", op.Rst) ∷ (codes "HLT", op.Foreign) ∷ (codes "EI", op.Foreign) ∷ (codes "DI", op.Foreign)
-    ∷ (codes "IN", op.Port) ∷ (codes "OUT", op.Port)
+    ∷ (codes "IN", op.In) ∷ (codes "OUT", op.Out)
     ∷ (codes "ORG", op.Org) ∷ (codes "END", op.End) ∷ (codes "EQU", op.Equ) ∷ (codes "SET", op.Set)
     ∷ (codes "IF", op.If) ∷ (codes "ENDIF", op.EndIf) ∷ (codes "DB", op.Db) ∷ (codes "DW", op.Dw) ∷ (codes "DS", op.Ds) ∷ []
 
@@ -76,7 +76,8 @@ kinds (op.Jif c) = Some (Target ∷ [])
 kinds op.Call = Some (Target ∷ [])
 kinds (op.Cif c) = Some (Target ∷ [])
 kinds op.Rst = Some (Restart ∷ [])
-kinds op.Port = Some (Byte ∷ [])
+kinds op.In = Some (Byte ∷ [])
+kinds op.Out = Some (Byte ∷ [])
 
 -- the bytes of an operand behind the instruction's first byte
 abbrev pub bytes_of_kind : Kind → ℕ

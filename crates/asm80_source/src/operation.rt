@@ -43,8 +43,10 @@ pub enum Operation {
     Call,
     Cif(Cond),
     Rst,
-    /// IN or OUT, which are not of the profile.
-    Port,
+    /// IN, with its port.
+    In,
+    /// OUT, with its port.
+    Out,
 }
 
 /// What an operand is of an instruction.
@@ -58,7 +60,7 @@ pub enum Kind {
     Indirect,
     /// BC, DE, HL or PSW, as PUSH and POP take them.
     Stack,
-    /// An immediate byte.
+    /// An immediate byte, or a port.
     Byte,
     /// The immediate word of LXI.
     Word,

@@ -18,7 +18,7 @@ pub enum AsmRule {
     V6,
     /// The 8,193rd name.
     V7,
-    /// HLT, EI, DI, IN, OUT, or RST 1 to 7.
+    /// HLT, EI, DI, or RST 1 to 7.
     S1,
     /// A target of a jump or call is neither the start of an instruction nor 0 nor 5.
     S2,

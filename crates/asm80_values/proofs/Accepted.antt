@@ -178,7 +178,6 @@ module _ (t : Setting) (args : List Operand) where
   pub accepted_made : (o : Operation) → is_bare_sound o ≡ true → are_by (kinds o) args ≡ true → moves_memory o args ≡ false → Makes (size_of_kinds (kinds o)) o args
   accepted_made (op.Bare i) bare fit apart = none_given (Makes 1 (op.Bare i)) args fit (refl, bare_good i bare)
   accepted_made op.Foreign bare fit apart = none_given (Makes 1 op.Foreign) args fit (refl, tt)
-  accepted_made op.Port bare fit apart = one_given Byte (Makes 2 op.Port) args fit (λ a h. (refl, tt))
   accepted_made op.Rst bare fit apart = one_given Restart (Makes 1 op.Rst) args fit (λ a h. restart_made (value t a == 0))
   -- an address, a target or a byte
   accepted_made op.Lda bare fit apart = one_given Address (Makes 3 op.Lda) args fit (λ a h. (refl, (refl, refl)))
@@ -190,6 +189,8 @@ module _ (t : Setting) (args : List Operand) where
   accepted_made op.Call bare fit apart = one_given Target (Makes 3 op.Call) args fit (λ a h. (refl, (refl, refl)))
   accepted_made (op.Cif c) bare fit apart = one_given Target (Makes 3 (op.Cif c)) args fit (λ a h. (refl, (refl, refl)))
   accepted_made (op.AluI o) bare fit apart = one_given Byte (Makes 2 (op.AluI o)) args fit (λ a h. (refl, (refl, refl)))
+  accepted_made op.In bare fit apart = one_given Byte (Makes 2 op.In) args fit (λ a h. (refl, (refl, refl)))
+  accepted_made op.Out bare fit apart = one_given Byte (Makes 2 op.Out) args fit (λ a h. (refl, (refl, refl)))
   -- a register or M
   accepted_made (op.Alu o) bare fit apart =
       one_given Register (Makes 1 (op.Alu o)) args fit (λ a h. named_made 1 (i80.Alu o) (src_of a) h (each (λ x. IsGood 1 (i80.Alu o x)) (src_of a) (λ x. (refl, refl))))

@@ -7,7 +7,7 @@ use Rattle.asm80_tokens.specs.Tree.{Operand}
 use Rattle.asm80_operands.specs.declared.form.Form.{Form}
 use Rattle.asm80_operands.specs.declared.form.Form.TheVariants.{Nothing, Instruction, Data}
 use Rattle.asm80_source.specs.declared.operation.Operation.{Operation}
-use Rattle.asm80_source.specs.declared.operation.Operation.TheVariants.{Db, Dw, Rst, Foreign, Port}
+use Rattle.asm80_source.specs.declared.operation.Operation.TheVariants.{Db, Dw, Rst, Foreign}
 use Rattle.asm80_source.specs.declared.operation.Kind.TheVariants.{Byte, Word}
 use Rattle.asm80_source.specs.declared.rule.AsmRule.{AsmRule}
 use Rattle.asm80_source.specs.declared.rule.AsmRule.TheVariants.{S1, S2, S3, S4, S5, S6, S7}
@@ -22,7 +22,6 @@ use Rattle.asm80_values.proofs.Cells.{inside, outside, below_area}
 
 no_foreign : (t : Setting) (args : List Operand) (o : Operation) → is_instruction_op (Some o) ≡ false → is_foreign_by t args (Some o) ≡ false
 no_foreign t args Foreign h = cc
-no_foreign t args Port h = cc
 no_foreign t args Rst h = cc
 no_foreign t args o h = refl
 

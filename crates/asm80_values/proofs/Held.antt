@@ -1,11 +1,12 @@
 -- What items hold: the instructions and the data cells of all rows, and where instructions start.
-use Rattle.std.proofs.Common.{◌≡◌, ℕ, ◌==◌, ◌<◌, ◌&&◌, ◌||◌, Bool, true, false, cond, find, All, List, [], ◌∷◌, ◌++◌, map, filter, Option, Some, None, refl, sym, ap, ◌∙◌}
+use Rattle.std.proofs.Common.{◌≡◌, ℕ, ◌==◌, ◌<◌, ◌&&◌, ◌||◌, Bool, true, false, cond, find, All, List, [], ◌∷◌, ◌++◌, map, filter, Option, Some, None, refl, sym, ap, subst, ◌∙◌}
 use Rattle.std.specs.Prelude.{option_map}
 use Rattle.std.specs.List.{list_any, filter_map, flat_map, cons_option}
 use Rattle.std.specs.List.Sorted.{IsPermutation}
 use Rattle.std.specs.Option.{option_or}
 use Rattle.std.proofs.lemmas.Option.{none-some}
 use Rattle.std.proofs.lemmas.List.Sorted.{IsPermutation-sym, Contains-permutation}
+use Rattle.std.proofs.Math.Path.{fun_ext}
 use Rattle.cells.specs.declared.Cell.{Cell}
 use Rattle.i80.specs.declared.Instr80.{Instr80}
 use Rattle.asm80_program.specs.declared.program.Placed.{Placed}
@@ -23,8 +24,9 @@ use Rattle.asm80_source.specs.Layout.{layout_fault}
 use Rattle.asm80_source.specs.Assembly.{Holds}
 use Rattle.asm80_values.specs.declared.item.Item.{Item}
 use Rattle.asm80_values.specs.Items.{IsFormBy, IsItem, AreItems, overlap_from, breaks, refused_item, profile_fault}
-use Rattle.asm80_values.specs.Programs.{placed_by, placed_form, placed_item, data_form, data_item, is_instruction_form, starts_item, IsSound, AreLawful}
+use Rattle.asm80_values.specs.Programs.{placed_by, placed_form, placed_item, data_form, data_item, is_instruction_form, starts_item, IsSound, NamesStarts, AreLawful}
 use Rattle.asm80_values.proofs.Breaches.{data_alone, no_start, faults_same}
+use Rattle.asm80_values.proofs.Naming.{are_named, are_coded}
 
 -- ---- of an operation
 
@@ -193,7 +195,13 @@ module _ (rs : List Row) (end : Walk) where
       option_or (refused_item S4 (find (breaks top S4) is))
       (refused_item S5 (find (breaks top S5) is)))) ≡ None) =
       or_none (refused_item S7 (find (breaks top S7) is)) _ all.1 in
-      let profile = or_none (refused_item S1 (find (breaks top S1) is)) _ area.1 in
+      let profile : (refused_item S1 (find (breaks top S1) is) ≡ None)
+      × (option_or (refused_item S2 (find (breaks top S2) is)) (
+      option_or (refused_item S4 (find (breaks top S4) is))
+      (refused_item S5 (find (breaks top S5) is))) ≡ None) =
+      or_none (refused_item S1 (find (breaks top S1) is)) _ area.1 in
+      let hits = or_none (refused_item S2 (find (breaks top S2) is)) _ profile.1 in
+      let by_items : (λ a. starts_at (starts_in rs) a) ≡ (λ a. list_any (starts_item a) is) = fun_ext (λ a. sym (starts_in_rows a rs is h)) in
       record {
         is_top = allowed;
         sound = sound;
@@ -201,6 +209,8 @@ module _ (rs : List Row) (end : Walk) where
         apart = refused_none S6 (overlap_from [] is) all.0;
         within = refused_none S7 (find (breaks top S7) is) area.0;
         native = refused_none S1 (find (breaks top S1) is) profile.0;
+        named = subst (λ (s : ℕ → Bool). All (NamesStarts s) is) by_items (are_named rs end top is (items rs) h (refused_none S2 (find (breaks top S2) is) hits.0));
+        coded = are_coded rs end is (items rs) h;
       }
 
   -- ---- the program

@@ -3,6 +3,7 @@ pub mod Overlaps
 pub mod Breaches
 pub mod Laying
 pub mod Times
+pub mod Halves
 pub mod Placing
 pub mod Sizes
 pub mod Rows
@@ -14,5 +15,6 @@ pub mod Along
 pub mod AlongIndex
 pub mod Accepted
 pub mod Sound
+pub mod Naming
 pub mod Held
 pub mod OneProgram

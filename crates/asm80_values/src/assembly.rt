@@ -13,7 +13,7 @@ use asm80_tokens::Stmt80;
 use asm80_walk::{AsmFault, walk};
 use std::alloc::Global;
 
-/// The program of the statements of a source, for a top of the program area, which is 4000H, 8000H, 0C000H or 0F000H. A refusal
+/// The program of the statements of a source, for a top of the program area, a multiple of 100H from 1000H to 0FF00H. A refusal
 /// names the first rule that is broken, of the first walk, else of the second, else of the layout, and the line of the first
 /// statement in the list that breaks it; for S3, which none breaks, line 0.
 pub fn assemble(alloc: Global, statements: &[Stmt80], top: u16) -> Result<Program80, AsmFault>

@@ -63,7 +63,7 @@ fn size_of_instruction(operation: Operation) -> u16
         | Operation::Db
         | Operation::Dw
         | Operation::Ds => 0,
-        Operation::Mvi | Operation::AluI(_) | Operation::Port => 2,
+        Operation::Mvi | Operation::AluI(_) | Operation::In | Operation::Out => 2,
         Operation::Lxi
         | Operation::Lda
         | Operation::Sta

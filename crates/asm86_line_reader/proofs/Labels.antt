@@ -169,12 +169,30 @@ rotated k (Byte r) b = by_one b _ refl
 rotated k (Word r) b = by_one b _ refl
 rotated k _ b = refl
 
+into_al : (b : Operand) → fine (forms.into_al b) ≡ true
+unfolding fine
+into_al (Number n) = refl
+into_al _ = refl
+
+received : (a b : Operand) → fine (forms.received a b) ≡ true
+unfolding fine
+received (Byte r) b = if_al r _ (into_al b)
+received _ b = refl
+
+sent : (a b : Operand) → fine (forms.sent a b) ≡ true
+unfolding fine
+sent (Number n) (Byte r) = if_al r _ refl
+sent (Number n) _ = refl
+sent _ b = refl
+
 with_two : (o : Operation) (a b : Operand) → fine (forms.with_two o a b) ≡ true
 unfolding fine
 with_two op.Mov a b = moved a b
 with_two (op.Alu o) a b = computed o a b
 with_two op.Xchg a b = exchanged a b
 with_two (op.Rotate k) a b = rotated k a b
+with_two op.In a b = received a b
+with_two op.Out a b = sent a b
 with_two _ a b = refl
 
 single : (o : Operation) (os : List Operand) → fine (forms.single o os) ≡ true

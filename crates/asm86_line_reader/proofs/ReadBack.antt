@@ -15,7 +15,7 @@ use Rattle.i86.specs.declared.Ptr.TheVariants.{Bx as PtrBx, Si as PtrSi}
 use Rattle.i86.specs.declared.Operand8.TheVariants.{Reg, Mem}
 use Rattle.i86.specs.declared.Operand16.TheVariants.{Reg as Reg_16, Direct}
 use Rattle.i86.specs.declared.Instr86.{Instr86}
-use Rattle.i86.specs.declared.Instr86.TheVariants.{MovReg8, MovMem8, MovAlDirect, MovDirectAl, MovNum8, MovNum16, MovMemNum, MovReg16, MovDirect16, MovAxDs, MovSsAx, Alu, AluNum, OrClCl, Add16, Count8, Count16, Push, Pop, Xchg8, Xchg16, Rotate8, Rotate16, Not8, Daa, Sahf, Lahf, Cmc, Stc, Nop, Jcc as JccBy, JmpNear, JmpShort, JmpBx, CallNear, Ret, Int224}
+use Rattle.i86.specs.declared.Instr86.TheVariants.{MovReg8, MovMem8, MovAlDirect, MovDirectAl, MovNum8, MovNum16, MovMemNum, MovReg16, MovDirect16, MovAxDs, MovSsAx, Alu, AluNum, OrClCl, Add16, Count8, Count16, Push, Pop, Xchg8, Xchg16, Rotate8, Rotate16, Not8, Daa, Sahf, Lahf, Cmc, Stc, Nop, Jcc as JccBy, JmpNear, JmpShort, JmpBx, CallNear, Ret, Int224, InAl, OutAl}
 use Rattle.i86.specs.Enc86.{reg_of_stack}
 use Rattle.asm86_lines.specs.declared.line.Label.{Label}
 use Rattle.asm86_lines.specs.declared.line.Value16.TheVariants.{Num, Offset}
@@ -198,6 +198,8 @@ instr JmpBx line h e = one_line line (words.known (codes "JMP") (tokens.Operatio
 instr (CallNear d) line h e = absurd cc
 instr Ret line h e = alone_line line (words.known (codes "RET") (tokens.Operation op.Ret) refl refl refl refl) e refl refl
 instr Int224 line h e = one_line line (words.known (codes "INT") (tokens.Operation op.Int) refl refl refl refl) (word (codes "224") (tokens.Number 224) two_hundred) (omega arith) e refl refl
+instr (InAl n) line h e = two_line line (words.known (codes "IN") (tokens.Operation op.In) refl refl refl refl) (reg8 Al) (byte n h) (omega arith) (omega arith) e refl (small n h)
+instr (OutAl n) line h e = two_line line (words.known (codes "OUT") (tokens.Operation op.Out) refl refl refl refl) (byte n h) (reg8 Al) (omega arith) (omega arith) e refl (small n h)
 
 -- ---- statements
 

@@ -16,7 +16,7 @@ use Rattle.i86.specs.declared.AluOp.TheVariants.{Add, Or}
 use Rattle.i86.specs.declared.Count.{Count}
 use Rattle.i86.specs.declared.Rotate.{Rotate}
 use Rattle.i86.specs.declared.Instr86.{Instr86}
-use Rattle.i86.specs.declared.Instr86.TheVariants.{MovReg8, MovMem8, MovAlDirect, MovDirectAl, MovNum8, MovNum16, MovMemNum, MovReg16, MovDirect16, MovAxDs, MovSsAx, Alu, AluNum, OrClCl, Add16, Count8, Count16, Push, Pop, Xchg8, Xchg16, Rotate8, Rotate16, Not8, Daa, Sahf, Lahf, Cmc, Stc, Nop, Jcc as JccBy, JmpNear, JmpShort, JmpBx, CallNear, Ret, Int224}
+use Rattle.i86.specs.declared.Instr86.TheVariants.{MovReg8, MovMem8, MovAlDirect, MovDirectAl, MovNum8, MovNum16, MovMemNum, MovReg16, MovDirect16, MovAxDs, MovSsAx, Alu, AluNum, OrClCl, Add16, Count8, Count16, Push, Pop, Xchg8, Xchg16, Rotate8, Rotate16, Not8, Daa, Sahf, Lahf, Cmc, Stc, Nop, Jcc as JccBy, JmpNear, JmpShort, JmpBx, CallNear, Ret, Int224, InAl, OutAl}
 use Rattle.asm86_lines.specs.declared.line.Label.{Label}
 use Rattle.asm86_lines.specs.declared.line.Value16.TheVariants.{Num, Offset as OffsetOf}
 use Rattle.asm86_lines.specs.declared.line.Stmt86.{Stmt86}
@@ -229,11 +229,31 @@ rotated k (Byte r) b = by_one b (run (Rotate8 k r))
 rotated k (Word r) b = by_one b (run (Rotate16 k r))
 rotated k _ b = None
 
+-- IN AL,n
+abbrev pub into_al : Operand → Option Stmt86
+into_al (Number n) = run (InAl n)
+into_al _ = None
+
+abbrev pub received : Operand → Operand → Option Stmt86
+received (Byte r) b = if_al r (into_al b)
+received _ b = None
+
+-- OUT n,AL
+abbrev pub to_port : ℕ → Operand → Option Stmt86
+to_port n (Byte r) = if_al r (run (OutAl n))
+to_port n _ = None
+
+abbrev pub sent : Operand → Operand → Option Stmt86
+sent (Number n) b = to_port n b
+sent _ b = None
+
 abbrev pub with_two : Operation → Operand → Operand → Option Stmt86
 with_two op.Mov a b = moved a b
 with_two (op.Alu o) a b = computed o a b
 with_two op.Xchg a b = exchanged a b
 with_two (op.Rotate k) a b = rotated k a b
+with_two op.In a b = received a b
+with_two op.Out a b = sent a b
 with_two _ a b = None
 
 -- ---- any number of operands
@@ -283,6 +303,8 @@ abbrev pub is_small_instr : Instr86 → Bool
 is_small_instr (MovNum8 r n) = nat_le n 255
 is_small_instr (MovMemNum p n) = nat_le n 255
 is_small_instr (AluNum o n) = nat_le n 255
+is_small_instr (InAl n) = nat_le n 255
+is_small_instr (OutAl n) = nat_le n 255
 is_small_instr _ = true
 
 -- no number above 255 stands where a byte is needed

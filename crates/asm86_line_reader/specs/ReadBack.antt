@@ -2,7 +2,7 @@
 use Rattle.std.specs.Prelude.{nat_lt, Bool, true, false}
 use Rattle.i86.specs.declared.Operand16.TheVariants.{Direct}
 use Rattle.i86.specs.declared.Instr86.{Instr86}
-use Rattle.i86.specs.declared.Instr86.TheVariants.{MovAlDirect, MovDirectAl, MovNum8, MovNum16, MovMemNum, MovReg16, MovDirect16, AluNum, Jcc as JccBy, JmpNear, JmpShort, CallNear}
+use Rattle.i86.specs.declared.Instr86.TheVariants.{MovAlDirect, MovDirectAl, MovNum8, MovNum16, MovMemNum, MovReg16, MovDirect16, AluNum, Jcc as JccBy, JmpNear, JmpShort, CallNear, InAl, OutAl}
 use Rattle.asm86_lines.specs.declared.line.Label.{Label}
 use Rattle.asm86_lines.specs.declared.line.Label.TheVariants.{At, Skip, User}
 use Rattle.asm86_lines.specs.declared.line.Value16.{Value16}
@@ -29,6 +29,8 @@ instr_fits (MovMemNum p n) = nat_lt n 256
 instr_fits (MovReg16 r (Direct a)) = nat_lt a 65536
 instr_fits (MovDirect16 a r) = nat_lt a 65536
 instr_fits (AluNum o n) = nat_lt n 256
+instr_fits (InAl n) = nat_lt n 256
+instr_fits (OutAl n) = nat_lt n 256
 instr_fits (JccBy j d) = false
 instr_fits (JmpNear d) = false
 instr_fits (JmpShort d) = false

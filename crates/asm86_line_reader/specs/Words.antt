@@ -11,7 +11,7 @@ use Rattle.i86.specs.declared.Rotate.TheVariants.{Rol, Ror, Rcl, Rcr}
 use Rattle.i86.specs.declared.Jump.TheVariants.{Jb, Jnb, Jz, Jnz, Js, Jns, Jp, Jnp}
 use Rattle.asm86_lines.specs.declared.line.Label.{Label}
 use Rattle.asm86_lines.specs.declared.line.Label.TheVariants.{At, Skip, User, Sys, End as XEnd}
-use Rattle.asm86_line_reader.specs.declared.token.Operation.TheVariants.{Mov, Alu, Count, Push, Pop, Xchg, Rotate, Not, Daa, Sahf, Lahf, Cmc, Stc, Nop, Ret, Int, Jmp, Jmps, Call, Jcc, Cseg, Dseg, Org, Rb, Db, Dw, End}
+use Rattle.asm86_line_reader.specs.declared.token.Operation.TheVariants.{Mov, Alu, Count, Push, Pop, Xchg, Rotate, Not, In, Out, Daa, Sahf, Lahf, Cmc, Stc, Nop, Ret, Int, Jmp, Jmps, Call, Jcc, Cseg, Dseg, Org, Rb, Db, Dw, End}
 use Rattle.asm86_line_reader.specs.declared.token.Token.{Token}
 use Rattle.asm86_line_reader.specs.declared.token.Token.TheVariants as tokens
 use Rattle.asm86_line_reader.specs.Letters.{is_digit}
@@ -31,7 +31,7 @@ operations =
     ∷ (codes "DAA", tokens.Operation Daa) ∷ (codes "SAHF", tokens.Operation Sahf) ∷ (codes "LAHF", tokens.Operation Lahf) ∷ (codes "CMC", tokens.Operation Cmc) ∷ (codes "STC", tokens.Operation Stc) ∷ (codes "NOP", tokens.Operation Nop)
     ∷ (codes "JB", tokens.Operation (Jcc Jb)) ∷ (codes "JNB", tokens.Operation (Jcc Jnb)) ∷ (codes "JZ", tokens.Operation (Jcc Jz)) ∷ (codes "JNZ", tokens.Operation (Jcc Jnz))
     ∷ (codes "JS", tokens.Operation (Jcc Js)) ∷ (codes "JNS", tokens.Operation (Jcc Jns)) ∷ (codes "JP", tokens.Operation (Jcc Jp)) ∷ (codes "JNP", tokens.Operation (Jcc Jnp))
-    ∷ (codes "JMP", tokens.Operation Jmp) ∷ (codes "JMPS", tokens.Operation Jmps) ∷ (codes "CALL", tokens.Operation Call) ∷ (codes "RET", tokens.Operation Ret) ∷ (codes "INT", tokens.Operation Int) ∷ []
+    ∷ (codes "JMP", tokens.Operation Jmp) ∷ (codes "JMPS", tokens.Operation Jmps) ∷ (codes "CALL", tokens.Operation Call) ∷ (codes "RET", tokens.Operation Ret) ∷ (codes "INT", tokens.Operation Int) ∷ (codes "IN", tokens.Operation In) ∷ (codes "OUT", tokens.Operation Out) ∷ []
 
 -- the words of directives, of operands, and the two labels without a number
 unfoldable pub others : List (List ℕ × Token)

@@ -6,6 +6,7 @@ ghost use Rattle.asm86_line_reader.specs.Results.{checked, or_m2};
 
 use crate::computations::{computed, counted, exchanged, inverted, popped, pushed, rotated};
 use crate::moves::moved;
+use crate::ports::{received, sent};
 use crate::token::{Operand, Operation};
 use asm86_lines::{Label, Stmt86, TextRule};
 use i86::{Instr86, Reg16};
@@ -70,6 +71,8 @@ fn with_two(operation: Operation, first: Operand, second: Operand) -> Result<Stm
         Operation::Alu(op) => computed(op, first, second),
         Operation::Xchg => exchanged(first, second),
         Operation::Rotate(by) => rotated(by, first, second),
+        Operation::In => received(first, second),
+        Operation::Out => sent(first, second),
         _ => Err(TextRule::M2),
     }
 }

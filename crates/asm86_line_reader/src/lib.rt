@@ -11,6 +11,7 @@ mod line;
 mod moves;
 mod numbers;
 mod operands;
+mod ports;
 mod token;
 mod tokens;
 mod words;

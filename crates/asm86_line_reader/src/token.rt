@@ -17,6 +17,8 @@ pub enum Operation {
     /// `ROL` and the like
     Rotate(Rotate),
     Not,
+    In,
+    Out,
     Daa,
     Sahf,
     Lahf,

@@ -11,7 +11,7 @@ use asm86_lines::Label;
 use i86::{AluOp, Count, Jump, Reg8, Reg16, Rotate};
 
 /// The words of instructions.
-const OPERATIONS: [(&[u8], Token); 38] = [
+const OPERATIONS: [(&[u8], Token); 40] = [
     (b"MOV", Token::Operation(Operation::Mov)),
     (b"ADD", Token::Operation(Operation::Alu(AluOp::Add))),
     (b"OR", Token::Operation(Operation::Alu(AluOp::Or))),
@@ -50,6 +50,8 @@ const OPERATIONS: [(&[u8], Token); 38] = [
     (b"CALL", Token::Operation(Operation::Call)),
     (b"RET", Token::Operation(Operation::Ret)),
     (b"INT", Token::Operation(Operation::Int)),
+    (b"IN", Token::Operation(Operation::In)),
+    (b"OUT", Token::Operation(Operation::Out)),
 ];
 
 /// The words of directives and operands, and the labels without a number.

@@ -100,6 +100,8 @@ fn instr(i: Instr86) -> LineText
         Instr86::JmpBx => with_one(b"JMP", b"BX"),
         Instr86::Ret => alone(b"RET"),
         Instr86::Int224 => with_one(b"INT", b"224"),
+        Instr86::InAl(port) => with_two(b"IN", b"AL", byte(port).as_slice()),
+        Instr86::OutAl(port) => with_two(b"OUT", byte(port).as_slice(), b"AL"),
         Instr86::Jcc(_, _) | Instr86::JmpNear(_) | Instr86::JmpShort(_) | Instr86::CallNear(_) =>
             LineText::empty(),
     }

@@ -21,7 +21,7 @@ use Rattle.i86.specs.declared.Rotate.TheVariants.{Rol, Ror, Rcl, Rcr}
 use Rattle.i86.specs.declared.Jump.{Jump}
 use Rattle.i86.specs.declared.Jump.TheVariants.{Jb, Jnb, Jz, Jnz, Js, Jns, Jp, Jnp}
 use Rattle.i86.specs.declared.Instr86.{Instr86}
-use Rattle.i86.specs.declared.Instr86.TheVariants.{MovReg8, MovMem8, MovAlDirect, MovDirectAl, MovNum8, MovNum16, MovMemNum, MovReg16, MovDirect16, MovAxDs, MovSsAx, Alu, AluNum, OrClCl, Add16, Count8, Count16, Push, Pop, Xchg8, Xchg16, Rotate8, Rotate16, Not8, Daa, Sahf, Lahf, Cmc, Stc, Nop, Jcc, JmpNear, JmpShort, JmpBx, CallNear, Ret, Int224}
+use Rattle.i86.specs.declared.Instr86.TheVariants.{MovReg8, MovMem8, MovAlDirect, MovDirectAl, MovNum8, MovNum16, MovMemNum, MovReg16, MovDirect16, MovAxDs, MovSsAx, Alu, AluNum, OrClCl, Add16, Count8, Count16, Push, Pop, Xchg8, Xchg16, Rotate8, Rotate16, Not8, Daa, Sahf, Lahf, Cmc, Stc, Nop, Jcc, JmpNear, JmpShort, JmpBx, CallNear, Ret, Int224, InAl, OutAl}
 use Rattle.i86.specs.Enc86.{reg_of_stack}
 use Rattle.asm86_lines.specs.declared.line.Label.{Label}
 use Rattle.asm86_lines.specs.declared.line.Label.TheVariants.{At, Skip, User, Sys, End}
@@ -229,6 +229,8 @@ instr_ends JmpBx h = word_one (codes "JMP") (codes "BX") refl (tested (codes "BX
 instr_ends (CallNear d) h = absurd cc
 instr_ends Ret h = alone_ends (codes "RET") refl
 instr_ends Int224 h = word_one (codes "INT") (codes "224") refl (tested (codes "224") refl)
+instr_ends (InAl n) h = word_two (codes "IN") (codes "AL") (byte_text n) refl (tested (codes "AL") refl) (byte_plain n)
+instr_ends (OutAl n) h = word_two (codes "OUT") (byte_text n) (codes "AL") refl (byte_plain n) (tested (codes "AL") refl)
 
 -- the written line of a statement
 pub line_ends : (s : Stmt86) → has_line s ≡ true → EndsOnce (line_of s)

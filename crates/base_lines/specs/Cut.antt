@@ -1,5 +1,5 @@
 -- How a text is cut into lines. A line is ended by LF (0AH); a CR before it is no part of the line, and what follows the last
--- LF is a line unless it is empty. This is the form of text files under CP/M and MS-DOS.
+-- LF is a line unless it is empty.
 use Rattle.std.specs.Prelude.{◌≡◌, ℕ, List, [], ◌∷◌, ◌++◌, ◌==◌, ◌-◌, if◌then◌else◌, length, take, slice_index}
 use Rattle.std.specs.List.{flat_map, AllByRecursion}
 

@@ -4,7 +4,8 @@ use Rattle.std.proofs.lemmas.List.{append-nil}
 use Rattle.dialogue.specs.declared.request.Reply.{Reply}
 use Rattle.dialogue.specs.declared.request.Event.{Event}
 use Rattle.dialogue.specs.declared.request.Event.TheVariants.{End}
-use Rattle.base_runs.specs.Run.{Answer, Ran, Asks, Ends, Stops, Machine, Status, Going, Waiting, Over, Stopped, Run, choice_at, answers, take_reply, settle, turn_by, turn, turns, IsNotStopped, IsFrontOf}
+use Rattle.dialogue.specs.Fits.{fits_event}
+use Rattle.base_runs.specs.Run.{Answer, Ran, Asks, Ends, Stops, Machine, Status, Going, Waiting, Over, Stopped, Run, choice_at, take_reply, settle, turn_by, turn, turns, IsNotStopped, IsFrontOf}
 
 -- a run that does not go on
 abbrev pub IsStill : {X : Type 0} → Status X → Type 0
@@ -29,7 +30,7 @@ module _ {S X : Type 0} (m : Machine S X) (cs : List ℕ) where
 
   take_grows : (r : Run S X) (q : Event) (ys : List Reply) → r.dialogue ≡ (take_reply m cs r q ys).dialogue
   take_grows r q [] = refl
-  take_grows r q (y ∷ ys) = by_fit (answers q y)
+  take_grows r q (y ∷ ys) = by_fit (fits_event q y)
     where
       by_fit : (b : Bool) → r.dialogue ≡ (let out : Run S X = cond b (record r { state = m.replied r.state q y (choice_at cs r.used); replies = ys; used = suc r.used }) (record r { status = Waiting }) in out.dialogue)
       by_fit true = refl

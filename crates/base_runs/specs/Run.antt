@@ -3,8 +3,8 @@
 use Rattle.std.specs.Prelude.{◌≡◌, ℕ, zero, suc, ◌%◌, Bool, false, cond, List, [], ◌∷◌, ◌++◌, length, slice_index}
 use Rattle.dialogue.specs.declared.request.Reply.{Reply}
 use Rattle.dialogue.specs.declared.request.Event.{Event}
-use Rattle.dialogue.specs.declared.request.Event.TheVariants.{Call, End}
-use Rattle.dialogue.specs.Fits.{fits}
+use Rattle.dialogue.specs.declared.request.Event.TheVariants.{End}
+use Rattle.dialogue.specs.Fits.{fits_event}
 
 -- what one step answers, of a machine with states S that stops for reasons X: it ran on to a state; it asks something and
 -- waits in a state; the program has ended; it stopped
@@ -38,16 +38,11 @@ pub record Run (S X : Type 0) : Type 0 where
 abbrev pub choice_at : List ℕ → ℕ → ℕ
 choice_at cs k = slice_index cs (k % length cs)
 
--- the reply is one that what was asked may get; the end gets none
-abbrev pub answers : Event → Reply → Bool
-answers (Call q) y = fits q y
-answers End y = false
-
 -- takes the next reply, where there is one and it fits; else the run waits
 abbrev pub take_reply : {S X : Type 0} → Machine S X → List ℕ → Run S X → Event → List Reply → Run S X
 take_reply m cs r e [] = record r { status = Waiting }
 take_reply m cs r e (y ∷ ys) =
-    cond (answers e y)
+    cond (fits_event e y)
     (record r { state = m.replied r.state e y (choice_at cs r.used); replies = ys; used = suc r.used })
     (record r { status = Waiting })
 

@@ -9,22 +9,23 @@ use Rattle.dialogue.specs.declared.request.Request.{Request}
 use Rattle.dialogue.specs.declared.request.Reply.{Reply}
 use Rattle.dialogue.specs.declared.table.Argument.TheVariants.{InDE}
 use Rattle.dialogue.specs.declared.table.AnswerKind.TheVariants.{NoAnswer}
+use Rattle.dialogue.specs.declared.table.AnswerRule.TheVariants.{Always, ByteWhere}
 use Rattle.dialogue.specs.declared.table.Extent.TheVariants.{F, Line}
 use Rattle.dialogue.specs.Table.{Row, row_of}
 use Rattle.dialogue.specs.Shape.{address_of, ranges}
-use Rattle.dialogue.specs.Fits.{answer_fits, fits_row, fits, writes_fit, line_fits}
+use Rattle.dialogue.specs.Fits.{kind_by, answer_fits, fits_row, fits, writes_fit, line_fits}
 use Rattle.dialogue.specs.Lawful.{AreRangesOf, first_byte, IsLawful}
-use Rattle.bdos_console.specs.Console.{Answered, place_in, line_read, line_left, read_console_line, status_of, told, FitsRequest, IsByte}
+use Rattle.bdos_console.specs.Console.{Answered, place_in, line_read, line_left, read_console_line, status_of, told, FitsRequest, IsByte, IsDirect}
 use Rattle.bdos_console.specs.declared.answers.Answer.{Answer}
 use Rattle.bdos_console.specs.declared.answers.Answer.TheVariants.{Reply as Replies, InputEnded, NoDrive}
 
 -- a reply that writes nothing, to a function of a row
-told_fits : (q : Request) (n k : ℕ) (row : Row) → q.shape.function ≡ k → row_of k ≡ Some row → (k == 10) ≡ false → answer_fits row.answer n ≡ true → FitsRequest q (told n)
+told_fits : (q : Request) (n k : ℕ) (row : Row) → q.shape.function ≡ k → row_of k ≡ Some row → (k == 10) ≡ false → answer_fits (kind_by row.answer q.shape.arg) n ≡ true → FitsRequest q (told n)
 told_fits q n k row is at other fit =
     let y : Reply = record { answer = n; writes = [] } in
     ap (λ o. fits_row o q y) (ap row_of is ∙ at)
-    ∙ ap (λ t. answer_fits row.answer n && cond t (line_fits (ranges q.shape.writes) []) (writes_fit (ranges q.shape.writes) [])) (ap (λ f. f == 10) is ∙ other)
-    ∙ and_from (answer_fits row.answer n) true fit refl
+    ∙ ap (λ t. answer_fits (kind_by row.answer q.shape.arg) n && cond t (line_fits (ranges q.shape.writes) []) (writes_fit (ranges q.shape.writes) [])) (ap (λ f. f == 10) is ∙ other)
+    ∙ and_from (answer_fits (kind_by row.answer q.shape.arg) n) true fit refl
 
 -- functions 1, 11 and 12
 byte_told : (q : Request) (n : ℕ) → q.shape.function ≡ 1 → n < 256 → FitsRequest q (told n)
@@ -35,6 +36,16 @@ pub byte_fits : (q : Request) (a : Answer) → q.shape.function ≡ 1 → IsByte
 byte_fits q (Replies y) is h = subst (λ ws. FitsRequest q (Replies (record { answer = y.answer; writes = ws }))) (sym h.1) (byte_told q y.answer is h.0)
 byte_fits q InputEnded is h = tt
 byte_fits q NoDrive is h = tt
+
+-- function 6
+direct_told : (q : Request) (n : ℕ) → q.shape.function ≡ 6 → answer_fits (kind_by (ByteWhere 0xFF) q.shape.arg) n ≡ true → FitsRequest q (told n)
+unfolding row_of
+direct_told q n is fit = told_fits q n 6 _ is refl refl fit
+
+pub direct_fits : (q : Request) (a : Answer) → q.shape.function ≡ 6 → IsDirect q.shape.arg a → FitsRequest q a
+direct_fits q (Replies y) is h = subst (λ ws. FitsRequest q (Replies (record { answer = y.answer; writes = ws }))) (sym h.1) (direct_told q y.answer is h.0)
+direct_fits q InputEnded is h = absurd h
+direct_fits q NoDrive is h = absurd h
 
 status_told : (q : Request) (n : ℕ) → q.shape.function ≡ 11 → n < 256 → FitsRequest q (told n)
 unfolding row_of
@@ -53,7 +64,7 @@ version_fits q a is e = subst (FitsRequest q) (sym e) (version_told q 0x22 is (o
 
 -- the row of function 10
 line_row : Row
-line_row = record { argument = InDE; answer = NoAnswer; reads = F 0 1 ∷ []; writes = Line ∷ [] }
+line_row = record { argument = InDE; answer = Always NoAnswer; reads = F 0 1 ∷ []; writes = Line ∷ [] }
 
 line_row_at : row_of 10 ≡ Some line_row
 unfolding row_of line_row

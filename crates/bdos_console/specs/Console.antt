@@ -7,7 +7,8 @@ use Rattle.dialogue.specs.declared.request.ArgWord.TheVariants.{None as NoWord, 
 use Rattle.dialogue.specs.declared.request.Range.{Range}
 use Rattle.dialogue.specs.declared.request.Request.{Request}
 use Rattle.dialogue.specs.Shape.{address_of}
-use Rattle.dialogue.specs.Fits.{fits}
+use Rattle.dialogue.specs.declared.table.AnswerRule.TheVariants.{ByteWhere}
+use Rattle.dialogue.specs.Fits.{kind_by, answer_fits, fits}
 use Rattle.dialogue.specs.Lawful.{first_byte}
 use Rattle.bdos_console.specs.declared.answers.Answer.{Answer}
 use Rattle.bdos_console.specs.declared.answers.Answer.TheVariants.{Reply, InputEnded, NoDrive}
@@ -21,10 +22,25 @@ pub record Answered : Type 0 where
 abbrev pub told : ℕ → Answer
 told n = Reply (record { answer = n; writes = [] })
 
+-- an answer that takes no input
+abbrev pub taking_none : Answer → List ℕ → Answered
+taking_none a input = record { answer = a; left = input }
+
 -- 1, console input: the next byte
 abbrev pub read_byte : List ℕ → Answered
 read_byte [] = record { answer = InputEnded; left = [] }
 read_byte (b ∷ bs) = record { answer = told b; left = bs }
+
+-- 6, direct console: where E is 0FFH the next byte, or 0 where none is left (this project's choice: CP/M 2.2 answers 0, CP/M-86
+-- waits for a character); with another E it is output
+abbrev pub read_direct : List ℕ → Answered
+read_direct [] = taking_none (told 0) []
+read_direct (b ∷ bs) = record { answer = told b; left = bs }
+
+abbrev pub direct_console : ArgWord → List ℕ → Answered
+direct_console (Byte e) input = cond (e == 0xFF) (read_direct input) (taking_none (told 0) input)
+direct_console NoWord input = taking_none (told 0) input
+direct_console (Word w) input = taking_none (told 0) input
 
 -- 11, console status: whether a byte waits
 abbrev pub status_of : List ℕ → ℕ
@@ -77,17 +93,14 @@ disk_selected (Byte e) = cond (e == 0) (told 0) NoDrive
 disk_selected NoWord = NoDrive
 disk_selected (Word w) = NoDrive
 
--- an answer that takes no input
-abbrev pub taking_none : Answer → List ℕ → Answered
-taking_none a input = record { answer = a; left = input }
-
--- the answer to a call and the input that is left, function by function. Output (2 and 9), reset disks (13) and set DMA
+-- the answer to a call and the input that is left, function by function. Output (2, 6 and 9), reset disks (13) and set DMA
 -- address (26) do nothing here that a program sees; the version (12) is 22H; the current disk (25) is A, 0. All others of
 -- the call table are for files, but for 0, which ends a program and is never asked
 abbrev pub console_answer : List ℕ → Request → Answered
 console_answer input q =
     cond (q.shape.function == 1) (read_byte input)
     (cond (q.shape.function == 2) (taking_none (told 0) input)
+    (cond (q.shape.function == 6) (direct_console q.shape.arg input)
     (cond (q.shape.function == 9) (taking_none (told 0) input)
     (cond (q.shape.function == 10) (read_console_line (address_of q.shape.arg + 1) (first_byte q.blocks) input)
     (cond (q.shape.function == 11) (taking_none (told (status_of input)) input)
@@ -96,7 +109,7 @@ console_answer input q =
     (cond (q.shape.function == 14) (taking_none (disk_selected q.shape.arg) input)
     (cond (q.shape.function == 25) (taking_none (told 0) input)
     (cond (q.shape.function == 26) (taking_none (told 0) input)
-    (taking_none NoDrive input))))))))))
+    (taking_none NoDrive input)))))))))))
 
 -- a reply is one that the request may get
 abbrev pub FitsRequest : Request → Answer → Type 0
@@ -109,6 +122,12 @@ abbrev pub IsByte : Answer → Type 0
 IsByte (Reply y) = (y.answer < 256) × (y.writes ≡ [])
 IsByte InputEnded = Unit {0}
 IsByte NoDrive = Unit {0}
+
+-- a reply that the direct console may give for an argument
+abbrev pub IsDirect : ArgWord → Answer → Type 0
+IsDirect arg (Reply y) = (answer_fits (kind_by (ByteWhere 0xFF) arg) y.answer ≡ true) × (y.writes ≡ [])
+IsDirect arg InputEnded = ⊥
+IsDirect arg NoDrive = ⊥
 
 -- only a reply takes input
 abbrev pub TakesByReply : Answer → List ℕ → List ℕ → Type 0

@@ -1,5 +1,5 @@
 // The console and its answers (CP/M 2.2 Operating System Manual, section 5.3, "BDOS functions").
-ghost use Rattle.std.specs.Prelude.{◌≡◌, ◌≢◌, ◌+◌, ◌<◌, [], ◌∷◌, length, IfOk, OnErr};
+ghost use Rattle.std.specs.Prelude.{◌≡◌, ◌≢◌, ◌+◌, ◌<◌, [], ◌∷◌, length, IfOk, OnErr, MatchOption};
 ghost use Rattle.dialogue.specs.Shape.{address_of};
 ghost use Rattle.dialogue.specs.Lawful.{first_byte, IsLawful};
 ghost use Rattle.bdos_console.specs.Console.{disk_selected, place_in};
@@ -11,6 +11,9 @@ use std::marker::Model;
 
 /// The version that function 12 tells: CP/M 2.2.
 const VERSION: u16 = 0x22;
+
+/// The argument of function 6 that asks for a byte.
+const DIRECT_INPUT: u8 = 0xFF;
 
 /// What the console answers a call: a reply; that it has no input left for it; or that the call needs a drive that is not
 /// there.
@@ -39,7 +42,7 @@ impl Model for Console {
 }
 
 impl Console {
-    ghost use Rattle.bdos_console.specs.Console.{Answered, console_answer, read_byte, read_console_line, status_of, FitsRequest, IsByte, TakesByReply};
+    ghost use Rattle.bdos_console.specs.Console.{Answered, console_answer, read_byte, read_direct, direct_console, read_console_line, status_of, FitsRequest, IsByte, IsDirect, TakesByReply};
 
     /// A console with this input.
     pub fn new(input: Vec<u8>) -> Console
@@ -60,6 +63,7 @@ impl Console {
     {
         match request.shape.function {
             1 => Ok(self.read_byte(alloc)),
+            6 => Ok(self.direct_console(alloc, request.shape.arg)),
             10 => self.read_line(alloc, request),
             11 => Ok(told(alloc, self.status())),
             12 => Ok(told(alloc, VERSION)),
@@ -76,18 +80,45 @@ impl Console {
         &self.input[self.taken..]
     }
 
+    // Takes the next byte, if one is left.
+    fn take_byte(&mut self) -> Option<u8>
+        ensures { MatchOption result ((self.old ≡ []) × (self.new ≡ [])) (λ byte. self.old ≡ byte ∷ self.new) }
+    {
+        let byte = *self.left().first()?;
+        self.taken += 1;
+        Some(byte)
+    }
+
     // Function 1: the next byte.
     fn read_byte(&mut self, alloc: Global) -> Answer
         ensures byte { IsByte result }
         ensures answer { ◌≡◌ {A = Answered} (record { answer = result; left = self.new }) (read_byte self.old) }
     {
-        match self.left().first() {
+        match self.take_byte() {
             None => Answer::InputEnded,
-            Some(byte) => {
-                let byte = *byte;
-                self.taken += 1;
-                told(alloc, u16::from(byte))
-            }
+            Some(byte) => told(alloc, u16::from(byte)),
+        }
+    }
+
+    // Function 6: input where the argument asks for it, else output.
+    fn direct_console(&mut self, alloc: Global, arg: ArgWord) -> Answer
+        ensures direct { IsDirect arg result }
+        ensures answer { ◌≡◌ {A = Answered} (record { answer = result; left = self.new }) (direct_console arg self.old) }
+    {
+        match arg {
+            ArgWord::Byte(DIRECT_INPUT) => self.read_direct(alloc),
+            _ => told(alloc, 0),
+        }
+    }
+
+    // Direct input: the next byte, or 0 where none is left.
+    fn read_direct(&mut self, alloc: Global) -> Answer
+        ensures byte { IsDirect (ArgWord.Byte 0xFF) result }
+        ensures answer { ◌≡◌ {A = Answered} (record { answer = result; left = self.new }) (read_direct self.old) }
+    {
+        match self.take_byte() {
+            None => told(alloc, 0),
+            Some(byte) => told(alloc, u16::from(byte)),
         }
     }
 

@@ -2,9 +2,8 @@
 use Rattle.std.proofs.Common.{◌≡◌, [], refl, sym, ap, ◌∙◌}
 use Rattle.cells.specs.declared.Rule.{Rule}
 use Rattle.cells.specs.declared.Place.{Place}
-use Rattle.dialogue.specs.declared.request.Request.{Request}
 use Rattle.dialogue.specs.declared.request.Reply.{Reply}
-use Rattle.dialogue.specs.declared.request.Event.TheVariants.{Call}
+use Rattle.dialogue.specs.declared.request.Event.{Event}
 use Rattle.base_runs.specs.Run.{Answer, Ran, Asks, Ends, Stops, Stopped}
 use Rattle.asm80_program.specs.Program.{Program}
 use Rattle.cpu80_steps.specs.State.{State80}
@@ -17,7 +16,7 @@ use Rattle.bdos_talk.specs.Turns.{Course, IsTurn}
 use Rattle.bdos_emulation.specs.Courses.{why80, course80_from}
 use Rattle.bdos_talk.proofs.Turning.{turn_ran, turn_ended, turn_stopped, turn_asked}
 
-module _ (p : Program) (s t : State80) (answered : Request → Reply → Course) where
+module _ (p : Program) (s t : State80) (answered : Event → Reply → Course) where
   pub ran80 : IsStep (step80 p s) DidRun s t → IsTurn (course80_from p s) (course80_from p t) answered HasRun
   ran80 h past ys n = turn_ran (machine80 p) [] why80 s past ys n t (by (step80 p s) h)
     where
@@ -67,7 +66,7 @@ module _ (p : Program) (s t : State80) (answered : Request → Reply → Course)
       by Ends h = let g = h.0 in cc
       by (Stops x) h = let g = h.0 in cc
 
-pub asked80 : (p : Program) (s t : State80) (q : Request) → t ≡ s → step80 p t ≡ Asks (Call q) t → IsTurn (course80_from p s) (course80_from p t) (λ q y. course80_from p (replied80 p t (Call q) y)) (HasAsked q)
-asked80 p s t q e h past ys n =
-    let asks_it : step80 p s ≡ Asks (Call q) t = ap (step80 p) (sym e) ∙ h in
-    turn_asked (machine80 p) [] why80 s t q past ys n asks_it
+pub asked80 : (p : Program) (s t : State80) (e : Event) → t ≡ s → step80 p t ≡ Asks e t → IsTurn (course80_from p s) (course80_from p t) (λ e y. course80_from p (replied80 p t e y)) (HasAsked e)
+asked80 p s t e same h past ys n =
+    let asks_it : step80 p s ≡ Asks e t = ap (step80 p) (sym same) ∙ h in
+    turn_asked (machine80 p) [] why80 s t e past ys n asks_it

@@ -7,9 +7,8 @@ use Rattle.i86.specs.Code.{Reads}
 use Rattle.i86.specs.Decode.{IsOnlyReader}
 use Rattle.asm86_lines.specs.Image.{Image}
 use Rattle.i86.specs.Decoder.{decoded}
-use Rattle.dialogue.specs.declared.request.Request.{Request}
 use Rattle.dialogue.specs.declared.request.Reply.{Reply}
-use Rattle.dialogue.specs.declared.request.Event.TheVariants.{Call}
+use Rattle.dialogue.specs.declared.request.Event.{Event}
 use Rattle.base_runs.specs.Run.{Answer, Ran, Asks, Ends, Stops, choice_at}
 use Rattle.cpu86_steps.specs.State.{State86}
 use Rattle.cpu86_steps.specs.Call.{Stop, replied86}
@@ -24,7 +23,7 @@ use Rattle.bdos_talk.proofs.Turning.{turn_ran, turn_ended, turn_stopped, turn_as
 one_choice : (c k : ℕ) → choice_at (c ∷ []) k ≡ c
 one_choice c k = let e : k % 1 ≡ 0 = omega arith in ap (slice_index (c ∷ [])) e
 
-module _ (code : List ℕ) (c : ℕ) (s t : State86) (answered : Request → Reply → Course) where
+module _ (code : List ℕ) (c : ℕ) (s t : State86) (answered : Event → Reply → Course) where
   stepped : (a : Answer State86 Stop) (k : ℕ) → step86 (decoded code) s c ≡ a → step86 (decoded code) s (choice_at (c ∷ []) k) ≡ a
   stepped a k e = ap (step86 (decoded code) s) (one_choice c k) ∙ e
 
@@ -37,10 +36,10 @@ module _ (code : List ℕ) (c : ℕ) (s t : State86) (answered : Request → Rep
   pub stopped86 : (why : Stop) → step86 (decoded code) s c ≡ Stops why → IsTurn (course86_from code c s) (course86_from code c t) answered (HasStopped (why86 s why))
   stopped86 why h past ys n = turn_stopped (machine86 (decoded code)) (c ∷ []) why86 s past ys n why (stepped (Stops why) past.used h)
 
-pub asked86 : (code : List ℕ) (c : ℕ) (s t : State86) (q : Request) → step86 (decoded code) s c ≡ Asks (Call q) t → IsTurn (course86_from code c s) (course86_from code c t) (λ q y. course86_from code c (replied86 t (Call q) y c)) (HasAsked q)
-asked86 code c s t q h past ys n =
-    turn_asked (machine86 (decoded code)) (c ∷ []) why86 s t q past ys n (stepped code c s t (λ q y. course86_from code c t) (Asks (Call q) t) past.used h)
-    ∙ ap (λ k. taken q (λ y. course86_from code c (replied86 t (Call q) y k)) (after_asked past q) ys n) (one_choice c (suc past.used))
+pub asked86 : (code : List ℕ) (c : ℕ) (s t : State86) (e : Event) → step86 (decoded code) s c ≡ Asks e t → IsTurn (course86_from code c s) (course86_from code c t) (λ e y. course86_from code c (replied86 t e y c)) (HasAsked e)
+asked86 code c s t e h past ys n =
+    turn_asked (machine86 (decoded code)) (c ∷ []) why86 s t e past ys n (stepped code c s t (λ e y. course86_from code c t) (Asks e t) past.used h)
+    ∙ ap (λ k. taken e (λ y. course86_from code c (replied86 t e y k)) (after_asked past e) ys n) (one_choice c (suc past.used))
 
 -- the run of an image, whatever reads its code
 pub course86_is : (fetch : ℕ → Option Instr86) (image : Image) (page fill : List ℕ) (start : Start) (c k : ℕ) (code : List ℕ) (s : State86) → k ≡ c → code ≡ image.code → s ≡ start86 image page fill start → IsOnlyReader image.code (decoded image.code) → Reads image.code fetch → course86_from code k s nothing ≡ course86 fetch image page fill start (c ∷ [])

@@ -4,9 +4,8 @@ use Rattle.cells.specs.declared.Rule.{Rule}
 use Rattle.i86.specs.declared.Instr86.{Instr86}
 use Rattle.i86.specs.Code.{Reads}
 use Rattle.i86.specs.Decoder.{decoded}
-use Rattle.dialogue.specs.declared.request.Request.{Request}
 use Rattle.dialogue.specs.declared.request.Reply.{Reply}
-use Rattle.dialogue.specs.declared.request.Event.TheVariants.{Call}
+use Rattle.dialogue.specs.declared.request.Event.{Event}
 use Rattle.base_runs.specs.Run.{Asks}
 use Rattle.asm80_program.specs.Program.{Program}
 use Rattle.asm86_lines.specs.Image.{Image}
@@ -53,12 +52,12 @@ abbrev pub course86_from : List ℕ → ℕ → State86 → Course
 course86_from code choice s = course_from (machine86 (decoded code)) (choice ∷ []) why86 s
 
 -- the 8080 waits for the reply to this
-abbrev pub Waits80 : Program → Cpu80 → Request → Type 0
-Waits80 p c q = IsMachineOf p c × (asks c ≡ true) × (step80 p (state_of c) ≡ Asks (Call q) (state_of c))
+abbrev pub Waits80 : Program → Cpu80 → Event → Type 0
+Waits80 p c e = IsMachineOf p c × (asks c ≡ true) × (step80 p (state_of c) ≡ Asks e (state_of c))
 
 -- the 8086 has nothing open, or waits for the reply to this
 abbrev pub Runs86 : Cpu86 → Type 0
 Runs86 c = ((standing c).said ≡ None) × Reads (code_of c) (decoded (code_of c))
 
-abbrev pub Waits86 : Cpu86 → Request → Type 0
-Waits86 c q = ((standing c).said ≡ Some (Call q)) × Reads (code_of c) (decoded (code_of c))
+abbrev pub Waits86 : Cpu86 → Event → Type 0
+Waits86 c e = ((standing c).said ≡ Some e) × Reads (code_of c) (decoded (code_of c))

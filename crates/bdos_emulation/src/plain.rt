@@ -4,7 +4,7 @@ ghost use Rattle.std.specs.Prelude.{◌≡◌, ◌∷◌, [], length, IfOk};
 use asm86_image::Image86;
 use bdos_talk::{Emulator, Turn, Why};
 use cpu86::{Cpu86, Start86, Step86};
-use dialogue::{Page, Reply, Request};
+use dialogue::{Event, Page, Reply};
 use i86::decode_at;
 use std::alloc::{AllocError, Global};
 
@@ -48,7 +48,6 @@ impl Plain86 {
 
 impl Emulator for Plain86 {
     ghost use Rattle.std.specs.Prelude.{refl};
-    ghost use Rattle.dialogue.specs.declared.request.Event.TheVariants.{Call};
     ghost use Rattle.cpu86_steps.specs.Call.{replied86};
     ghost use Rattle.cpu86.specs.Standing.{standing, code_of};
     ghost use Rattle.i86.specs.Decoder.{decoded};
@@ -58,17 +57,17 @@ impl Emulator for Plain86 {
 
     ghost runs = { λ m. Runs86 m.cpu };
 
-    ghost waits = { λ m q. Waits86 m.cpu q };
+    ghost waits = { λ m e. Waits86 m.cpu e };
 
     ghost course = { λ m. course86_from (code_of m.cpu) m.choice (standing m.cpu).state };
 
-    ghost answered = { λ m q y. course86_from (code_of m.cpu) m.choice (replied86 (standing m.cpu).state (Call q) y m.choice) };
+    ghost answered = { λ m e y. course86_from (code_of m.cpu) m.choice (replied86 (standing m.cpu).state e y m.choice) };
 
     fn turn(&mut self, alloc: Global) -> Result<Turn, AllocError> {
         match self.cpu.step(self.choice) {
             Step86::Ran => Ok(Turn::Ran),
             Step86::Asked => match self.cpu.asked(alloc)? {
-                Some(request) => Ok(Turn::Asks(request)),
+                Some(event) => Ok(Turn::Asks(event)),
                 None => Ok(Turn::Ended),
             },
             Step86::Ended => Ok(Turn::Ended),
@@ -80,13 +79,13 @@ impl Emulator for Plain86 {
         }
     }
 
-    fn reply(&mut self, _request: &Request, reply: &Reply) {
+    fn reply(&mut self, _event: &Event, reply: &Reply) {
         self.cpu.reply(reply, self.choice);
     }
 
     ghost begins = { λ m t ys. refl };
 
-    ghost takes = { λ m q y t ys. refl };
+    ghost takes = { λ m e y t ys. refl };
 
     ghost single = { λ m. one_run (machine86 (decoded (code_of m.cpu))) (m.choice ∷ []) why86 (standing m.cpu).state };
 }

@@ -4,7 +4,7 @@ ghost use Rattle.std.specs.Prelude.{◌≡◌, IfOk};
 use asm80_program::Program80;
 use bdos_talk::{Emulator, Turn, Why};
 use cpu80::{Cpu80, Step80};
-use dialogue::{Page, Reply, Request};
+use dialogue::{Event, Page, Reply};
 use std::alloc::{AllocError, Global};
 
 /// The tagged 8080 with its program.
@@ -36,7 +36,6 @@ impl<'a> Tagged80<'a> {
 
 impl<'a> Emulator for Tagged80<'a> {
     ghost use Rattle.std.specs.Prelude.{refl, []};
-    ghost use Rattle.dialogue.specs.declared.request.Event.TheVariants.{Call};
     ghost use Rattle.cpu80_steps.specs.Step.{machine80, replied80};
     ghost use Rattle.cpu80.specs.State.{state_of};
     ghost use Rattle.cpu80.specs.Machine.{IsMachineOf};
@@ -45,17 +44,17 @@ impl<'a> Emulator for Tagged80<'a> {
 
     ghost runs = { λ m. IsMachineOf m.program.now m.cpu };
 
-    ghost waits = { λ m q. Waits80 m.program.now m.cpu q };
+    ghost waits = { λ m e. Waits80 m.program.now m.cpu e };
 
     ghost course = { λ m. course80_from m.program.now (state_of m.cpu) };
 
-    ghost answered = { λ m q y. course80_from m.program.now (replied80 m.program.now (state_of m.cpu) (Call q) y) };
+    ghost answered = { λ m e y. course80_from m.program.now (replied80 m.program.now (state_of m.cpu) e y) };
 
     fn turn(&mut self, alloc: Global) -> Result<Turn, AllocError> {
         match self.cpu.step(self.program) {
             Step80::Ran => Ok(Turn::Ran),
             Step80::Asked => match self.cpu.asked(alloc)? {
-                Some(request) => Ok(Turn::Asks(request)),
+                Some(event) => Ok(Turn::Asks(event)),
                 None => Ok(Turn::Ended),
             },
             Step80::Ended => Ok(Turn::Ended),
@@ -63,13 +62,13 @@ impl<'a> Emulator for Tagged80<'a> {
         }
     }
 
-    fn reply(&mut self, _request: &Request, reply: &Reply) {
+    fn reply(&mut self, _event: &Event, reply: &Reply) {
         self.cpu.reply(reply);
     }
 
     ghost begins = { λ m t ys. refl };
 
-    ghost takes = { λ m q y t ys. refl };
+    ghost takes = { λ m e y t ys. refl };
 
     ghost single = { λ m. one_run (machine80 m.program.now) [] why80 (state_of m.cpu) };
 }

@@ -1,29 +1,30 @@
 -- What one turn comes to.
 use Rattle.std.proofs.Common.{◌≡◌, ℕ, suc, ◌+◌, Bool, true, false, cond, codes, List, [], ◌∷◌, ◌++◌, refl, sym, ap, ◌∙◌, subst, arith, Option, Some, None}
 use Rattle.std.proofs.lemmas.List.{append-nil}
-use Rattle.dialogue.specs.declared.request.Request.{Request}
 use Rattle.dialogue.specs.declared.request.Reply.{Reply}
-use Rattle.dialogue.specs.declared.request.Event.TheVariants.{Call, End}
-use Rattle.dialogue.specs.Fits.{fits}
-use Rattle.bdos_console.specs.declared.answers.Answer.{Answer}
-use Rattle.bdos_console.specs.declared.answers.Answer.TheVariants.{Reply as Replies, InputEnded as NoInput, NoDrive as Refuses}
-use Rattle.bdos_console.specs.Console.{console_answer}
+use Rattle.dialogue.specs.declared.request.Event.{Event}
+use Rattle.dialogue.specs.declared.request.Event.TheVariants.{End}
+use Rattle.dialogue.specs.Fits.{fits_event}
+use Rattle.bdos_ports.specs.declared.devices.EventAnswer.{EventAnswer}
+use Rattle.bdos_ports.specs.declared.devices.EventAnswer.TheVariants.{Reply as Replies, InputEnded as NoInput, NoDrive as Refuses}
+use Rattle.bdos_ports.specs.Supply.{Supply}
+use Rattle.bdos_ports.specs.Events.{EventAnswered, event_answer}
 use Rattle.base_runs.specs.Run.{Waiting, Over}
 use Rattle.host.specs.Host.{HostState, said_more, Says}
 use Rattle.cmd_files.specs.Transfer.{CutsLine}
 use Rattle.bdos_talk.specs.declared.emulator.Turn.TheVariants.{Ran, Asks, Ended}
 use Rattle.bdos_talk.specs.declared.running.RunEnd.{RunEnd}
 use Rattle.bdos_talk.specs.declared.running.RunEnd.TheVariants.{Ended as HasEnded, InputEnded, NoDrive}
-use Rattle.bdos_talk.specs.Lines.{call_line}
-use Rattle.bdos_talk.specs.Talk.{Seen, reply_then, console_replies, refusal_then, refusal}
+use Rattle.bdos_talk.specs.Lines.{event_line}
+use Rattle.bdos_talk.specs.Talk.{Seen, reply_then, reply_from, replies_to, refusal_then, refusal_from, refusal}
 use Rattle.bdos_talk.specs.Turns.{Past, Course, after_ran, after_asked, standing, IsTurn, Begins}
 use Rattle.bdos_talk.specs.declared.fault.TalkFault.{TalkFault}
 use Rattle.bdos_talk.specs.declared.fault.TalkFault.TheVariants.{Unsaid, Memory}
-use Rattle.bdos_talk.specs.Advance.{Advance, Rest, Grows, SaysTurn, CutsTurn, IsLineCutOff, IsTurnCutOff, IsTurnDone, IsAnswered}
+use Rattle.bdos_talk.specs.Advance.{Advance, IsEnd, Rest, Grows, SaysTurn, CutsTurn, IsLineCutOff, IsTurnCutOff, IsTurnDone, IsAnswered}
 use Rattle.bdos_talk.proofs.Said.{event_lines-one, says_nothing}
 
-module _ (before mid : Course) (answered : Request → Reply → Course) (input : List ℕ) (old new : HostState) where
-  pub advance_ran : IsTurn before mid answered Ran → Advance 1 before mid input input old old
+module _ (before mid : Course) (answered : Event → Reply → Course) (supply : Supply) (old new : HostState) where
+  pub advance_ran : IsTurn before mid answered Ran → Advance 1 before mid supply supply old old
   advance_ran h = record {
     events = [];
     taken = [];
@@ -36,59 +37,57 @@ module _ (before mid : Course) (answered : Request → Reply → Course) (input 
   }
 
   -- a reply
-  advance_replied : (after : Course) (q : Request) (left : List ℕ) → IsTurn before mid answered (Asks q) → IsAnswered q (answered q) after input left None → Says old new (call_line q) → Advance 1 before after input left old new
-  advance_replied after q left h a said =
+  advance_replied : (after : Course) (e : Event) (left : Supply) → IsTurn before mid answered (Asks e) → IsAnswered e (answered e) after supply left None → Says old new (event_line e) → Advance 1 before after supply left old new
+  advance_replied after e left h a said =
       let y = a.0 in
       record {
-        events = Call q ∷ [];
+        events = e ∷ [];
         taken = y ∷ [];
-        next = λ t. after_ran (after_asked t q);
+        next = λ t. after_ran (after_asked t e);
         dialogue = λ t. refl;
         goes = λ t ys n.
-            let e : 1 + n ≡ suc n = omega arith in
-            ap (before t (y ∷ ys)) e
+            let one : 1 + n ≡ suc n = omega arith in
+            ap (before t (y ∷ ys)) one
             ∙ h t (y ∷ ys) n
-            ∙ ap (λ b. cond b (answered q y (after_ran (after_asked t q)) ys n) (standing Waiting (after_asked t q).dialogue)) a.2
-            ∙ ap (λ c. c (after_ran (after_asked t q)) ys n) (sym a.3);
-        replies = λ es. ap (λ x. reply_then x.answer (console_replies x.left es)) a.1;
-        refuses = λ es. ap (λ x. refusal_then x.answer q (refusal x.left es)) a.1;
-        says = said ∙ ap (said_more old.said) (event_lines-one (Call q));
+            ∙ ap (λ b. cond b (answered e y (after_ran (after_asked t e)) ys n) (standing Waiting (after_asked t e).dialogue)) a.2
+            ∙ ap (λ c. c (after_ran (after_asked t e)) ys n) (sym a.3);
+        replies = λ es. ap (λ o. reply_from o (λ rest. replies_to rest es)) a.1;
+        refuses = λ es. ap (λ o. refusal_from o (λ rest. refusal rest es)) a.1;
+        says = said ∙ ap (said_more old.said) (event_lines-one e);
       }
 
   -- no reply
-  module _ (q : Request) (count : ℕ) (h : IsTurn before mid answered (Asks q)) (said : Says old new (call_line q)) where
-    rest_no_input : (console_answer input q).answer ≡ NoInput → Rest InputEnded count before input old new
-    rest_no_input e = record {
-      events = Call q ∷ [];
+  module _ (e : Event) (count : ℕ) (h : IsTurn before mid answered (Asks e)) (said : Says old new (event_line e)) where
+    rest_waits : (o : RunEnd) → replies_to supply (e ∷ []) ≡ [] → IsEnd o count Waiting (refusal supply (e ∷ [])) → Rest o count before supply old new
+    rest_waits o none end = record {
+      events = e ∷ [];
       status = Waiting;
       goes = λ t n. h t [] n;
-      none = ap (λ a. reply_then a (console_replies (console_answer input q).left [])) e;
-      end = (refl, ap (λ a. refusal_then a q None) e);
-      says = said ∙ ap (said_more old.said) (event_lines-one (Call q));
+      none = none;
+      end = end;
+      says = said ∙ ap (said_more old.said) (event_lines-one e);
     }
 
-    rest_no_drive : (console_answer input q).answer ≡ Refuses → Rest (NoDrive q.shape.function) count before input old new
-    rest_no_drive e = record {
-      events = Call q ∷ [];
-      status = Waiting;
-      goes = λ t n. h t [] n;
-      none = ap (λ a. reply_then a (console_replies (console_answer input q).left [])) e;
-      end = (refl, ap (λ a. refusal_then a q None) e);
-      says = said ∙ ap (said_more old.said) (event_lines-one (Call q));
-    }
+    rest_by : (a : EventAnswer) (left : Supply) (o : RunEnd) → event_answer supply e ≡ Some (record { answer = a; left = left }) → refusal_then a None ≡ Some o → Rest o count before supply old new
+    rest_by (Replies y) left o is f = cc
+    rest_by NoInput left o is f =
+        let same : InputEnded ≡ o = cc in
+        let end : refusal supply (e ∷ []) ≡ Some InputEnded = ap (λ x. refusal_from x (λ rest. None)) is in
+        subst (λ o. Rest o count before supply old new) same (rest_waits InputEnded (ap (λ x. reply_from x (λ rest. [])) is) (refl, end))
+    rest_by (Refuses function) left o is f =
+        let same : NoDrive function ≡ o = cc in
+        let end : refusal supply (e ∷ []) ≡ Some (NoDrive function) = ap (λ x. refusal_from x (λ rest. None)) is in
+        subst (λ o. Rest o count before supply old new) same (rest_waits (NoDrive function) (ap (λ x. reply_from x (λ rest. [])) is) (refl, end))
 
-    rest_by : (a : Answer) (o : RunEnd) → (console_answer input q).answer ≡ a → refusal_then a q None ≡ Some o → Rest o count before input old new
-    rest_by (Replies y) o e f = cc
-    rest_by NoInput o e f = let same : InputEnded ≡ o = cc in subst (λ o. Rest o count before input old new) same (rest_no_input e)
-    rest_by Refuses o e f =
-        let same : NoDrive q.shape.function ≡ o = cc in
-        subst (λ o. Rest o count before input old new) same (rest_no_drive e)
+    rest_from : (a : Option EventAnswered) (o : RunEnd) → event_answer supply e ≡ a → refusal_from a (λ rest. None) ≡ Some o → Rest o count before supply old new
+    rest_from None o is f = cc
+    rest_from (Some a) o is f = rest_by a.answer a.left o is f
 
-    pub turn_answered : (after : Course) (left : List ℕ) (o : Option RunEnd) → IsAnswered q (answered q) after input left o → IsTurnDone count before after input left old new o
-    turn_answered after left None a = advance_replied after q left h a said
-    turn_answered after left (Some o) a = rest_by (console_answer input q).answer o refl a
+    pub turn_answered : (after : Course) (left : Supply) (o : Option RunEnd) → IsAnswered e (answered e) after supply left o → IsTurnDone count before after supply left old new o
+    turn_answered after left None a = advance_replied after e left h a said
+    turn_answered after left (Some o) a = rest_from (event_answer supply e) o refl a
 
-  pub rest_ended : (count : ℕ) → IsTurn before mid answered Ended → Says old new (codes "end\n") → Rest (HasEnded count) count before input old new
+  pub rest_ended : (count : ℕ) → IsTurn before mid answered Ended → Says old new (codes "end\n") → Rest (HasEnded count) count before supply old new
   rest_ended count h said = record {
     events = End ∷ [];
     status = Over;
@@ -98,7 +97,7 @@ module _ (before mid : Course) (answered : Request → Reply → Course) (input 
     says = said ∙ ap (said_more old.said) (event_lines-one End);
   }
 
-  -- faults: before anything is said, in the line of the end, in the line of a call, and after it
+  -- faults: before anything is said, in the line of the end, in the line of what is asked, and after it
   grows_not : Begins before → Grows before []
   grows_not begins = record {
     turns = 0;
@@ -116,25 +115,25 @@ module _ (before mid : Course) (answered : Request → Reply → Course) (input 
     cut = cut;
   }
 
-  module _ (whole : Begins before) (q : Request) (h : IsTurn before mid answered (Asks q)) (begins : (y : Reply) → Begins (answered q y)) where
-    asked_dialogue : (t : Past) (ys : List Reply) → (before t ys 1).dialogue ≡ t.dialogue ++ Call q ∷ []
+  module _ (whole : Begins before) (e : Event) (h : IsTurn before mid answered (Asks e)) (begins : (y : Reply) → Begins (answered e y)) where
+    asked_dialogue : (t : Past) (ys : List Reply) → (before t ys 1).dialogue ≡ t.dialogue ++ e ∷ []
     asked_dialogue t [] = ap (λ (v : Seen). v.dialogue) (h t [] 0)
-    asked_dialogue t (y ∷ ys) = ap (λ (v : Seen). v.dialogue) (h t (y ∷ ys) 0) ∙ by_fit (fits q y)
+    asked_dialogue t (y ∷ ys) = ap (λ (v : Seen). v.dialogue) (h t (y ∷ ys) 0) ∙ by_fit (fits_event e y)
       where
-        by_fit : (b : Bool) → (let v : Seen = cond b (answered q y (after_ran (after_asked t q)) ys 0) (standing Waiting (after_asked t q).dialogue) in v.dialogue) ≡ t.dialogue ++ Call q ∷ []
-        by_fit true = ap (λ (v : Seen). v.dialogue) (begins y (after_ran (after_asked t q)) ys)
+        by_fit : (b : Bool) → (let v : Seen = cond b (answered e y (after_ran (after_asked t e)) ys 0) (standing Waiting (after_asked t e).dialogue) in v.dialogue) ≡ t.dialogue ++ e ∷ []
+        by_fit true = ap (λ (v : Seen). v.dialogue) (begins y (after_ran (after_asked t e)) ys)
         by_fit false = refl
 
-    grows_call : Grows before (Call q ∷ [])
-    grows_call = record { turns = 1; few = omega arith; dialogue = asked_dialogue }
+    grows_asked : Grows before (e ∷ [])
+    grows_asked = record { turns = 1; few = omega arith; dialogue = asked_dialogue }
 
-    cut_call : CutsLine (call_line q) old new → CutsTurn before old new
-    cut_call cut = record { event = Call q; grows = grows_call; cut = cut }
+    cut_asked : CutsLine (event_line e) old new → CutsTurn before old new
+    cut_asked cut = record { event = e; grows = grows_asked; cut = cut }
 
-    -- a fault in the line of a call, or want of memory for it
-    pub call_cut_off : (fault : TalkFault) → IsLineCutOff (call_line q) old new fault → IsTurnCutOff before old new fault
-    call_cut_off (Unsaid fault) h' = (cut_call h'.0, h'.1)
-    call_cut_off Memory h' = (record { events = []; grows = grows_not whole; says = h'.0 ∙ says_nothing old }, h'.1)
+    -- a fault in the line of what is asked, or want of memory for it
+    pub asked_cut_off : (fault : TalkFault) → IsLineCutOff (event_line e) old new fault → IsTurnCutOff before old new fault
+    asked_cut_off (Unsaid fault) h' = (cut_asked h'.0, h'.1)
+    asked_cut_off Memory h' = (record { events = []; grows = grows_not whole; says = h'.0 ∙ says_nothing old }, h'.1)
 
-    pub called : Says old new (call_line q) → SaysTurn before old new
-    called said = record { events = Call q ∷ []; grows = grows_call; says = said ∙ ap (said_more old.said) (event_lines-one (Call q)) }
+    pub asked : Says old new (event_line e) → SaysTurn before old new
+    asked said = record { events = e ∷ []; grows = grows_asked; says = said ∙ ap (said_more old.said) (event_lines-one e) }

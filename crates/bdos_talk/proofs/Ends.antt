@@ -1,22 +1,23 @@
--- Turns put together to a run over a console.
+-- Turns put together to a run over devices.
 use Rattle.std.proofs.Common.{◌≡◌, ℕ, suc, ◌+◌, ◌-◌, ◌≤◌, List, [], ◌∷◌, ◌++◌, refl, sym, ap, ◌∙◌, subst, arith, append_assoc}
 use Rattle.std.proofs.lemmas.List.{append-nil}
 use Rattle.base_runs.specs.Run.{Going}
 use Rattle.host.specs.Host.{HostState, HasRisen, said_more, SameFaults}
 use Rattle.dialogue.specs.declared.request.Event.{Event}
+use Rattle.bdos_ports.specs.Supply.{Supply}
 use Rattle.bdos_talk.specs.declared.fault.TalkFault.{TalkFault}
 use Rattle.bdos_talk.specs.declared.fault.TalkFault.TheVariants.{Unsaid, Memory}
 use Rattle.bdos_talk.specs.declared.running.RunEnd.{RunEnd}
 use Rattle.bdos_talk.specs.declared.running.RunEnd.TheVariants.{Ended, Stopped as HasStopped, StepLimit, InputEnded, NoDrive}
 use Rattle.bdos_talk.specs.Lines.{event_lines}
-use Rattle.bdos_talk.specs.Talk.{Seen, console_replies, refusal, IsAt, HasOneRun, IsCause, IsOutcome, SaysRun, HasFirst, SaysFirst, SaysCut, IsCutOff}
+use Rattle.bdos_talk.specs.Talk.{Seen, replies_to, refusal, IsAt, HasOneRun, IsCause, IsOutcome, SaysRun, HasFirst, SaysFirst, SaysCut, IsCutOff}
 use Rattle.bdos_talk.specs.Turns.{Course, nothing, standing, Begins}
 use Rattle.bdos_talk.specs.Advance.{Advance, IsEnd, Rest, Grows, SaysTurn, CutsTurn, IsTurnCutOff}
 use Rattle.bdos_talk.proofs.Said.{event_lines-append, says_nothing, says_then}
 use Rattle.bdos_talk.proofs.Exact.{outcome_one, first_at_limit}
 
-pub advance_none : (c : Course) (input : List ℕ) (h : HostState) → Advance 0 c c input input h h
-advance_none c input h = record {
+pub advance_none : (c : Course) (supply : Supply) (h : HostState) → Advance 0 c c supply supply h h
+advance_none c supply h = record {
   events = [];
   taken = [];
   next = λ t. t;
@@ -27,7 +28,7 @@ advance_none c input h = record {
   says = says_nothing h;
 }
 
-pub advance_then : (j : ℕ) (a b c : Course) (i l r : List ℕ) (f g h : HostState) → Advance j a b i l f g → Advance 1 b c l r g h → Advance (j + 1) a c i r f h
+pub advance_then : (j : ℕ) (a b c : Course) (i l r : Supply) (f g h : HostState) → Advance j a b i l f g → Advance 1 b c l r g h → Advance (j + 1) a c i r f h
 advance_then j a b c i l r f g h x y = record {
   events = x.events ++ y.events;
   taken = x.taken ++ y.taken;
@@ -40,20 +41,20 @@ advance_then j a b c i l r f g h x y = record {
       ∙ x.goes t (y.taken ++ ys) (1 + n)
       ∙ y.goes (x.next t) ys n;
   replies = λ es.
-      ap (console_replies i) (append_assoc x.events y.events es)
+      ap (replies_to i) (append_assoc x.events y.events es)
       ∙ x.replies (y.events ++ es)
       ∙ ap (λ ys. x.taken ++ ys) (y.replies es)
-      ∙ sym (append_assoc x.taken y.taken (console_replies r es));
+      ∙ sym (append_assoc x.taken y.taken (replies_to r es));
   refuses = λ es. ap (refusal i) (append_assoc x.events y.events es) ∙ x.refuses (y.events ++ es) ∙ y.refuses es;
   says = says_then f g h (event_lines x.events) (event_lines y.events) x.says y.says ∙ ap (said_more f.said) (sym (event_lines-append x.events y.events));
 }
 
-module _ (c b : Course) (one : HasOneRun (c nothing)) (input left : List ℕ) (old mid new : HostState) (j : ℕ) (x : Advance j c b input left old mid) where
+module _ (c b : Course) (one : HasOneRun (c nothing)) (supply left : Supply) (old mid new : HostState) (j : ℕ) (x : Advance j c b supply left old mid) where
   -- where it goes on
-  pub reached : Begins b → IsAt (c nothing) input j (standing Going x.events)
+  pub reached : Begins b → IsAt (c nothing) supply j (standing Going x.events)
   reached begins =
       let e : j + 0 ≡ j = omega arith in
-      let ys : console_replies input x.events ≡ x.taken ++ [] = ap (console_replies input) (sym (append-nil x.events)) ∙ x.replies [] in
+      let ys : replies_to supply x.events ≡ x.taken ++ [] = ap (replies_to supply) (sym (append-nil x.events)) ∙ x.replies [] in
       sym (
       ap (λ zs. c nothing zs j) ys
       ∙ ap (c nothing (x.taken ++ [])) (sym e)
@@ -61,29 +62,29 @@ module _ (c b : Course) (one : HasOneRun (c nothing)) (input left : List ℕ) (o
       ∙ begins (x.next nothing) []
       ∙ ap (standing Going) (x.dialogue nothing))
 
-  pub says_limit : Begins b → SaysRun (c nothing) input j StepLimit old mid
+  pub says_limit : Begins b → SaysRun (c nothing) supply j StepLimit old mid
   says_limit begins = record {
     run = standing Going x.events;
     outcome = record { at = reached begins; cause = refl };
-    only = outcome_one (c nothing) one input j StepLimit (standing Going x.events) (record { at = reached begins; cause = refl });
+    only = outcome_one (c nothing) one supply j StepLimit (standing Going x.events) (record { at = reached begins; cause = refl });
     says = x.says;
   }
 
   -- where it comes to an end
   module _ (o : RunEnd) (count limit : ℕ) (begins : Begins b) (within : suc j ≤ limit) (is : count ≡ suc j) (y : Rest o count b left mid new) where
-    rests : (m : ℕ) → standing y.status (x.events ++ y.events) ≡ c nothing (console_replies input (x.events ++ y.events)) (j + suc m)
+    rests : (m : ℕ) → standing y.status (x.events ++ y.events) ≡ c nothing (replies_to supply (x.events ++ y.events)) (j + suc m)
     rests m =
-        let ys : console_replies input (x.events ++ y.events) ≡ x.taken ++ [] = x.replies y.events ∙ ap (λ zs. x.taken ++ zs) y.none in
+        let ys : replies_to supply (x.events ++ y.events) ≡ x.taken ++ [] = x.replies y.events ∙ ap (λ zs. x.taken ++ zs) y.none in
         sym (
         ap (λ zs. c nothing zs (j + suc m)) ys
         ∙ x.goes nothing [] (suc m)
         ∙ y.goes (x.next nothing) m
         ∙ ap (λ d. standing y.status (d ++ y.events)) (x.dialogue nothing))
 
-    rests_at : (n m : ℕ) → j + suc m ≡ n → IsAt (c nothing) input n (standing y.status (x.events ++ y.events))
-    rests_at n m e = rests m ∙ ap (c nothing (console_replies input (x.events ++ y.events))) e
+    rests_at : (n m : ℕ) → j + suc m ≡ n → IsAt (c nothing) supply n (standing y.status (x.events ++ y.events))
+    rests_at n m e = rests m ∙ ap (c nothing (replies_to supply (x.events ++ y.events))) e
 
-    cause : (o : RunEnd) → IsEnd o count y.status (refusal left y.events) → IsCause (c nothing) input limit o (standing y.status (x.events ++ y.events))
+    cause : (o : RunEnd) → IsEnd o count y.status (refusal left y.events) → IsCause (c nothing) supply limit o (standing y.status (x.events ++ y.events))
     cause (Ended steps) e = (
       e.0,
       record {
@@ -101,38 +102,38 @@ module _ (c b : Course) (one : HasOneRun (c nothing)) (input left : List ℕ) (o
     cause InputEnded e = (e.0, x.refuses y.events ∙ e.1)
     cause (NoDrive function) e = (e.0, x.refuses y.events ∙ e.1)
 
-    outcome : IsOutcome (c nothing) input limit o (standing y.status (x.events ++ y.events))
+    outcome : IsOutcome (c nothing) supply limit o (standing y.status (x.events ++ y.events))
     outcome =
         let m = limit - suc j in
         let all : j + suc m ≡ limit = omega arith in
         record { at = rests_at limit m all; cause = cause o y.end }
 
-    pub says_end : SaysRun (c nothing) input limit o old new
+    pub says_end : SaysRun (c nothing) supply limit o old new
     says_end = record {
       run = standing y.status (x.events ++ y.events);
       outcome = outcome;
-      only = outcome_one (c nothing) one input limit o (standing y.status (x.events ++ y.events)) outcome;
+      only = outcome_one (c nothing) one supply limit o (standing y.status (x.events ++ y.events)) outcome;
       says = says_then old mid new (event_lines x.events) (event_lines y.events) x.says y.says ∙ ap (said_more old.said) (sym (event_lines-append x.events y.events));
     }
 
   -- where a fault comes: the events up to it are the run's first
-  first_events : (limit : ℕ) → suc j ≤ limit → (events : List Event) → Grows b events → HasFirst (c nothing) input limit (x.events ++ events)
+  first_events : (limit : ℕ) → suc j ≤ limit → (events : List Event) → Grows b events → HasFirst (c nothing) supply limit (x.events ++ events)
   first_events limit within events y =
-      let run : Seen = c nothing (console_replies input (x.events ++ events)) (j + y.turns) in
+      let run : Seen = c nothing (replies_to supply (x.events ++ events)) (j + y.turns) in
       let few : y.turns ≤ 1 = y.few in
-      let goes : run ≡ b (x.next nothing) (console_replies left events) y.turns = ap (λ zs. c nothing zs (j + y.turns)) (x.replies events) ∙ x.goes nothing (console_replies left events) y.turns in
-      let is : run.dialogue ≡ x.events ++ events = ap (λ (v : Seen). v.dialogue) goes ∙ y.dialogue (x.next nothing) (console_replies left events) ∙ ap (λ d. d ++ events) (x.dialogue nothing) in
+      let goes : run ≡ b (x.next nothing) (replies_to left events) y.turns = ap (λ zs. c nothing zs (j + y.turns)) (x.replies events) ∙ x.goes nothing (replies_to left events) y.turns in
+      let is : run.dialogue ≡ x.events ++ events = ap (λ (v : Seen). v.dialogue) goes ∙ y.dialogue (x.next nothing) (replies_to left events) ∙ ap (λ d. d ++ events) (x.dialogue nothing) in
       let within : j + y.turns ≤ limit = omega arith in
-      subst (HasFirst (c nothing) input limit) is (first_at_limit (c nothing) one input limit (j + y.turns) within run (ap (λ d. c nothing (console_replies input d) (j + y.turns)) (sym is)))
+      subst (HasFirst (c nothing) supply limit) is (first_at_limit (c nothing) one supply limit (j + y.turns) within run (ap (λ d. c nothing (replies_to supply d) (j + y.turns)) (sym is)))
 
-  says_first : (limit : ℕ) → suc j ≤ limit → SaysTurn b mid new → SaysFirst (c nothing) input limit old new
+  says_first : (limit : ℕ) → suc j ≤ limit → SaysTurn b mid new → SaysFirst (c nothing) supply limit old new
   says_first limit within y = record {
     events = x.events ++ y.events;
     first = first_events limit within y.events y.grows;
     says = says_then old mid new (event_lines x.events) (event_lines y.events) x.says y.says ∙ ap (said_more old.said) (sym (event_lines-append x.events y.events));
   }
 
-  says_cut : (limit : ℕ) → suc j ≤ limit → CutsTurn b mid new → SaysCut (c nothing) input limit old new
+  says_cut : (limit : ℕ) → suc j ≤ limit → CutsTurn b mid new → SaysCut (c nothing) supply limit old new
   says_cut limit within y = record {
     events = x.events;
     next = y.event;
@@ -142,6 +143,6 @@ module _ (c b : Course) (one : HasOneRun (c nothing)) (input left : List ℕ) (o
     cut = y.cut;
   }
 
-  pub cut_off : (limit : ℕ) → suc j ≤ limit → SameFaults old mid → (fault : TalkFault) → IsTurnCutOff b mid new fault → IsCutOff (c nothing) input limit old new fault
+  pub cut_off : (limit : ℕ) → suc j ≤ limit → SameFaults old mid → (fault : TalkFault) → IsTurnCutOff b mid new fault → IsCutOff (c nothing) supply limit old new fault
   cut_off limit within same (Unsaid fault) y = (says_cut limit within y.0, subst (λ n. HasRisen n new.write_faults) same.writes y.1)
   cut_off limit within same Memory y = (says_first limit within y.0, record { reads = y.1.reads ∙ same.reads; writes = y.1.writes ∙ same.writes })

@@ -1,9 +1,9 @@
 -- One turn of any machine, as it is seen from outside.
 use Rattle.std.proofs.Common.{◌≡◌, ℕ, suc, Bool, true, false, cond, List, [], ◌∷◌, ◌++◌, refl, ap, ◌∙◌}
-use Rattle.dialogue.specs.declared.request.Request.{Request}
 use Rattle.dialogue.specs.declared.request.Reply.{Reply}
-use Rattle.dialogue.specs.declared.request.Event.TheVariants.{Call, End}
-use Rattle.dialogue.specs.Fits.{fits}
+use Rattle.dialogue.specs.declared.request.Event.{Event}
+use Rattle.dialogue.specs.declared.request.Event.TheVariants.{End}
+use Rattle.dialogue.specs.Fits.{fits_event}
 use Rattle.base_runs.specs.Run.{Answer, Ran, Asks, Ends, Stops, Machine, Run, Going, Waiting, Over, Stopped, choice_at, settle, turns}
 use Rattle.base_runs.proofs.Turns.{still_turns}
 use Rattle.bdos_talk.specs.declared.emulator.Why.{Why}
@@ -28,24 +28,15 @@ module _ {S X : Type 0} (m : Machine S X) (cs : List ℕ) (why : S → X → Why
       let r : Run S X = record { state = s; status = Stopped x; dialogue = t.dialogue; replies = ys; used = t.used } in
       settled (Stops x) e ∙ ap (seen why) (still_turns m cs n r tt)
 
-module _ {S X : Type 0} (m : Machine S X) (cs : List ℕ) (why : S → X → Why) (s u : S) (q : Request) where
-  waiting : (t : Past) (ys : List Reply) (n : ℕ) → seen why (turns m cs n (record { state = u; status = Waiting; dialogue = (after_asked t q).dialogue; replies = ys; used = suc t.used })) ≡ standing Waiting (after_asked t q).dialogue
-  waiting t ys n = ap (seen why) (still_turns m cs n (record { state = u; status = Waiting; dialogue = (after_asked t q).dialogue; replies = ys; used = suc t.used }) tt)
+module _ {S X : Type 0} (m : Machine S X) (cs : List ℕ) (why : S → X → Why) (s u : S) (e : Event) where
+  waiting : (t : Past) (ys : List Reply) (n : ℕ) → seen why (turns m cs n (record { state = u; status = Waiting; dialogue = (after_asked t e).dialogue; replies = ys; used = suc t.used })) ≡ standing Waiting (after_asked t e).dialogue
+  waiting t ys n = ap (seen why) (still_turns m cs n (record { state = u; status = Waiting; dialogue = (after_asked t e).dialogue; replies = ys; used = suc t.used }) tt)
 
-  -- a call takes its reply, where one comes that fits
-  pub turn_asked : (t : Past) (ys : List Reply) (n : ℕ) → m.step s (choice_at cs t.used) ≡ Asks (Call q) u → course_from m cs why s t ys (suc n) ≡ taken q (λ y. course_from m cs why (m.replied u (Call q) y (choice_at cs (suc t.used)))) (after_asked t q) ys n
-  turn_asked t [] n e = settled m cs why s t [] n (Asks (Call q) u) e ∙ waiting t [] n
-  turn_asked t (y ∷ ys) n e = settled m cs why s t (y ∷ ys) n (Asks (Call q) u) e ∙ by_fit (fits q y)
+  -- what asks takes its reply, where one comes that fits
+  pub turn_asked : (t : Past) (ys : List Reply) (n : ℕ) → m.step s (choice_at cs t.used) ≡ Asks e u → course_from m cs why s t ys (suc n) ≡ taken e (λ y. course_from m cs why (m.replied u e y (choice_at cs (suc t.used)))) (after_asked t e) ys n
+  turn_asked t [] n is = settled m cs why s t [] n (Asks e u) is ∙ waiting t [] n
+  turn_asked t (y ∷ ys) n is = settled m cs why s t (y ∷ ys) n (Asks e u) is ∙ by_fit (fits_event e y)
     where
-      by_fit : (b : Bool) → seen why (turns m cs n (cond b (record { state = m.replied u (Call q) y (choice_at cs (suc t.used)); status = Going; dialogue = (after_asked t q).dialogue; replies = ys; used = suc (suc t.used) }) (record { state = u; status = Waiting; dialogue = (after_asked t q).dialogue; replies = y ∷ ys; used = suc t.used }))) ≡ cond b (course_from m cs why (m.replied u (Call q) y (choice_at cs (suc t.used))) (after_ran (after_asked t q)) ys n) (standing Waiting (after_asked t q).dialogue)
+      by_fit : (b : Bool) → seen why (turns m cs n (cond b (record { state = m.replied u e y (choice_at cs (suc t.used)); status = Going; dialogue = (after_asked t e).dialogue; replies = ys; used = suc (suc t.used) }) (record { state = u; status = Waiting; dialogue = (after_asked t e).dialogue; replies = y ∷ ys; used = suc t.used }))) ≡ cond b (course_from m cs why (m.replied u e y (choice_at cs (suc t.used))) (after_ran (after_asked t e)) ys n) (standing Waiting (after_asked t e).dialogue)
       by_fit true = refl
       by_fit false = waiting t (y ∷ ys) n
-
--- the end, if it were asked, would get no reply
-pub turn_asked_end : {S X : Type 0} → (m : Machine S X) (cs : List ℕ) (why : S → X → Why) (s u : S) (t : Past) (ys : List Reply) (n : ℕ) → m.step s (choice_at cs t.used) ≡ Asks End u → course_from m cs why s t ys (suc n) ≡ standing Waiting (t.dialogue ++ End ∷ [])
-turn_asked_end {S} {X} m cs why s u t [] n e =
-    let r : Run S X = record { state = u; status = Waiting; dialogue = t.dialogue ++ End ∷ []; replies = []; used = suc t.used } in
-    settled m cs why s t [] n (Asks End u) e ∙ ap (seen why) (still_turns m cs n r tt)
-turn_asked_end {S} {X} m cs why s u t (y ∷ ys) n e =
-    let r : Run S X = record { state = u; status = Waiting; dialogue = t.dialogue ++ End ∷ []; replies = y ∷ ys; used = suc t.used } in
-    settled m cs why s t (y ∷ ys) n (Asks End u) e ∙ ap (seen why) (still_turns m cs n r tt)

@@ -1,11 +1,11 @@
--- How far a run over a console has come, in a form that can be put together turn by turn.
+-- How far a run over devices has come, in a form that can be put together turn by turn.
 use Rattle.std.specs.Prelude.{◌≡◌, ℕ, ◌+◌, ◌≤◌, suc, List, [], ◌∷◌, ◌++◌, Option, Some, None, true}
-use Rattle.dialogue.specs.declared.request.Request.{Request}
 use Rattle.dialogue.specs.declared.request.Reply.{Reply}
 use Rattle.dialogue.specs.declared.request.Event.{Event}
-use Rattle.dialogue.specs.Fits.{fits}
-use Rattle.bdos_console.specs.declared.answers.Answer.TheVariants.{Reply as Replies}
-use Rattle.bdos_console.specs.Console.{Answered, console_answer}
+use Rattle.dialogue.specs.Fits.{fits_event}
+use Rattle.bdos_ports.specs.declared.devices.EventAnswer.TheVariants.{Reply as Replies}
+use Rattle.bdos_ports.specs.Supply.{Supply}
+use Rattle.bdos_ports.specs.Events.{event_answer}
 use Rattle.base_runs.specs.Run.{Status, Waiting, Over, Stopped}
 use Rattle.host.specs.Host.{HostState, SameSaid, Says, SameFaults, WriteFailed}
 use Rattle.cmd_files.specs.Transfer.{CutsLine}
@@ -15,21 +15,21 @@ use Rattle.bdos_talk.specs.declared.fault.TalkFault.TheVariants.{Unsaid, Memory}
 use Rattle.bdos_talk.specs.declared.running.RunEnd.{RunEnd}
 use Rattle.bdos_talk.specs.declared.running.RunEnd.TheVariants.{Ended, Stopped as HasStopped, StepLimit, InputEnded, NoDrive}
 use Rattle.bdos_talk.specs.Lines.{event_line, event_lines}
-use Rattle.bdos_talk.specs.Talk.{console_replies, refusal_then, refusal}
+use Rattle.bdos_talk.specs.Talk.{replies_to, refusal_from, refusal}
 use Rattle.bdos_talk.specs.Turns.{Past, Course, standing}
 
--- after k more turns, in which the console took a part of its input, the run goes on; the events of these turns were said
-pub record Advance (k : ℕ) (before after : Course) (input left : List ℕ) (old new : HostState) : Type 0 where
+-- after k more turns, in which the devices gave a part of what they had, the run goes on; the events of these turns were said
+pub record Advance (k : ℕ) (before after : Course) (supply left : Supply) (old new : HostState) : Type 0 where
   pub events : List Event
   pub taken : List Reply
   pub next : Past → Past
   pub dialogue : (t : Past) → (next t).dialogue ≡ t.dialogue ++ events
   pub goes : (t : Past) (ys : List Reply) (n : ℕ) → before t (taken ++ ys) (k + n) ≡ after (next t) ys n
-  pub replies : (es : List Event) → console_replies input (events ++ es) ≡ taken ++ console_replies left es
-  pub refuses : (es : List Event) → refusal input (events ++ es) ≡ refusal left es
+  pub replies : (es : List Event) → replies_to supply (events ++ es) ≡ taken ++ replies_to left es
+  pub refuses : (es : List Event) → refusal supply (events ++ es) ≡ refusal left es
   pub says : Says old new (event_lines events)
 
--- the end of a run, by its status, the number of its last turn, and what the console refuses
+-- the end of a run, by its status, the number of its last turn, and what the devices refuse
 abbrev pub IsEnd : RunEnd → ℕ → Status Why → Option RunEnd → Type 0
 IsEnd (Ended steps) count status refused = (status ≡ Over) × (steps ≡ count)
 IsEnd (HasStopped why) count status refused = status ≡ Stopped why
@@ -38,12 +38,12 @@ IsEnd InputEnded count status refused = (status ≡ Waiting) × (refused ≡ Som
 IsEnd (NoDrive function) count status refused = (status ≡ Waiting) × (refused ≡ Some (NoDrive function))
 
 -- after one more turn, the one of this number, the run goes on no more; its events were said
-pub record Rest (o : RunEnd) (count : ℕ) (before : Course) (input : List ℕ) (old new : HostState) : Type 0 where
+pub record Rest (o : RunEnd) (count : ℕ) (before : Course) (supply : Supply) (old new : HostState) : Type 0 where
   pub events : List Event
   pub status : Status Why
   pub goes : (t : Past) (n : ℕ) → before t [] (suc n) ≡ standing status (t.dialogue ++ events)
-  pub none : console_replies input events ≡ []
-  pub end : IsEnd o count status (refusal input events)
+  pub none : replies_to supply events ≡ []
+  pub end : IsEnd o count status (refusal supply events)
   pub says : Says old new (event_lines events)
 
 -- after one more turn, or before it, the dialogue has these events more
@@ -75,12 +75,12 @@ IsLineCutOff line old new (Unsaid fault) = CutsLine line old new × WriteFailed 
 IsLineCutOff line old new Memory = SameSaid old new × SameFaults old new
 
 -- what a turn comes to: the end of the run, if it is its last
-abbrev pub IsTurnDone : ℕ → Course → Course → List ℕ → List ℕ → HostState → HostState → Option RunEnd → Type 0
-IsTurnDone count before after input left old new None = Advance 1 before after input left old new
-IsTurnDone count before after input left old new (Some o) = Rest o count before input old new
+abbrev pub IsTurnDone : ℕ → Course → Course → Supply → Supply → HostState → HostState → Option RunEnd → Type 0
+IsTurnDone count before after supply left old new None = Advance 1 before after supply left old new
+IsTurnDone count before after supply left old new (Some o) = Rest o count before supply old new
 
--- what the console's answer comes to, of a machine that waits
-abbrev pub IsAnswered : Request → (Reply → Course) → Course → List ℕ → List ℕ → Option RunEnd → Type 0
-IsAnswered q answered after input left None =
-    (y : Reply) × (◌≡◌ {A = Answered} (console_answer input q) (record { answer = Replies y; left = left })) × (fits q y ≡ true) × (after ≡ answered y)
-IsAnswered q answered after input left (Some o) = refusal_then (console_answer input q).answer q None ≡ Some o
+-- what the answer to an event comes to, of a machine that waits
+abbrev pub IsAnswered : Event → (Reply → Course) → Course → Supply → Supply → Option RunEnd → Type 0
+IsAnswered e answered after supply left None =
+    (y : Reply) × (event_answer supply e ≡ Some (record { answer = Replies y; left = left })) × (fits_event e y ≡ true) × (after ≡ answered y)
+IsAnswered e answered after supply left (Some o) = refusal_from (event_answer supply e) (λ rest. None) ≡ Some o

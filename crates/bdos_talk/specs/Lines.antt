@@ -6,7 +6,7 @@ use Rattle.dialogue.specs.declared.request.ArgWord.{ArgWord}
 use Rattle.dialogue.specs.declared.request.ArgWord.TheVariants.{None as NoWord, Byte, Word}
 use Rattle.dialogue.specs.declared.request.Request.{Request}
 use Rattle.dialogue.specs.declared.request.Event.{Event}
-use Rattle.dialogue.specs.declared.request.Event.TheVariants.{Call, End}
+use Rattle.dialogue.specs.declared.request.Event.TheVariants.{Call, In, Out, End}
 
 -- a blank, and then bytes in hexadecimal digits, two for each
 abbrev pub blank_then : List ℕ → List ℕ
@@ -32,8 +32,17 @@ abbrev pub call_line : Request → List ℕ
 call_line q =
     encode_lower (q.shape.function ∷ []) ++ (arg_text q.shape.arg ++ (blocks_text q.blocks ++ codes "\n"))
 
+-- an IN: the port; an OUT: the port, and then the byte
+abbrev pub in_line : ℕ → List ℕ
+in_line port = codes "in" ++ (blank_then (port ∷ []) ++ codes "\n")
+
+abbrev pub out_line : ℕ → ℕ → List ℕ
+out_line port byte = codes "out" ++ (blank_then (port ∷ []) ++ (blank_then (byte ∷ []) ++ codes "\n"))
+
 abbrev pub event_line : Event → List ℕ
 event_line (Call q) = call_line q
+event_line (In port) = in_line port
+event_line (Out port byte) = out_line port byte
 event_line End = codes "end\n"
 
 -- the lines of a dialogue

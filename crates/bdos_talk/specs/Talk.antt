@@ -1,12 +1,11 @@
--- A run over a console: its replies are the console's to its own calls. What it comes to, and what it says meanwhile.
+-- A run over devices, a console and ports: its replies are theirs to its own events. What it comes to, and what it says meanwhile.
 use Rattle.std.specs.Prelude.{◌≡◌, ℕ, suc, ◌≤◌, List, [], ◌∷◌, ◌++◌, Option, Some, None}
-use Rattle.dialogue.specs.declared.request.Request.{Request}
 use Rattle.dialogue.specs.declared.request.Reply.{Reply}
 use Rattle.dialogue.specs.declared.request.Event.{Event}
-use Rattle.dialogue.specs.declared.request.Event.TheVariants.{Call, End}
-use Rattle.bdos_console.specs.declared.answers.Answer.TheVariants.{Reply as Replies, InputEnded as Ends, NoDrive as Refuses}
-use Rattle.bdos_console.specs.declared.answers.Answer.{Answer}
-use Rattle.bdos_console.specs.Console.{console_answer}
+use Rattle.bdos_ports.specs.declared.devices.EventAnswer.{EventAnswer}
+use Rattle.bdos_ports.specs.declared.devices.EventAnswer.TheVariants.{Reply as Replies, InputEnded as Ends, NoDrive as Refuses}
+use Rattle.bdos_ports.specs.Supply.{Supply}
+use Rattle.bdos_ports.specs.Events.{EventAnswered, event_answer}
 use Rattle.base_runs.specs.Run.{Status, Going, Waiting, Over, Stopped, Run, IsFrontOf}
 use Rattle.host.specs.Host.{HostState, Says, SameFaults, WriteFailed}
 use Rattle.cmd_files.specs.Transfer.{CutsLine}
@@ -32,66 +31,70 @@ told_status why (Stopped x) = Stopped (why x)
 abbrev pub seen : {S X : Type 0} → (S → X → Why) → Run S X → Seen
 seen why r = record { status = told_status (why r.state) r.status; dialogue = r.dialogue }
 
--- the replies of a console to the calls of a dialogue, up to the first call that gets none
-abbrev pub reply_then : Answer → List Reply → List Reply
+-- the replies to the events of a dialogue, up to the first event that gets none
+abbrev pub reply_then : EventAnswer → List Reply → List Reply
 reply_then (Replies y) rest = y ∷ rest
 reply_then Ends rest = []
-reply_then Refuses rest = []
+reply_then (Refuses function) rest = []
 
-abbrev pub console_replies : List ℕ → List Event → List Reply
-console_replies input [] = []
-console_replies input (End ∷ es) = []
-console_replies input (Call q ∷ es) =
-    reply_then (console_answer input q).answer (console_replies (console_answer input q).left es)
+abbrev pub reply_from : Option EventAnswered → (Supply → List Reply) → List Reply
+reply_from None rest = []
+reply_from (Some a) rest = reply_then a.answer (rest a.left)
 
--- what a run comes to by the first call of its dialogue that gets no reply
-abbrev pub refusal_then : Answer → Request → Option RunEnd → Option RunEnd
-refusal_then (Replies y) q rest = rest
-refusal_then Ends q rest = Some InputEnded
-refusal_then Refuses q rest = Some (NoDrive q.shape.function)
+abbrev pub replies_to : Supply → List Event → List Reply
+replies_to supply [] = []
+replies_to supply (e ∷ es) = reply_from (event_answer supply e) (λ left. replies_to left es)
 
-abbrev pub refusal : List ℕ → List Event → Option RunEnd
-refusal input [] = None
-refusal input (End ∷ es) = None
-refusal input (Call q ∷ es) =
-    refusal_then (console_answer input q).answer q (refusal (console_answer input q).left es)
+-- what a run comes to by the first event of its dialogue that gets no reply
+abbrev pub refusal_then : EventAnswer → Option RunEnd → Option RunEnd
+refusal_then (Replies y) rest = rest
+refusal_then Ends rest = Some InputEnded
+refusal_then (Refuses function) rest = Some (NoDrive function)
 
--- the run over a console after n turns: given the console's replies to its own dialogue, it is so
-abbrev pub IsAt : (List Reply → ℕ → Seen) → List ℕ → ℕ → Seen → Type 0
-IsAt course input n v = v ≡ course (console_replies input v.dialogue) n
+abbrev pub refusal_from : Option EventAnswered → (Supply → Option RunEnd) → Option RunEnd
+refusal_from None rest = None
+refusal_from (Some a) rest = refusal_then a.answer (rest a.left)
 
--- over any console there is one run: it is one after each number of turns, its dialogues grow, and once it is over it stays
+abbrev pub refusal : Supply → List Event → Option RunEnd
+refusal supply [] = None
+refusal supply (e ∷ es) = refusal_from (event_answer supply e) (λ left. refusal left es)
+
+-- the run over devices after n turns: given their replies to its own dialogue, it is so
+abbrev pub IsAt : (List Reply → ℕ → Seen) → Supply → ℕ → Seen → Type 0
+IsAt course supply n v = v ≡ course (replies_to supply v.dialogue) n
+
+-- over any devices there is one run: it is one after each number of turns, its dialogues grow, and once it is over it stays
 -- as it is
 pub record HasOneRun (course : List Reply → ℕ → Seen) : Type 0 where
-  pub some : (input : List ℕ) (n : ℕ) → (v : Seen) × IsAt course input n v
-  pub one : (input : List ℕ) (n : ℕ) (v w : Seen) → IsAt course input n v → IsAt course input n w → v ≡ w
-  pub grows : (input : List ℕ) (i n : ℕ) (v w : Seen) → i ≤ n → IsAt course input i v → IsAt course input n w → IsFrontOf v.dialogue w.dialogue
+  pub some : (supply : Supply) (n : ℕ) → (v : Seen) × IsAt course supply n v
+  pub one : (supply : Supply) (n : ℕ) (v w : Seen) → IsAt course supply n v → IsAt course supply n w → v ≡ w
+  pub grows : (supply : Supply) (i n : ℕ) (v w : Seen) → i ≤ n → IsAt course supply i v → IsAt course supply n w → IsFrontOf v.dialogue w.dialogue
   pub over : (ys : List Reply) (i n : ℕ) → i ≤ n → (course ys i).status ≡ Over → course ys n ≡ course ys i
 
-module _ (course : List Reply → ℕ → Seen) (input : List ℕ) (limit : ℕ) where
+module _ (course : List Reply → ℕ → Seen) (supply : Supply) (limit : ℕ) where
   -- so many instructions ran, the last of them ended the program, and this is within the limit
   pub record EndsAfter (steps : ℕ) (v : Seen) : Type 0 where
     pub before : ℕ
     pub count : steps ≡ suc before
     pub within : steps ≤ limit
     pub was : Seen
-    pub was_at : IsAt course input before was
+    pub was_at : IsAt course supply before was
     pub went_on : was.status ≡ Going
-    pub at : IsAt course input steps v
+    pub at : IsAt course supply steps v
 
-  -- what the run over a console comes to, by how it stands at the limit
+  -- what the run over devices comes to, by how it stands at the limit
   abbrev pub IsCause : RunEnd → Seen → Type 0
   IsCause (Ended steps) v = (v.status ≡ Over) × EndsAfter steps v
   IsCause (HasStopped why) v = v.status ≡ Stopped why
   IsCause StepLimit v = v.status ≡ Going
-  IsCause InputEnded v = (v.status ≡ Waiting) × (refusal input v.dialogue ≡ Some InputEnded)
-  IsCause (NoDrive function) v = (v.status ≡ Waiting) × (refusal input v.dialogue ≡ Some (NoDrive function))
+  IsCause InputEnded v = (v.status ≡ Waiting) × (refusal supply v.dialogue ≡ Some InputEnded)
+  IsCause (NoDrive function) v = (v.status ≡ Waiting) × (refusal supply v.dialogue ≡ Some (NoDrive function))
 
   pub record IsOutcome (o : RunEnd) (v : Seen) : Type 0 where
-    pub at : IsAt course input limit v
+    pub at : IsAt course supply limit v
     pub cause : IsCause o v
 
-  -- the run comes to this and no run over the console to anything else, and its whole dialogue was said
+  -- the run comes to this and no run over these devices to anything else, and its whole dialogue was said
   pub record SaysRun (o : RunEnd) (old new : HostState) : Type 0 where
     pub run : Seen
     pub outcome : IsOutcome o run
@@ -101,8 +104,8 @@ module _ (course : List Reply → ℕ → Seen) (input : List ℕ) (limit : ℕ)
   -- these are the first events of the dialogue that the run has at the limit
   pub record HasFirst (events : List Event) : Type 0 where
     pub run : Seen
-    pub at : IsAt course input limit run
-    pub only : (v : Seen) → IsAt course input limit v → v ≡ run
+    pub at : IsAt course supply limit run
+    pub only : (v : Seen) → IsAt course supply limit v → v ≡ run
     pub front : IsFrontOf events run.dialogue
 
   -- the lines of some first events of the run were said

@@ -1,11 +1,10 @@
 -- Machines that talk, one turn at a time.
 use Rattle.std.specs.Prelude.{◌≡◌, ℕ, suc, cond, List, [], ◌∷◌, ◌++◌}
-use Rattle.dialogue.specs.declared.request.Request.{Request}
 use Rattle.dialogue.specs.declared.request.Reply.{Reply}
 use Rattle.dialogue.specs.declared.request.Event.{Event}
-use Rattle.dialogue.specs.declared.request.Event.TheVariants.{Call, End}
-use Rattle.dialogue.specs.Fits.{fits}
-use Rattle.dialogue.specs.Lawful.{IsLawful}
+use Rattle.dialogue.specs.declared.request.Event.TheVariants.{End}
+use Rattle.dialogue.specs.Fits.{fits_event}
+use Rattle.dialogue.specs.Lawful.{IsLawfulEvent}
 use Rattle.base_runs.specs.Run.{Machine, Status, Going, Waiting, Over, Stopped, turns}
 use Rattle.bdos_talk.specs.declared.emulator.Why.{Why}
 use Rattle.bdos_talk.specs.declared.emulator.Turn.{Turn}
@@ -25,8 +24,8 @@ nothing = record { used = 0; dialogue = [] }
 abbrev pub after_ran : Past → Past
 after_ran t = record t { used = suc t.used }
 
-abbrev pub after_asked : Past → Request → Past
-after_asked t q = record { used = suc t.used; dialogue = t.dialogue ++ Call q ∷ [] }
+abbrev pub after_asked : Past → Event → Past
+after_asked t e = record { used = suc t.used; dialogue = t.dialogue ++ e ∷ [] }
 
 -- a run that stands so
 abbrev pub standing : Status Why → List Event → Seen
@@ -37,16 +36,16 @@ abbrev pub Course : Type 0
 Course = Past → List Reply → ℕ → Seen
 
 -- a run that has asked takes its reply, if one comes and it fits; else it waits
-abbrev pub taken : Request → (Reply → Course) → Past → List Reply → ℕ → Seen
-taken q answered t [] n = standing Waiting t.dialogue
-taken q answered t (y ∷ ys) n = cond (fits q y) (answered y (after_ran t) ys n) (standing Waiting t.dialogue)
+abbrev pub taken : Event → (Reply → Course) → Past → List Reply → ℕ → Seen
+taken e answered t [] n = standing Waiting t.dialogue
+taken e answered t (y ∷ ys) n = cond (fits_event e y) (answered y (after_ran t) ys n) (standing Waiting t.dialogue)
 
 -- a turn tells how the run goes: `before` is its course before the turn, `after` its course where it ran, and `answered` its
 -- course after a reply where it asks
-abbrev pub IsTurn : Course → Course → (Request → Reply → Course) → Turn → Type 0
+abbrev pub IsTurn : Course → Course → (Event → Reply → Course) → Turn → Type 0
 IsTurn before after answered Ran = (t : Past) (ys : List Reply) (n : ℕ) → before t ys (suc n) ≡ after (after_ran t) ys n
-IsTurn before after answered (Asks q) =
-    (t : Past) (ys : List Reply) (n : ℕ) → before t ys (suc n) ≡ taken q (answered q) (after_asked t q) ys n
+IsTurn before after answered (Asks e) =
+    (t : Past) (ys : List Reply) (n : ℕ) → before t ys (suc n) ≡ taken e (answered e) (after_asked t e) ys n
 IsTurn before after answered Ended =
     (t : Past) (ys : List Reply) (n : ℕ) → before t ys (suc n) ≡ standing Over (t.dialogue ++ End ∷ [])
 IsTurn before after answered (HasStopped why) =
@@ -55,21 +54,21 @@ IsTurn before after answered (HasStopped why) =
 -- what is asked is lawful
 abbrev pub AsksLawfully : Turn → Type 0
 AsksLawfully Ran = Unit {0}
-AsksLawfully (Asks q) = IsLawful q
+AsksLawfully (Asks e) = IsLawfulEvent e
 AsksLawfully Ended = Unit {0}
 AsksLawfully (HasStopped why) = Unit {0}
 
 -- the machine may take a turn, or waits for a reply, by what a turn answered
-abbrev pub IsReady : Type 0 → (Request → Type 0) → Turn → Type 0
+abbrev pub IsReady : Type 0 → (Event → Type 0) → Turn → Type 0
 IsReady runs waits Ran = runs
-IsReady runs waits (Asks q) = waits q
+IsReady runs waits (Asks e) = waits e
 IsReady runs waits Ended = Unit {0}
 IsReady runs waits (HasStopped why) = Unit {0}
 
 -- a machine that stops is as before
 abbrev pub StopsInPlace : Course → Course → Turn → Type 0
 StopsInPlace before after Ran = Unit {0}
-StopsInPlace before after (Asks q) = Unit {0}
+StopsInPlace before after (Asks e) = Unit {0}
 StopsInPlace before after Ended = Unit {0}
 StopsInPlace before after (HasStopped why) = after ≡ before
 

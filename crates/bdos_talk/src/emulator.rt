@@ -2,7 +2,7 @@
 ghost use Rattle.std.specs.Prelude.{IfOk};
 
 use cells::{Place, Rule};
-use dialogue::{Reply, Request};
+use dialogue::{Event, Reply};
 use std::alloc::{AllocError, Global};
 
 /// Why a machine stopped, and where.
@@ -18,12 +18,12 @@ pub enum Why {
     OddCall(u16, u8),
 }
 
-/// What one turn comes to: an instruction ran; it asks the system and waits for a reply; it ended the program; or the machine
+/// What one turn comes to: an instruction ran; it asks the system or a port and waits for a reply; it ended the program; or the machine
 /// has stopped, and is as before.
 #[derive(Drop)]
 pub enum Turn {
     Ran,
-    Asks(Request),
+    Asks(Event),
     Ended,
     Stopped(Why),
 }
@@ -31,22 +31,22 @@ pub enum Turn {
 /// A machine that talks to a system, with its program.
 pub trait Emulator {
     ghost use Rattle.std.specs.Prelude.{◌≡◌, ℕ, List, true};
-    ghost use Rattle.dialogue.specs.Fits.{fits};
-    ghost use Rattle.dialogue.specs.declared.request.Request.{Request};
+    ghost use Rattle.dialogue.specs.Fits.{fits_event};
+    ghost use Rattle.dialogue.specs.declared.request.Event.{Event};
     ghost use Rattle.dialogue.specs.declared.request.Reply.{Reply};
     ghost use Rattle.bdos_talk.specs.Talk.{Seen, HasOneRun};
     ghost use Rattle.bdos_talk.specs.Turns.{Past, nothing, IsTurn, StopsInPlace, AsksLawfully, IsReady, Begins};
 
-    // It may take a turn; it waits for the reply to a request.
+    // It may take a turn; it waits for the reply to an event.
     ghost runs: { Self → Type 0 };
 
-    ghost waits: { Self → Request → Type 0 };
+    ghost waits: { Self → Event → Type 0 };
 
     // How its run goes on, seen from outside, by what is past, the replies that come, and the number of turns.
     ghost course: { Self → Past → List Reply → ℕ → Seen };
 
     // The same of a machine that waits, where it gets a reply first.
-    ghost answered: { Self → Request → Reply → Past → List Reply → ℕ → Seen };
+    ghost answered: { Self → Event → Reply → Past → List Reply → ℕ → Seen };
 
     /// One turn.
     fn turn(&mut self, alloc: Global) -> Result<Turn, AllocError>
@@ -57,17 +57,17 @@ pub trait Emulator {
         ensures ready { IfOk result (λ t. IsReady (runs self.new) (waits self.new) t) };
 
     /// Takes the reply to what it asked.
-    fn reply(&mut self, request: &Request, reply: &Reply)
-        requires waits { waits self.old request.now }
-        requires fits { fits request.now reply.now ≡ true }
-        ensures answered { course self.new ≡ answered self.old request.now reply.now }
+    fn reply(&mut self, event: &Event, reply: &Reply)
+        requires waits { waits self.old event.now }
+        requires fits { fits_event event.now reply.now ≡ true }
+        ensures answered { course self.new ≡ answered self.old event.now reply.now }
         ensures ready { runs self.new };
 
     // Before more turns a run stands as it is.
     ghost begins: { (m : Self) → Begins (course m) };
 
-    ghost takes: { (m : Self) (q : Request) (y : Reply) → Begins (answered m q y) };
+    ghost takes: { (m : Self) (e : Event) (y : Reply) → Begins (answered m e y) };
 
-    // Over any console it has one run.
+    // Over any devices it has one run.
     ghost single: { (m : Self) → HasOneRun (course m nothing) };
 }

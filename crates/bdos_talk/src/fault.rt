@@ -1,8 +1,8 @@
-// Why a run over a console is cut off.
+// Why a run is cut off.
 use host::HostFault;
 use std::alloc::AllocError;
 
-/// Why a run over a console is cut off.
+/// Why a run is cut off.
 #[derive(Clone, Copy, PartialEq, Eq)]
 pub enum TalkFault {
     /// A line was not said whole, for this fault of the host.

@@ -4,22 +4,22 @@ ghost use Rattle.host.specs.Host.{Says, SameFaults, OnlySays, WriteFailed};
 ghost use Rattle.hex.specs.Hex.{encode_lower};
 ghost use Rattle.cmd_files.specs.Transfer.{CutsLine};
 ghost use Rattle.bdos_talk.specs.Advance.{IsLineCutOff};
-ghost use Rattle.bdos_talk.specs.Lines.{blank_then, arg_text, bytes_text, blocks_text, call_line};
+ghost use Rattle.bdos_talk.specs.Lines.{blank_then, arg_text, bytes_text, blocks_text, call_line, in_line, out_line, event_line};
 
 use crate::fault::TalkFault;
 use cmd_files::say_line;
-use dialogue::{ArgWord, Block, Request};
+use dialogue::{ArgWord, Block, Event, Request};
 use host::{Host, HostFault};
 use std::alloc::{AllocError, Global};
 
-/// Says a call of the system.
-pub fn say_call<H: Host>(alloc: Global, host: &mut H, request: &Request) -> Result<(), TalkFault>
+/// Says an event.
+pub fn say_event<H: Host>(alloc: Global, host: &mut H, event: &Event) -> Result<(), TalkFault>
     ensures only { OnlySays (H.state host.old) (H.state host.new) }
-    ensures ok { OnOk result (Says (H.state host.old) (H.state host.new) (call_line request.now)) }
+    ensures ok { OnOk result (Says (H.state host.old) (H.state host.new) (event_line event.now)) }
     ensures counted { OnOk result (SameFaults (H.state host.old) (H.state host.new)) }
-    ensures cut { IfErr result (IsLineCutOff (call_line request.now) (H.state host.old) (H.state host.new)) }
+    ensures cut { IfErr result (IsLineCutOff (event_line event.now) (H.state host.old) (H.state host.new)) }
 {
-    let line = call_line(alloc, request)?;
+    let line = event_line(alloc, event)?;
     Ok(say_line(host, line.as_slice())?)
 }
 
@@ -32,6 +32,39 @@ pub fn say_end<H: Host>(host: &mut H) -> Result<(), HostFault>
     ensures failed { OnErr result (WriteFailed (H.state host.old) (H.state host.new)) }
 {
     say_line(host, b"end\n")
+}
+
+// The line of an event.
+fn event_line(alloc: Global, event: &Event) -> Result<Vec<u8>, AllocError>
+    ensures { IfOk result (λ line. line.items ≡ event_line event.now) }
+{
+    match event {
+        Event::Call(request) => call_line(alloc, request),
+        Event::In(port) => in_line(alloc, *port),
+        Event::Out(port, byte) => out_line(alloc, *port, *byte),
+        Event::End => Vec::from_slice(alloc, b"end\n"),
+    }
+}
+
+// The line of an IN: the port.
+fn in_line(alloc: Global, port: u8) -> Result<Vec<u8>, AllocError>
+    ensures { IfOk result (λ line. line.items ≡ in_line port) }
+{
+    let mut line = Vec::from_slice(alloc, b"in")?;
+    push_spaced(alloc, &mut line, &[port])?;
+    line.push(b'\n')?;
+    Ok(line)
+}
+
+// The line of an OUT: the port, and then the byte.
+fn out_line(alloc: Global, port: u8, byte: u8) -> Result<Vec<u8>, AllocError>
+    ensures { IfOk result (λ line. line.items ≡ out_line port byte) }
+{
+    let mut line = Vec::from_slice(alloc, b"out")?;
+    push_spaced(alloc, &mut line, &[port])?;
+    push_spaced(alloc, &mut line, &[byte])?;
+    line.push(b'\n')?;
+    Ok(line)
 }
 
 // The line of a call.

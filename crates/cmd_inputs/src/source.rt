@@ -11,7 +11,7 @@ use asm80_values::{AsmFault, assemble};
 use cmd_reports::Stop;
 use std::alloc::Global;
 
-/// The program of a source, for a top of the program area, which is 4000H, 8000H, 0C000H or 0F000H; or the first refusal: of a
+/// The program of a source, for a top of the program area, a multiple of 100H from 1000H to 0FF00H; or the first refusal: of a
 /// line, else of names and values, else of the layout.
 pub fn read_source<'a>(alloc: Global, bytes: &[u8], top: u16) -> Result<Program80, Stop<'a>>
     requires { is_top top ≡ true }

@@ -11,7 +11,7 @@ use Rattle.std.proofs.Math.Seq.{drop-cons}
 use Rattle.cmd_words.specs.declared.table.CommandName.{CommandName}
 use Rattle.cmd_words.specs.declared.table.CommandName.TheVariants.{Translate, Run80, Run86}
 use Rattle.cmd_words.specs.declared.table.OptionName.{OptionName}
-use Rattle.cmd_words.specs.declared.table.OptionName.TheVariants.{Top, Choice, Input, Tail, Steps, Plain}
+use Rattle.cmd_words.specs.declared.table.OptionName.TheVariants.{Top, Choice, Input, Ports, Tail, Steps, Plain}
 use Rattle.cmd_words.specs.Table.{Word, option_word, options_of, flags_of, named_among}
 use Rattle.cmd_words.specs.Items.{Item, Name, Setting, is_value, Begins, name, flag, parted, joined, mark}
 use Rattle.cmd_words.specs.Forms.{is_equals, has_equals, First, first_item, joined_item, parted_item, lone_item}
@@ -38,6 +38,7 @@ option_words : (o : OptionName) → IsOptionWord (option_word o)
 option_words Top = record { alone = refl; whole = refl; begins = λ text. refl; place = λ text. lt-ltb _ _ (omega arith); before = λ text. refl; after = λ text. refl }
 option_words Choice = record { alone = refl; whole = refl; begins = λ text. refl; place = λ text. lt-ltb _ _ (omega arith); before = λ text. refl; after = λ text. refl }
 option_words Input = record { alone = refl; whole = refl; begins = λ text. refl; place = λ text. lt-ltb _ _ (omega arith); before = λ text. refl; after = λ text. refl }
+option_words Ports = record { alone = refl; whole = refl; begins = λ text. refl; place = λ text. lt-ltb _ _ (omega arith); before = λ text. refl; after = λ text. refl }
 option_words Tail = record { alone = refl; whole = refl; begins = λ text. refl; place = λ text. lt-ltb _ _ (omega arith); before = λ text. refl; after = λ text. refl }
 option_words Steps = record { alone = refl; whole = refl; begins = λ text. refl; place = λ text. lt-ltb _ _ (omega arith); before = λ text. refl; after = λ text. refl }
 option_words Plain = record { alone = refl; whole = refl; begins = λ text. refl; place = λ text. lt-ltb _ _ (omega arith); before = λ text. refl; after = λ text. refl }
@@ -48,6 +49,7 @@ no_flag Translate Plain p e = absurd (none-some p e)
 no_flag Translate Top p e = refl
 no_flag Translate Choice p e = refl
 no_flag Translate Input p e = refl
+no_flag Translate Ports p e = refl
 no_flag Translate Tail p e = refl
 no_flag Translate Steps p e = refl
 no_flag Run80 o p e = refl

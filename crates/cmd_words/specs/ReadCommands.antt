@@ -12,7 +12,7 @@ abbrev pub translate_read : ReadTranslate → Translate
 translate_read c = record { input = c.input.now; output = c.output.now; top = c.top }
 
 abbrev pub run_options_read : ReadRunOptions → RunOptions
-run_options_read r = record { input = option_copied r.input; page = r.page; steps = r.steps }
+run_options_read r = record { input = option_copied r.input; ports = option_copied r.ports; page = r.page; steps = r.steps }
 
 abbrev pub run80_read : ReadRun80 → Run80
 run80_read c = record { source = c.source.now; top = c.top; run = run_options_read c.run }

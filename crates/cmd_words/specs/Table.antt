@@ -4,7 +4,7 @@ use Rattle.std.specs.Str.{bytes_eq}
 use Rattle.cmd_words.specs.declared.table.CommandName.{CommandName}
 use Rattle.cmd_words.specs.declared.table.CommandName.TheVariants.{Translate, Run80, Run86}
 use Rattle.cmd_words.specs.declared.table.OptionName.{OptionName}
-use Rattle.cmd_words.specs.declared.table.OptionName.TheVariants.{Top, Choice, Input, Tail, Steps, Plain}
+use Rattle.cmd_words.specs.declared.table.OptionName.TheVariants.{Top, Choice, Input, Ports, Tail, Steps, Plain}
 
 -- a word is a list of bytes
 abbrev pub Word : Type 0
@@ -22,6 +22,7 @@ abbrev pub option_word : OptionName → Word
 option_word Top = codes "--top"
 option_word Choice = codes "--choice"
 option_word Input = codes "--input"
+option_word Ports = codes "--ports"
 option_word Tail = codes "--tail"
 option_word Steps = codes "--steps"
 option_word Plain = codes "--plain"
@@ -29,8 +30,8 @@ option_word Plain = codes "--plain"
 -- the options with a value that a command takes
 abbrev pub options_of : CommandName → List OptionName
 options_of Translate = Top ∷ []
-options_of Run80 = Top ∷ (Input ∷ (Tail ∷ (Steps ∷ [])))
-options_of Run86 = Choice ∷ (Input ∷ (Tail ∷ (Steps ∷ [])))
+options_of Run80 = Top ∷ (Input ∷ (Ports ∷ (Tail ∷ (Steps ∷ []))))
+options_of Run86 = Choice ∷ (Input ∷ (Ports ∷ (Tail ∷ (Steps ∷ []))))
 
 -- the options without a value, its flags
 abbrev pub flags_of : CommandName → List OptionName

@@ -1,8 +1,9 @@
 -- The values that the texts of options stand for.
-use Rattle.std.specs.Prelude.{ℕ, List, [], ◌∷◌, Option, Some, None, length, nat_lt, nat_le, ◌==◌, ◌&&◌, if◌then◌else◌, option_and_then}
-use Rattle.std.specs.List.{list_all, list_any}
+use Rattle.std.specs.Prelude.{ℕ, Option, Some, None, length, nat_lt, nat_le, ◌==◌, ◌&&◌, if◌then◌else◌, option_and_then}
+use Rattle.std.specs.List.{list_all}
 use Rattle.std.specs.Char.{is_digit}
 use Rattle.std.specs.Str.Parse.{digits_value}
+use Rattle.asm80_program.specs.Program.{is_top}
 use Rattle.cmd_words.specs.Table.{Word}
 
 -- the number that 1 to `most` digits of a base write, letters in either case
@@ -12,14 +13,10 @@ number_in base most text =
     then Some (digits_value base text)
     else None
 
--- the tops that a program area may have
-abbrev pub tops : List ℕ
-tops = 0x4000 ∷ (0x8000 ∷ (0xC000 ∷ (0xF000 ∷ [])))
-
 abbrev pub top_among : ℕ → Option ℕ
-top_among n = if list_any (λ top. top == n) tops then Some n else None
+top_among n = if is_top n then Some n else None
 
--- `--top`: exactly four hexadecimal digits of an allowed top
+-- `--top`: exactly four hexadecimal digits of a top that a program area may have
 abbrev pub top_value : Word → Option ℕ
 top_value text = if length text == 4 then option_and_then top_among (number_in 16 4 text) else None
 

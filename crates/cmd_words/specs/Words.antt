@@ -13,9 +13,11 @@ pub record Translate : Type 0 where
   pub output : Word
   pub top : ℕ
 
--- `[--input F] [--tail T] [--steps N]`: the name of the input's file, the start page of the tail, the most steps
+-- `[--input F] [--ports F] [--tail T] [--steps N]`: the names of the files of the input and of the ports' bytes, the start page
+-- of the tail, the most steps
 pub record RunOptions : Type 0 where
   pub input : Option Word
+  pub ports : Option Word
   pub page : List ℕ
   pub steps : ℕ
 
@@ -58,7 +60,7 @@ steps_of g = text_or (codes "1000000") g.steps >>= steps_value
 abbrev pub page_of : Gathered → Option (List ℕ)
 page_of g = text_or [] g.tail >>= page_of_tail
 
--- an input's file has a name, if there is one
+-- a file that a run reads has a name, if there is one
 abbrev pub input_file : Occurrence → Option (Option Word)
 input_file Absent = Some None
 input_file (Once text) = option_map Some (file_name text)
@@ -96,9 +98,10 @@ translate_of g = do
 abbrev pub run_options_of : Gathered → Option RunOptions
 run_options_of g = do
   input ← input_file g.input
+  ports ← input_file g.ports
   page ← page_of g
   steps ← steps_of g
-  Some (record { input = input; page = page; steps = steps })
+  Some (record { input = input; ports = ports; page = page; steps = steps })
 
 abbrev pub run80_of : Gathered → Option Run80
 run80_of g = do

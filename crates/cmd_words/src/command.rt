@@ -44,11 +44,12 @@ pub struct Run86<'a> {
     pub run: RunOptions<'a>,
 }
 
-/// `[--input F] [--tail T] [--steps N]`: the file of the console's input, if there is one, the start page, and the most
-/// instructions that run.
+/// `[--input F] [--ports F] [--tail T] [--steps N]`: the files of the console's input and of the ports' bytes, if there are such,
+/// the start page, and the most instructions that run.
 #[derive(Drop)]
 pub struct RunOptions<'a> {
     pub input: Option<&'a str>,
+    pub ports: Option<&'a str>,
     pub page: Page,
     pub steps: u32,
 }
@@ -85,7 +86,7 @@ impl<'a> Occurrence<'a> {
         }
     }
 
-    // The file of an input, if there is one.
+    // A file that a run reads, if there is one.
     fn input_file(self) -> Option<Option<&'a str>>
         ensures { input_of result ≡ input_file (occurrence_of self.entry) }
     {
@@ -136,9 +137,15 @@ impl<'a> Given<'a> {
         ensures { option_map run_options_read result ≡ run_options_of self.now }
     {
         let input = self.input.input_file()?;
+        let ports = self.ports.input_file()?;
         let page = self.page()?;
         let steps = self.steps()?;
-        Some(RunOptions { input, page, steps })
+        Some(RunOptions {
+            input,
+            ports,
+            page,
+            steps,
+        })
     }
 
     fn translate(&self) -> Option<Translate<'a>>

@@ -34,6 +34,7 @@ pub struct Given<'a> {
     pub top: Occurrence<'a>,
     pub choice: Occurrence<'a>,
     pub input: Occurrence<'a>,
+    pub ports: Occurrence<'a>,
     pub tail: Occurrence<'a>,
     pub steps: Occurrence<'a>,
     pub plain: Occurrence<'a>,
@@ -50,6 +51,7 @@ impl<'a> Model for Given<'a> {
       top = occurrence_of g.top;
       choice = occurrence_of g.choice;
       input = occurrence_of g.input;
+      ports = occurrence_of g.ports;
       tail = occurrence_of g.tail;
       steps = occurrence_of g.steps;
       plain = occurrence_of g.plain;
@@ -112,6 +114,7 @@ impl<'a> Given<'a> {
             top: Occurrence::Absent,
             choice: Occurrence::Absent,
             input: Occurrence::Absent,
+            ports: Occurrence::Absent,
             tail: Occurrence::Absent,
             steps: Occurrence::Absent,
             plain: Occurrence::Absent,
@@ -142,6 +145,7 @@ impl<'a> Given<'a> {
             OptionName::Top => self.top = self.top.and(text),
             OptionName::Choice => self.choice = self.choice.and(text),
             OptionName::Input => self.input = self.input.and(text),
+            OptionName::Ports => self.ports = self.ports.and(text),
             OptionName::Tail => self.tail = self.tail.and(text),
             OptionName::Steps => self.steps = self.steps.and(text),
             OptionName::Plain => self.plain = self.plain.and(text),

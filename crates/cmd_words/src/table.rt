@@ -17,6 +17,7 @@ pub enum OptionName {
     Top,
     Choice,
     Input,
+    Ports,
     Tail,
     Steps,
     Plain,
@@ -71,8 +72,8 @@ impl CommandName {
 
         match self {
             CommandName::Translate => &[Top],
-            CommandName::Run80 => &[Top, Input, Tail, Steps],
-            CommandName::Run86 => &[Choice, Input, Tail, Steps],
+            CommandName::Run80 => &[Top, Input, Ports, Tail, Steps],
+            CommandName::Run86 => &[Choice, Input, Ports, Tail, Steps],
         }
     }
 
@@ -102,6 +103,7 @@ impl OptionName {
             OptionName::Top => "--top",
             OptionName::Choice => "--choice",
             OptionName::Input => "--input",
+            OptionName::Ports => "--ports",
             OptionName::Tail => "--tail",
             OptionName::Steps => "--steps",
             OptionName::Plain => "--plain",

@@ -8,19 +8,23 @@ ghost use Rattle.cmd_words.specs.Values.{choice_value, file_name, number_in, ste
 /// The most steps that a run may be given.
 const MOST_STEPS: u128 = 10_000_000;
 
-/// The top of the program area that `--top` gives.
+/// The lowest and the highest top of a program area.
+const LOWEST_TOP: u128 = 0x1000;
+
+const HIGHEST_TOP: u128 = 0xFF00;
+
+/// The top of the program area that `--top` gives: a multiple of 100H.
 pub fn top_value(text: &str) -> Option<u16>
     ensures { result ≡ top_value text.now }
 {
     if text.len() != 4 {
         return None;
     }
-    match number_in(16, 4, text)? {
-        0x4000 => Some(0x4000),
-        0x8000 => Some(0x8000),
-        0xC000 => Some(0xC000),
-        0xF000 => Some(0xF000),
-        _ => None,
+    let top = number_in(16, 4, text)?;
+    if top % 0x100 == 0 && LOWEST_TOP <= top && top <= HIGHEST_TOP {
+        Some(top as u16)
+    } else {
+        None
     }
 }
 

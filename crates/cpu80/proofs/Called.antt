@@ -2,10 +2,9 @@
 use Rattle.std.proofs.Common.{◌≡◌, ℕ, suc, ◌+◌, Bool, cond, List, [], ◌∷◌, ◌++◌, refl, sym, ap, ◌∙◌, subst, arith, append_assoc}
 use Rattle.std.proofs.lemmas.List.{append-nil}
 use Rattle.cells.specs.declared.Rule.{Rule}
-use Rattle.dialogue.specs.declared.request.Request.{Request}
 use Rattle.dialogue.specs.declared.request.Reply.{Reply}
 use Rattle.dialogue.specs.declared.request.Event.{Event}
-use Rattle.dialogue.specs.declared.request.Event.TheVariants.{Call, End}
+use Rattle.dialogue.specs.declared.request.Event.TheVariants.{End}
 use Rattle.base_runs.specs.Run.{Answer, Ran, Asks, Ends, Stops, Status, Going, Waiting, Over, Stopped, Run, turn, settle, take_reply, start_run}
 use Rattle.base_runs.proofs.Turns.{turns_add}
 use Rattle.asm80_program.specs.Program.{Program}
@@ -26,8 +25,8 @@ at_run s status d ys u = record { state = s; status = status; dialogue = d; repl
 abbrev pub Stands : Program → List ℕ → Status Rule → List Event → List Reply → ℕ → State80 → Type 0
 Stands p page Going d ys n s = (u : ℕ) × ((rest : List Reply) → run80 p page (ys ++ rest) n ≡ at_run s Going d rest u)
 Stands p page Waiting d ys n s =
-    (q : Request) × (step80 p s ≡ Asks (Call q) s)
-    × ((u : ℕ) × ((rest : List Reply) → run80 p page (ys ++ rest) n ≡ take_reply (machine80 p) [] (at_run s Going d rest u) (Call q) rest))
+    (e : Event) × (step80 p s ≡ Asks e s)
+    × ((u : ℕ) × ((rest : List Reply) → run80 p page (ys ++ rest) n ≡ take_reply (machine80 p) [] (at_run s Going d rest u) e rest))
 Stands p page Over d ys n s = (u : ℕ) × ((rest : List Reply) → run80 p page (ys ++ rest) n ≡ at_run s Over d rest u)
 Stands p page (Stopped r) d ys n s = (u : ℕ) × ((rest : List Reply) → run80 p page (ys ++ rest) n ≡ at_run s (Stopped r) d rest u)
 
@@ -72,28 +71,28 @@ stands p page _ _ _ _ _ (started c h) = (0, λ rest. ap (λ (s : State80). at_ru
 stands p page _ _ _ _ _ (ran d ys n c after before step) =
     let b = stands p page Going d ys n c before in
     (suc b.0, λ rest. turn_from p page (ys ++ rest) rest n b.0 (state_of c) d (Ran (state_of after)) (b.1 rest) (ran_to (step80 p (state_of c)) (state_of c) (state_of after) step.step))
-stands p page _ _ _ _ _ (asked d ys n c after q before step is) =
+stands p page _ _ _ _ _ (asked d ys n c after e before step is) =
     let b = stands p page Going d ys n c before in
     let same : state_of after ≡ state_of c = asked_at (step80 p (state_of c)) (state_of c) (state_of after) step.step in
-    let asks_it : step80 p (state_of c) ≡ Asks (Call q) (state_of c) = subst (λ s. step80 p s ≡ Asks (Call q) s) same is.1.asked in (
-      q,
+    let asks_it : step80 p (state_of c) ≡ Asks e (state_of c) = subst (λ s. step80 p s ≡ Asks e s) same is.1.asked in (
+      e,
       is.1.asked,
       (
         suc b.0,
         λ rest.
-            turn_from p page (ys ++ rest) rest n b.0 (state_of c) d (Asks (Call q) (state_of c)) (b.1 rest) asks_it
-            ∙ ap (λ (s : State80). take_reply (machine80 p) [] (at_run s Going (d ++ Call q ∷ []) rest (suc b.0)) (Call q) rest) (sym same),
+            turn_from p page (ys ++ rest) rest n b.0 (state_of c) d (Asks e (state_of c)) (b.1 rest) asks_it
+            ∙ ap (λ (s : State80). take_reply (machine80 p) [] (at_run s Going (d ++ e ∷ []) rest (suc b.0)) e rest) (sym same),
       ),
     )
 stands p page _ _ _ _ _ (replied d ys n c after y before is) =
     let b = stands p page Waiting d ys n c before in
-    let q = b.0 in
-    let taken = is.3 q b.1 in (
+    let e = b.0 in
+    let taken = is.3 e b.1 in (
       suc b.2.0,
       λ rest.
           ap (λ zs. run80 p page zs n) (append_assoc ys (y ∷ []) rest)
           ∙ b.2.1 (y ∷ rest)
-          ∙ ap (λ (t : Bool). cond t (at_run (replied80 p (state_of c) (Call q) y) Going d rest (suc b.2.0)) (at_run (state_of c) Waiting d (y ∷ rest) b.2.0)) taken.0
+          ∙ ap (λ (t : Bool). cond t (at_run (replied80 p (state_of c) e y) Going d rest (suc b.2.0)) (at_run (state_of c) Waiting d (y ∷ rest) b.2.0)) taken.0
           ∙ ap (λ (s : State80). at_run s Going d rest (suc b.2.0)) (sym taken.1),
     )
 stands p page _ _ _ _ _ (ended d ys n c after before step) =
@@ -138,7 +137,7 @@ is_at r status d s u e = record {
 at_end : (p : Program) (page : List ℕ) (status : Status Rule) (d : List Event) (ys : List Reply) (n : ℕ) (s : State80) → Stands p page status d ys n s → IsRunAt (run80 p page ys n) status d s
 at_end p page Going d ys n s h = is_at _ Going d s h.0 (whole p page ys n (λ rest. at_run s Going d rest h.0) h.1)
 at_end p page Waiting d ys n s h =
-    is_at _ Waiting d s h.2.0 (whole p page ys n (λ rest. take_reply (machine80 p) [] (at_run s Going d rest h.2.0) (Call h.0) rest) h.2.1)
+    is_at _ Waiting d s h.2.0 (whole p page ys n (λ rest. take_reply (machine80 p) [] (at_run s Going d rest h.2.0) h.0 rest) h.2.1)
 at_end p page Over d ys n s h = is_at _ Over d s h.0 (whole p page ys n (λ rest. at_run s Over d rest h.0) h.1)
 at_end p page (Stopped r) d ys n s h = is_at _ (Stopped r) d s h.0 (whole p page ys n (λ rest. at_run s (Stopped r) d rest h.0) h.1)
 

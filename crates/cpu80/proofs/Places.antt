@@ -9,9 +9,11 @@ use Rattle.cells.specs.declared.Rule.TheVariants.{P1, P9, P12}
 use Rattle.i80.specs.declared.Goal.{Goal}
 use Rattle.i80.specs.declared.Goal.TheVariants.{At as Instr, Boot, Bdos}
 use Rattle.i80.specs.declared.Instr80.{Instr80}
-use Rattle.i80.specs.declared.Instr80.TheVariants.{Pchl, Jmp, Jif, Call, Cif, Ret, Rif, Rst0}
+use Rattle.i80.specs.declared.Instr80.TheVariants.{Pchl, Jmp, Jif, Call, Cif, Ret, Rif, Rst0, In, Out}
 use Rattle.i80.specs.Columns.{length80}
 use Rattle.dialogue.specs.declared.request.Shape.{Shape}
+use Rattle.dialogue.specs.declared.request.Event.{Event}
+use Rattle.dialogue.specs.declared.request.Event.TheVariants.{In as AskedIn}
 use Rattle.dialogue.specs.Shape.{shape_of}
 use Rattle.dialogue.specs.Table.{row_of}
 use Rattle.dialogue.specs.Tried.{try_then}
@@ -21,7 +23,7 @@ use Rattle.cpu80_steps.specs.State.{State80, num_of, wrap}
 use Rattle.cpu80_steps.specs.Memory.{Halves, read_word}
 use Rattle.cpu80_steps.specs.Effect.{effect, push}
 use Rattle.cpu80_steps.specs.Call.{Return, ask, ask_after, call_by, is_just_below, seen_by, place_if, is_place, same_place, place_in, popped_return, return_after}
-use Rattle.cpu80_steps.specs.Step.{go_to, go_on, leave_to, go_by, go_back, jump, enter, call, where_holds, holds, act, act_at, step_at, step80, return_of, return_at}
+use Rattle.cpu80_steps.specs.Step.{go_to, go_on, leave_to, go_by, go_back, jump, enter, call, where_holds, holds, ask_event, ask_port, sent, act, act_at, step_at, step80, return_of, return_at}
 
 -- where the answer ran on, an instruction comes next, or the end
 abbrev pub GoesOn : Program → Answer State80 Rule → Type 0
@@ -142,6 +144,15 @@ where_it_holds p s a None go h = tt
 where_it_holds p s a (Some true) go h = h
 where_it_holds p s a (Some false) go h = to_start p s a
 
+-- nor does what asks a port
+asked_of : (p : Program) (s : State80) (a : ℕ) (e : Result Event Rule) → GoesOn p (ask_port p s a e)
+asked_of p s a e = by_start (is_start p a) e
+  where
+    by_start : (b : Bool) (e : Result Event Rule) → GoesOn p (cond b (ask_event s e) (Stops P1))
+    by_start true (Ok e) = tt
+    by_start true (Err r) = tt
+    by_start false e = tt
+
 acted : (p : Program) (s : State80) (a : ℕ) (i : Instr80) → GoesOn p (act p s a i)
 acted p s a Pchl = gone_by p s s.sp (place_in p s.regs.h s.regs.l) (named p s.regs.h s.regs.l)
 acted p s a (Jmp t) = jumped p s t
@@ -151,6 +162,8 @@ acted p s a (Cif c t) = where_it_holds p s a (holds s.flags c) (call p s a t) (c
 acted p s a Ret = back_to p s (popped_return p s) (popped p s)
 acted p s a (Rif c) = where_it_holds p s a (holds s.flags c) (go_back s (popped_return p s)) (back_to p s (popped_return p s) (popped p s))
 acted p s a Rst0 = tt
+acted p s a (In port) = asked_of p s a (Ok (AskedIn port))
+acted p s a (Out port) = asked_of p s a (sent s port)
 acted p s a i = on_from p a (effect p s i)
 
 acted_at : (p : Program) (s : State80) (at : ℕ) (i : Option Instr80) → GoesOn p (act_at p s at i)

@@ -10,29 +10,39 @@ use Rattle.dialogue.specs.declared.request.Range.{Range}
 use Rattle.dialogue.specs.declared.request.Shape.{Shape}
 use Rattle.dialogue.specs.declared.request.Request.{Request}
 use Rattle.dialogue.specs.declared.request.Reply.{Reply}
+use Rattle.dialogue.specs.declared.request.Event.{Event}
 use Rattle.dialogue.specs.declared.request.Event.TheVariants.{Call}
 use Rattle.dialogue.specs.Tried.{try_then}
 use Rattle.dialogue.specs.Table.{Row, row_of}
 use Rattle.dialogue.specs.Shape.{Seen, argument_of, address_of, is_readable, ranges_within, has_room, shape_of, shape_in as shape_of_row, shape_by, ranges, request_of}
-use Rattle.dialogue.specs.Fits.{fills, writes_fit, line_fits, line_bytes_fit, answer_fits, fits, fits_row}
+use Rattle.dialogue.specs.Fits.{fills, writes_fit, line_fits, line_bytes_fit, kind_by, answer_fits, fits, fits_row, fits_event}
 use Rattle.dialogue.specs.Lawful.{IsLawful, IsShapeOver}
 use Rattle.dialogue.proofs.LawfulShapes.{made, made-lawful}
 use Rattle.base_runs.specs.Run.{Asks}
 use Rattle.asm80_program.specs.Program.{Program}
 use Rattle.cpu80_steps.specs.State.{State80, num_of}
 use Rattle.cpu80_steps.specs.Call.{seen_by, is_place}
-use Rattle.cpu80_steps.specs.Step.{step80, replied80, replied_to}
+use Rattle.cpu80_steps.specs.Step.{step80, return_at, replied80, replied_to}
 use Rattle.cpu80_effects.specs.declared.turn.Return.{Return}
 use Rattle.cpu80_effects.specs.Area.{HasClosed}
 use Rattle.cpu80_effects.specs.Draft.{memory_of}
 use Rattle.cpu80_effects.specs.Sight.{closed_in}
-use Rattle.cpu80_effects.specs.Turn.{shape_at}
+use Rattle.cpu80_effects.specs.Turn.{return_of, shape_at}
 use Rattle.cpu80_effects.proofs.Sights.{same_closed, same_seen}
 use Rattle.cpu80.proofs.Places.{Returns, returns_to}
+use Rattle.cpu80.proofs.Steps.{runs_on}
 use Rattle.cpu80.specs.declared.processor.Cpu80.{Cpu80}
-use Rattle.cpu80.specs.State.{state_of, seen_of, shape_in}
-use Rattle.cpu80.specs.Machine.{IsWaiting, IsAskedBy}
+use Rattle.cpu80.specs.declared.processor.Phase.TheVariants.{Running}
+use Rattle.cpu80.specs.State.{state_of, waits, asks, seen_of, shape_in}
+use Rattle.cpu80.specs.Machine.{IsCalling, IsAtPort, IsAskedBy, IsReply}
 use Rattle.cpu80.specs.Reply.{Fits, taken}
+
+asked_same : (p : Program) (s : State80) (e v : Event) → step80 p s ≡ Asks e s → step80 p s ≡ Asks v s → e ≡ v
+asked_same p s e v h g = cc
+
+-- what holds of the call that waits holds of what its step asks
+pub of_call : (p : Program) (s : State80) (kept : Return) (w : IsCalling p s kept) (P : Event → Type 0) → P (Call (request_of w.shape (seen_by p s kept.is_popped))) → (v : Event) → step80 p s ≡ Asks v s → P v
+of_call p s kept w P h v asks = subst P (asked_same p s (Call (request_of w.shape (seen_by p s kept.is_popped))) v w.asked asks) h
 
 -- the shape by what the machine keeps is the definition's
 pub same_shape : (p : Program) (c : Cpu80) (is_popped : Bool) → HasClosed p c.closed.items → shape_in c is_popped ≡ shape_at p (state_of c) is_popped
@@ -64,19 +74,19 @@ shape_function (Some f) d e dma seen shape h = by_row (row_of f) h
     by_row (Some row) g = ap Some (row_function f row d e dma seen shape g)
 
 -- the shape that the machine finds again is the one that it asked by
-shape_again : (p : Program) (c : Cpu80) (kept : Return) (shape : Shape) (h : HasClosed p c.closed.items) (w : IsWaiting p (state_of c) kept) → shape_in c kept.is_popped ≡ Ok shape → shape ≡ w.shape
+shape_again : (p : Program) (c : Cpu80) (kept : Return) (shape : Shape) (h : HasClosed p c.closed.items) (w : IsCalling p (state_of c) kept) → shape_in c kept.is_popped ≡ Ok shape → shape ≡ w.shape
 shape_again p c kept shape h w e =
     let same = same_shape p c kept.is_popped h in
     let given = w.given in
     cc
 
-pub no_shape : (p : Program) (c : Cpu80) (kept : Return) (r : Rule) → HasClosed p c.closed.items → IsWaiting p (state_of c) kept → shape_in c kept.is_popped ≡ Err r → ⊥
+pub no_shape : (p : Program) (c : Cpu80) (kept : Return) (r : Rule) → HasClosed p c.closed.items → IsCalling p (state_of c) kept → shape_in c kept.is_popped ≡ Err r → ⊥
 no_shape p c kept r h w e =
     let same = same_shape p c kept.is_popped h in
     let given = w.given in
     cc
 
-pub asked_is : (p : Program) (c : Cpu80) (kept : Return) (shape : Shape) (q : Request) → HasClosed p c.closed.items → IsWaiting p (state_of c) kept → shape_in c kept.is_popped ≡ Ok shape → q ≡ request_of shape (seen_of c kept.is_popped) → IsLawful q → IsAskedBy p (state_of c) q
+pub asked_is : (p : Program) (c : Cpu80) (kept : Return) (shape : Shape) (q : Request) → HasClosed p c.closed.items → IsCalling p (state_of c) kept → shape_in c kept.is_popped ≡ Ok shape → q ≡ request_of shape (seen_of c kept.is_popped) → IsLawful q → IsAskedBy p (state_of c) (Call q)
 asked_is p c kept shape q h w e is lawful =
     let again : shape ≡ w.shape = shape_again p c kept shape h w e in
     let seen : seen_of c kept.is_popped ≡ seen_by p (state_of c) kept.is_popped = same_seen p (state_of c) c.closed.items (memory_of c.memory.items) kept.is_popped h refl in
@@ -91,7 +101,7 @@ asked_is p c kept shape q h w e is lawful =
     }
 
 -- what is asked has the machine's shape
-pub asked_shape : (p : Program) (c : Cpu80) (kept : Return) (shape : Shape) (q : Request) → HasClosed p c.closed.items → IsWaiting p (state_of c) kept → shape_in c kept.is_popped ≡ Ok shape → step80 p (state_of c) ≡ Asks (Call q) (state_of c) → shape ≡ q.shape
+pub asked_shape : (p : Program) (c : Cpu80) (kept : Return) (shape : Shape) (q : Request) → HasClosed p c.closed.items → IsCalling p (state_of c) kept → shape_in c kept.is_popped ≡ Ok shape → step80 p (state_of c) ≡ Asks (Call q) (state_of c) → shape ≡ q.shape
 asked_shape p c kept shape q h w e asks =
     let again : shape ≡ w.shape = shape_again p c kept shape h w e in
     let asked = w.asked in
@@ -102,7 +112,7 @@ asked_shape p c kept shape q h w e asks =
 row_fits_by : (o : Option Row) (q r : Request) (y : Reply) → q.shape ≡ r.shape → fits_row o q y ≡ fits_row o r y
 row_fits_by None q r y e = refl
 row_fits_by (Some row) q r y e =
-    ap (λ (s : Shape). answer_fits row.answer y.answer && cond (s.function == 10) (line_fits (ranges s.writes) y.writes) (writes_fit (ranges s.writes) y.writes)) e
+    ap (λ (s : Shape). answer_fits (kind_by row.answer s.arg) y.answer && cond (s.function == 10) (line_fits (ranges s.writes) y.writes) (writes_fit (ranges s.writes) y.writes)) e
 
 pub fits_by : (q r : Request) (y : Reply) → q.shape ≡ r.shape → fits q y ≡ fits r y
 fits_by q r y e =
@@ -111,14 +121,35 @@ fits_by q r y e =
 pub taken_by : (closed : ℕ → Bool) (s : State80) (kept : Return) (q r : Request) (y : Reply) → q.shape ≡ r.shape → taken closed s kept q y ≡ taken closed s kept r y
 taken_by closed s kept q r y e = ap (λ sh. taken closed s kept (record { shape = sh; blocks = [] }) y) e
 
--- a call returns to an instruction, or to the end
-pub return_place : (p : Program) (s : State80) (kept : Return) → IsWaiting p s kept → is_place p kept.place ≡ true
-return_place p s kept w = subst (Returns p) w.back (returns_to p s s.place)
+-- what asks goes on at an instruction, or at the end
+pub return_place : (p : Program) (s : State80) (kept : Return) → return_at p s s.place ≡ Ok (return_of kept) → is_place p kept.place ≡ true
+return_place p s kept back = subst (Returns p) back (returns_to p s s.place)
 
-pub replied : (p : Program) (c : Cpu80) (kept : Return) (q : Request) (y : Reply) → HasClosed p c.closed.items → IsWaiting p (state_of c) kept → taken (closed_in c.closed.items) (state_of c) kept q y ≡ replied80 p (state_of c) (Call q) y
+pub replied : (p : Program) (c : Cpu80) (kept : Return) (q : Request) (y : Reply) → HasClosed p c.closed.items → IsCalling p (state_of c) kept → taken (closed_in c.closed.items) (state_of c) kept q y ≡ replied80 p (state_of c) (Call q) y
 replied p c kept q y h w =
     ap (λ (f : ℕ → Bool). taken f (state_of c) kept q y) (same_closed p c.closed.items h)
     ∙ sym (ap (λ r. replied_to p (state_of c) r (Call q) y) w.back)
+
+-- the reply to a port
+
+pub port_refused : (p : Program) (c : Cpu80) (kept : Return) (e : Event) (y : Reply) → IsAtPort p (state_of c) kept e → fits_event e y ≡ false → IsReply p c y false c
+port_refused p c kept e y w misfit =
+    (refl, λ on v asks. subst (λ (x : Event). fits_event x y ≡ false) (asked_same p (state_of c) e v w.asked asks) misfit)
+
+pub port_taken : (p : Program) (c after : Cpu80) (kept : Return) (e : Event) (y : Reply) → HasClosed p c.closed.items → asks c ≡ true → IsAtPort p (state_of c) kept e → fits_event e y ≡ true → after.closed.items ≡ c.closed.items → after.phase ≡ Running → after.place ≡ kept.place → state_of after ≡ replied_to p (state_of c) (Ok (return_of kept)) e y → IsReply p c y true after
+port_taken p c after kept e y closed on w fit same runs place state =
+    let back : is_place p after.place ≡ true = subst (λ q. is_place p q ≡ true) (sym place) (return_place p (state_of c) kept w.back) in (
+      on,
+      ap waits runs,
+      runs_on p c.closed.items after closed same runs back,
+      λ v asks_it.
+          let is : e ≡ v = asked_same p (state_of c) e v w.asked asks_it in (
+            subst (λ (x : Event). fits_event x y ≡ true) is fit,
+            state
+                ∙ sym (ap (λ r. replied_to p (state_of c) r e y) w.back)
+                ∙ ap (λ (x : Event). replied80 p (state_of c) x y) is,
+          ),
+    )
 
 -- what fits is within memory
 
@@ -169,7 +200,7 @@ line_within (r ∷ rs) (b ∷ (c ∷ bs)) h e = cc
 
 row_within : (o : Option Row) (q : Request) (y : Reply) → All Ends (ranges q.shape.writes) → fits_row o q y ≡ true → All Fits y.writes
 row_within None q y h e = cc
-row_within (Some row) q y h e = by_line (q.shape.function == 10) (and_right (answer_fits row.answer y.answer) _ e)
+row_within (Some row) q y h e = by_line (q.shape.function == 10) (and_right (answer_fits (kind_by row.answer q.shape.arg) y.answer) _ e)
   where
     by_line : (t : Bool) → cond t (line_fits (ranges q.shape.writes) y.writes) (writes_fit (ranges q.shape.writes) y.writes) ≡ true → All Fits y.writes
     by_line true g = line_within (ranges q.shape.writes) y.writes h g

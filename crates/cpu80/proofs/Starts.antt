@@ -19,7 +19,7 @@ no_cell instrs from limit a (c ∷ cs) h le =
     let ne : (c.0 == a) ≡ false = grind (arith, nat_tests) in
     ap (λ b. cond b (Some c.1) (cell_in cs a)) ne ∙ no_cell instrs (c.0 + 1) limit a cs h.3 le
 
-pub start_past : (p : Program) (page : List ℕ) (a : ℕ) → IsProgram p → p.top ≤ 0xF000 → 0x10000 ≤ a → start_cell80 p page a ≡ Junk
+pub start_past : (p : Program) (page : List ℕ) (a : ℕ) → IsProgram p → p.top ≤ 0xFF00 → 0x10000 ≤ a → start_cell80 p page a ≡ Junk
 start_past p page a h top le =
     let none : cell_at p a ≡ None = no_cell p.instrs 0x100 (p.top - 2) a p.cells h.cells (omega arith) in
     let junk : cell_or_junk (cell_at p a) ≡ Junk = ap cell_or_junk none in

@@ -1,10 +1,9 @@
 -- What a caller sees of a machine, call by call, and the runs that this is.
 use Rattle.std.specs.Prelude.{◌≡◌, ℕ, suc, true, false, List, [], ◌∷◌, ◌++◌, Some}
 use Rattle.cells.specs.declared.Rule.{Rule}
-use Rattle.dialogue.specs.declared.request.Request.{Request}
 use Rattle.dialogue.specs.declared.request.Reply.{Reply}
 use Rattle.dialogue.specs.declared.request.Event.{Event}
-use Rattle.dialogue.specs.declared.request.Event.TheVariants.{Call, End}
+use Rattle.dialogue.specs.declared.request.Event.TheVariants.{End}
 use Rattle.base_runs.specs.Run.{Status, Going, Waiting, Over, Stopped, Run}
 use Rattle.asm80_program.specs.Program.{Program}
 use Rattle.cpu80_steps.specs.State.{State80}
@@ -28,7 +27,7 @@ pub record IsStepOf (p : Program) (before : Cpu80) (answer : Step80) (after : Cp
 pub data Calls (p : Program) (page : List ℕ) : Status Rule → List Event → List Reply → ℕ → Cpu80 → Type 0 where
   started : (c : Cpu80) → state_of c ≡ start80 p page → Calls p page Going [] [] 0 c
   ran : (d : List Event) (ys : List Reply) (n : ℕ) (c after : Cpu80) → Calls p page Going d ys n c → IsStepOf p c Ran after → Calls p page Going d ys (suc n) after
-  asked : (d : List Event) (ys : List Reply) (n : ℕ) (c after : Cpu80) (q : Request) → Calls p page Going d ys n c → IsStepOf p c Asked after → IsAsked p after (Some q) → Calls p page Waiting (d ++ Call q ∷ []) ys (suc n) after
+  asked : (d : List Event) (ys : List Reply) (n : ℕ) (c after : Cpu80) (e : Event) → Calls p page Going d ys n c → IsStepOf p c Asked after → IsAsked p after (Some e) → Calls p page Waiting (d ++ e ∷ []) ys (suc n) after
   replied : (d : List Event) (ys : List Reply) (n : ℕ) (c after : Cpu80) (y : Reply) → Calls p page Waiting d ys n c → IsReply p c y true after → Calls p page Going d (ys ++ y ∷ []) n after
   ended : (d : List Event) (ys : List Reply) (n : ℕ) (c after : Cpu80) → Calls p page Going d ys n c → IsStepOf p c Ended after → Calls p page Over (d ++ End ∷ []) ys (suc n) after
   left : (d : List Event) (ys : List Reply) (n : ℕ) (c after : Cpu80) (r : Rule) → Calls p page Going d ys n c → IsStepOf p c (Left r) after → Calls p page (Stopped r) d ys (suc n) after

@@ -2,17 +2,19 @@
 use Rattle.std.specs.Prelude.{◌≡◌, ◌≢◌, Bool, true, false, Option, Some, None, Ok}
 use Rattle.cells.specs.declared.Rule.{Rule}
 use Rattle.dialogue.specs.declared.request.Shape.{Shape}
-use Rattle.dialogue.specs.declared.request.Request.{Request}
 use Rattle.dialogue.specs.declared.request.Reply.{Reply}
-use Rattle.dialogue.specs.declared.request.Event.TheVariants.{Call}
+use Rattle.dialogue.specs.declared.request.Event.{Event}
+use Rattle.dialogue.specs.declared.request.Event.TheVariants.{Call, In as AskedIn, Out as AskedOut, End}
 use Rattle.dialogue.specs.Shape.{request_of}
-use Rattle.dialogue.specs.Fits.{fits}
-use Rattle.dialogue.specs.Lawful.{IsLawful}
+use Rattle.dialogue.specs.Fits.{fits_event}
+use Rattle.dialogue.specs.Lawful.{IsLawfulEvent}
 use Rattle.base_runs.specs.Run.{Answer, Ran, Asks, Ends, Stops}
 use Rattle.asm80_program.specs.Program.{Program}
 use Rattle.cpu80_steps.specs.State.{State80, num_of}
 use Rattle.cpu80_steps.specs.Call.{is_place, seen_by}
 use Rattle.cpu80_steps.specs.Step.{step80, return_at, replied80}
+use Rattle.cpu80_effects.specs.declared.turn.Question.{Question}
+use Rattle.cpu80_effects.specs.declared.turn.Question.TheVariants.{System, In, Out}
 use Rattle.cpu80_effects.specs.declared.turn.Return.{Return}
 use Rattle.cpu80_effects.specs.Area.{HasClosed}
 use Rattle.cpu80_effects.specs.Turn.{return_of, shape_at}
@@ -23,17 +25,27 @@ use Rattle.cpu80.specs.declared.processor.Step80.{Step80}
 use Rattle.cpu80.specs.declared.processor.Step80.TheVariants.{Ran as DidRun, Asked as DidAsk, Ended as DidEnd, Left}
 use Rattle.cpu80.specs.State.{state_of, asks}
 
--- the machine waits for the reply to the call that its step asks, and keeps where the call returns
-pub record IsWaiting (p : Program) (s : State80) (kept : Return) : Type 0 where
+-- the machine waits for the reply to the call of the system that its step asks, and keeps where the call returns
+pub record IsCalling (p : Program) (s : State80) (kept : Return) : Type 0 where
   pub back : return_at p s s.place ≡ Ok (return_of kept)
   pub shape : Shape
   pub given : shape_at p s kept.is_popped ≡ Ok shape
   pub asked : step80 p s ≡ Asks (Call (request_of shape (seen_by p s kept.is_popped))) s
   pub no_reset : num_of s.regs.c ≢ Some 0
 
+-- it waits for the reply to the port that its step asks, and keeps where it goes on
+pub record IsAtPort (p : Program) (s : State80) (kept : Return) (e : Event) : Type 0 where
+  pub back : return_at p s s.place ≡ Ok (return_of kept)
+  pub asked : step80 p s ≡ Asks e s
+
+abbrev pub WaitsBy : Program → State80 → Return → Question → Type 0
+WaitsBy p s kept System = IsCalling p s kept
+WaitsBy p s kept (In port) = IsAtPort p s kept (AskedIn port)
+WaitsBy p s kept (Out port byte) = IsAtPort p s kept (AskedOut port byte)
+
 abbrev pub IsPhase : Program → State80 → Phase → Type 0
 IsPhase p s Running = Unit {0}
-IsPhase p s (Asking kept) = IsWaiting p s kept
+IsPhase p s (Asking what kept) = WaitsBy p s kept what
 IsPhase p s Ended = step80 p s ≡ Ends
 
 -- a machine of a program has its closed cells, and an instruction of it or the end comes next; where it waits, it has asked
@@ -56,20 +68,27 @@ has_asked DidAsk = true
 has_asked DidEnd = false
 has_asked (Left x) = false
 
--- what it asks is what its step asks; it is lawful, and no reset
-pub record IsAskedBy (p : Program) (s : State80) (q : Request) : Type 0 where
-  pub asked : step80 p s ≡ Asks (Call q) s
-  pub lawful : IsLawful q
-  pub no_reset : q.shape.function ≢ 0
+-- it is no system reset
+abbrev pub IsNoReset : Event → Type 0
+IsNoReset (Call q) = q.shape.function ≢ 0
+IsNoReset (AskedIn port) = Unit {0}
+IsNoReset (AskedOut port byte) = Unit {0}
+IsNoReset End = Unit {0}
 
-abbrev pub IsAsked : Program → Cpu80 → Option Request → Type 0
+-- what it asks is what its step asks; a call is lawful, and no reset
+pub record IsAskedBy (p : Program) (s : State80) (e : Event) : Type 0 where
+  pub asked : step80 p s ≡ Asks e s
+  pub lawful : IsLawfulEvent e
+  pub no_reset : IsNoReset e
+
+abbrev pub IsAsked : Program → Cpu80 → Option Event → Type 0
 IsAsked p c None = asks c ≡ false
-IsAsked p c (Some q) = (asks c ≡ true) × IsAskedBy p (state_of c) q
+IsAsked p c (Some e) = (asks c ≡ true) × IsAskedBy p (state_of c) e
 
 -- a reply is taken exactly where the machine asks and the reply fits what it asks; else the machine is as before
 abbrev pub IsReply : Program → Cpu80 → Reply → Bool → Cpu80 → Type 0
 IsReply p c y true after =
     (asks c ≡ true) × (asks after ≡ false) × IsMachineOf p after
-    × ((q : Request) → step80 p (state_of c) ≡ Asks (Call q) (state_of c) → (fits q y ≡ true) × (state_of after ≡ replied80 p (state_of c) (Call q) y))
+    × ((e : Event) → step80 p (state_of c) ≡ Asks e (state_of c) → (fits_event e y ≡ true) × (state_of after ≡ replied80 p (state_of c) e y))
 IsReply p c y false after =
-    (after ≡ c) × (asks c ≡ true → (q : Request) → step80 p (state_of c) ≡ Asks (Call q) (state_of c) → fits q y ≡ false)
+    (after ≡ c) × (asks c ≡ true → (e : Event) → step80 p (state_of c) ≡ Asks e (state_of c) → fits_event e y ≡ false)

@@ -22,7 +22,7 @@ state_of c = record {
 
 abbrev pub waits : Phase → Bool
 waits Running = false
-waits (Asking back) = true
+waits (Asking what back) = true
 waits Ended = false
 
 -- it asks, and waits for a reply

@@ -10,12 +10,15 @@ use cpu80_effects::draft::{Draft, Write};
 use cpu80_effects::numbers::number_in;
 use cpu80_effects::registers::Registers;
 use cpu80_effects::sight::Sight;
-use cpu80_effects::turn::{Return, Turn};
-use dialogue::{Blocks, Reply, Request, Shape, answer_of, dma_after, fits, request_of, shape_of};
+use cpu80_effects::turn::{Question, Return, Turn};
+use dialogue::{
+    Blocks, Event, Reply, Request, Shape, answer_of, dma_after, fits, fits_event, request_of,
+    shape_of,
+};
 use std::alloc::{AllocError, Global};
 
-/// What a step answered: the instruction ran; it asks the system and waits for a reply; the program has ended; or it left
-/// the profile by a rule.
+/// What a step answered: the instruction ran; it asks the system or a port and waits for a reply; the program has ended; or it
+/// left the profile by a rule.
 #[derive(Clone, Copy, PartialEq, Eq)]
 pub enum Step80 {
     Ran,
@@ -28,7 +31,7 @@ pub enum Step80 {
 #[derive(Clone, Copy)]
 pub enum Phase {
     Running,
-    Asking(Return),
+    Asking(Question, Return),
     Ended,
 }
 
@@ -77,7 +80,7 @@ impl Cpu80 {
     {
         match self.phase {
             Phase::Running => self.run(program),
-            Phase::Asking(_) => Step80::Asked,
+            Phase::Asking(_, _) => Step80::Asked,
             Phase::Ended => Step80::Ended,
         }
     }
@@ -124,8 +127,8 @@ impl Cpu80 {
                     self.dma = dma;
                     Step80::Ran
                 }
-                Turn::Asked(back) => {
-                    self.phase = Phase::Asking(back);
+                Turn::Asked(question, back) => {
+                    self.phase = Phase::Asking(question, back);
                     Step80::Asked
                 }
                 Turn::Ended => {
@@ -162,16 +165,31 @@ impl Cpu80 {
         )
     }
 
-    /// What it asks, with the memory that the call reads: none exactly where it does not ask.
-    pub fn asked(&self, alloc: Global) -> Result<Option<Request>, AllocError>
+    /// What it asks, a call with the memory that it reads: none exactly where it does not ask.
+    pub fn asked(&self, alloc: Global) -> Result<Option<Event>, AllocError>
         ensures idle { asks self.now ≡ false → result ≡ Ok None }
         ensures asked { (p : Program) → IsMachineOf p self.now → IfOk result (IsAsked p self.now) }
     {
-        let Phase::Asking(back) = self.phase else {
+        let Phase::Asking(question, back) = self.phase else {
             return Ok(None);
         };
+        match question {
+            Question::System => self.asked_call(alloc, back),
+            Question::In(port) => Ok(Some(Event::In(port))),
+            Question::Out(port, byte) => Ok(Some(Event::Out(port, byte))),
+        }
+    }
+
+    // The call that it asks.
+    fn asked_call(&self, alloc: Global, back: Return) -> Result<Option<Event>, AllocError>
+        requires { self.now.phase ≡ Phase.Asking Question.System back }
+        ensures { (p : Program) → IsMachineOf p self.now → IfOk result (IsAsked p self.now) }
+    {
         match self.shape(back.is_popped) {
-            Ok(shape) => Ok(Some(request_of(alloc, shape, &self.sight(back.is_popped))?)),
+            Ok(shape) => {
+                let request = request_of(alloc, shape, &self.sight(back.is_popped))?;
+                Ok(Some(Event::Call(request)))
+            }
             Err(_) => Ok(None),
         }
     }
@@ -180,9 +198,21 @@ impl Cpu80 {
     pub fn reply(&mut self, reply: &Reply) -> bool
         ensures { (p : Program) → IsMachineOf p self.old → IsReply p self.old reply.now result self.new }
     {
-        let Phase::Asking(back) = self.phase else {
+        let Phase::Asking(question, back) = self.phase else {
             return false;
         };
+        match question {
+            Question::System => self.reply_to_call(back, reply),
+            Question::In(port) => self.reply_to_in(back, port, reply),
+            Question::Out(port, byte) => self.reply_to_out(back, port, byte, reply),
+        }
+    }
+
+    // The reply to a call of the system.
+    fn reply_to_call(&mut self, back: Return, reply: &Reply) -> bool
+        requires { self.old.phase ≡ Phase.Asking Question.System back }
+        ensures { (p : Program) → IsMachineOf p self.old → IsReply p self.old reply.now result self.new }
+    {
         let Ok(shape) = self.shape(back.is_popped) else {
             return false;
         };
@@ -198,7 +228,34 @@ impl Cpu80 {
         true
     }
 
-    // Takes a reply that fits.
+    // The reply to an IN: its byte is put into A.
+    fn reply_to_in(&mut self, back: Return, port: u8, reply: &Reply) -> bool
+        requires { self.old.phase ≡ Phase.Asking (Question.In port) back }
+        ensures { (p : Program) → IsMachineOf p self.old → IsReply p self.old reply.now result self.new }
+    {
+        if !fits_event(&Event::In(port), reply) {
+            return false;
+        }
+        self.registers.a = Cell::Num(reply.answer as u8);
+        self.place = back.place;
+        self.phase = Phase::Running;
+        true
+    }
+
+    // The reply to an OUT.
+    fn reply_to_out(&mut self, back: Return, port: u8, byte: u8, reply: &Reply) -> bool
+        requires { self.old.phase ≡ Phase.Asking (Question.Out port byte) back }
+        ensures { (p : Program) → IsMachineOf p self.old → IsReply p self.old reply.now result self.new }
+    {
+        if !fits_event(&Event::Out(port, byte), reply) {
+            return false;
+        }
+        self.place = back.place;
+        self.phase = Phase::Running;
+        true
+    }
+
+    // Takes a reply to a call that fits.
     fn take(&mut self, back: Return, request: &Request, reply: &Reply)
         requires fit { fits request.now reply.now ≡ true }
         requires within { All Fits reply.now.writes }

@@ -2,12 +2,15 @@
 use Rattle.std.specs.Prelude.{◌≡◌, ◌≢◌, Bool, true, Some, Result, Ok, Err, is_ok}
 use Rattle.cells.specs.declared.Rule.{Rule}
 use Rattle.dialogue.specs.declared.request.Shape.{Shape}
+use Rattle.dialogue.specs.declared.request.Event.TheVariants.{In as AskedIn, Out as AskedOut}
 use Rattle.dialogue.specs.Shape.{shape_of}
-use Rattle.base_runs.specs.Run.{Answer, Ran, Ends, Stops}
+use Rattle.base_runs.specs.Run.{Answer, Ran, Asks, Ends, Stops}
 use Rattle.asm80_program.specs.Program.{Program}
 use Rattle.cpu80_steps.specs.State.{State80, num_of}
 use Rattle.cpu80_steps.specs.Call.{Return, seen_by, ask}
 use Rattle.cpu80_effects.specs.declared.turn.Return.{Return as KeptReturn}
+use Rattle.cpu80_effects.specs.declared.turn.Question.{Question}
+use Rattle.cpu80_effects.specs.declared.turn.Question.TheVariants.{System, In, Out}
 use Rattle.cpu80_effects.specs.declared.turn.Turn.{Turn}
 use Rattle.cpu80_effects.specs.declared.turn.Turn.TheVariants.{Ran as DidRun, Asked, Ended}
 
@@ -27,24 +30,35 @@ abbrev pub gone : Result (Unit {0}) Rule → State80 → Answer State80 Rule
 gone (Ok u) t = Ran t
 gone (Err r) t = Stops r
 
--- the answer of a turn from a state, with the state that it leaves; a call asks by its shape
+-- what a question asks: the system, by the shape of the call that the state would make, or a port
+abbrev pub asked : Program → State80 → Bool → Question → Answer State80 Rule
+asked p s is_popped System = ask p s is_popped (shape_at p s is_popped)
+asked p s is_popped (In port) = Asks (AskedIn port) s
+asked p s is_popped (Out port byte) = Asks (AskedOut port byte) s
+
+-- the answer of a turn from a state, with the state that it leaves
 abbrev pub answer_of : Program → State80 → Result Turn Rule → State80 → Answer State80 Rule
 answer_of p s (Ok DidRun) t = Ran t
-answer_of p s (Ok (Asked back)) t = ask p s back.is_popped (shape_at p s back.is_popped)
+answer_of p s (Ok (Asked what back)) t = asked p s back.is_popped what
 answer_of p s (Ok Ended) t = Ends
 answer_of p s (Err r) t = Stops r
 
--- where it asks, the call has a shape, its return is the one that is kept, and its function is not 0
-abbrev pub IsCall : Program → State80 → Result Return Rule → Result Turn Rule → Type 0
-IsCall p s back (Ok DidRun) = Unit {0}
-IsCall p s back (Ok (Asked kept)) =
-    (back ≡ Ok (return_of kept)) × (is_ok (shape_at p s kept.is_popped) ≡ true) × (num_of s.regs.c ≢ Some 0)
-IsCall p s back (Ok Ended) = Unit {0}
-IsCall p s back (Err r) = Unit {0}
+-- a call that is asked has a shape, and its function is not 0
+abbrev pub MayAsk : Program → State80 → Bool → Question → Type 0
+MayAsk p s is_popped System = (is_ok (shape_at p s is_popped) ≡ true) × (num_of s.regs.c ≢ Some 0)
+MayAsk p s is_popped (In port) = Unit {0}
+MayAsk p s is_popped (Out port byte) = Unit {0}
+
+-- where it asks, its return is the one that is kept
+abbrev pub IsAsking : Program → State80 → Result Return Rule → Result Turn Rule → Type 0
+IsAsking p s back (Ok DidRun) = Unit {0}
+IsAsking p s back (Ok (Asked what kept)) = (back ≡ Ok (return_of kept)) × MayAsk p s kept.is_popped what
+IsAsking p s back (Ok Ended) = Unit {0}
+IsAsking p s back (Err r) = Unit {0}
 
 -- it does not ask
-abbrev pub IsNoCall : Result Turn Rule → Type 0
-IsNoCall (Ok DidRun) = Unit {0}
-IsNoCall (Ok (Asked kept)) = ⊥
-IsNoCall (Ok Ended) = Unit {0}
-IsNoCall (Err r) = Unit {0}
+abbrev pub AsksNothing : Result Turn Rule → Type 0
+AsksNothing (Ok DidRun) = Unit {0}
+AsksNothing (Ok (Asked what kept)) = ⊥
+AsksNothing (Ok Ended) = Unit {0}
+AsksNothing (Err r) = Unit {0}

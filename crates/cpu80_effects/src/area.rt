@@ -23,7 +23,7 @@ impl Area<'_> {
     /// The instruction that starts at an address.
     pub fn instr_at(&self, at: u16) -> Option<Instr80>
         ensures value { result ≡ instr_at self.now.program.now at }
-        ensures within { IfSome result (λ i. at + length80 i ≤ 0xF000) }
+        ensures within { IfSome result (λ i. at + length80 i ≤ 0xFF00) }
         ensures well_formed { IfSome result (λ i. IsTrue (is_well_formed i)) }
     {
         self.program.instr_at(at)

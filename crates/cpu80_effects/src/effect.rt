@@ -12,7 +12,7 @@ impl Draft<'_> {
     ghost use Rattle.cpu80_effects.specs.Draft.{IsFresh, state_of};
 
     /// What an instruction does before the place that comes next is looked at. Where a rule is broken nothing changes. A
-    /// jump, call or return does nothing here.
+    /// jump, call or return does nothing here, nor does what asks a port.
     pub fn effect(&mut self, area: &Area, instr: Instr80) -> Result<(), Rule>
         requires { IsFresh self.old }
         ensures row { IsRow (effect area.now.program.now (state_of self.old) instr) result (state_of self.old) (state_of self.new) }
@@ -51,6 +51,7 @@ impl Draft<'_> {
             Instr80::Pop(pair) => self.pop_pair(area, pair),
             Instr80::Pchl | Instr80::Jmp(_) | Instr80::Jif(_, _) | Instr80::Call(_) => Ok(()),
             Instr80::Cif(_, _) | Instr80::Ret | Instr80::Rif(_) | Instr80::Rst0 => Ok(()),
+            Instr80::In(_) | Instr80::Out(_) => Ok(()),
         }
     }
 }

@@ -37,7 +37,7 @@ impl Draft<'_> {
     ghost use Rattle.cpu80_steps.specs.Call.{popped_return, return_after};
     ghost use Rattle.cpu80_steps.specs.Step.{go_to, go_back, leave_to, jump, call, holds, where_holds};
     ghost use Rattle.cpu80_effects.specs.Draft.{IsFresh, state_of};
-    ghost use Rattle.cpu80_effects.specs.Turn.{IsCall, IsNoCall, answer_of, gone, returns_in};
+    ghost use Rattle.cpu80_effects.specs.Turn.{IsAsking, AsksNothing, answer_of, gone, returns_in};
 
     /// Goes on to an instruction: P1 where none starts there.
     pub fn go_to(&mut self, area: &Area, at: u16) -> Result<(), Rule>
@@ -54,7 +54,7 @@ impl Draft<'_> {
     /// Goes to a place that cells named; the place of the end ends the program.
     pub fn leave_to(&mut self, area: &Area, sp: u16, place: Place) -> Turn
         ensures answer { answer_of area.now.program.now (state_of self.old) (Ok result) (state_of self.new) ≡ leave_to (state_of self.old) sp place }
-        ensures no_call { IsNoCall (Ok result) }
+        ensures nothing_asked { AsksNothing (Ok result) }
         ensures memory { self.new.memory.now ≡ self.old.memory.now }
     {
         match place {
@@ -99,7 +99,7 @@ impl Draft<'_> {
     pub fn go_back(&mut self, area: &Area) -> Result<Turn, Rule>
         requires { IsFresh self.old }
         ensures answer { answer_of area.now.program.now (state_of self.old) result (state_of self.new) ≡ go_back (state_of self.old) (popped_return area.now.program.now (state_of self.old)) }
-        ensures no_call { IsNoCall result }
+        ensures nothing_asked { AsksNothing result }
         ensures memory { self.new.memory.now ≡ self.old.memory.now }
     {
         let back = self.popped_return(area)?;
@@ -110,7 +110,7 @@ impl Draft<'_> {
     pub fn jump(&mut self, area: &Area, goal: Goal) -> Result<Turn, Rule>
         requires { IsFresh self.old }
         ensures answer { answer_of area.now.program.now (state_of self.old) result (state_of self.new) ≡ jump area.now.program.now (state_of self.old) goal }
-        ensures call { IsCall area.now.program.now (state_of self.old) (popped_return area.now.program.now (state_of self.old)) result }
+        ensures asking { IsAsking area.now.program.now (state_of self.old) (popped_return area.now.program.now (state_of self.old)) result }
         ensures memory { self.new.memory.now ≡ self.old.memory.now }
     {
         match goal {
@@ -147,7 +147,7 @@ impl Draft<'_> {
     pub fn call(&mut self, area: &Area, goal: Goal, after: u16) -> Result<Turn, Rule>
         requires { IsFresh self.old }
         ensures answer { answer_of area.now.program.now (state_of self.old) result (state_of self.new) ≡ call area.now.program.now (state_of self.old) after goal }
-        ensures call { IsCall area.now.program.now (state_of self.old) (return_after area.now.program.now (state_of self.old) after) result }
+        ensures asking { IsAsking area.now.program.now (state_of self.old) (return_after area.now.program.now (state_of self.old) after) result }
         ensures memory { self.new.memory.now ≡ self.old.memory.now }
     {
         match goal {
@@ -171,7 +171,7 @@ impl Draft<'_> {
     pub fn jump_if(&mut self, area: &Area, cond: Cond, goal: Goal, after: u16) -> Result<Turn, Rule>
         requires { IsFresh self.old }
         ensures answer { answer_of area.now.program.now (state_of self.old) result (state_of self.new) ≡ where_holds area.now.program.now (state_of self.old) after (holds self.old.flags cond) (jump area.now.program.now (state_of self.old) goal) }
-        ensures call { IsCall area.now.program.now (state_of self.old) (popped_return area.now.program.now (state_of self.old)) result }
+        ensures asking { IsAsking area.now.program.now (state_of self.old) (popped_return area.now.program.now (state_of self.old)) result }
         ensures memory { self.new.memory.now ≡ self.old.memory.now }
     {
         if self.condition(cond)? {
@@ -185,7 +185,7 @@ impl Draft<'_> {
     pub fn call_if(&mut self, area: &Area, cond: Cond, goal: Goal, after: u16) -> Result<Turn, Rule>
         requires { IsFresh self.old }
         ensures answer { answer_of area.now.program.now (state_of self.old) result (state_of self.new) ≡ where_holds area.now.program.now (state_of self.old) after (holds self.old.flags cond) (call area.now.program.now (state_of self.old) after goal) }
-        ensures call { IsCall area.now.program.now (state_of self.old) (return_after area.now.program.now (state_of self.old) after) result }
+        ensures asking { IsAsking area.now.program.now (state_of self.old) (return_after area.now.program.now (state_of self.old) after) result }
         ensures memory { self.new.memory.now ≡ self.old.memory.now }
     {
         if self.condition(cond)? {
@@ -199,7 +199,7 @@ impl Draft<'_> {
     pub fn return_if(&mut self, area: &Area, cond: Cond, after: u16) -> Result<Turn, Rule>
         requires { IsFresh self.old }
         ensures answer { answer_of area.now.program.now (state_of self.old) result (state_of self.new) ≡ where_holds area.now.program.now (state_of self.old) after (holds self.old.flags cond) (go_back (state_of self.old) (popped_return area.now.program.now (state_of self.old))) }
-        ensures no_call { IsNoCall result }
+        ensures nothing_asked { AsksNothing result }
         ensures memory { self.new.memory.now ≡ self.old.memory.now }
     {
         if self.condition(cond)? {

@@ -8,6 +8,7 @@ pub mod effect;
 pub mod goto;
 pub mod moves;
 pub mod numbers;
+pub mod port;
 pub mod registers;
 pub mod sight;
 pub mod stack;

@@ -1,4 +1,4 @@
-// One step: an instruction's effect and the place that comes next, a call of the system, or the end.
+// One step: an instruction's effect and the place that comes next, a call of the system, a port that is asked, or the end.
 ghost use Rattle.std.specs.Prelude.{◌≡◌, ◌+◌, ◌≤◌, IsTrue, Some};
 ghost use Rattle.i80.specs.Columns.{is_well_formed, length80};
 
@@ -13,13 +13,13 @@ impl Draft<'_> {
     ghost use Rattle.cpu80_steps.specs.Effect.{effect};
     ghost use Rattle.cpu80_steps.specs.Step.{act, go_on, step80, return_of, return_at};
     ghost use Rattle.cpu80_effects.specs.Draft.{IsFresh, state_of};
-    ghost use Rattle.cpu80_effects.specs.Turn.{IsCall, IsNoCall, answer_of};
+    ghost use Rattle.cpu80_effects.specs.Turn.{IsAsking, AsksNothing, answer_of};
 
     // An instruction that is no goto: its effect, and then the place after it.
     fn go_on(&mut self, area: &Area, after: u16, instr: Instr80) -> Result<Turn, Rule>
         requires { IsFresh self.old }
         ensures answer { answer_of area.now.program.now (state_of self.old) result (state_of self.new) ≡ go_on area.now.program.now after (effect area.now.program.now (state_of self.old) instr) }
-        ensures no_call { IsNoCall result }
+        ensures nothing_asked { AsksNothing result }
         ensures memory { self.new.memory.now ≡ self.old.memory.now }
     {
         self.effect(area, instr)?;
@@ -31,9 +31,9 @@ impl Draft<'_> {
     fn act(&mut self, area: &Area, at: u16, instr: Instr80) -> Result<Turn, Rule>
         requires fresh { IsFresh self.old }
         requires well_formed { IsTrue (is_well_formed instr) }
-        requires within { at + length80 instr ≤ 0xF000 }
+        requires within { at + length80 instr ≤ 0xFF00 }
         ensures answer { answer_of area.now.program.now (state_of self.old) result (state_of self.new) ≡ act area.now.program.now (state_of self.old) (at + length80 instr) instr }
-        ensures call { IsCall area.now.program.now (state_of self.old) (return_of area.now.program.now (state_of self.old) at (Some instr)) result }
+        ensures asking { IsAsking area.now.program.now (state_of self.old) (return_of area.now.program.now (state_of self.old) at (Some instr)) result }
         ensures memory { self.new.memory.now ≡ self.old.memory.now }
     {
         let after = at + length(instr);
@@ -49,6 +49,8 @@ impl Draft<'_> {
             Instr80::Ret => self.go_back(area),
             Instr80::Rif(cond) => self.return_if(area, cond, after),
             Instr80::Rst0 => Ok(Turn::Ended),
+            Instr80::In(port) => self.read_port(area, port, after),
+            Instr80::Out(port) => self.write_port(area, port, after),
             _ => self.go_on(area, after, instr),
         }
     }
@@ -57,7 +59,7 @@ impl Draft<'_> {
     pub fn step(&mut self, area: &Area) -> Result<Turn, Rule>
         requires { IsFresh self.old }
         ensures answer { answer_of area.now.program.now (state_of self.old) result (state_of self.new) ≡ step80 area.now.program.now (state_of self.old) }
-        ensures call { IsCall area.now.program.now (state_of self.old) (return_at area.now.program.now (state_of self.old) self.old.place) result }
+        ensures asking { IsAsking area.now.program.now (state_of self.old) (return_at area.now.program.now (state_of self.old) self.old.place) result }
         ensures memory { self.new.memory.now ≡ self.old.memory.now }
     {
         let Place::At(at) = self.place else {

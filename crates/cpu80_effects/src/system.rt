@@ -5,7 +5,7 @@ use crate::area::Area;
 use crate::draft::Draft;
 use crate::numbers::number_in;
 use crate::sight::{Sight, is_just_below};
-use crate::turn::{Return, Turn};
+use crate::turn::{Question, Return, Turn};
 use cells::Rule;
 use dialogue::{Shape, row_of, shape_of};
 
@@ -15,7 +15,7 @@ const SYSTEM_RESET: u8 = 0;
 impl Draft<'_> {
     ghost use Rattle.cpu80_steps.specs.Call.{call_system};
     ghost use Rattle.cpu80_effects.specs.Draft.{IsFresh, state_of};
-    ghost use Rattle.cpu80_effects.specs.Turn.{IsCall, answer_of, returns_in, shape_at};
+    ghost use Rattle.cpu80_effects.specs.Turn.{IsAsking, answer_of, returns_in, shape_at};
 
     /// The shape of the call that the registers make, or the rule that it breaks: P9, P10 or P11.
     pub fn shape(&self, area: &Area, is_popped: bool) -> Result<Shape, Rule>
@@ -42,7 +42,7 @@ impl Draft<'_> {
     pub fn call_system(&self, area: &Area, back: Result<Return, Rule>) -> Result<Turn, Rule>
         requires { IsFresh self.now }
         ensures answer { answer_of area.now.program.now (state_of self.now) result (state_of self.now) ≡ call_system area.now.program.now (state_of self.now) (returns_in back) }
-        ensures call { IsCall area.now.program.now (state_of self.now) (returns_in back) result }
+        ensures asking { IsAsking area.now.program.now (state_of self.now) (returns_in back) result }
     {
         let Some(function) = number_in(self.registers.c) else {
             return Err(Rule::P9);
@@ -58,6 +58,6 @@ impl Draft<'_> {
             return Err(Rule::P12);
         }
         self.shape(area, back.is_popped)?;
-        Ok(Turn::Asked(back))
+        Ok(Turn::Asked(Question::System, back))
     }
 }

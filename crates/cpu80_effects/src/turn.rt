@@ -1,7 +1,7 @@
 // What an instruction comes to.
 use cells::Place;
 
-/// Where a call of the system goes on after its reply: the place and SP, and whether the two were popped, as a jump to 5 does.
+/// Where what asks goes on after its reply: the place and SP, and whether the two were popped, as a jump to 5 does.
 #[derive(Clone, Copy)]
 pub struct Return {
     pub place: Place,
@@ -9,10 +9,19 @@ pub struct Return {
     pub is_popped: bool,
 }
 
-/// An instruction ran, asks the system and waits, or ended the program.
+/// What an instruction asks: the system, by the call that the registers make; a byte of a port; or that a port takes a byte (the
+/// port, then the byte).
+#[derive(Clone, Copy)]
+pub enum Question {
+    System,
+    In(u8),
+    Out(u8, u8),
+}
+
+/// An instruction ran, asks and waits for the reply, or ended the program.
 #[derive(Clone, Copy)]
 pub enum Turn {
     Ran,
-    Asked(Return),
+    Asked(Question, Return),
     Ended,
 }

@@ -20,7 +20,7 @@ use Rattle.i80.specs.declared.Op.TheVariants.{Add, Adc, Sub, Sbb, Ana, Xra, Ora,
 use Rattle.i80.specs.declared.Word.{Word}
 use Rattle.i80.specs.declared.Word.TheVariants.{Num as Number, Code}
 use Rattle.i80.specs.declared.Instr80.{Instr80}
-use Rattle.i80.specs.declared.Instr80.TheVariants.{Nop, Mov, Mvi, Lxi, Lda, Sta, Lhld, Shld, Ldax, Stax, Xchg, Xthl, Sphl, Pchl, Alu, AluI, Inr, Dcr, Inx, Dcx, Dad, Daa, Cma, Stc, Cmc, Rlc, Rrc, Ral, Rar, Push, Pop, Jmp, Jif, Call, Cif, Ret, Rif, Rst0}
+use Rattle.i80.specs.declared.Instr80.TheVariants.{Nop, Mov, Mvi, Lxi, Lda, Sta, Lhld, Shld, Ldax, Stax, Xchg, Xthl, Sphl, Pchl, Alu, AluI, Inr, Dcr, Inx, Dcx, Dad, Daa, Cma, Stc, Cmc, Rlc, Rrc, Ral, Rar, Push, Pop, Jmp, Jif, Call, Cif, Ret, Rif, Rst0, In, Out}
 use Rattle.dialogue.specs.Tried.{try_then}
 use Rattle.base_arithmetic.specs.Arithmetic.{as_bit, sum8, carry4, difference8, turned_left, turned_right, bit7, bit0, daa_result, daa_carry, daa_excepted}
 use Rattle.base_arithmetic.specs.Operations.{flags_by, result_of, flags_of, flags_in}
@@ -200,7 +200,7 @@ abbrev pub pop_pair : Program → State80 → StackPair → Result State80 Rule
 pop_pair p s pair =
     try_then (read_word p s s.sp) (λ w. Ok (popped (record s { sp = wrap (s.sp + 2) }) pair w))
 
--- the table; a jump, call or return is a goto, and has its rows beside the system calls
+-- the table; a jump, call or return is a goto, and has its rows beside the system calls and the ports
 abbrev pub effect : Program → State80 → Instr80 → Result State80 Rule
 effect p s Nop = Ok s
 effect p s (Mov to from) = try_then (source p s from) (into p s to)
@@ -240,3 +240,5 @@ effect p s (Cif c t) = Ok s
 effect p s Ret = Ok s
 effect p s (Rif c) = Ok s
 effect p s Rst0 = Ok s
+effect p s (In n) = Ok s
+effect p s (Out n) = Ok s

@@ -1,25 +1,26 @@
--- One step of the tagged 8080: an instruction's effect and the place that comes next, a call of the system, the end, or the
--- rule by which the program leaves the profile.
+-- One step of the tagged 8080: an instruction's effect and the place that comes next, a call of the system, a port that is
+-- asked, the end, or the rule by which the program leaves the profile.
 use Rattle.std.specs.Prelude.{ℕ, ◌+◌, not, Bool, true, false, cond, Option, Some, None, Result, Ok, Err}
 use Rattle.cells.specs.declared.Place.{Place}
 use Rattle.cells.specs.declared.Place.TheVariants.{At, Exit}
-use Rattle.cells.specs.declared.Cell.TheVariants.{Lo, Hi}
+use Rattle.cells.specs.declared.Cell.TheVariants.{Num, Lo, Hi}
 use Rattle.cells.specs.declared.Flags.{Flags}
 use Rattle.cells.specs.declared.Cond.{Cond}
 use Rattle.cells.specs.declared.Cond.TheVariants.{Nz, Z, Nc, C, Po, Pe, P, M}
 use Rattle.cells.specs.declared.Rule.{Rule}
-use Rattle.cells.specs.declared.Rule.TheVariants.{P1, P6}
+use Rattle.cells.specs.declared.Rule.TheVariants.{P1, P6, P10}
 use Rattle.i80.specs.declared.Goal.{Goal}
 use Rattle.i80.specs.declared.Goal.TheVariants.{At as Instr, Boot, Bdos}
 use Rattle.i80.specs.declared.Instr80.{Instr80}
-use Rattle.i80.specs.declared.Instr80.TheVariants.{Pchl, Jmp, Jif, Call, Cif, Ret, Rif, Rst0}
+use Rattle.i80.specs.declared.Instr80.TheVariants.{Pchl, Jmp, Jif, Call, Cif, Ret, Rif, Rst0, In, Out}
 use Rattle.i80.specs.Columns.{length80}
 use Rattle.dialogue.specs.declared.request.Reply.{Reply}
 use Rattle.dialogue.specs.declared.request.Event.{Event}
-use Rattle.dialogue.specs.declared.request.Event.TheVariants.{Call as Asked, End}
-use Rattle.base_runs.specs.Run.{Answer, Ran, Ends, Stops, Machine}
+use Rattle.dialogue.specs.declared.request.Event.TheVariants.{Call as Asked, In as AskedIn, Out as AskedOut, End}
+use Rattle.dialogue.specs.Tried.{try_then}
+use Rattle.base_runs.specs.Run.{Answer, Ran, Asks, Ends, Stops, Machine}
 use Rattle.asm80_program.specs.Program.{Program, instr_at, is_start}
-use Rattle.cpu80_steps.specs.State.{State80}
+use Rattle.cpu80_steps.specs.State.{State80, with_a, num_or}
 use Rattle.cpu80_steps.specs.Effect.{effect, push}
 use Rattle.cpu80_steps.specs.Call.{Return, call_system, place_in, popped_return, return_after, after_reply}
 
@@ -83,6 +84,18 @@ where_holds p s a None go = Stops P6
 where_holds p s a (Some true) go = go
 where_holds p s a (Some false) go = go_to p s a
 
+-- asks a port; the place that comes next is looked at first (P1)
+abbrev pub ask_event : State80 → Result Event Rule → Answer State80 Rule
+ask_event s (Err r) = Stops r
+ask_event s (Ok e) = Asks e s
+
+abbrev pub ask_port : Program → State80 → ℕ → Result Event Rule → Answer State80 Rule
+ask_port p s a asked = cond (is_start p a) (ask_event s asked) (Stops P1)
+
+-- what OUT sends is the number in A (P10)
+abbrev pub sent : State80 → ℕ → Result Event Rule
+sent s port = try_then (num_or P10 s.regs.a) (λ byte. Ok (AskedOut port byte))
+
 -- the instruction at an address; `a` is the place after it
 abbrev pub act : Program → State80 → ℕ → Instr80 → Answer State80 Rule
 act p s a Pchl = go_by s s.sp (place_in p s.regs.h s.regs.l)
@@ -93,6 +106,8 @@ act p s a (Cif c t) = where_holds p s a (holds s.flags c) (call p s a t)
 act p s a Ret = go_back s (popped_return p s)
 act p s a (Rif c) = where_holds p s a (holds s.flags c) (go_back s (popped_return p s))
 act p s a Rst0 = Ends
+act p s a (In port) = ask_port p s a (Ok (AskedIn port))
+act p s a (Out port) = ask_port p s a (sent s port)
 act p s a i = go_on p a (effect p s i)
 
 abbrev pub act_at : Program → State80 → ℕ → Option Instr80 → Answer State80 Rule
@@ -118,11 +133,14 @@ abbrev pub return_at : Program → State80 → Place → Result Return Rule
 return_at p s Exit = Err P1
 return_at p s (At a) = return_of p s a (instr_at p a)
 
--- the state after a reply; only a call of the system has one
+-- the state after a reply: a call of the system leaves much unknown; after the reply to an IN its byte is in A; and beside that
+-- the ports change nothing but the place
 abbrev pub replied_to : Program → State80 → Result Return Rule → Event → Reply → State80
 replied_to p s (Err r) e y = s
 replied_to p s (Ok back) End y = s
 replied_to p s (Ok back) (Asked q) y = after_reply p s back.place back.sp q y
+replied_to p s (Ok back) (AskedIn port) y = record (with_a s (Num y.answer)) { place = back.place }
+replied_to p s (Ok back) (AskedOut port byte) y = record s { place = back.place }
 
 abbrev pub replied80 : Program → State80 → Event → Reply → State80
 replied80 p s e y = replied_to p s (return_at p s s.place) e y

@@ -4,8 +4,8 @@ use Rattle.std.proofs.lemmas.List.{append-nil}
 use Rattle.i86.specs.declared.Instr86.{Instr86}
 use Rattle.dialogue.specs.declared.request.Reply.{Reply}
 use Rattle.dialogue.specs.declared.request.Event.{Event}
-use Rattle.dialogue.specs.declared.request.Event.TheVariants.{Call, End}
-use Rattle.base_runs.specs.Run.{Answer, Ran, Asks, Ends, Stops, Status, Going, Waiting, Over, Stopped, Run, choice_at, answers, turn, turns, settle, take_reply, start_run}
+use Rattle.dialogue.specs.declared.request.Event.TheVariants.{Call, In, Out, End}
+use Rattle.base_runs.specs.Run.{Answer, Ran, Asks, Ends, Stops, Status, Going, Waiting, Over, Stopped, Run, choice_at, turn, turns, settle, take_reply, start_run}
 use Rattle.base_runs.proofs.Turns.{turns_add}
 use Rattle.cpu86_steps.specs.State.{State86}
 use Rattle.cpu86_steps.specs.Call.{Stop, NoInstruction, StackSegment, OddCall, replied86}
@@ -13,21 +13,14 @@ use Rattle.cpu86_steps.specs.Step.{step86, machine86}
 use Rattle.cpu86_steps.specs.Start.{start86}
 use Rattle.cpu86.specs.declared.cpu.Step86.{Step86}
 use Rattle.cpu86.specs.Standing.{Standing}
-use Rattle.cpu86.specs.Calls.{stop_of, stepped_by, replied_by, IsTold, IsTaken}
+use Rattle.cpu86.specs.Calls.{stop_of, stepped_by, replied_by, IsTold}
 use Rattle.cpu86.specs.Histories.{Calls, started, ran, asked, took, ended, stopped, asked_again, ended_again, stopped_again, refused, IsRunAt, CallsGiveRuns}
 use Rattle.cpu86.proofs.Steps.{told}
+use Rattle.cpu86.proofs.Replies.{taken}
 
 -- a run as it stands
 abbrev pub at_run : State86 → Status Stop → List Event → List Reply → ℕ → Run State86 Stop
 at_run s status d ys u = record { state = s; status = status; dialogue = d; replies = ys; used = u }
-
-taken_from : (e : Event) (t b : Bool) (y : Reply) (choice : ℕ) (s : State86) (z : Standing) → answers e y ≡ t → ◌≡◌ {A = Bool × Standing} (b, z) (cond t (true, record { state = replied86 s e y choice; said = None }) (false, record { state = s; said = Some e })) → IsTaken e b y choice s z
-taken_from e true b y choice s z h g = let P : Bool × Standing → Type 0 = λ p. IsTaken e p.0 y choice s p.1 in subst P (sym g) (h, refl)
-taken_from e false b y choice s z h g = let P : Bool × Standing → Type 0 = λ p. IsTaken e p.0 y choice s p.1 in subst P (sym g) (h, refl)
-
--- what a reply's answer says
-taken : (e : Event) (o : Option Event) (b : Bool) (y : Reply) (choice : ℕ) (s : State86) (z : Standing) → o ≡ Some e → (b, z) ≡ replied_by s y choice o → IsTaken e b y choice s z
-taken e o b y choice s z h g = taken_from e (answers e y) b y choice s z refl (g ∙ ap (replied_by s y choice) h)
 
 stop_told : (a : Answer State86 Stop) (why : Stop) (s : State86) (y : Standing) → IsTold a (stop_of why) s y → (a ≡ Stops why) × (y ≡ record { state = s; said = None })
 stop_told a (NoInstruction ip) s y h = h
@@ -60,6 +53,8 @@ module _ (fetch : ℕ → Option Instr86) (cs : List ℕ) (s0 : State86) where
 
   open_step : (s : State86) (y : Standing) (e : Event) (answer : Step86) (choice : ℕ) → (answer, y) ≡ stepped_by fetch s choice (Some e) → y ≡ record { state = s; said = Some e }
   open_step s y (Call q) answer choice g = ap (λ (p : Step86 × Standing). p.1) g
+  open_step s y (In port) answer choice g = ap (λ (p : Step86 × Standing). p.1) g
+  open_step s y (Out port byte) answer choice g = ap (λ (p : Step86 × Standing). p.1) g
   open_step s y End answer choice g = ap (λ (p : Step86 × Standing). p.1) g
 
   stays_open : (x y : Standing) (e : Event) (answer : Step86) (choice : ℕ) → x.said ≡ Some e → (answer, y) ≡ stepped_by fetch x.state choice x.said → y ≡ x

@@ -2,15 +2,16 @@
 use Rattle.std.specs.Prelude.{◌≡◌, ℕ, Bool, true, false, cond, Option, Some, None, IsSome}
 use Rattle.i86.specs.declared.Instr86.{Instr86}
 use Rattle.dialogue.specs.declared.request.Event.{Event}
-use Rattle.dialogue.specs.declared.request.Event.TheVariants.{Call, End}
+use Rattle.dialogue.specs.declared.request.Event.TheVariants.{Call, In, Out, End}
 use Rattle.dialogue.specs.declared.request.Reply.{Reply}
-use Rattle.base_runs.specs.Run.{Answer, Ran, Asks, Ends, Stops, answers}
+use Rattle.dialogue.specs.Fits.{fits_event}
+use Rattle.base_runs.specs.Run.{Answer, Ran, Asks, Ends, Stops}
 use Rattle.cpu86_steps.specs.State.{State86}
 use Rattle.cpu86_steps.specs.Call.{Stop, NoInstruction, StackSegment, OddCall, replied86}
 use Rattle.cpu86_steps.specs.Step.{step86}
 use Rattle.cpu86.specs.declared.cpu.Step86.{Step86}
 use Rattle.cpu86.specs.declared.cpu.Step86.TheVariants.{Ran as DidRun, Asked, Ended, NoInstruction as HasNone, StackSegment as HasSegment, OddCall as HasOdd}
-use Rattle.cpu86.specs.Standing.{Standing, request_in}
+use Rattle.cpu86.specs.Standing.{Standing, waits_in}
 
 abbrev pub stop_of : Stop → Step86
 stop_of (NoInstruction ip) = HasNone ip
@@ -28,6 +29,8 @@ settled s (Stops why) = (stop_of why, record { state = s; said = None })
 abbrev pub stepped_by : (ℕ → Option Instr86) → State86 → ℕ → Option Event → Step86 × Standing
 stepped_by fetch s choice None = settled s (step86 fetch s choice)
 stepped_by fetch s choice (Some (Call q)) = (Asked, record { state = s; said = Some (Call q) })
+stepped_by fetch s choice (Some (In port)) = (Asked, record { state = s; said = Some (In port) })
+stepped_by fetch s choice (Some (Out port byte)) = (Asked, record { state = s; said = Some (Out port byte) })
 stepped_by fetch s choice (Some End) = (Ended, record { state = s; said = Some End })
 
 abbrev pub stepped : (ℕ → Option Instr86) → Standing → ℕ → Step86 × Standing
@@ -37,7 +40,7 @@ stepped fetch x choice = stepped_by fetch x.state choice x.said
 abbrev pub replied_by : State86 → Reply → ℕ → Option Event → Bool × Standing
 replied_by s y choice None = (false, record { state = s; said = None })
 replied_by s y choice (Some e) =
-    cond (answers e y)
+    cond (fits_event e y)
     (true, record { state = replied86 s e y choice; said = None })
     (false, record { state = s; said = Some e })
 
@@ -47,7 +50,7 @@ replied x y choice = replied_by x.state y choice x.said
 -- what is open after a step, by its answer
 abbrev pub IsOpen : Step86 → Option Event → Type 0
 IsOpen DidRun said = said ≡ None
-IsOpen Asked said = IsSome (request_in said)
+IsOpen Asked said = IsSome (waits_in said)
 IsOpen Ended said = said ≡ Some End
 IsOpen (HasNone ip) said = said ≡ None
 IsOpen (HasSegment ip) said = said ≡ None
@@ -65,5 +68,5 @@ IsTold a (HasOdd function) s y = (a ≡ Stops (OddCall function)) × (y ≡ reco
 
 -- the same by what `reply` answers, for a machine that has said `e` last
 abbrev pub IsTaken : Event → Bool → Reply → ℕ → State86 → Standing → Type 0
-IsTaken e true y choice s z = (answers e y ≡ true) × (z ≡ record { state = replied86 s e y choice; said = None })
-IsTaken e false y choice s z = (answers e y ≡ false) × (z ≡ record { state = s; said = Some e })
+IsTaken e true y choice s z = (fits_event e y ≡ true) × (z ≡ record { state = replied86 s e y choice; said = None })
+IsTaken e false y choice s z = (fits_event e y ≡ false) × (z ≡ record { state = s; said = Some e })

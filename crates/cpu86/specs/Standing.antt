@@ -1,17 +1,16 @@
 -- How a machine stands between its calls.
 use Rattle.std.specs.Prelude.{ℕ, List, Option, Some, None}
 use Rattle.dialogue.specs.declared.request.Event.{Event}
-use Rattle.dialogue.specs.declared.request.Event.TheVariants.{Call, End}
-use Rattle.dialogue.specs.declared.request.Request.{Request}
+use Rattle.dialogue.specs.declared.request.Event.TheVariants.{Call, In, Out, End}
 use Rattle.dialogue.specs.Shape.{request_of}
 use Rattle.cpu86_steps.specs.State.{State86}
 use Rattle.cpu86_steps.specs.Call.{seen_by}
 use Rattle.cpu86_effects.specs.State.{state_of}
 use Rattle.cpu86.specs.declared.cpu.Pending.{Pending}
-use Rattle.cpu86.specs.declared.cpu.Pending.TheVariants.{Nothing, Answer, Ending}
+use Rattle.cpu86.specs.declared.cpu.Pending.TheVariants.{Nothing, Answer, Byte, Taking, Ending}
 use Rattle.cpu86.specs.declared.cpu.Cpu86.{Cpu86}
 
--- the state, and what the machine has said last if that is still open: a request while it asks, and the end once the program
+-- the state, and what the machine has said last if that is still open: what it asks while it asks, and the end once the program
 -- has ended
 pub record Standing : Type 0 where
   pub state : State86
@@ -20,6 +19,8 @@ pub record Standing : Type 0 where
 abbrev pub said_by : Pending → (ℕ → ℕ) → Option Event
 said_by Nothing mem = None
 said_by (Answer shape) mem = Some (Call (request_of shape (seen_by mem)))
+said_by (Byte port) mem = Some (In port)
+said_by (Taking port byte) mem = Some (Out port byte)
 said_by Ending mem = Some End
 
 abbrev pub standing : Cpu86 → Standing
@@ -28,8 +29,10 @@ standing c = record { state = state_of c.processor; said = said_by c.pending (st
 abbrev pub code_of : Cpu86 → List ℕ
 code_of c = c.code.items
 
--- the request that waits for its reply
-abbrev pub request_in : Option Event → Option Request
-request_in None = None
-request_in (Some (Call q)) = Some q
-request_in (Some End) = None
+-- the event that waits for its reply: the end waits for none
+abbrev pub waits_in : Option Event → Option Event
+waits_in None = None
+waits_in (Some (Call q)) = Some (Call q)
+waits_in (Some (In port)) = Some (In port)
+waits_in (Some (Out port byte)) = Some (Out port byte)
+waits_in (Some End) = None

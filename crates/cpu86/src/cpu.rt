@@ -13,8 +13,8 @@ use cpu86_effects::flags::Flags;
 use cpu86_effects::processor::Processor;
 use cpu86_effects::start::start_memory;
 use cpu86_effects::system::Interrupt;
-use dialogue::{Blocks, Page, Reply, Request, Shape, fits, request_of};
-use i86::{Instr86, decode_at};
+use dialogue::{Blocks, Event, Page, Reply, Request, Shape, fits, fits_event, request_of};
+use i86::{Instr86, Reg8, decode_at};
 use std::alloc::{AllocError, Global};
 
 /// What a step answers. The stops carry the offset of the instruction, or the function of the call.
@@ -22,7 +22,7 @@ use std::alloc::{AllocError, Global};
 pub enum Step86 {
     /// An instruction ran.
     Ran,
-    /// The machine waits for the reply to a call of the system.
+    /// The machine waits for the reply to a call of the system, or to what it asks of a port.
     Asked,
     /// The program has ended.
     Ended,
@@ -40,6 +40,10 @@ enum Pending {
     Nothing,
     /// a call of this shape, which waits for its reply
     Answer(Shape),
+    /// an IN of this port, which waits for its byte
+    Byte(u8),
+    /// an OUT to this port, of this byte, which waits until it is taken
+    Taking(u8, u8),
     Ending,
 }
 
@@ -54,15 +58,14 @@ pub struct Cpu86 {
 
 impl Cpu86 {
     ghost use Rattle.std.specs.Prelude.{None, IfOk, IfSome, Bool, ◌&&◌, ◌==◌, not};
-    ghost use Rattle.dialogue.specs.declared.request.Event.{Event};
-    ghost use Rattle.dialogue.specs.Lawful.{IsLawful};
+    ghost use Rattle.dialogue.specs.Lawful.{IsLawfulEvent};
     ghost use Rattle.i86.specs.declared.Instr86.{Instr86};
     ghost use Rattle.i86.specs.Code.{Reads};
     ghost use Rattle.cpu86_steps.specs.Call.{call_system};
     ghost use Rattle.cpu86_steps.specs.Step.{step86, act_from};
     ghost use Rattle.cpu86_steps.specs.Start.{start86};
     ghost use Rattle.cpu86.specs.Starts.{start_of};
-    ghost use Rattle.cpu86.specs.Standing.{standing, code_of, request_in};
+    ghost use Rattle.cpu86.specs.Standing.{standing, code_of, waits_in};
     ghost use Rattle.cpu86.specs.Calls.{settled, stepped, replied, IsOpen, IsTold, IsTaken};
 
     /// The machine at the start of an image, of which it keeps a copy of the code. Memory is the fill, which has a byte for each
@@ -113,7 +116,7 @@ impl Cpu86 {
     {
         match self.pending {
             Pending::Nothing => self.run_one(choice),
-            Pending::Answer(_) => Step86::Asked,
+            Pending::Answer(_) | Pending::Byte(_) | Pending::Taking(_, _) => Step86::Asked,
             Pending::Ending => Step86::Ended,
         }
     }
@@ -145,6 +148,16 @@ impl Cpu86 {
         }
         match instr {
             Instr86::Int224 => self.call_system(next, choice),
+            Instr86::InAl(port) => {
+                self.processor.ip = next;
+                self.pending = Pending::Byte(port);
+                Step86::Asked
+            }
+            Instr86::OutAl(port) => {
+                self.processor.ip = next;
+                self.pending = Pending::Taking(port, self.processor.registers.al);
+                Step86::Asked
+            }
             _ => {
                 self.processor.ip = next;
                 self.processor.execute(instr, choice);
@@ -180,28 +193,48 @@ impl Cpu86 {
         }
     }
 
-    /// The request that waits for its reply; None where the machine does not ask, and then no memory is taken.
-    pub fn asked(&self, alloc: Global) -> Result<Option<Request>, AllocError>
-        ensures request { IfOk result (λ r. r ≡ request_in (standing self.now).said) }
-        ensures lawful { IfOk result (λ r. IfSome r (λ q. IsLawful q)) }
-        ensures idle { request_in (standing self.now).said ≡ None → result ≡ Ok None }
+    /// What waits for its reply, a call with the memory that it reads; None where the machine does not ask, and then no memory is
+    /// taken.
+    pub fn asked(&self, alloc: Global) -> Result<Option<Event>, AllocError>
+        ensures event { IfOk result (λ r. r ≡ waits_in (standing self.now).said) }
+        ensures said { IfOk result (λ r. IfSome r (λ e. Some e ≡ (standing self.now).said)) }
+        ensures lawful { IfOk result (λ r. IfSome r (λ e. IsLawfulEvent e)) }
+        ensures idle { waits_in (standing self.now).said ≡ None → result ≡ Ok None }
     {
         match self.pending {
-            Pending::Answer(shape) => Ok(Some(request_of(alloc, shape, &self.processor.memory)?)),
+            Pending::Answer(shape) => {
+                let request = request_of(alloc, shape, &self.processor.memory)?;
+                Ok(Some(Event::Call(request)))
+            }
+            Pending::Byte(port) => Ok(Some(Event::In(port))),
+            Pending::Taking(port, byte) => Ok(Some(Event::Out(port, byte))),
             Pending::Nothing | Pending::Ending => Ok(None),
         }
     }
 
     /// Takes a reply to what was asked. False where the machine does not ask or the reply does not fit; then nothing changes.
-    /// But for the answer, bits 0 to 79 of the choice are AX CX DX BX SI, and 80 to 84 SF ZF AF PF CF.
+    /// After the reply to a call, but for the answer, bits 0 to 79 of the choice are AX CX DX BX SI, and 80 to 84 SF ZF AF PF CF.
+    /// After the reply to an IN its byte is in AL. The ports change nothing else, and use no bit of the choice.
     pub fn reply(&mut self, reply: &Reply, choice: u128) -> bool
         ensures reply { (result, standing self.new) ≡ replied (standing self.old) reply.now choice }
         ensures taken { (e : Event) → (standing self.old).said ≡ Some e → IsTaken e result reply.now choice (standing self.old).state (standing self.new) }
         ensures code { code_of self.new ≡ code_of self.old }
     {
-        let Pending::Answer(shape) = self.pending else {
-            return false;
-        };
+        match self.pending {
+            Pending::Answer(shape) => self.reply_to_call(shape, reply, choice),
+            Pending::Byte(port) => self.reply_to_in(port, reply, choice),
+            Pending::Taking(port, byte) => self.reply_to_out(port, byte, reply, choice),
+            Pending::Nothing | Pending::Ending => false,
+        }
+    }
+
+    // The reply to a call of the system.
+    fn reply_to_call(&mut self, shape: Shape, reply: &Reply, choice: u128) -> bool
+        requires { self.old.pending ≡ Pending.Answer shape }
+        ensures reply { (result, standing self.new) ≡ replied (standing self.old) reply.now choice }
+        ensures code { code_of self.new ≡ code_of self.old }
+    {
+        // a reply is judged by the shape alone
         let request = Request {
             shape,
             blocks: Blocks::from_vec(Vec::new(*self.code.allocator())),
@@ -214,7 +247,34 @@ impl Cpu86 {
         true
     }
 
-    /// The offset of the next instruction; while the machine asks, of the one behind the INT, and after the end that of the INT.
+    // The reply to an IN: its byte is put into AL. The choice is not used.
+    fn reply_to_in(&mut self, port: u8, reply: &Reply, choice: u128) -> bool
+        requires { self.old.pending ≡ Pending.Byte port }
+        ensures reply { (result, standing self.new) ≡ replied (standing self.old) reply.now choice }
+        ensures code { code_of self.new ≡ code_of self.old }
+    {
+        if !fits_event(&Event::In(port), reply) {
+            return false;
+        }
+        self.pending = Pending::Nothing;
+        self.processor.set8(Reg8::Al, reply.answer as u8);
+        true
+    }
+
+    // The reply to an OUT, which changes nothing.
+    fn reply_to_out(&mut self, port: u8, byte: u8, reply: &Reply, choice: u128) -> bool
+        requires { self.old.pending ≡ Pending.Taking port byte }
+        ensures reply { (result, standing self.new) ≡ replied (standing self.old) reply.now choice }
+        ensures code { code_of self.new ≡ code_of self.old }
+    {
+        if !fits_event(&Event::Out(port, byte), reply) {
+            return false;
+        }
+        self.pending = Pending::Nothing;
+        true
+    }
+
+    /// The offset of the next instruction, also while the machine asks; after the end that of the INT.
     pub fn ip(&self) -> u16
         ensures { result ≡ (standing self.now).state.ip }
     {

@@ -9,8 +9,8 @@ use crate::processor::Processor;
 use i86::{Instr86, Operand8, Reg8, Reg16};
 
 impl Processor {
-    /// What an instruction does, where `ip` has the offset of the next one. INT 224 does nothing here: the system is called
-    /// elsewhere.
+    /// What an instruction does, where `ip` has the offset of the next one. INT 224, IN and OUT do nothing here: what they ask is
+    /// asked elsewhere.
     pub fn execute(&mut self, instr: Instr86, choice: u128)
         ensures { state_of self.new ≡ effect instr (state_of self.old) choice }
     {
@@ -50,7 +50,7 @@ impl Processor {
             Instr86::JmpBx => self.ip = self.reg16(Reg16::Bx),
             Instr86::CallNear(by) => self.call(by),
             Instr86::Ret => self.ip = self.pop(),
-            Instr86::Nop | Instr86::Int224 => {}
+            Instr86::Nop | Instr86::Int224 | Instr86::InAl(_) | Instr86::OutAl(_) => {}
         }
     }
 }

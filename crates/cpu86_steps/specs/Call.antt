@@ -6,7 +6,7 @@ use Rattle.dialogue.specs.declared.request.Shape.{Shape}
 use Rattle.dialogue.specs.declared.request.Request.{Request}
 use Rattle.dialogue.specs.declared.request.Reply.{Reply}
 use Rattle.dialogue.specs.declared.request.Event.{Event}
-use Rattle.dialogue.specs.declared.request.Event.TheVariants.{Call, End}
+use Rattle.dialogue.specs.declared.request.Event.TheVariants.{Call, In, Out, End}
 use Rattle.dialogue.specs.declared.table.AnswerKind.{AnswerKind}
 use Rattle.dialogue.specs.declared.table.AnswerKind.TheVariants.{NoAnswer, ByteAnswer, WordAnswer}
 use Rattle.dialogue.specs.Shape.{Seen, shape_of, request_of}
@@ -81,6 +81,9 @@ after_reply s q y c = record s {
   dma = dma_after q s.dma;
 }
 
+-- the reply to an IN is in AL, and that to an OUT changes nothing
 abbrev pub replied86 : State86 → Event → Reply → ℕ → State86
 replied86 s (Call q) y c = after_reply s q y c
+replied86 s (In port) y c = record s { regs = record (s.regs) { al = y.answer } }
+replied86 s (Out port byte) y c = s
 replied86 s End y c = s

@@ -11,7 +11,7 @@ use Rattle.i86.specs.declared.Count.{Count}
 use Rattle.i86.specs.declared.Rotate.{Rotate}
 use Rattle.i86.specs.declared.Operand8.{Operand8}
 use Rattle.i86.specs.declared.Instr86.{Instr86}
-use Rattle.i86.specs.declared.Instr86.TheVariants.{MovReg8, MovMem8, MovAlDirect, MovDirectAl, MovNum8, MovNum16, MovMemNum, MovReg16, MovDirect16, MovAxDs, MovSsAx, Alu, AluNum, OrClCl, Add16, Count8, Count16, Push, Pop, Xchg8, Xchg16, Rotate8, Rotate16, Not8, Daa, Sahf, Lahf, Cmc, Stc, Nop, Jcc, JmpNear, JmpShort, JmpBx, CallNear, Ret, Int224}
+use Rattle.i86.specs.declared.Instr86.TheVariants.{MovReg8, MovMem8, MovAlDirect, MovDirectAl, MovNum8, MovNum16, MovMemNum, MovReg16, MovDirect16, MovAxDs, MovSsAx, Alu, AluNum, OrClCl, Add16, Count8, Count16, Push, Pop, Xchg8, Xchg16, Rotate8, Rotate16, Not8, Daa, Sahf, Lahf, Cmc, Stc, Nop, Jcc, JmpNear, JmpShort, JmpBx, CallNear, Ret, Int224, InAl, OutAl}
 use Rattle.i86.specs.Enc86.{reg_of_stack}
 use Rattle.cpu86_steps.specs.State.{Flags86, State86, reg8, with8, reg16, with16, wrap, put, put_word, word_at, pointed, operand8, with_operand8, operand16, push}
 use Rattle.cpu86_steps.specs.Flags.{alu_result, alu_flags, count8_result, count8_flags, count16_result, count16_flags, add16_result, add16_flags, rotate8_result, rotate8_carry, rotate16_result, rotate16_carry, daa_al, daa_flags, flag_byte, flags_of_byte, jumps}
@@ -85,7 +85,7 @@ distance d = cond (nat_lt d 128) d (d + 0xFF00)
 abbrev pub jump_by : State86 → ℕ → State86
 jump_by s d = record s { ip = wrap (s.ip + d) }
 
--- the table, but for the call of the system
+-- the table, but for the call of the system and the ports
 abbrev pub effect : Instr86 → State86 → ℕ → State86
 effect (MovReg8 r o) s choice = set8 s r (operand8 s o)
 effect (MovMem8 p r) s choice = record s { mem = put s.mem (pointed s p) (reg8 s.regs r) }
@@ -124,3 +124,5 @@ effect JmpBx s choice = record s { ip = reg16 s Bx }
 effect (CallNear d) s choice = jump_by (push s s.ip) d
 effect Ret s choice = record (with_pop s) { ip = popped s }
 effect Int224 s choice = s
+effect (InAl n) s choice = s
+effect (OutAl n) s choice = s

@@ -1,9 +1,10 @@
 -- One step of the 8086.
 use Rattle.std.specs.Prelude.{ℕ, ◌+◌, ◌==◌, ◌&&◌, not, Bool, true, false, cond, length, Option, Some, None}
 use Rattle.i86.specs.declared.Instr86.{Instr86}
-use Rattle.i86.specs.declared.Instr86.TheVariants.{Push, Pop, CallNear, Ret, Int224}
+use Rattle.i86.specs.declared.Instr86.TheVariants.{Push, Pop, CallNear, Ret, Int224, InAl, OutAl}
 use Rattle.i86.specs.Enc86.{enc86}
-use Rattle.base_runs.specs.Run.{Answer, Ran, Stops, Machine}
+use Rattle.dialogue.specs.declared.request.Event.TheVariants.{In, Out}
+use Rattle.base_runs.specs.Run.{Answer, Ran, Asks, Stops, Machine}
 use Rattle.cpu86_steps.specs.State.{State86, wrap}
 use Rattle.cpu86_steps.specs.Effect.{effect}
 use Rattle.cpu86_steps.specs.Call.{Stop, NoInstruction, StackSegment, call_system, replied86}
@@ -16,9 +17,11 @@ uses_stack Ret = true
 uses_stack Int224 = true
 uses_stack i = false
 
--- the instruction, with the offset of the next one in ip
+-- the instruction, with the offset of the next one in ip; IN and OUT ask a port, and change nothing before its reply
 abbrev pub act : Instr86 → State86 → ℕ → Answer State86 Stop
 act Int224 s choice = call_system s choice
+act (InAl port) s choice = Asks (In port) s
+act (OutAl port) s choice = Asks (Out port s.regs.al) s
 act i s choice = Ran (effect i s choice)
 
 -- what uses the stack stops where SS is not DS, and this is looked at first

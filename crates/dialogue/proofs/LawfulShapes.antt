@@ -9,10 +9,11 @@ use Rattle.cells.specs.declared.Rule.{Rule}
 use Rattle.cells.specs.declared.Rule.TheVariants.{P10, P11}
 use Rattle.dialogue.specs.declared.blocks.Block.{Block}
 use Rattle.dialogue.specs.declared.request.ArgWord.{ArgWord}
+use Rattle.dialogue.specs.declared.request.ArgWord.TheVariants.{Byte}
 use Rattle.dialogue.specs.declared.request.Range.{Range}
 use Rattle.dialogue.specs.declared.request.Shape.{Shape}
 use Rattle.dialogue.specs.Tried.{try_then}
-use Rattle.dialogue.specs.Table.{Argument, NoArgument, InE, InDE, Extent, F, Dma, Text, Line, Row, call_table, row_of, padded}
+use Rattle.dialogue.specs.Table.{Argument, NoArgument, InE, DirectInE, InDE, Extent, F, Dma, Text, Line, Row, call_table, row_of, padded}
 use Rattle.dialogue.specs.Shape.{Seen, argument_of, address_of, is_readable, line_room, text_length, text_range, range_of, is_within, range_within, ranges_within, has_room, ranges, bytes_in, block_of, request_of, shape_by, shape_in, shape_of}
 use Rattle.dialogue.specs.Places.{room_at}
 use Rattle.dialogue.specs.Lawful.{IsShapeOver, is_argument, IsRangeOf, AreRangesOf, first_byte, range_of_block, IsLawful}
@@ -146,6 +147,12 @@ argument_of-ok : (a : Argument) (d e : Option ℕ) (arg : ArgWord) → argument_
 argument_of-ok NoArgument d e arg h = subst (λ (w : ArgWord). IsTrue (is_argument NoArgument w)) (ok_same _ _ h) refl
 argument_of-ok InE d None arg h = cc
 argument_of-ok InE d (Some e) arg h = subst (λ (w : ArgWord). IsTrue (is_argument InE w)) (ok_same _ _ h) refl
+argument_of-ok DirectInE d None arg h = cc
+argument_of-ok DirectInE d (Some e) arg h = by_test (e == 0xFE) refl h
+  where
+    by_test : (b : Bool) → (e == 0xFE) ≡ b → cond b (Err P10) (Ok (Byte e)) ≡ Ok arg → IsTrue (is_argument DirectInE arg)
+    by_test true t h = absurd (cc)
+    by_test false t h = subst (λ (w : ArgWord). IsTrue (is_argument DirectInE w)) (ok_same _ _ h) (ap not t)
 argument_of-ok InDE None e arg h = cc
 argument_of-ok InDE (Some d) None arg h = cc
 argument_of-ok InDE (Some d) (Some e) arg h = subst (λ (w : ArgWord). IsTrue (is_argument InDE w)) (ok_same _ _ h) refl

@@ -4,8 +4,19 @@ use Rattle.dialogue.specs.declared.blocks.Block.{Block}
 use Rattle.dialogue.specs.declared.request.Range.{Range}
 use Rattle.dialogue.specs.declared.request.Request.{Request}
 use Rattle.dialogue.specs.declared.request.Reply.{Reply}
-use Rattle.dialogue.specs.Table.{AnswerKind, NoAnswer, ByteAnswer, WordAnswer, Row, row_of}
+use Rattle.dialogue.specs.declared.request.ArgWord.{ArgWord}
+use Rattle.dialogue.specs.declared.request.ArgWord.TheVariants.{None as NoWord, Byte, Word}
+use Rattle.dialogue.specs.declared.request.Event.{Event}
+use Rattle.dialogue.specs.declared.request.Event.TheVariants.{Call, In, Out, End}
+use Rattle.dialogue.specs.Table.{AnswerKind, NoAnswer, ByteAnswer, WordAnswer, AnswerRule, Always, ByteWhere, Row, row_of}
 use Rattle.dialogue.specs.Shape.{ranges, address_of}
+
+-- the kind of a call's answer, by its argument: function 6 answers a byte where it asks for one
+abbrev pub kind_by : AnswerRule → ArgWord → AnswerKind
+kind_by (Always kind) arg = kind
+kind_by (ByteWhere asked) NoWord = NoAnswer
+kind_by (ByteWhere asked) (Byte e) = cond (e == asked) ByteAnswer NoAnswer
+kind_by (ByteWhere asked) (Word w) = NoAnswer
 
 -- an answer of this kind: 0 where there is none
 abbrev pub answer_fits : AnswerKind → ℕ → Bool
@@ -38,7 +49,7 @@ line_fits (r ∷ rs) (b ∷ (c ∷ bs)) = false
 abbrev pub fits_row : Option Row → Request → Reply → Bool
 fits_row None request reply = false
 fits_row (Some row) request reply =
-    answer_fits row.answer reply.answer
+    answer_fits (kind_by row.answer request.shape.arg) reply.answer
     && cond (request.shape.function == 10)
     (line_fits (ranges request.shape.writes) reply.writes)
     (writes_fit (ranges request.shape.writes) reply.writes)
@@ -47,13 +58,25 @@ fits_row (Some row) request reply =
 abbrev pub fits : Request → Reply → Bool
 fits request reply = fits_row (row_of request.shape.function) request reply
 
--- what the function answers
-abbrev pub answer_in : Option Row → AnswerKind
-answer_in None = NoAnswer
-answer_in (Some row) = row.answer
+-- what the call answers
+abbrev pub answer_in : Option Row → ArgWord → AnswerKind
+answer_in None arg = NoAnswer
+answer_in (Some row) arg = kind_by row.answer arg
 
 abbrev pub answer_of : Request → AnswerKind
-answer_of request = answer_in (row_of request.shape.function)
+answer_of request = answer_in (row_of request.shape.function) request.shape.arg
+
+-- a port takes no memory: to an IN any byte is a reply, to an OUT the answer 0
+abbrev pub writes_nothing : List Block → Bool
+writes_nothing [] = true
+writes_nothing (b ∷ bs) = false
+
+-- the reply is one that the event may get; the end gets none
+abbrev pub fits_event : Event → Reply → Bool
+fits_event (Call request) reply = fits request reply
+fits_event (In port) reply = nat_lt reply.answer 256 && writes_nothing reply.writes
+fits_event (Out port byte) reply = (reply.answer == 0) && writes_nothing reply.writes
+fits_event End reply = false
 
 -- the DMA address after a call: function 26 sets it, function 13 sets it to 80H
 abbrev pub dma_after : Request → ℕ → ℕ

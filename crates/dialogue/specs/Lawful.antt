@@ -1,5 +1,5 @@
 -- Shapes that a call may have over some memory, and requests that are lawful.
-use Rattle.std.specs.Prelude.{◌≡◌, ◌≢◌, ℕ, ◌+◌, ◌≤◌, List, [], ◌∷◌, length, map, Option, Some, None, Ok, IsTrue, Bool, true, false}
+use Rattle.std.specs.Prelude.{◌≡◌, ◌≢◌, ℕ, ◌+◌, ◌≤◌, List, [], ◌∷◌, length, map, Option, Some, None, Ok, IsTrue, Bool, true, false, not, ◌==◌}
 use Rattle.std.specs.List.{All}
 use Rattle.dialogue.specs.declared.blocks.Block.{Block}
 use Rattle.dialogue.specs.declared.request.ArgWord.{ArgWord}
@@ -7,7 +7,9 @@ use Rattle.dialogue.specs.declared.request.ArgWord.TheVariants.{None as NoWord, 
 use Rattle.dialogue.specs.declared.request.Range.{Range}
 use Rattle.dialogue.specs.declared.request.Shape.{Shape}
 use Rattle.dialogue.specs.declared.request.Request.{Request}
-use Rattle.dialogue.specs.Table.{Argument, NoArgument, InE, InDE, Extent, F, Dma, Text, Line, Row, row_of}
+use Rattle.dialogue.specs.declared.request.Event.{Event}
+use Rattle.dialogue.specs.declared.request.Event.TheVariants.{Call, In, Out, End}
+use Rattle.dialogue.specs.Table.{Argument, NoArgument, InE, DirectInE, InDE, Extent, F, Dma, Text, Line, Row, row_of}
 use Rattle.dialogue.specs.Shape.{Seen, address_of, ranges, shape_of}
 
 -- the shape of some call over this memory
@@ -22,6 +24,7 @@ pub record IsShapeOver (seen : Seen) (shape : Shape) : Type 0 where
 abbrev pub is_argument : Argument → ArgWord → Bool
 is_argument NoArgument NoWord = true
 is_argument InE (Byte e) = true
+is_argument DirectInE (Byte e) = not (e == 0xFE)
 is_argument InDE (Word w) = true
 is_argument _ _ = false
 
@@ -65,3 +68,10 @@ pub record IsLawful (request : Request) : Type 0 where
   pub writes_end : All (λ r. r.at + r.len ≤ 0x10000) (ranges request.shape.writes)
   pub room : request.shape.function ≡ 10 → first_byte request.blocks ≢ 0
   pub blocks : map range_of_block request.blocks ≡ ranges request.shape.reads
+
+-- an event that a program may ask: of a call, that its request is lawful; the end is not asked
+abbrev pub IsLawfulEvent : Event → Type 0
+IsLawfulEvent (Call request) = IsLawful request
+IsLawfulEvent (In port) = Unit {0}
+IsLawfulEvent (Out port byte) = Unit {0}
+IsLawfulEvent End = ⊥

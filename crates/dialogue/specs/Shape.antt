@@ -10,7 +10,7 @@ use Rattle.dialogue.specs.declared.request.Range.{Range}
 use Rattle.dialogue.specs.declared.request.Shape.{Shape}
 use Rattle.dialogue.specs.declared.request.Request.{Request}
 use Rattle.dialogue.specs.Tried.{try_then}
-use Rattle.dialogue.specs.Table.{Argument, NoArgument, InE, InDE, Extent, F, Dma, Text, Line, Row, row_of, padded}
+use Rattle.dialogue.specs.Table.{Argument, NoArgument, InE, DirectInE, InDE, Extent, F, Dma, Text, Line, Row, row_of, padded}
 
 -- the memory that a call sees: the byte of each cell that it may read, and the cells that it may write
 pub record Seen : Type 0 where
@@ -21,11 +21,13 @@ pub record Seen : Type 0 where
 abbrev pub seen_by : (ℕ → Option ℕ) → (ℕ → Bool) → Seen
 seen_by byte writable = record { byte = byte; writable = writable }
 
--- the argument, from the numbers in D and E where they are known
+-- the argument, from the numbers in D and E where they are known; the direct console has none of 0FEH
 abbrev pub argument_of : Argument → Option ℕ → Option ℕ → Result ArgWord Rule
 argument_of NoArgument d e = Ok NoWord
 argument_of InE d None = Err P10
 argument_of InE d (Some e) = Ok (Byte e)
+argument_of DirectInE d None = Err P10
+argument_of DirectInE d (Some e) = cond (e == 0xFE) (Err P10) (Ok (Byte e))
 argument_of InDE None e = Err P10
 argument_of InDE (Some d) None = Err P10
 argument_of InDE (Some d) (Some e) = Ok (Word (256 * d + e))

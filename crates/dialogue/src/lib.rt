@@ -9,8 +9,8 @@ mod start_page;
 mod table;
 
 pub use blocks::{Block, Blocks, Bytes};
-pub use replies::{answer_of, dma_after, fits};
+pub use replies::{answer_of, dma_after, fits, fits_event};
 pub use request::{ArgWord, Event, Range, Reply, Request, Shape, View};
 pub use shape::{request_of, shape_of};
 pub use start_page::Page;
-pub use table::{AnswerKind, Argument, Extent, Row, row_of};
+pub use table::{AnswerKind, AnswerRule, Argument, Extent, Row, row_of};

@@ -1,12 +1,12 @@
 // What a reply may answer and write, and what it leaves.
 ghost use Rattle.std.specs.Prelude.{◌≡◌};
-ghost use Rattle.dialogue.specs.Fits.{answer_fits, fills, writes_fit, line_bytes_fit, line_fits, fits, answer_of, dma_after};
+ghost use Rattle.dialogue.specs.Fits.{answer_fits, fills, writes_fit, line_bytes_fit, line_fits, fits, fits_event, kind_by, answer_of, dma_after, writes_nothing};
 ghost use Rattle.dialogue.specs.Shape.{ranges};
 
 use crate::blocks::Block;
-use crate::request::{Range, Reply, Request};
+use crate::request::{ArgWord, Event, Range, Reply, Request};
 use crate::shape::address_of;
-use crate::table::{AnswerKind, row_of};
+use crate::table::{AnswerKind, AnswerRule, row_of};
 
 /// The function that reads a line into a buffer.
 const READ_LINE: u8 = 10;
@@ -34,15 +34,28 @@ pub fn fits(request: &Request, reply: &Reply) -> bool
     } else {
         writes_fit(&shape.writes, writes)
     };
-    written && answer_fits(row.answer, reply.answer)
+    written && answer_fits(kind_by(row.answer, shape.arg), reply.answer)
 }
 
-/// What the function of a request answers.
+/// Whether an event may get a reply: a call as `fits` says; an IN any byte, and an OUT the answer 0, and these write nothing.
+/// The end gets none.
+pub fn fits_event(event: &Event, reply: &Reply) -> bool
+    ensures { result ≡ fits_event event.now reply.now }
+{
+    match event {
+        Event::Call(request) => fits(request, reply),
+        Event::In(_) => reply.answer < 256 && reply.writes.as_slice().is_empty(),
+        Event::Out(_, _) => reply.answer == 0 && reply.writes.as_slice().is_empty(),
+        Event::End => false,
+    }
+}
+
+/// What the call of a request answers: of function 6 its argument decides.
 pub fn answer_of(request: &Request) -> AnswerKind
     ensures { result ≡ answer_of request.now }
 {
     match row_of(request.shape.function) {
-        Some(row) => row.answer,
+        Some(row) => kind_by(row.answer, request.shape.arg),
         None => AnswerKind::NoAnswer,
     }
 }
@@ -55,6 +68,17 @@ pub fn dma_after(request: &Request, dma: u16) -> u16
         SET_DMA => address_of(request.shape.arg),
         RESET_DISKS => DEFAULT_DMA,
         _ => dma,
+    }
+}
+
+/// The kind of a call's answer, by its argument.
+fn kind_by(rule: AnswerRule, arg: ArgWord) -> AnswerKind
+    ensures { result ≡ kind_by rule arg }
+{
+    match (rule, arg) {
+        (AnswerRule::Always(kind), _) => kind,
+        (AnswerRule::ByteWhere(asked), ArgWord::Byte(e)) if e == asked => AnswerKind::ByteAnswer,
+        (AnswerRule::ByteWhere(_), _) => AnswerKind::NoAnswer,
     }
 }
 

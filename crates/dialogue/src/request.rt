@@ -42,10 +42,13 @@ pub struct Reply {
     pub writes: Blocks,
 }
 
-/// What a run says: a call of the system, or that the program has ended.
+/// What a run says: a call of the system, a byte asked of a port, a byte sent to a port (the port, then the byte), or that the
+/// program has ended.
 #[derive(Drop)]
 pub enum Event {
     Call(Request),
+    In(u8),
+    Out(u8, u8),
     End,
 }
 

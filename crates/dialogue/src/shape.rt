@@ -141,6 +141,7 @@ fn argument_of(argument: Argument, d: Option<u8>, e: Option<u8>) -> Result<ArgWo
     match (argument, d, e) {
         (Argument::NoArgument, _, _) => Ok(ArgWord::None),
         (Argument::InE, _, Some(e)) => Ok(ArgWord::Byte(e)),
+        (Argument::DirectInE, _, Some(e)) if e != 0xFE => Ok(ArgWord::Byte(e)),
         (Argument::InDE, Some(d), Some(e)) => Ok(ArgWord::Word(256 * u16::from(d) + u16::from(e))),
         _ => Err(Rule::P10),
     }

@@ -8,6 +8,8 @@ ghost use Rattle.dialogue.specs.Places.{HaveCells};
 pub enum Argument {
     NoArgument,
     InE,
+    /// The byte in E, which is not 0FEH: the direct console's.
+    DirectInE,
     InDE,
 }
 
@@ -17,6 +19,14 @@ pub enum AnswerKind {
     NoAnswer,
     ByteAnswer,
     WordAnswer,
+}
+
+/// What a call answers, by its argument.
+#[derive(Clone, Copy, PartialEq, Eq)]
+pub enum AnswerRule {
+    Always(AnswerKind),
+    /// A byte where the argument is this one, else nothing.
+    ByteWhere(u8),
 }
 
 /// Memory that a call touches.
@@ -36,7 +46,7 @@ pub enum Extent {
 #[derive(Clone, Copy)]
 pub struct Row {
     pub argument: Argument,
-    pub answer: AnswerKind,
+    pub answer: AnswerRule,
     pub reads: [Option<Extent>; 3],
     pub writes: [Option<Extent>; 2],
 }
@@ -49,29 +59,31 @@ pub fn row_of(function: u8) -> Option<Row>
     ensures cells { IfSome result HaveCells }
 {
     use AnswerKind::*;
+    use AnswerRule::*;
     use Argument::*;
     use Extent::*;
 
     let (argument, answer, reads, writes) = match function {
-        0 | 13 => (NoArgument, NoAnswer, [None; 3], [None; 2]),
-        1 | 11 | 25 => (NoArgument, ByteAnswer, [None; 3], [None; 2]),
-        2 | 14 => (InE, NoAnswer, [None; 3], [None; 2]),
-        9 => (InDE, NoAnswer, [Some(Text), None, None], [None; 2]),
-        10 => (InDE, NoAnswer, [Some(F(0, 1)), None, None], [Some(Line), None]),
-        12 => (NoArgument, WordAnswer, [None; 3], [None; 2]),
-        15 | 22 => (InDE, ByteAnswer, [Some(F(0, 13)), None, None], [Some(F(0, 32)), None]),
-        16 => (InDE, ByteAnswer, [Some(F(0, 32)), None, None], [Some(F(12, 20)), None]),
-        17 => (InDE, ByteAnswer, [Some(F(0, 13)), None, None], [Some(Dma), None]),
-        18 => (NoArgument, ByteAnswer, [None; 3], [Some(Dma), None]),
-        19 => (InDE, ByteAnswer, [Some(F(0, 12)), None, None], [None; 2]),
-        20 => (InDE, ByteAnswer, [Some(F(0, 33)), None, None], [Some(F(12, 21)), Some(Dma)]),
-        21 => (InDE, ByteAnswer, [Some(F(0, 33)), Some(Dma), None], [Some(F(12, 21)), None]),
-        23 => (InDE, ByteAnswer, [Some(F(0, 12)), Some(F(16, 12)), None], [None; 2]),
-        26 => (InDE, NoAnswer, [None; 3], [None; 2]),
-        33 => (InDE, ByteAnswer, [Some(F(0, 32)), Some(F(33, 3)), None], [Some(F(12, 21)), Some(Dma)]),
-        34 => (InDE, ByteAnswer, [Some(F(0, 32)), Some(F(33, 3)), Some(Dma)], [Some(F(12, 21)), None]),
-        35 => (InDE, NoAnswer, [Some(F(0, 12)), None, None], [Some(F(33, 3)), None]),
-        36 => (InDE, NoAnswer, [Some(F(12, 1)), Some(F(14, 1)), Some(F(32, 1))], [Some(F(33, 3)), None]),
+        0 | 13 => (NoArgument, Always(NoAnswer), [None; 3], [None; 2]),
+        1 | 11 | 25 => (NoArgument, Always(ByteAnswer), [None; 3], [None; 2]),
+        2 | 14 => (InE, Always(NoAnswer), [None; 3], [None; 2]),
+        6 => (DirectInE, ByteWhere(0xFF), [None; 3], [None; 2]),
+        9 => (InDE, Always(NoAnswer), [Some(Text), None, None], [None; 2]),
+        10 => (InDE, Always(NoAnswer), [Some(F(0, 1)), None, None], [Some(Line), None]),
+        12 => (NoArgument, Always(WordAnswer), [None; 3], [None; 2]),
+        15 | 22 => (InDE, Always(ByteAnswer), [Some(F(0, 13)), None, None], [Some(F(0, 32)), None]),
+        16 => (InDE, Always(ByteAnswer), [Some(F(0, 32)), None, None], [Some(F(12, 20)), None]),
+        17 => (InDE, Always(ByteAnswer), [Some(F(0, 13)), None, None], [Some(Dma), None]),
+        18 => (NoArgument, Always(ByteAnswer), [None; 3], [Some(Dma), None]),
+        19 => (InDE, Always(ByteAnswer), [Some(F(0, 12)), None, None], [None; 2]),
+        20 => (InDE, Always(ByteAnswer), [Some(F(0, 33)), None, None], [Some(F(12, 21)), Some(Dma)]),
+        21 => (InDE, Always(ByteAnswer), [Some(F(0, 33)), Some(Dma), None], [Some(F(12, 21)), None]),
+        23 => (InDE, Always(ByteAnswer), [Some(F(0, 12)), Some(F(16, 12)), None], [None; 2]),
+        26 => (InDE, Always(NoAnswer), [None; 3], [None; 2]),
+        33 => (InDE, Always(ByteAnswer), [Some(F(0, 32)), Some(F(33, 3)), None], [Some(F(12, 21)), Some(Dma)]),
+        34 => (InDE, Always(ByteAnswer), [Some(F(0, 32)), Some(F(33, 3)), Some(Dma)], [Some(F(12, 21)), None]),
+        35 => (InDE, Always(NoAnswer), [Some(F(0, 12)), None, None], [Some(F(33, 3)), None]),
+        36 => (InDE, Always(NoAnswer), [Some(F(12, 1)), Some(F(14, 1)), Some(F(32, 1))], [Some(F(33, 3)), None]),
         _ => return None,
     };
     Some(Row { argument, answer, reads, writes })

@@ -19,7 +19,7 @@ use Rattle.i80.specs.declared.Word.TheVariants.{Code}
 use Rattle.i80.specs.declared.Goal.{Goal}
 use Rattle.i80.specs.declared.Goal.TheVariants.{At, Boot, Bdos}
 use Rattle.i80.specs.declared.Instr80.{Instr80}
-use Rattle.i80.specs.declared.Instr80.TheVariants.{Nop, Mov, Mvi, Lxi, Lda, Sta, Lhld, Shld, Ldax, Stax, Xchg, Xthl, Sphl, Pchl, Alu, AluI, Inr, Dcr, Inx, Dcx, Dad, Daa, Cma, Stc, Cmc, Rlc, Rrc, Ral, Rar, Push, Pop, Jmp, Jif, Call, Cif, Ret, Rif, Rst0}
+use Rattle.i80.specs.declared.Instr80.TheVariants.{Nop, Mov, Mvi, Lxi, Lda, Sta, Lhld, Shld, Ldax, Stax, Xchg, Xthl, Sphl, Pchl, Alu, AluI, Inr, Dcr, Inx, Dcx, Dad, Daa, Cma, Stc, Cmc, Rlc, Rrc, Ral, Rar, Push, Pop, Jmp, Jif, Call, Cif, Ret, Rif, Rst0, In, Out}
 
 -- LDAX and STAX are of BC and DE alone
 abbrev pub is_indirect : Pair → Bool
@@ -36,7 +36,7 @@ is_well_formed (Stax p) = is_indirect p
 is_well_formed (Lxi Sp (Code a)) = false
 is_well_formed i = true
 
--- the bytes of an instruction: 1, with an immediate byte 2, with a word, an address or a target 3
+-- the bytes of an instruction: 1, with an immediate byte or a port 2, with a word, an address or a target 3
 abbrev pub length80 : Instr80 → ℕ
 length80 Nop = 1
 length80 (Mov to from) = 1
@@ -76,6 +76,8 @@ length80 (Cif cond t) = 3
 length80 Ret = 1
 length80 (Rif cond) = 1
 length80 Rst0 = 1
+length80 (In n) = 2
+length80 (Out n) = 2
 
 -- a register's part
 abbrev pub part_of_reg : Register → Part
@@ -200,6 +202,8 @@ uses80 (Cif cond t) = union (flag cond) (asked_of t)
 uses80 Ret = nothing
 uses80 (Rif cond) = flag cond
 uses80 Rst0 = nothing
+uses80 (In n) = nothing
+uses80 (Out n) = only A
 
 -- the parts that an instruction defines, whatever they held; a conditional one defines nothing
 abbrev pub defs80 : Instr80 → Parts
@@ -241,8 +245,10 @@ defs80 (Cif cond t) = nothing
 defs80 Ret = nothing
 defs80 (Rif cond) = nothing
 defs80 Rst0 = nothing
+defs80 (In n) = only A
+defs80 (Out n) = nothing
 
--- whether an instruction may go elsewhere than to the next one, and so ends a block
+-- whether an instruction ends a block: it may go elsewhere than to the next one, or it asks a port
 abbrev pub ends80 : Instr80 → Bool
 ends80 Pchl = true
 ends80 (Jmp t) = true
@@ -252,4 +258,6 @@ ends80 (Cif cond t) = true
 ends80 Ret = true
 ends80 (Rif cond) = true
 ends80 Rst0 = true
+ends80 (In n) = true
+ends80 (Out n) = true
 ends80 i = false

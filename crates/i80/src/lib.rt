@@ -123,6 +123,10 @@ pub enum Instr80 {
     /// RNZ, RZ, RNC, RC, RPO, RPE, RP or RM
     Rif(Cond),
     Rst0,
+    /// The port's byte into A.
+    In(u8),
+    /// A to the port.
+    Out(u8),
 }
 
 /// Whether the 8080 has the instruction: it has no `MOV M,M`, and LDAX and STAX of BC and DE alone. No code address goes to SP.
@@ -153,12 +157,13 @@ pub fn length(i: Instr80) -> u16
         | Instr80::Jif(_, _)
         | Instr80::Call(_)
         | Instr80::Cif(_, _) => 3,
-        Instr80::Mvi(_, _) | Instr80::AluI(_, _) => 2,
+        Instr80::Mvi(_, _) | Instr80::AluI(_, _) | Instr80::In(_) | Instr80::Out(_) => 2,
         _ => 1,
     }
 }
 
-/// Whether the instruction may go elsewhere than to the one after it: a jump, a call or a return.
+/// Whether the instruction ends a block: a jump, a call or a return may go elsewhere than to the one after it, and IN and OUT
+/// ask a port.
 pub fn ends(i: Instr80) -> bool
     requires { IsTrue (is_well_formed i) }
     ensures { result ≡ ends80 i }
@@ -173,6 +178,8 @@ pub fn ends(i: Instr80) -> bool
             | Instr80::Ret
             | Instr80::Rif(_)
             | Instr80::Rst0
+            | Instr80::In(_)
+            | Instr80::Out(_)
     )
 }
 
@@ -187,7 +194,7 @@ pub fn uses(i: Instr80) -> Keep
         Instr80::Inr(operand) | Instr80::Dcr(operand) => read(operand),
         Instr80::Alu(op, operand) => operands(op, operand),
         Instr80::AluI(op, _) => a().join(carry_in(op)),
-        Instr80::Sta(_) | Instr80::Cma | Instr80::Rlc | Instr80::Rrc => a(),
+        Instr80::Sta(_) | Instr80::Out(_) | Instr80::Cma | Instr80::Rlc | Instr80::Rrc => a(),
         Instr80::Ral | Instr80::Rar => a().with(Part::Cy),
         Instr80::Daa => a().with(Part::Ac).with(Part::Cy),
         Instr80::Cmc => cy(),
@@ -208,7 +215,8 @@ pub fn uses(i: Instr80) -> Keep
         | Instr80::Stc
         | Instr80::Pop(_)
         | Instr80::Ret
-        | Instr80::Rst0 => Keep::none(),
+        | Instr80::Rst0
+        | Instr80::In(_) => Keep::none(),
     }
 }
 
@@ -222,7 +230,7 @@ pub fn defs(i: Instr80) -> Keep
         Instr80::Inr(operand) | Instr80::Dcr(operand) => written(operand).join(counted_flags()),
         Instr80::Alu(op, _) | Instr80::AluI(op, _) => result_in_a(op).join(five_flags()),
         Instr80::Daa => a().join(five_flags()),
-        Instr80::Lda(_) | Instr80::Ldax(_) | Instr80::Cma => a(),
+        Instr80::Lda(_) | Instr80::Ldax(_) | Instr80::In(_) | Instr80::Cma => a(),
         Instr80::Rlc | Instr80::Rrc | Instr80::Ral | Instr80::Rar => a().with(Part::Cy),
         Instr80::Stc | Instr80::Cmc => cy(),
         Instr80::Lxi(registers, _) | Instr80::Inx(registers) | Instr80::Dcx(registers) => pair(
@@ -241,7 +249,8 @@ pub fn defs(i: Instr80) -> Keep
         | Instr80::Pchl
         | Instr80::Push(_)
         | Instr80::Ret
-        | Instr80::Rst0 => Keep::none(),
+        | Instr80::Rst0
+        | Instr80::Out(_) => Keep::none(),
         Instr80::Rif(_) | Instr80::Jif(_, _) | Instr80::Cif(_, _) => Keep::none(),
     }
 }

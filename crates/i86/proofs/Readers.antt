@@ -12,9 +12,9 @@ use Rattle.i86.specs.declared.Operand16.TheVariants.{Reg as Reg_16, Direct}
 use Rattle.i86.specs.declared.AluOp.{AluOp}
 use Rattle.i86.specs.declared.AluOp.TheVariants.{Add, Or, Adc, Sbb, And, Sub, Xor, Cmp}
 use Rattle.i86.specs.declared.Instr86.{Instr86}
-use Rattle.i86.specs.declared.Instr86.TheVariants.{MovReg8, MovMem8, MovAlDirect, MovDirectAl, MovNum8, MovNum16, MovMemNum, MovReg16, MovDirect16, MovAxDs, MovSsAx, Alu, AluNum, OrClCl, Add16, Count8, Count16, Push, Pop, Xchg8, Xchg16, Rotate8, Rotate16, Not8, Daa, Sahf, Lahf, Cmc, Stc, Nop, Jcc, JmpNear, JmpShort, JmpBx, CallNear, Ret, Int224}
+use Rattle.i86.specs.declared.Instr86.TheVariants.{MovReg8, MovMem8, MovAlDirect, MovDirectAl, MovNum8, MovNum16, MovMemNum, MovReg16, MovDirect16, MovAxDs, MovSsAx, Alu, AluNum, OrClCl, Add16, Count8, Count16, Push, Pop, Xchg8, Xchg16, Rotate8, Rotate16, Not8, Daa, Sahf, Lahf, Cmc, Stc, Nop, Jcc, JmpNear, JmpShort, JmpBx, CallNear, Ret, Int224, InAl, OutAl}
 use Rattle.i86.specs.declared.decoding.ByteForm.{ByteForm}
-use Rattle.i86.specs.declared.decoding.ByteForm.TheVariants.{MovNum8 as ByteMov, AluNum as ByteAlu, Jcc as ByteJcc, JmpShort as ByteJmp}
+use Rattle.i86.specs.declared.decoding.ByteForm.TheVariants.{MovNum8 as ByteMov, AluNum as ByteAlu, Jcc as ByteJcc, JmpShort as ByteJmp, InAl as ByteIn, OutAl as ByteOut}
 use Rattle.i86.specs.declared.decoding.WordForm.{WordForm}
 use Rattle.i86.specs.declared.decoding.WordForm.TheVariants.{MovAlDirect as WordToAl, MovDirectAl as WordFromAl, MovNum16 as WordMov, JmpNear as WordJmp, CallNear as WordCall}
 use Rattle.i86.specs.declared.decoding.FieldsForm.{FieldsForm}
@@ -42,6 +42,8 @@ byte_encoding (ByteMov r) n = refl
 byte_encoding (ByteAlu o) n = refl
 byte_encoding (ByteJcc j) n = refl
 byte_encoding ByteJmp n = refl
+byte_encoding ByteIn n = refl
+byte_encoding ByteOut n = refl
 
 word_encoding : (f : WordForm) (w : ℕ) → enc86 (with_word f w) ≡ word_opcode f ∷ word_then w []
 word_encoding WordToAl w = refl
@@ -151,6 +153,8 @@ module _ (code : List ℕ) (at : ℕ) where
   complete (CallNear d) h = at_word WordCall d h
   complete Ret h = at_form 0xC3 (Alone Ret) refl h.0
   complete Int224 h = at_fixed 0xCD 0xE0 Int224 refl h
+  complete (InAl n) h = at_byte ByteIn n h
+  complete (OutAl n) h = at_byte ByteOut n h
 
   -- from what is decoded to the bytes of the instruction, in a code of bytes
   module _ (bytes : (k b : ℕ) → slice_get code k ≡ Some b → b < 256) where

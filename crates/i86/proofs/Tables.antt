@@ -20,7 +20,7 @@ use Rattle.i86.specs.declared.Jump.{Jump}
 use Rattle.i86.specs.declared.Jump.TheVariants.{Jb, Jnb, Jz, Jnz, Js, Jns, Jp, Jnp}
 use Rattle.i86.specs.declared.Instr86.TheVariants.{Count16, Push, Pop}
 use Rattle.i86.specs.declared.decoding.ByteForm.{ByteForm}
-use Rattle.i86.specs.declared.decoding.ByteForm.TheVariants.{MovNum8 as ByteMov, AluNum as ByteAlu, Jcc as ByteJcc, JmpShort as ByteJmp}
+use Rattle.i86.specs.declared.decoding.ByteForm.TheVariants.{MovNum8 as ByteMov, AluNum as ByteAlu, Jcc as ByteJcc, JmpShort as ByteJmp, InAl as ByteIn, OutAl as ByteOut}
 use Rattle.i86.specs.declared.decoding.WordForm.{WordForm}
 use Rattle.i86.specs.declared.decoding.WordForm.TheVariants.{MovAlDirect as WordToAl, MovDirectAl as WordFromAl, MovNum16 as WordMov, JmpNear as WordJmp, CallNear as WordCall}
 use Rattle.i86.specs.declared.decoding.FieldsForm.{FieldsForm}
@@ -154,6 +154,8 @@ byte_opcode (ByteMov r) = 0xB0 + code8 r
 byte_opcode (ByteAlu o) = 8 * code_of_alu o + 4
 byte_opcode (ByteJcc j) = code_of_jump j
 byte_opcode ByteJmp = 0xEB
+byte_opcode ByteIn = 0xE4
+byte_opcode ByteOut = 0xE6
 
 abbrev pub word_opcode : WordForm → ℕ
 word_opcode WordToAl = 0xA0
@@ -183,6 +185,8 @@ byte_form (ByteMov r) = each_reg8 (λ r. form_of (byte_opcode (ByteMov r)) ≡ S
 byte_form (ByteAlu o) = each_alu (λ o. form_of (byte_opcode (ByteAlu o)) ≡ Some (Byte (ByteAlu o))) refl refl refl refl refl refl refl refl o
 byte_form (ByteJcc j) = each_jump (λ j. form_of (byte_opcode (ByteJcc j)) ≡ Some (Byte (ByteJcc j))) refl refl refl refl refl refl refl refl j
 byte_form ByteJmp = refl
+byte_form ByteIn = refl
+byte_form ByteOut = refl
 
 pub word_form : (f : WordForm) → form_of (word_opcode f) ≡ Some (Word f)
 word_form WordToAl = refl

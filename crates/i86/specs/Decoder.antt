@@ -22,9 +22,9 @@ use Rattle.i86.specs.declared.Rotate.TheVariants.{Rol, Ror, Rcl, Rcr}
 use Rattle.i86.specs.declared.Jump.{Jump}
 use Rattle.i86.specs.declared.Jump.TheVariants.{Jb, Jnb, Jz, Jnz, Js, Jns, Jp, Jnp}
 use Rattle.i86.specs.declared.Instr86.{Instr86}
-use Rattle.i86.specs.declared.Instr86.TheVariants.{MovReg8, MovMem8, MovAlDirect, MovDirectAl, MovNum8, MovNum16, MovMemNum, MovReg16, MovDirect16, MovAxDs, MovSsAx, Alu, AluNum, OrClCl, Add16, Count8, Count16, Push, Pop, Xchg8, Xchg16, Rotate8, Rotate16, Not8, Daa, Sahf, Lahf, Cmc, Stc, Nop, Jcc, JmpNear, JmpShort, JmpBx, CallNear, Ret, Int224}
+use Rattle.i86.specs.declared.Instr86.TheVariants.{MovReg8, MovMem8, MovAlDirect, MovDirectAl, MovNum8, MovNum16, MovMemNum, MovReg16, MovDirect16, MovAxDs, MovSsAx, Alu, AluNum, OrClCl, Add16, Count8, Count16, Push, Pop, Xchg8, Xchg16, Rotate8, Rotate16, Not8, Daa, Sahf, Lahf, Cmc, Stc, Nop, Jcc, JmpNear, JmpShort, JmpBx, CallNear, Ret, Int224, InAl, OutAl}
 use Rattle.i86.specs.declared.decoding.ByteForm.{ByteForm}
-use Rattle.i86.specs.declared.decoding.ByteForm.TheVariants.{MovNum8 as ByteMov, AluNum as ByteAlu, Jcc as ByteJcc, JmpShort as ByteJmp}
+use Rattle.i86.specs.declared.decoding.ByteForm.TheVariants.{MovNum8 as ByteMov, AluNum as ByteAlu, Jcc as ByteJcc, JmpShort as ByteJmp, InAl as ByteIn, OutAl as ByteOut}
 use Rattle.i86.specs.declared.decoding.WordForm.{WordForm}
 use Rattle.i86.specs.declared.decoding.WordForm.TheVariants.{MovAlDirect as WordToAl, MovDirectAl as WordFromAl, MovNum16 as WordMov, JmpNear as WordJmp, CallNear as WordCall}
 use Rattle.i86.specs.declared.decoding.FieldsForm.{FieldsForm}
@@ -86,8 +86,8 @@ abbrev pub singles : List (ℕ × Form)
 singles =
     (0x86, Fields FieldsXchg8) ∷ ((0x87, Fields FieldsXchg16) ∷ ((0x88, Fields FieldsToMem) ∷ ((0x89, Fields FieldsToDirect) ∷ ((0x8A, Fields FieldsMov8) ∷ ((0x8B, Fields FieldsMov16) ∷
     ((0x8C, Fixed 0xD8 MovAxDs) ∷ ((0x8E, Fixed 0xD0 MovSsAx) ∷ ((0x90, Alone Nop) ∷ ((0x9E, Alone Sahf) ∷ ((0x9F, Alone Lahf) ∷ ((0xA0, Word WordToAl) ∷ ((0xA2, Word WordFromAl) ∷
-    ((0xC3, Alone Ret) ∷ ((0xC6, Fields FieldsMemNum) ∷ ((0xCD, Fixed 0xE0 Int224) ∷ ((0xD0, Fields FieldsRotate8) ∷ ((0xD1, Fields FieldsRotate16) ∷ ((0xE8, Word WordCall) ∷ ((0xE9, Word WordJmp) ∷ ((0xEB, Byte ByteJmp) ∷
-    ((0xF5, Alone Cmc) ∷ ((0xF6, Fields FieldsNot8) ∷ ((0xF9, Alone Stc) ∷ ((0xFE, Fields FieldsCount8) ∷ ((0xFF, Fixed 0xE3 JmpBx) ∷ [])))))))))))))))))))))))))
+    ((0xC3, Alone Ret) ∷ ((0xC6, Fields FieldsMemNum) ∷ ((0xCD, Fixed 0xE0 Int224) ∷ ((0xD0, Fields FieldsRotate8) ∷ ((0xD1, Fields FieldsRotate16) ∷ ((0xE4, Byte ByteIn) ∷ ((0xE6, Byte ByteOut) ∷ ((0xE8, Word WordCall) ∷ ((0xE9, Word WordJmp) ∷ ((0xEB, Byte ByteJmp) ∷
+    ((0xF5, Alone Cmc) ∷ ((0xF6, Fields FieldsNot8) ∷ ((0xF9, Alone Stc) ∷ ((0xFE, Fields FieldsCount8) ∷ ((0xFF, Fixed 0xE3 JmpBx) ∷ [])))))))))))))))))))))))))))
 
 -- a first byte from one to another
 abbrev pub is_from : ℕ → ℕ → ℕ → Bool
@@ -153,6 +153,8 @@ with_byte (ByteMov r) n = MovNum8 r n
 with_byte (ByteAlu op) n = AluNum op n
 with_byte (ByteJcc j) n = Jcc j n
 with_byte ByteJmp n = JmpShort n
+with_byte ByteIn n = InAl n
+with_byte ByteOut n = OutAl n
 
 abbrev pub with_word : WordForm → ℕ → Instr86
 with_word WordToAl w = MovAlDirect w

@@ -13,7 +13,7 @@ enum Form {
     Alone(Instr86),
     /// It is this one, if this is the second byte.
     Fixed(u8, Instr86),
-    /// A byte follows: a number or a displacement.
+    /// A byte follows: a number, a displacement or a port.
     Byte(ByteForm),
     /// A word follows: a number, an address or a displacement.
     Word(WordForm),
@@ -28,6 +28,8 @@ enum ByteForm {
     AluNum(AluOp),
     Jcc(Jump),
     JmpShort,
+    InAl,
+    OutAl,
 }
 
 /// An instruction but for its last word.
@@ -191,6 +193,8 @@ fn single(first: u8) -> Option<Form>
         0xCD => Some(Form::Fixed(0xE0, Instr86::Int224)),
         0xD0 => Some(Form::Fields(FieldsForm::Rotate8)),
         0xD1 => Some(Form::Fields(FieldsForm::Rotate16)),
+        0xE4 => Some(Form::Byte(ByteForm::InAl)),
+        0xE6 => Some(Form::Byte(ByteForm::OutAl)),
         0xE8 => Some(Form::Word(WordForm::CallNear)),
         0xE9 => Some(Form::Word(WordForm::JmpNear)),
         0xEB => Some(Form::Byte(ByteForm::JmpShort)),
@@ -211,6 +215,8 @@ fn with_byte(form: ByteForm, byte: u8) -> Instr86
         ByteForm::AluNum(op) => Instr86::AluNum(op, byte),
         ByteForm::Jcc(jump) => Instr86::Jcc(jump, byte),
         ByteForm::JmpShort => Instr86::JmpShort(byte),
+        ByteForm::InAl => Instr86::InAl(byte),
+        ByteForm::OutAl => Instr86::OutAl(byte),
     }
 }
 

@@ -118,6 +118,8 @@ pub fn encode(i: Instr86) -> Code
         Instr86::CallNear(displacement) => Code::with_word(0xE8, displacement),
         Instr86::Ret => Code::of_one(0xC3),
         Instr86::Int224 => Code::of_two(0xCD, 0xE0),
+        Instr86::InAl(port) => Code::of_two(0xE4, port),
+        Instr86::OutAl(port) => Code::of_two(0xE6, port),
     }
 }
 

@@ -171,4 +171,8 @@ pub enum Instr86 {
     Ret,
     /// `INT 224`, the call of the system
     Int224,
+    /// `IN AL,n`: a byte of the port
+    InAl(u8),
+    /// `OUT n,AL`
+    OutAl(u8),
 }

@@ -18,7 +18,7 @@ use Rattle.i80.specs.declared.Word.TheVariants.{Num, Code}
 use Rattle.i80.specs.declared.Goal.{Goal}
 use Rattle.i80.specs.declared.Goal.TheVariants.{At, Boot, Bdos}
 use Rattle.i80.specs.declared.Instr80.{Instr80}
-use Rattle.i80.specs.declared.Instr80.TheVariants.{Nop, Mov, Mvi, Lxi, Lda, Sta, Lhld, Shld, Ldax, Stax, Xchg, Xthl, Sphl, Pchl, Alu, AluI, Inr, Dcr, Inx, Dcx, Dad, Daa, Cma, Stc, Cmc, Rlc, Rrc, Ral, Rar, Push, Pop, Jmp, Jif, Call, Cif, Ret, Rif, Rst0}
+use Rattle.i80.specs.declared.Instr80.TheVariants.{Nop, Mov, Mvi, Lxi, Lda, Sta, Lhld, Shld, Ldax, Stax, Xchg, Xthl, Sphl, Pchl, Alu, AluI, Inr, Dcr, Inx, Dcx, Dad, Daa, Cma, Stc, Cmc, Rlc, Rrc, Ral, Rar, Push, Pop, Jmp, Jif, Call, Cif, Ret, Rif, Rst0, In, Out}
 use Rattle.i86.specs.declared.Reg8.{Reg8}
 use Rattle.i86.specs.declared.Reg8.TheVariants.{Al, Cl, Dl, Bl, Ah, Ch, Dh, Bh}
 use Rattle.i86.specs.declared.Reg16.{Reg16}
@@ -34,7 +34,7 @@ use Rattle.i86.specs.declared.Count.TheVariants.{Inc, Dec}
 use Rattle.i86.specs.declared.Rotate.TheVariants.{Rol, Ror, Rcl, Rcr}
 use Rattle.i86.specs.declared.Jump.{Jump}
 use Rattle.i86.specs.declared.Jump.TheVariants.{Jb, Jnb, Jz, Jnz, Js, Jns, Jp, Jnp}
-use Rattle.i86.specs.declared.Instr86.TheVariants.{MovReg8, MovMem8, MovAlDirect, MovDirectAl, MovNum8, MovNum16, MovMemNum, MovReg16, MovDirect16, Alu as Alu_86, AluNum, Add16, Count8, Count16, Push as Push_86, Pop as Pop_86, Xchg8, Xchg16, Rotate8, Rotate16, Not8, Daa as Daa_86, Sahf, Lahf, Cmc as Cmc_86, Stc as Stc_86, Nop as Nop_86, JmpBx, Ret as Ret_86}
+use Rattle.i86.specs.declared.Instr86.TheVariants.{MovReg8, MovMem8, MovAlDirect, MovDirectAl, MovNum8, MovNum16, MovMemNum, MovReg16, MovDirect16, Alu as Alu_86, AluNum, Add16, Count8, Count16, Push as Push_86, Pop as Pop_86, Xchg8, Xchg16, Rotate8, Rotate16, Not8, Daa as Daa_86, Sahf, Lahf, Cmc as Cmc_86, Stc as Stc_86, Nop as Nop_86, JmpBx, Ret as Ret_86, InAl, OutAl}
 use Rattle.asm86_lines.specs.declared.line.Label.{Label}
 use Rattle.asm86_lines.specs.declared.line.Label.TheVariants.{At as Line, Skip, Sys, End}
 use Rattle.asm86_lines.specs.declared.line.Stmt86.{Stmt86}
@@ -176,3 +176,5 @@ template (Cif c t) at save = where_holds c at (call t)
 template Ret at save = Run Ret_86 ∷ []
 template (Rif c) at save = where_holds c at (Run Ret_86 ∷ [])
 template Rst0 at save = JmpTo End ∷ []
+template (In port) at save = Run (InAl port) ∷ []
+template (Out port) at save = Run (OutAl port) ∷ []

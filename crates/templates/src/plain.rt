@@ -15,7 +15,7 @@ use std::alloc::{AllocError, Global};
 fn put_body(text: &mut Text, program: &Program80) -> Result<(), AllocError>
     requires { length text.old < 2 ^ 16 }
     ensures value { OnOk result (text.new ≡ text.old ++ body program.now.instrs) }
-    ensures most { OnOk result (length text.new ≤ length text.old + 13 * 61182) }
+    ensures most { OnOk result (length text.new ≤ length text.old + 13 * 65022) }
 {
     let instrs = program.instrs();
     for placed in instrs {
@@ -55,7 +55,7 @@ fn put_cell(text: &mut Text, next: u16, at: u16, cell: Cell) -> Result<(), Alloc
 fn put_data(text: &mut Text, program: &Program80) -> Result<(), AllocError>
     requires { length text.old < 2 ^ 20 }
     ensures value { OnOk result (text.new ≡ text.old ++ data_from 0 program.now.cells) }
-    ensures most { OnOk result (length text.new ≤ length text.old + 2 * 61182) }
+    ensures most { OnOk result (length text.new ≤ length text.old + 2 * 65022) }
 {
     let cells = program.cells();
     let mut next = 0;

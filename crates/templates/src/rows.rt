@@ -207,5 +207,7 @@ pub fn template(i: Instr80, at: u16, save: bool) -> Sequence
         Instr80::Ret => run(Instr86::Ret),
         Instr80::Rif(cond) => where_holds(cond, at, Stmt86::Run(Instr86::Ret)),
         Instr80::Rst0 => Sequence::one(Stmt86::Jmp(Label::End)),
+        Instr80::In(port) => run(Instr86::InAl(port)),
+        Instr80::Out(port) => run(Instr86::OutAl(port)),
     }
 }

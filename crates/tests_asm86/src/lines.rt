@@ -5,7 +5,7 @@ use i86::{AluOp, Count, Instr86, Operand8, Operand16, Ptr, Reg8, Reg16, Rotate, 
 
 // Statements and their lines without CR LF.
 #[rattlefmt::skip]
-static FORMS: [(Stmt86, &str); 52] = [
+static FORMS: [(Stmt86, &str); 54] = [
     (Stmt86::Cseg, "\tCSEG"),
     (Stmt86::Dseg, "\tDSEG"),
     (Stmt86::Org(0xEFFF), "\tORG\t0EFFFH"),
@@ -58,6 +58,8 @@ static FORMS: [(Stmt86, &str); 52] = [
     (Stmt86::Run(Instr86::JmpBx), "\tJMP\tBX"),
     (Stmt86::Run(Instr86::Ret), "\tRET"),
     (Stmt86::Run(Instr86::Int224), "\tINT\t224"),
+    (Stmt86::Run(Instr86::InAl(0x10)), "\tIN\tAL,010H"),
+    (Stmt86::Run(Instr86::OutAl(0xFF)), "\tOUT\t0FFH,AL"),
 ];
 
 #[test]

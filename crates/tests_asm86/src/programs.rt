@@ -20,8 +20,8 @@ fn bytes_of(alloc: Global, sequence: Sequence) -> Result<Vec<u8>, Fail> {
 }
 
 #[test]
-fn dad_and_psw_templates(rt: HostRuntime) -> Result<(), Fail> {
-    let table: [(Instr80, bool, &[u8]); 4] = [
+fn templates_of_dad_psw_and_ports(rt: HostRuntime) -> Result<(), Fail> {
+    let table: [(Instr80, bool, &[u8]); 8] = [
         (
             Instr80::Dad(Pair::D),
             true,
@@ -38,6 +38,10 @@ fn dad_and_psw_templates(rt: HostRuntime) -> Result<(), Fail> {
             true,
             &[0x58, 0x86, 0xC4, 0x9E],
         ),
+        (Instr80::In(0x10), true, &[0xE4, 0x10]),
+        (Instr80::In(0xFF), false, &[0xE4, 0xFF]),
+        (Instr80::Out(0x11), true, &[0xE6, 0x11]),
+        (Instr80::Out(0x00), false, &[0xE6, 0x00]),
     ];
     for (i, save, code) in table {
         assert!(rt; i80::well_formed(i));
@@ -161,6 +165,86 @@ fn runs_of_data(rt: HostRuntime) -> Result<(), Fail> {
             "line {}",
             line.line
         );
+    }
+    Ok(())
+}
+
+const PORTS: [&str; 6] = [
+    "L0100:\r\n",
+    "\tIN\tAL,010H\r\n",
+    "L0102:\r\n",
+    "\tOUT\t011H,AL\r\n",
+    "L0104:\r\n",
+    "\tJMP\tX_END\r\n",
+];
+
+#[test]
+fn the_plain_text_of_ports(rt: HostRuntime) -> Result<(), Fail> {
+    let instrs = [
+        Placed {
+            at: 0x100,
+            line: 2,
+            instr: Instr80::In(0x10),
+        },
+        Placed {
+            at: 0x102,
+            line: 3,
+            instr: Instr80::Out(0x11),
+        },
+        Placed {
+            at: 0x104,
+            line: 4,
+            instr: Instr80::Jmp(Goal::Boot),
+        },
+    ];
+    let program = Program80::new(
+        rt.alloc(),
+        instrs.to_vec(rt.alloc())?,
+        Vec::new(rt.alloc()),
+        0xF000,
+    )?;
+    let lines = plain_text(rt.alloc(), &program)?;
+    assert_eq!(rt; lines.len(), 29);
+    for (line, text) in lines[8..14].iter().zip(PORTS) {
+        assert_eq!(rt;
+            write_line(line.stmt).as_slice(),
+            text.as_bytes(),
+            "line {}",
+            line.line
+        );
+    }
+    assert_eq!(rt; code_size(&lines), 41);
+    Ok(())
+}
+
+// The top of the area is loaded first, and ORG places its last byte.
+#[test]
+fn the_lowest_and_the_highest_top(rt: HostRuntime) -> Result<(), Fail> {
+    let instrs = [Placed {
+        at: 0x100,
+        line: 1,
+        instr: Instr80::Jmp(Goal::Boot),
+    }];
+    let low = Program80::new(
+        rt.alloc(),
+        instrs.to_vec(rt.alloc())?,
+        Vec::new(rt.alloc()),
+        0x1000,
+    )?;
+    let high = Program80::new(
+        rt.alloc(),
+        instrs.to_vec(rt.alloc())?,
+        Vec::new(rt.alloc()),
+        0xFF00,
+    )?;
+    for (program, load, place) in [
+        (&low, "\tMOV\tSI,01000H\r\n", "\tORG\t00FFFH\r\n"),
+        (&high, "\tMOV\tSI,0FF00H\r\n", "\tORG\t0FEFFH\r\n"),
+    ] {
+        let lines = plain_text(rt.alloc(), program)?;
+        assert_eq!(rt; lines.len(), 25);
+        assert_eq!(rt; write_line(lines[1].stmt).as_slice(), load.as_bytes());
+        assert_eq!(rt; write_line(lines[22].stmt).as_slice(), place.as_bytes());
     }
     Ok(())
 }

@@ -15,7 +15,7 @@ const ALL: &str = "A B C D E H L S Z AC P CY";
 type Row = (&'static str, Instr80, u16, &'static str, &'static str, bool);
 
 #[rattlefmt::skip]
-static ROWS: [Row; 119] = [
+static ROWS: [Row; 121] = [
     ("NOP", Instr80::Nop, 1, "", "", false),
     ("MOV B,C", Instr80::Mov(Src::Reg(Reg::B), Src::Reg(Reg::C)), 1, "C", "B", false),
     ("MOV A,A", Instr80::Mov(Src::Reg(Reg::A), Src::Reg(Reg::A)), 1, "A", "A", false),
@@ -135,6 +135,8 @@ static ROWS: [Row; 119] = [
     ("RP", Instr80::Rif(Cond::P), 1, "S", "", true),
     ("RM", Instr80::Rif(Cond::M), 1, "S", "", true),
     ("RST 0", Instr80::Rst0, 1, "", "", true),
+    ("IN n", Instr80::In(7), 2, "", "A", true),
+    ("OUT n", Instr80::Out(7), 2, "A", "", true),
 ];
 
 static PARTS: [(&str, Part); 12] = [

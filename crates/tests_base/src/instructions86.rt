@@ -2,10 +2,10 @@
 use i86::AluOp::{Adc, Add, And, Cmp, Or, Sbb, Sub, Xor};
 use i86::Count::{Dec, Inc};
 use i86::Instr86::{
-    Add16, Alu, AluNum, CallNear, Cmc, Count8, Count16, Daa, Int224, Jcc, JmpBx, JmpNear, JmpShort,
-    Lahf, MovAlDirect, MovAxDs, MovDirect16, MovDirectAl, MovMem8, MovMemNum, MovNum8, MovNum16,
-    MovReg8, MovReg16, MovSsAx, Nop, Not8, OrClCl, Pop, Push, Ret, Rotate8, Rotate16, Sahf, Stc,
-    Xchg8, Xchg16,
+    Add16, Alu, AluNum, CallNear, Cmc, Count8, Count16, Daa, InAl, Int224, Jcc, JmpBx, JmpNear,
+    JmpShort, Lahf, MovAlDirect, MovAxDs, MovDirect16, MovDirectAl, MovMem8, MovMemNum, MovNum8,
+    MovNum16, MovReg8, MovReg16, MovSsAx, Nop, Not8, OrClCl, OutAl, Pop, Push, Ret, Rotate8,
+    Rotate16, Sahf, Stc, Xchg8, Xchg16,
 };
 use i86::Jump::{Jb, Jnb, Jnp, Jns, Jnz, Jp, Js, Jz};
 use i86::Operand8::{Mem, Reg};
@@ -21,7 +21,7 @@ use std::process::Abort;
 
 // Rows that NASM writes as this subset does.
 #[rattlefmt::skip]
-static AS_NASM: [(&str, Instr86, &[u8]); 106] = [
+static AS_NASM: [(&str, Instr86, &[u8]); 108] = [
     ("mov dl,[bx]", MovReg8(Dl, Mem(Ptr::Bx)), &[0x8A, 0x17]),
     ("mov ah,[si]", MovReg8(Ah, Mem(Ptr::Si)), &[0x8A, 0x24]),
     ("mov [bx],ch", MovMem8(Ptr::Bx, Ch), &[0x88, 0x2F]),
@@ -128,6 +128,8 @@ static AS_NASM: [(&str, Instr86, &[u8]); 106] = [
     ("call near $+0x1237", CallNear(0x1234), &[0xE8, 0x34, 0x12]),
     ("ret", Ret, &[0xC3]),
     ("int 224", Int224, &[0xCD, 0xE0]),
+    ("in al,0x9a", InAl(0x9A), &[0xE4, 0x9A]),
+    ("out 0x9a,al", OutAl(0x9A), &[0xE6, 0x9A]),
 ];
 
 // Rows where NASM takes another encoding of the same instruction: the bytes of the manual's table, then NASM's, which are none of
@@ -190,7 +192,8 @@ fn written_and_read(rt: &impl Abort, text: &str, instr: Instr86, bytes: &[u8]) {
 #[test]
 fn decoding(rt: HostRuntime) {
     assert!(rt; decode(&[0x9F, 0x43]) == Some((Lahf, 1)));
-    let refused: [&[u8]; 8] = [
+    assert!(rt; decode(&[0xE6, 0x11]) == Some((OutAl(17), 2)));
+    let refused: [&[u8]; 12] = [
         &[],
         &[0xB1],
         &[0x0F],
@@ -199,6 +202,10 @@ fn decoding(rt: HostRuntime) {
         &[0x82, 0xC0, 0x01],
         &[0x8B, 0x06, 0x34],
         &[0xCD, 0x21],
+        &[0xE4],
+        &[0xE6],
+        &[0xE5, 0x10],
+        &[0xEC],
     ];
     for bytes in refused {
         assert!(rt; decode(bytes) == None, "{bytes:?}");

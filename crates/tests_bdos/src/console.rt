@@ -45,9 +45,11 @@ fn answers(
 }
 
 #[rattlefmt::skip]
-static CALLS: [(&str, Call, Told); 17] = [
+static CALLS: [(&str, Call, Told); 20] = [
     ("input waits", (11, 0, 5), Told::Answer(0xFF)),
     ("a byte", (1, 0, 5), Told::Answer(0x41)),
+    ("direct input takes a byte", (6, 0xFF, 5), Told::Answer(0x43)),
+    ("direct output takes none", (6, 0x42, 5), Told::Answer(0)),
     ("a line with a CR", (10, 0, 5), Told::Line(b"\x01B")),
     ("a line that fills its room", (10, 0, 3), Told::Line(b"\x03xyz")),
     ("its LF was left", (10, 0, 3), Told::Line(b"\0")),
@@ -60,6 +62,7 @@ static CALLS: [(&str, Call, Told); 17] = [
     ("a line without its LF", (10, 0, 255), Told::Line(b"\x01s")),
     ("no line is left", (10, 0, 5), Told::InputEnded),
     ("no byte is left", (1, 0, 5), Told::InputEnded),
+    ("no direct input is left", (6, 0xFF, 5), Told::Answer(0)),
     ("no input waits", (11, 0, 5), Told::Answer(0)),
     ("the version", (12, 0, 5), Told::Answer(0x22)),
     ("the current disk", (25, 0, 5), Told::Answer(0)),
@@ -68,7 +71,7 @@ static CALLS: [(&str, Call, Told); 17] = [
 #[test]
 fn a_console_takes_its_input_in_order(rt: HostRuntime) -> Result<(), AllocError> {
     let alloc = rt.alloc();
-    let input = Vec::from_slice(alloc, b"AB\r\nxyz\npqr\n\n\rs\r")?;
+    let input = Vec::from_slice(alloc, b"ACB\r\nxyz\npqr\n\n\rs\r")?;
     let mut console = Console::new(input);
     for (name, call, told) in &CALLS {
         assert!(rt; answers(alloc, &mut console, *call, told)?, "{name}");

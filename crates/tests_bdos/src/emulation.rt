@@ -7,11 +7,11 @@ use asm80_program::{Placed, Program80};
 use asm86_image::image;
 use asm86_lines::{Jump, Label, Line86, Stmt86};
 use bdos_emulation::{RunEnd, TalkFault, Why, run_80, run_86};
-use cells::{Place, Rule};
+use cells::{Cond, Place, Rule};
 use dialogue::Page;
 use host::{HostFault, MemHost};
-use i80::{Goal, Instr80, Pair, Reg, Src, Word};
-use i86::{Instr86, Operand8, Operand16, Reg8, Reg16, StackReg};
+use i80::{Goal, Instr80, Op, Pair, Reg, Src, Word};
+use i86::{AluOp, Instr86, Operand8, Operand16, Reg8, Reg16, StackReg};
 use std::alloc::{AllocError, Global};
 use std::process::Abort;
 use std::test::Fail;
@@ -72,11 +72,41 @@ fn opens_file(alloc: Global) -> Result<Program80, AllocError> {
     Program80::new(alloc, instrs.to_vec(alloc)?, Vec::new(alloc), 0xF000)
 }
 
+/// Reads a byte of port 7, sends it to port 8, and reads another.
+fn echoes(alloc: Global) -> Result<Program80, AllocError> {
+    let instrs = [
+        placed!(0x100, Instr80::In(7)),
+        placed!(0x102, Instr80::Out(8)),
+        placed!(0x104, Instr80::In(9)),
+        placed!(0x106, JMP_0),
+    ];
+    Program80::new(alloc, instrs.to_vec(alloc)?, Vec::new(alloc), 0xF000)
+}
+
+/// Sends what is in A and C after an IN, where the flags are as before it: NZ and C do not hold, and the
+/// adjustment, which reads AC and CY, changes nothing.
+fn keeps_all_but_a(alloc: Global) -> Result<Program80, AllocError> {
+    let instrs = [
+        placed!(0x100, Instr80::Lxi(Pair::B, Word::Num(0x1234))),
+        placed!(0x103, Instr80::Mvi(Src::Reg(Reg::A), 0)),
+        placed!(0x105, Instr80::AluI(Op::Add, 0)),
+        placed!(0x107, Instr80::In(7)),
+        placed!(0x109, Instr80::Jif(Cond::Nz, Goal::Boot)),
+        placed!(0x10C, Instr80::Jif(Cond::C, Goal::Boot)),
+        placed!(0x10F, Instr80::Daa),
+        placed!(0x110, Instr80::Out(8)),
+        placed!(0x112, Instr80::Mov(Src::Reg(Reg::A), Src::Reg(Reg::C))),
+        placed!(0x113, Instr80::Out(8)),
+        placed!(0x115, JMP_0),
+    ];
+    Program80::new(alloc, instrs.to_vec(alloc)?, Vec::new(alloc), 0xF000)
+}
+
 /// Whether an 8080 program over a console comes to this and says this, where the call of the host with this number fails.
 fn comes_to(
     alloc: Global,
     program: &Program80,
-    input: &str,
+    (input, ports): (&str, &[u8]),
     limit: u32,
     fails: u64,
     end: Result<RunEnd, TalkFault>,
@@ -86,7 +116,8 @@ fn comes_to(
     let mut host = MemHost::new(alloc);
     host.fail_at(fails)?;
     let input = Vec::from_slice(alloc, input.as_bytes())?;
-    let came = run_80(alloc, program, &page, input, limit, &mut host);
+    let ports = Vec::from_slice(alloc, ports)?;
+    let came = run_80(alloc, program, &page, input, ports, limit, &mut host);
     Ok(came == end && host.said() == said.as_bytes())
 }
 
@@ -99,22 +130,61 @@ fn programs_say_their_events(rt: HostRuntime) -> Result<(), Fail> {
     let file = opens_file(alloc)?;
     let left = RunEnd::Stopped(Why::Left(Place::At(0x103), Rule::P1));
     let unsaid = Err(TalkFault::Unsaid(HostFault::Failed));
+    let none: &[u8] = &[];
+    let one: &[u8] = &[0xAB];
+    let two: &[u8] = &[1, 2];
+    let adjusted: &[u8] = &[0x99];
+    let nothing = ("", none);
     let opened = "0f 005c 00202020202020202020202000\n";
-    for (row, (program, input, limit, fails, end, said)) in [
-        (&letter, "", 3, 0, Ok(RunEnd::StepLimit), "02 41\n"),
-        (&letter, "", 4, 0, Ok(RunEnd::Ended(4)), "02 41\nend\n"),
-        (&letter, "", 10, 1, unsaid, ""),
-        (&letter, "", 10, 2, unsaid, "02 41\n"),
-        (&letter, "", 10, 3, Ok(RunEnd::Ended(4)), "02 41\nend\n"),
-        (&byte, "", 10, 0, Ok(RunEnd::InputEnded), "01\n"),
-        (&byte, "A", 10, 0, Ok(RunEnd::Ended(3)), "01\nend\n"),
-        (&number, "", 10, 0, Ok(left), ""),
-        (&file, "", 10, 0, Ok(RunEnd::NoDrive(15)), opened),
+    let echo = echoes(alloc)?;
+    let keeps = keeps_all_but_a(alloc)?;
+    for (row, (program, given, limit, fails, end, said)) in [
+        (&letter, nothing, 3, 0, Ok(RunEnd::StepLimit), "02 41\n"),
+        (&letter, nothing, 4, 0, Ok(RunEnd::Ended(4)), "02 41\nend\n"),
+        (&letter, nothing, 10, 1, unsaid, ""),
+        (&letter, nothing, 10, 2, unsaid, "02 41\n"),
+        (
+            &letter,
+            nothing,
+            10,
+            3,
+            Ok(RunEnd::Ended(4)),
+            "02 41\nend\n",
+        ),
+        (&byte, nothing, 10, 0, Ok(RunEnd::InputEnded), "01\n"),
+        (&byte, ("A", none), 10, 0, Ok(RunEnd::Ended(3)), "01\nend\n"),
+        (&number, nothing, 10, 0, Ok(left), ""),
+        (&file, nothing, 10, 0, Ok(RunEnd::NoDrive(15)), opened),
+        (&echo, nothing, 10, 0, Ok(RunEnd::InputEnded), "in 07\n"),
+        (
+            &echo,
+            ("A", one),
+            10,
+            0,
+            Ok(RunEnd::InputEnded),
+            "in 07\nout 08 ab\nin 09\n",
+        ),
+        (
+            &echo,
+            ("", two),
+            10,
+            0,
+            Ok(RunEnd::Ended(4)),
+            "in 07\nout 08 01\nin 09\nend\n",
+        ),
+        (
+            &keeps,
+            ("", adjusted),
+            20,
+            0,
+            Ok(RunEnd::Ended(11)),
+            "in 07\nout 08 99\nout 08 34\nend\n",
+        ),
     ]
     .into_iter()
     .enumerate()
     {
-        let is_so = comes_to(alloc, program, input, limit, fails, end, said)?;
+        let is_so = comes_to(alloc, program, given, limit, fails, end, said)?;
         assert!(rt; is_so, "row {row}");
     }
     Ok(())
@@ -161,6 +231,23 @@ const ONE_LETTER: [Line86; 31] = lines! {
     31 Stmt86::EndText;
 };
 
+/// Sends what is in AL after an IN, and CL, where the flags are as before it: NZ and C do not hold.
+const PORTS: [Line86; 13] = lines! {
+    1 Stmt86::Cseg;
+    2 Stmt86::Run(Instr86::MovNum16(Reg16::Cx, 0x1234));
+    3 Stmt86::Run(Instr86::AluNum(AluOp::Sub, 0));
+    4 Stmt86::Run(Instr86::InAl(7));
+    5 Stmt86::Jcc(Jump::Jz, Label::End);
+    6 Stmt86::Jcc(Jump::Jb, Label::End);
+    7 Stmt86::Run(Instr86::OutAl(8));
+    8 Stmt86::Run(Instr86::MovReg8(Reg8::Al, Operand8::Reg(Reg8::Cl)));
+    9 Stmt86::Run(Instr86::OutAl(8));
+    10 Stmt86::Mark(Label::End);
+    11 Stmt86::Run(Instr86::MovNum8(Reg8::Cl, 0));
+    12 Stmt86::Run(Instr86::MovNum8(Reg8::Dl, 0));
+    13 Stmt86::EndText;
+};
+
 const PUSHES: [Line86; 2] = lines! {
     1 Stmt86::Cseg;
     2 Stmt86::Run(Instr86::Push(StackReg::Ax));
@@ -176,6 +263,7 @@ fn text_comes_to(
     alloc: Global,
     rt: &impl Abort,
     text: &[Line86],
+    ports: &[u8],
     choice: u128,
     limit: u32,
     end: RunEnd,
@@ -189,6 +277,7 @@ fn text_comes_to(
     let fill = vec![in alloc; 0; 65536]?;
     let mut host = MemHost::new(alloc);
     let input = Vec::new(alloc);
+    let ports = Vec::from_slice(alloc, ports)?;
     let came = run_86(
         alloc,
         &image,
@@ -196,6 +285,7 @@ fn text_comes_to(
         fill.as_slice(),
         choice,
         input,
+        ports,
         limit,
         &mut host,
     );
@@ -207,12 +297,51 @@ fn texts_say_their_events(rt: HostRuntime) -> Result<(), Fail> {
     let alloc = rt.alloc();
     let no_instruction = RunEnd::Stopped(Why::NoInstruction(1));
     let stack_segment = RunEnd::Stopped(Why::StackSegment(0));
-    assert!(rt; text_comes_to(alloc, &rt, &ONE_LETTER, 0, 19, RunEnd::StepLimit, "02 41\n")?);
+    assert!(rt;
+        text_comes_to(
+            alloc,
+            &rt,
+            &ONE_LETTER,
+            &[],
+            0,
+            19,
+            RunEnd::StepLimit,
+            "02 41\n"
+        )?
+    );
     for choice in [0, u128::MAX] {
         let end = RunEnd::Ended(20);
-        assert!(rt; text_comes_to(alloc, &rt, &ONE_LETTER, choice, 100, end, "02 41\nend\n")?);
+        assert!(rt;
+            text_comes_to(
+                alloc,
+                &rt,
+                &ONE_LETTER,
+                &[],
+                choice,
+                100,
+                end,
+                "02 41\nend\n"
+            )?
+        );
     }
-    assert!(rt; text_comes_to(alloc, &rt, &FALLS_OFF, 0, 10, no_instruction, "")?);
-    assert!(rt; text_comes_to(alloc, &rt, &PUSHES, 0, 10, stack_segment, "")?);
+    assert!(rt; text_comes_to(alloc, &rt, &FALLS_OFF, &[], 0, 10, no_instruction, "")?);
+    assert!(rt; text_comes_to(alloc, &rt, &PUSHES, &[], 0, 10, stack_segment, "")?);
+    let off = RunEnd::Stopped(Why::NoInstruction(21));
+    let said = "in 07\nout 08 00\nout 08 34\n";
+    for choice in [1, u128::MAX] {
+        assert!(rt; text_comes_to(alloc, &rt, &PORTS, &[0], choice, 100, off, said)?);
+    }
+    assert!(rt;
+        text_comes_to(
+            alloc,
+            &rt,
+            &PORTS,
+            &[],
+            1,
+            100,
+            RunEnd::InputEnded,
+            "in 07\n"
+        )?
+    );
     Ok(())
 }

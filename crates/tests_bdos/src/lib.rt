@@ -1,4 +1,4 @@
-// The calls of the BDOS, over public calls: their table, the answers of a console, and programs of both machines over it.
+// The calls of the BDOS, over public calls: their table, the answers of a console and of ports, and programs of both machines over it.
 #![tactic(auto)]
 
 #[cfg(test)]
@@ -9,6 +9,8 @@ mod emulation;
 mod memory;
 #[cfg(test)]
 mod pages;
+#[cfg(test)]
+mod ports;
 #[cfg(test)]
 mod replies;
 #[cfg(test)]

@@ -1,7 +1,22 @@
 // Which replies fit a request, what kind of answer a function has, and the DMA address that it leaves.
 use crate::memory::{Listed, request};
-use dialogue::{AnswerKind, Block, Blocks, Bytes, Reply, answer_of, dma_after, fits};
+use dialogue::{
+    AnswerKind, Block, Blocks, Bytes, Event, Reply, answer_of, dma_after, fits, fits_event,
+};
 use std::alloc::{AllocError, Global};
+
+/// A reply with this answer and these blocks.
+fn reply_of(alloc: Global, answer: u16, writes: Listed) -> Result<Reply, AllocError> {
+    let mut blocks = Vec::new(alloc);
+    for (at, bytes) in writes {
+        let bytes = Bytes::from_vec(Vec::from_slice(alloc, bytes)?);
+        blocks.push(Block { at: *at, bytes })?;
+    }
+    Ok(Reply {
+        answer,
+        writes: Blocks::from_vec(blocks),
+    })
+}
 
 /// Whether a function's request may get a reply with this answer and these blocks.
 fn fits_request(
@@ -13,16 +28,7 @@ fn fits_request(
     let Some(request) = request(alloc, function, 0, 5)? else {
         return Ok(false);
     };
-    let mut blocks = Vec::new(alloc);
-    for (at, bytes) in writes {
-        let bytes = Bytes::from_vec(Vec::from_slice(alloc, bytes)?);
-        blocks.push(Block { at: *at, bytes })?;
-    }
-    let reply = Reply {
-        answer,
-        writes: Blocks::from_vec(blocks),
-    };
-    Ok(fits(&request, &reply))
+    Ok(fits(&request, &reply_of(alloc, answer, writes)?))
 }
 
 /// A reply's function, answer and blocks, and whether it fits.
@@ -89,6 +95,51 @@ fn answers_and_the_dma_address(rt: HostRuntime) -> Result<(), AllocError> {
         assert!(rt;
             after(rt.alloc(), function)? == Some((answer, dma)),
             "function {function}"
+        );
+    }
+    Ok(())
+}
+
+// An IN takes any byte and an OUT the answer 0; neither takes a write, and the end takes no reply.
+#[test]
+fn replies_to_events(rt: HostRuntime) -> Result<(), AllocError> {
+    let alloc = rt.alloc();
+    let write: Listed = &[(0x200, &[1])];
+    let cases: [(Event, u16, Listed, bool); 8] = [
+        (Event::In(7), 0, &[], true),
+        (Event::In(7), 255, &[], true),
+        (Event::In(7), 256, &[], false),
+        (Event::In(7), 0, write, false),
+        (Event::Out(7, 1), 0, &[], true),
+        (Event::Out(7, 1), 1, &[], false),
+        (Event::Out(7, 1), 0, write, false),
+        (Event::End, 0, &[], false),
+    ];
+    for (row, (event, answer, writes, want)) in cases.iter().enumerate() {
+        let reply = reply_of(alloc, *answer, writes)?;
+        assert!(rt; fits_event(event, &reply) == *want, "row {row}");
+    }
+    Ok(())
+}
+
+// Function 6 answers a byte where it asks for one, and a call fits as an event where it fits as a request.
+#[test]
+fn replies_to_the_direct_console(rt: HostRuntime) -> Result<(), AllocError> {
+    let alloc = rt.alloc();
+    for (e, answer, want) in [
+        (0xFF, 255, true),
+        (0xFF, 256, false),
+        (0x41, 0, true),
+        (0x41, 1, false),
+    ] {
+        let Some(request) = request(alloc, 6, e, 5)? else {
+            continue;
+        };
+        let reply = reply_of(alloc, answer, &[])?;
+        assert!(rt; fits(&request, &reply) == want, "{e} {answer}");
+        assert!(rt;
+            fits_event(&Event::Call(request), &reply) == want,
+            "{e} {answer}"
         );
     }
     Ok(())

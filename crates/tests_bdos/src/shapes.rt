@@ -12,10 +12,11 @@ const NO: (u16, u16) = (0, 0);
 type Call = (u8, ArgWord, [(u16, u16); 3], [(u16, u16); 2]);
 
 #[rattlefmt::skip]
-static CALLS: [Call; 24] = [
+static CALLS: [Call; 25] = [
     (0, ArgWord::None, [NO; 3], [NO; 2]),
     (1, ArgWord::None, [NO; 3], [NO; 2]),
     (2, ArgWord::Byte(0), [NO; 3], [NO; 2]),
+    (6, ArgWord::Byte(0), [NO; 3], [NO; 2]),
     (9, ArgWord::Word(0x200), [(0x200, 5), NO, NO], [NO; 2]),
     (10, ArgWord::Word(0x200), [(0x200, 1), NO, NO], [(0x201, 6), NO]),
     (11, ArgWord::None, [NO; 3], [NO; 2]),
@@ -80,9 +81,12 @@ type Edge = (
 );
 
 #[rattlefmt::skip]
-static EDGES: [Edge; 34] = [
+static EDGES: [Edge; 37] = [
     ("function 3", 3, 0x200, 0x80, (5, NONE, NONE, NONE), Some(Rule::P9)),
-    ("function 6", 6, 0x200, 0x80, (5, NONE, NONE, NONE), Some(Rule::P9)),
+    ("function 7", 7, 0x200, 0x80, (5, NONE, NONE, NONE), Some(Rule::P9)),
+    ("direct output of 0FDH", 6, 0x2FD, 0x80, (5, NONE, NONE, NONE), None),
+    ("direct console with 0FEH", 6, 0x2FE, 0x80, (5, NONE, NONE, NONE), Some(Rule::P10)),
+    ("direct input", 6, 0x2FF, 0x80, (5, NONE, NONE, NONE), None),
     ("function 24", 24, 0x200, 0x80, (5, NONE, NONE, NONE), Some(Rule::P9)),
     ("function 37", 37, 0x200, 0x80, (5, NONE, NONE, NONE), Some(Rule::P9)),
     ("read up to 0FFFFH", 19, 0xFFF4, 0x80, (5, NONE, NONE, NONE), None),
@@ -141,6 +145,8 @@ fn rules_at_edges(rt: HostRuntime) {
     assert!(rt; shape_of(None, Some(2), Some(0), 0x80, &view).err() == Some(Rule::P9));
     assert!(rt; shape_of(Some(2), None, Some(0), 0x80, &view).is_ok());
     assert!(rt; shape_of(Some(2), Some(2), None, 0x80, &view).err() == Some(Rule::P10));
+    assert!(rt; shape_of(Some(6), None, Some(0xFF), 0x80, &view).is_ok());
+    assert!(rt; shape_of(Some(6), Some(2), None, 0x80, &view).err() == Some(Rule::P10));
     assert!(rt; shape_of(Some(26), None, Some(0), 0x80, &view).err() == Some(Rule::P10));
     assert!(rt; shape_of(Some(26), Some(2), None, 0x80, &view).err() == Some(Rule::P10));
     assert!(rt; shape_of(Some(18), None, None, 0x80, &view).is_ok());

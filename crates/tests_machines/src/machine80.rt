@@ -1,17 +1,16 @@
-// Small programs of the 8080, instruction by instruction, also such as no source gives: they go to 300H, where no instruction
-// is. A function 2 writes the byte in E.
-ghost use Rattle.std.specs.Prelude.{IfOk};
+// Small programs of the 8080, instruction by instruction: how they end or leave the profile, and what they ask. A function 2
+// writes the byte in E.
+ghost use Rattle.std.specs.Prelude.{[], ◌∷◌, IfOk};
 ghost use Rattle.asm80_program.specs.Program.{IsProgram, program_of};
 ghost use Rattle.cpu80.specs.Machine.{IsMachineOf};
 
 use asm80_program::{Placed, Program80};
-use cells::Cell::{Hi, Lo};
 use cells::Place::{At, Exit};
 use cells::{Cell, Cond, Place, Rule};
 use cpu80::Step80::{Asked, Ended, Left, Ran};
 use cpu80::{Cpu80, Step80};
-use dialogue::{ArgWord, Blocks, Page, Reply};
-use i80::{Goal, Instr80, Pair, Reg, Src, Word};
+use dialogue::{ArgWord, Block, Blocks, Bytes, Event, Page, Reply};
+use i80::{Goal, Instr80, Pair, Reg, Src, StackPair, Word};
 use std::alloc::{AllocError, Global};
 use std::test::Fail;
 
@@ -19,9 +18,7 @@ const MVI_C: Instr80 = Instr80::Mvi(Src::Reg(Reg::C), 2);
 
 const MVI_E: Instr80 = Instr80::Mvi(Src::Reg(Reg::E), 0x41);
 
-const NOWHERE: Place = At(0x300);
-
-const NO_INSTRUCTION: Goal = Goal::At(0x300);
+const HERE: Goal = Goal::At(0x100);
 
 macro_rules! placed {
     ($($at:literal $instr:expr;)*) => {
@@ -58,30 +55,30 @@ fn jumps_to_the_system(alloc: Global) -> Result<Program80, AllocError> {
     program_of(alloc, &instrs, &[])
 }
 
-fn jumps(alloc: Global) -> Result<Program80, AllocError> {
+fn falls_off(alloc: Global) -> Result<Program80, AllocError> {
     let instrs = placed! {
-        0x100 Instr80::Jmp(NO_INSTRUCTION);
-        0x103 Instr80::Nop;
+        0x100 Instr80::Nop;
     };
     program_of(alloc, &instrs, &[])
 }
 
+// No instruction stands where its CALL returns.
 fn calls(alloc: Global) -> Result<Program80, AllocError> {
     let instrs = placed! {
-        0x100 Instr80::Call(NO_INSTRUCTION);
-        0x103 Instr80::Nop;
+        0x100 Instr80::Call(HERE);
     };
     program_of(alloc, &instrs, &[])
 }
 
-// Its flag is not known, and that is looked at first.
+// Its flag is not known, and that is looked at before the place that comes next.
 fn jumps_by_a_flag(alloc: Global) -> Result<Program80, AllocError> {
     let instrs = placed! {
-        0x100 Instr80::Jif(Cond::Nz, NO_INSTRUCTION);
+        0x100 Instr80::Jif(Cond::Nz, HERE);
     };
     program_of(alloc, &instrs, &[])
 }
 
+// The word that its RET pops is a number.
 fn returns(alloc: Global) -> Result<Program80, AllocError> {
     let instrs = placed! {
         0x100 Instr80::Lxi(Pair::Sp, Word::Num(0x200));
@@ -91,11 +88,71 @@ fn returns(alloc: Global) -> Result<Program80, AllocError> {
     program_of(
         alloc,
         &instrs,
-        &[(0x200, Lo(NOWHERE)), (0x201, Hi(NOWHERE))],
+        &[(0x200, Cell::Num(0x04)), (0x201, Cell::Num(0x01))],
     )
 }
 
-// A step, with an empty reply where it asks. What it asks is written to `said`.
+// The instruction alone, so that none follows it.
+fn alone(alloc: Global, instr: Instr80) -> Result<Program80, AllocError>
+    requires { IsProgram (program_of (record { at = 0x100; line = 1; instr = instr } ∷ []) [] 0xF000) }
+{
+    let instrs = placed! {
+        0x100 instr;
+    };
+    program_of(alloc, &instrs, &[])
+}
+
+// OUT of what an instruction brings into A from the code address in HL.
+fn sends_a_half(alloc: Global, half: Reg) -> Result<Program80, AllocError> {
+    let instrs = placed! {
+        0x100 Instr80::Lxi(Pair::H, Word::Code(0x100));
+        0x103 Instr80::Mov(Src::Reg(Reg::A), Src::Reg(half));
+        0x104 Instr80::Out(7);
+        0x106 Instr80::Nop;
+    };
+    program_of(alloc, &instrs, &[])
+}
+
+// OUT of a byte of flags.
+fn sends_flags(alloc: Global) -> Result<Program80, AllocError> {
+    let instrs = placed! {
+        0x100 Instr80::Push(StackPair::Psw);
+        0x101 Instr80::Pop(StackPair::B);
+        0x102 Instr80::Mov(Src::Reg(Reg::A), Src::Reg(Reg::C));
+        0x103 Instr80::Out(7);
+        0x105 Instr80::Nop;
+    };
+    program_of(alloc, &instrs, &[])
+}
+
+// Nothing is in A at the start.
+fn sends_nothing_known(alloc: Global) -> Result<Program80, AllocError> {
+    let instrs = placed! {
+        0x100 Instr80::Out(7);
+        0x102 Instr80::Nop;
+    };
+    program_of(alloc, &instrs, &[])
+}
+
+// Sends on what it reads, and ends.
+fn echoes(alloc: Global) -> Result<Program80, AllocError> {
+    let instrs = placed! {
+        0x100 Instr80::In(7);
+        0x102 Instr80::Out(8);
+        0x104 Instr80::Rst0;
+    };
+    program_of(alloc, &instrs, &[])
+}
+
+// A reply that writes nothing.
+fn reply(alloc: Global, answer: u16) -> Reply {
+    Reply {
+        answer,
+        writes: Blocks::from_vec(Vec::new(alloc)),
+    }
+}
+
+// A step, with a reply where it asks: 41H to an IN. What it writes or sends is put into `said`.
 fn turn(
     alloc: Global,
     cpu: &mut Cpu80,
@@ -107,18 +164,24 @@ fn turn(
 {
     let step = cpu.step(program);
     if step == Asked {
-        let request = cpu.asked(alloc)?.ok_or("it asks")?;
-        if request.shape.function != 2 {
-            return Err("function 2")?;
-        }
-        if let ArgWord::Byte(byte) = request.shape.arg {
-            said.push(byte)?;
-        }
-        let reply = Reply {
-            answer: 0,
-            writes: Blocks::from_vec(Vec::new(alloc)),
+        let answer = match cpu.asked(alloc)?.ok_or("it asks")? {
+            Event::Call(request) => {
+                if request.shape.function != 2 {
+                    return Err("function 2")?;
+                }
+                if let ArgWord::Byte(byte) = request.shape.arg {
+                    said.push(byte)?;
+                }
+                0
+            }
+            Event::In(_) => 0x41,
+            Event::Out(_, byte) => {
+                said.push(byte)?;
+                0
+            }
+            Event::End => return Err("the end is not asked")?,
         };
-        if !cpu.reply(&reply) {
+        if !cpu.reply(&reply(alloc, answer)) {
             return Err("the reply fits")?;
         }
     }
@@ -151,10 +214,11 @@ fn programs_run_to_their_ends(rt: HostRuntime) -> Result<(), Fail> {
     for (program, letter, end, count, place) in &[
         (one_letter(alloc)?, Some(0x41), Ended, 4, At(0x107)),
         (jumps_to_the_system(alloc)?, Some(0x41), Ended, 4, Exit),
-        (jumps(alloc)?, None, Left(Rule::P1), 0, At(0x100)),
+        (falls_off(alloc)?, None, Left(Rule::P1), 0, At(0x100)),
         (calls(alloc)?, None, Left(Rule::P1), 0, At(0x100)),
         (jumps_by_a_flag(alloc)?, None, Left(Rule::P6), 0, At(0x100)),
         (returns(alloc)?, None, Left(Rule::P1), 1, At(0x103)),
+        (echoes(alloc)?, Some(0x41), Ended, 3, At(0x104)),
     ] {
         let mut said = Vec::new(alloc);
         let (step, ran, at) = run(alloc, program, &mut said)?;
@@ -162,5 +226,63 @@ fn programs_run_to_their_ends(rt: HostRuntime) -> Result<(), Fail> {
         assert_eq!(rt; ran, *count);
         assert_eq!(rt; said.first().copied(), *letter);
     }
+    Ok(())
+}
+
+// The place that comes next is looked at first, and then what is in A.
+#[test]
+fn ports_leave_the_profile(rt: HostRuntime) -> Result<(), Fail> {
+    let alloc = rt.alloc();
+    for (row, (program, rule, place)) in [
+        (alone(alloc, Instr80::In(7))?, Rule::P1, At(0x100)),
+        (alone(alloc, Instr80::Out(7))?, Rule::P1, At(0x100)),
+        (sends_nothing_known(alloc)?, Rule::P10, At(0x100)),
+        (sends_a_half(alloc, Reg::L)?, Rule::P10, At(0x104)),
+        (sends_a_half(alloc, Reg::H)?, Rule::P10, At(0x104)),
+        (sends_flags(alloc)?, Rule::P10, At(0x103)),
+    ]
+    .iter()
+    .enumerate()
+    {
+        let mut said = Vec::new(alloc);
+        let (step, _ran, at) = run(alloc, program, &mut said)?;
+        assert!(rt; step == Left(*rule) && at == *place, "row {row}");
+        assert!(rt; said.is_empty(), "row {row}");
+    }
+    Ok(())
+}
+
+// A reply that writes a byte.
+fn writing(alloc: Global) -> Result<Reply, AllocError> {
+    let block = Block {
+        at: 0x200,
+        bytes: Bytes::from_vec(vec![in alloc; 1]?),
+    };
+    Ok(Reply {
+        answer: 0,
+        writes: Blocks::from_vec(vec![in alloc; block]?),
+    })
+}
+
+// An IN takes any byte and an OUT the answer 0; neither takes a write. A reply that is refused changes nothing.
+#[test]
+fn ports_take_replies_that_fit(rt: HostRuntime) -> Result<(), Fail> {
+    let alloc = rt.alloc();
+    let program = echoes(alloc)?;
+    let page = Page::of_tail(b"").ok_or("a page")?;
+    let mut cpu = Cpu80::new(alloc, &program, &page)?;
+    assert!(rt; !cpu.reply(&reply(alloc, 0)));
+    assert!(rt; cpu.step(&program) == Asked);
+    assert!(rt; matches!(&cpu.asked(alloc)?, Some(Event::In(7))));
+    assert!(rt; !cpu.reply(&reply(alloc, 256)) && !cpu.reply(&writing(alloc)?));
+    assert!(rt; cpu.step(&program) == Asked && cpu.place() == At(0x100));
+    assert!(rt; matches!(&cpu.asked(alloc)?, Some(Event::In(7))));
+    assert!(rt; cpu.reply(&reply(alloc, 255)));
+    assert!(rt; cpu.asked(alloc)?.is_none() && cpu.place() == At(0x102));
+    assert!(rt; cpu.step(&program) == Asked);
+    assert!(rt; matches!(&cpu.asked(alloc)?, Some(Event::Out(8, 255))));
+    assert!(rt; !cpu.reply(&reply(alloc, 1)) && !cpu.reply(&writing(alloc)?));
+    assert!(rt; cpu.reply(&reply(alloc, 0)));
+    assert!(rt; cpu.step(&program) == Ended && cpu.place() == At(0x104));
     Ok(())
 }

@@ -7,7 +7,7 @@ use asm86_image::image;
 use asm86_lines::{Line86, Stmt86};
 use cpu86::Step86::{Asked, Ended, NoInstruction, OddCall, Ran, StackSegment};
 use cpu86::{Cpu86, Start86, Step86};
-use dialogue::{ArgWord, Blocks, Page, Reply};
+use dialogue::{ArgWord, Block, Blocks, Bytes, Event, Page, Reply};
 use i86::{Instr86, Reg8, StackReg};
 use std::alloc::{AllocError, Global};
 use std::process::Abort;
@@ -64,6 +64,12 @@ const CALLS: [Line86; 7] = lines! {
     7 Instr86::Int224;
 };
 
+/// Sends on what it reads: its OUT is at 2, and its code ends at 4.
+const ECHOES: [Line86; 3] = lines! {
+    2 Instr86::InAl(7);
+    3 Instr86::OutAl(8);
+};
+
 fn machine(alloc: Global, rt: &impl Abort, text: &[Line86]) -> Result<Cpu86, AllocError>
     requires order { in_order at_start (statements text.now) ≡ true }
     requires few { length text.now < 2 ^ 28 }
@@ -83,8 +89,10 @@ fn assert_steps(rt: &impl Abort, cpu: &mut Cpu86, wanted: &[Step86]) {
 
 // The function and the argument of the call that waits for its reply.
 fn asked(alloc: Global, cpu: &Cpu86) -> Result<Option<(u8, ArgWord)>, AllocError> {
-    let request = cpu.asked(alloc)?;
-    Ok(request.map(|request| (request.shape.function, request.shape.arg)))
+    match cpu.asked(alloc)? {
+        Some(Event::Call(request)) => Ok(Some((request.shape.function, request.shape.arg))),
+        _ => Ok(None),
+    }
 }
 
 // Whether a reply that writes nothing is taken.
@@ -133,5 +141,39 @@ fn a_call_waits_for_a_reply_that_fits(rt: HostRuntime) -> Result<(), Fail> {
     assert!(rt; asked(alloc, &cpu)?.is_none());
     assert_steps(&rt, &mut cpu, &[Ran, OddCall(3)]);
     assert_eq!(rt; cpu.ip(), 10);
+    Ok(())
+}
+
+// A reply that writes a byte.
+fn takes_a_write(alloc: Global, cpu: &mut Cpu86) -> Result<bool, AllocError> {
+    let block = Block {
+        at: 0x200,
+        bytes: Bytes::from_vec(vec![in alloc; 1]?),
+    };
+    let reply = Reply {
+        answer: 0,
+        writes: Blocks::from_vec(vec![in alloc; block]?),
+    };
+    Ok(cpu.reply(&reply, 0))
+}
+
+// An IN takes any byte and an OUT the answer 0; neither takes a write. A reply that is refused changes nothing.
+#[test]
+fn ports_take_replies_that_fit(rt: HostRuntime) -> Result<(), Fail> {
+    let alloc = rt.alloc();
+    let mut cpu = machine(alloc, &rt, &ECHOES)?;
+    assert_steps(&rt, &mut cpu, &[Asked]);
+    assert!(rt; matches!(&cpu.asked(alloc)?, Some(Event::In(7))));
+    assert!(rt; !takes(alloc, &mut cpu, 256) && !takes_a_write(alloc, &mut cpu)?);
+    assert_steps(&rt, &mut cpu, &[Asked]);
+    assert_eq!(rt; cpu.ip(), 2);
+    assert!(rt; takes(alloc, &mut cpu, 255));
+    assert!(rt; cpu.asked(alloc)?.is_none());
+    assert_steps(&rt, &mut cpu, &[Asked]);
+    assert!(rt; matches!(&cpu.asked(alloc)?, Some(Event::Out(8, 255))));
+    assert!(rt; !takes(alloc, &mut cpu, 1) && !takes_a_write(alloc, &mut cpu)?);
+    assert_eq!(rt; cpu.ip(), 4);
+    assert!(rt; takes(alloc, &mut cpu, 0));
+    assert_steps(&rt, &mut cpu, &[NoInstruction(4)]);
     Ok(())
 }

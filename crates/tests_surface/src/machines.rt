@@ -9,13 +9,16 @@ use asm80_values::Program80;
 use cells::Place;
 use cpu80::{Cpu80, Step80};
 use cpu86::{Cpu86, Start86, Step86};
-use dialogue::{ArgWord, Page, Request};
+use dialogue::{ArgWord, Event, Page};
 use std::alloc::Global;
 use std::test::Fail;
 
 // The byte that function 2 writes.
-fn letter_of(request: Option<Request>) -> Option<u8> {
-    match request?.shape.arg {
+fn letter_of(event: Option<Event>) -> Option<u8> {
+    let Event::Call(request) = event? else {
+        return None;
+    };
+    match request.shape.arg {
         ArgWord::Byte(byte) => Some(byte),
         ArgWord::None | ArgWord::Word(_) => None,
     }

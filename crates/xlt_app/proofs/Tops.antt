@@ -1,7 +1,6 @@
 -- The top of a command that words give is one that a program area may have.
-use Rattle.std.proofs.Common.{◌≡◌, ℕ, ◌⊎◌, inl, inr, ⊎_elim, List, refl, ap, subst}
-use Rattle.std.specs.Prelude.{Bool, true, false, ◌==◌, ◌||◌, Option, Some, None, option_map, option_and_then, if◌then◌else◌}
-use Rattle.std.proofs.lemmas.Bool.{eqb-true}
+use Rattle.std.proofs.Common.{◌≡◌, ℕ, List, refl, ap, subst}
+use Rattle.std.specs.Prelude.{Bool, true, false, Option, Some, None, option_map, option_and_then, if◌then◌else◌}
 use Rattle.asm80_program.specs.Program.{is_top}
 use Rattle.cmd_words.specs.declared.table.CommandName.{CommandName}
 use Rattle.cmd_words.specs.declared.table.CommandName.TheVariants as named
@@ -27,24 +26,8 @@ mapped : {A B : Type 0} (o : Option A) (f : A → B) (y : B) → option_map f o 
 mapped None f y e = absurd (cc)
 mapped (Some x) f y e = (x, refl, cc)
 
-same_top : (t n : ℕ) → (t == n) ≡ true → is_top t ≡ true → is_top n ≡ true
-same_top t n e top = subst (λ m. is_top m ≡ true) (eqb-true t n e) top
-
-one_of : (a b : Bool) → (a || b) ≡ true → (a ≡ true) ⊎ (b ≡ true)
-one_of true b e = inl refl
-one_of false b e = inr e
-
 among : (n m : ℕ) → top_among n ≡ Some m → is_top m ≡ true
-among n m e =
-    let h = if_some _ n m e in
-    subst (λ k. is_top k ≡ true) h.1
-    (⊎_elim (λ a. same_top 0x4000 n a refl)
-    (λ r. ⊎_elim (λ a. same_top 0x8000 n a refl)
-    (λ s. ⊎_elim (λ a. same_top 0xC000 n a refl)
-    (λ t. ⊎_elim (λ a. same_top 0xF000 n a refl) (λ u. absurd (cc)) (one_of (0xF000 == n) false t))
-    (one_of (0xC000 == n) ((0xF000 == n) || false) s))
-    (one_of (0x8000 == n) ((0xC000 == n) || ((0xF000 == n) || false)) r))
-    (one_of (0x4000 == n) ((0x8000 == n) || ((0xC000 == n) || ((0xF000 == n) || false))) h.0))
+among n m e = let h = if_some (is_top n) n m e in subst (λ k. is_top k ≡ true) h.1 h.0
 
 top_is : (text : Word) (m : ℕ) → top_value text ≡ Some m → is_top m ≡ true
 top_is text m e = let h = taken (number_in 16 4 text) top_among m (if_then _ (option_and_then top_among (number_in 16 4 text)) m e) in among h.0 m h.2

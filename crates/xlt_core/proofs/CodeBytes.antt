@@ -12,7 +12,7 @@ use Rattle.i86.specs.declared.Jump.{Jump}
 use Rattle.i86.specs.declared.Jump.TheVariants.{Jb, Jnb, Jz, Jnz, Js, Jns, Jp, Jnp}
 use Rattle.i86.specs.declared.Reg16.{Reg16}
 use Rattle.i86.specs.declared.Instr86.{Instr86}
-use Rattle.i86.specs.declared.Instr86.TheVariants.{MovReg8, MovMem8, MovAlDirect, MovDirectAl, MovNum8, MovNum16, MovMemNum, MovReg16, MovDirect16, MovAxDs, MovSsAx, Alu, AluNum, OrClCl, Add16, Count8, Count16, Push, Pop, Xchg8, Xchg16, Rotate8, Rotate16, Not8, Daa, Sahf, Lahf, Cmc, Stc, Nop, Jcc as JccBy, JmpNear, JmpShort, JmpBx, CallNear, Ret, Int224}
+use Rattle.i86.specs.declared.Instr86.TheVariants.{MovReg8, MovMem8, MovAlDirect, MovDirectAl, MovNum8, MovNum16, MovMemNum, MovReg16, MovDirect16, MovAxDs, MovSsAx, Alu, AluNum, OrClCl, Add16, Count8, Count16, Push, Pop, Xchg8, Xchg16, Rotate8, Rotate16, Not8, Daa, Sahf, Lahf, Cmc, Stc, Nop, Jcc as JccBy, JmpNear, JmpShort, JmpBx, CallNear, Ret, Int224, InAl, OutAl}
 use Rattle.i86.specs.Enc86.{code8, code16, reg_of_stack, code_of_ptr, code_of_alu, code_of_count, code_of_rotate, code_of_jump, two, one, with_operand, word_then, enc86}
 use Rattle.i86.specs.Decode.{HasReader}
 use Rattle.i86.proofs.Tables.{code8_small, code16_small, ptr_small, count_small, rotate_small}
@@ -127,6 +127,8 @@ instr_bytes JmpBx h = (lit< tt, (lit< tt, tt))
 instr_bytes (CallNear d) h = let no : false ≡ true = h in absurd cc
 instr_bytes Ret h = (lit< tt, tt)
 instr_bytes Int224 h = (lit< tt, (lit< tt, tt))
+instr_bytes (InAl n) h = (lit< tt, (byte_below n h, tt))
+instr_bytes (OutAl n) h = (lit< tt, (byte_below n h, tt))
 
 -- ---- offsets are words
 

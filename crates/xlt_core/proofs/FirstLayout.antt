@@ -42,17 +42,17 @@ first_size (x ∷ xs) from limit laid kinds le =
     let e = sizes_of-append (template x.instr x.at true) (body xs) in
     omega (arith, above, size, rest, e)
 
-pub first_small : (xs : List Placed) (top : ℕ) → AreLaid 0x100 (top - 2) xs → All HoldsFirst xs → 0x4000 ≤ top → top ≤ 0xF000 → sizes_of (plain_statements (program_of xs [] top)) < 0x10000
+pub first_small : (xs : List Placed) (top : ℕ) → AreLaid 0x100 (top - 2) xs → All HoldsFirst xs → 0x1000 ≤ top → top ≤ 0xFF00 → sizes_of (plain_statements (program_of xs [] top)) < 0x10000
 first_small xs top laid kinds low high =
     let e = sizes_of-append (body xs) (tail_of (program_of xs [] top)) in
     let le = first_size xs 0x100 (top - 2) laid kinds (omega (arith, low)) in
     omega (arith, e, le, high)
 
 -- the top of a program area
-pub top_low : (t : ℕ) → is_top t ≡ true → 0x4000 ≤ t
+pub top_low : (t : ℕ) → is_top t ≡ true → 0x1000 ≤ t
 top_low t h = grind (arith, nat_tests)
 
-pub top_high : (t : ℕ) → is_top t ≡ true → t ≤ 0xF000
+pub top_high : (t : ℕ) → is_top t ≡ true → t ≤ 0xFF00
 top_high t h = grind (arith, nat_tests)
 
 -- a program of the first instructions has no data

@@ -48,7 +48,7 @@ abbrev opened : List ℕ → List ℕ → ℕ → ℕ → ℕ → ℕ
 opened fill page top e = put_word (put_word (start_byte fill page) 6 top) (back top 2) e
 
 -- each cell at the start stands for its byte, where there is no data
-module _ (xs : List Placed) (top : ℕ) (low : 0x4000 ≤ top) (high : top ≤ 0xF000) (off : Label → ℕ) (fill page : List ℕ) (a : ℕ) (fits : a < 0x10000) where
+module _ (xs : List Placed) (top : ℕ) (low : 0x1000 ≤ top) (high : top ≤ 0xFF00) (off : Label → ℕ) (fill page : List ℕ) (a : ℕ) (fits : a < 0x10000) where
   abbrev S : Cell → Type 0
   S v = Stands off v (opened fill page top (off End) a)
 
@@ -114,7 +114,7 @@ module _ (xs : List Placed) (top : ℕ) (low : 0x4000 ≤ top) (high : top ≤ 0
   start_stands = by_six (a == 6) refl
 
 -- the run of a program without data
-module _ (xs : List Placed) (top : ℕ) (laid : AreLaid 0x100 (top - 2) xs) (begins : is_some (placed_in xs 0x100) ≡ true) (kinds : All HoldsFirst xs) (low : 0x4000 ≤ top) (high : top ≤ 0xF000) (fetch : ℕ → Option Instr86) (page fill : List ℕ) (start : Start) (cs : List ℕ) (replies : List Reply) where
+module _ (xs : List Placed) (top : ℕ) (laid : AreLaid 0x100 (top - 2) xs) (begins : is_some (placed_in xs 0x100) ≡ true) (kinds : All HoldsFirst xs) (low : 0x1000 ≤ top) (high : top ≤ 0xFF00) (fetch : ℕ → Option Instr86) (page fill : List ℕ) (start : Start) (cs : List ℕ) (replies : List Reply) where
   abbrev p : Program
   p = program_of xs [] top
 

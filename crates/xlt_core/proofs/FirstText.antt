@@ -57,7 +57,7 @@ any_last : (p : Stmt86 → Bool) (xs ys : List Stmt86) → list_any p ys ≡ tru
 any_last p [] ys h = h
 any_last p (x ∷ xs) ys h = ap (λ b. p x || b) (any_last p xs ys h) ∙ or_true (p x)
 
-module _ (xs : List Placed) (top : ℕ) (laid : AreLaid 0x100 (top - 2) xs) (kinds : All HoldsFirst xs) (high : top ≤ 0xF000) where
+module _ (xs : List Placed) (top : ℕ) (laid : AreLaid 0x100 (top - 2) xs) (kinds : All HoldsFirst xs) (high : top ≤ 0xFF00) where
   ending_lines : HaveLines (ending top)
   ending_lines = (word_fits (top - 1) (omega (arith, high)), (refl, (refl, tt)))
 

@@ -1,9 +1,13 @@
-use Rattle.std.proofs.Common.{◌≡◌, map, take}
+use Rattle.std.proofs.Common.{◌≡◌, All, map, take}
 use Rattle.std.specs.List.{flat_map}
 use Rattle.asm80_tokens.specs.Tree.{operand_of}
 use Rattle.asm80_source.specs.Items.{cells_of_word}
+use Rattle.asm80_operands.specs.Forms.{HoldsByte}
 use Rattle.asm80_operands.specs.Settings.{setting_of}
 use Rattle.asm80_operands.proofs.data.cells_of_words.Given as goal
 
 abbrev pub invariant-loop-arg : goal.invariant-loop-arg
-invariant-loop-arg l = l.cells.items ≡ flat_map (cells_of_word (setting_of l.setting)) (map operand_of (take l.arg-index l.args))
+invariant-loop-arg l = record {
+  cells : l.cells.items ≡ flat_map (cells_of_word (setting_of l.setting)) (map operand_of (take l.arg-index l.args));
+  bytes : All HoldsByte l.cells.items;
+}

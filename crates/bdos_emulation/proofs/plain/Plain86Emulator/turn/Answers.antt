@@ -1,11 +1,11 @@
-use Rattle.std.proofs.Common.{◌≡◌, sym, ap, ◌∙◌, subst, Some}
+use Rattle.std.proofs.Common.{◌≡◌, sym, ap, ◌∙◌, subst, Option, Some}
+use Rattle.std.specs.Prelude.{IfSome}
 use Rattle.i86.specs.Decoder.{decoded}
-use Rattle.dialogue.specs.declared.request.Event.TheVariants.{Call}
+use Rattle.dialogue.specs.declared.request.Event.{Event}
 use Rattle.base_runs.specs.Run.{Asks}
 use Rattle.cpu86_steps.specs.Call.{NoInstruction, StackSegment, OddCall, replied86}
 use Rattle.cpu86_steps.specs.Step.{step86}
-use Rattle.cpu86.specs.Standing.{Standing, standing, code_of, request_in}
-use Rattle.cpu86.proofs.Courses.{call_of}
+use Rattle.cpu86.specs.Standing.{Standing, standing, code_of}
 use Rattle.bdos_talk.specs.declared.emulator.Why.TheVariants.{OddCall as HasOdd}
 use Rattle.bdos_talk.specs.declared.emulator.Turn.TheVariants.{Ran, Asks as HasAsked, Stopped}
 use Rattle.bdos_talk.specs.Turns.{IsTurn}
@@ -20,19 +20,22 @@ returns-in-Ran-clause-turn c =
     let s = (standing cpu).state in
     let t = (standing c.step.new.self).state in
     let told = c.in-Ran.ensures.told (decoded (code_of cpu)) c.requires.1 c.requires.0 in
-    subst (λ code. IsTurn (course86_from (code_of cpu) choice s) (course86_from code choice t) (λ q y. course86_from code choice t) Ran) (sym c.step.ensures.code) (ran86 (code_of cpu) choice s t (λ q y. course86_from (code_of cpu) choice t) told.0)
+    subst (λ code. IsTurn (course86_from (code_of cpu) choice s) (course86_from code choice t) (λ e y. course86_from code choice t) Ran) (sym c.step.ensures.code) (ran86 (code_of cpu) choice s t (λ e y. course86_from (code_of cpu) choice t) told.0)
 
 pub returns-in-Some-clause-turn : goal.returns-in-Some-clause-turn
 returns-in-Some-clause-turn c =
     let cpu = c.args.self.now.cpu in
     let choice = c.args.self.now.choice in
-    let q = c.in-Some.request in
+    let v : Event = c.in-Some.event in
     let s = (standing cpu).state in
     let t = (standing c.step.new.self).state in
     let told = c.in-Asked.ensures.told (decoded (code_of cpu)) c.requires.1 c.requires.0 in
-    let told_q : request_in (Some told.0) ≡ Some q = sym (ap request_in told.1.1) ∙ sym c.in_ok-request-in-Asked.ensures.request ∙ c.in-Some.is in
-    let asks : step86 (decoded (code_of cpu)) s choice ≡ Asks (Call q) t = told.1.0 ∙ ap (λ e. Asks e t) (call_of told.0 q told_q) in
-    subst (λ code. IsTurn (course86_from (code_of cpu) choice s) (course86_from code choice t) (λ q y. course86_from code choice (replied86 t (Call q) y choice)) (HasAsked q)) (sym c.step.ensures.code) (asked86 (code_of cpu) choice s t q asks)
+    let P : Option Event → Type 0 = λ o. IfSome o (λ e. Some e ≡ (standing c.step.new.self).said) in
+    let said : Some v ≡ (standing c.step.new.self).said = subst P c.in-Some.is c.in_ok-event-in-Asked.ensures.said in
+    let both : Some told.0 ≡ Some v = sym (said ∙ told.1.1) in
+    let same : told.0 ≡ v = cc in
+    let asks : step86 (decoded (code_of cpu)) s choice ≡ Asks v t = told.1.0 ∙ ap (λ e. Asks e t) same in
+    subst (λ code. IsTurn (course86_from (code_of cpu) choice s) (course86_from code choice t) (λ e y. course86_from code choice (replied86 t e y choice)) (HasAsked v)) (sym c.step.ensures.code) (asked86 (code_of cpu) choice s t v asks)
 
 pub returns-in-Ended-clause-turn : goal.returns-in-Ended-clause-turn
 returns-in-Ended-clause-turn c =
@@ -40,7 +43,7 @@ returns-in-Ended-clause-turn c =
     let choice = c.args.self.now.choice in
     let s = (standing cpu).state in
     let told = c.in-Ended.ensures.told (decoded (code_of cpu)) c.requires.1 c.requires.0 in
-    ended86 (code_of cpu) choice s s (λ q y. course86_from (code_of cpu) choice s) told.0
+    ended86 (code_of cpu) choice s s (λ e y. course86_from (code_of cpu) choice s) told.0
 
 pub returns-in-NoInstruction-clause-turn : goal.returns-in-NoInstruction-clause-turn
 returns-in-NoInstruction-clause-turn c =
@@ -48,7 +51,7 @@ returns-in-NoInstruction-clause-turn c =
     let choice = c.args.self.now.choice in
     let s = (standing cpu).state in
     let told = c.in-NoInstruction.ensures.told (decoded (code_of cpu)) c.requires.1 c.requires.0 in
-    stopped86 (code_of cpu) choice s s (λ q y. course86_from (code_of cpu) choice s) (NoInstruction c.in-NoInstruction.at) told.0
+    stopped86 (code_of cpu) choice s s (λ e y. course86_from (code_of cpu) choice s) (NoInstruction c.in-NoInstruction.at) told.0
 
 pub returns-in-StackSegment-clause-turn : goal.returns-in-StackSegment-clause-turn
 returns-in-StackSegment-clause-turn c =
@@ -56,7 +59,7 @@ returns-in-StackSegment-clause-turn c =
     let choice = c.args.self.now.choice in
     let s = (standing cpu).state in
     let told = c.in-StackSegment.ensures.told (decoded (code_of cpu)) c.requires.1 c.requires.0 in
-    stopped86 (code_of cpu) choice s s (λ q y. course86_from (code_of cpu) choice s) (StackSegment c.in-StackSegment.at) told.0
+    stopped86 (code_of cpu) choice s s (λ e y. course86_from (code_of cpu) choice s) (StackSegment c.in-StackSegment.at) told.0
 
 pub returns-in-OddCall-clause-turn : goal.returns-in-OddCall-clause-turn
 returns-in-OddCall-clause-turn c =
@@ -66,7 +69,7 @@ returns-in-OddCall-clause-turn c =
     let f = c.in-OddCall.function in
     let told = c.in-OddCall.ensures.told (decoded (code_of cpu)) c.requires.1 c.requires.0 in
     let at : s.ip ≡ c.ip.result = sym (c.ip.ensures ∙ ap (λ (x : Standing). x.state.ip) told.1) in
-    subst (λ ip. IsTurn (course86_from (code_of cpu) choice s) (course86_from (code_of cpu) choice s) (λ q y. course86_from (code_of cpu) choice s) (Stopped (HasOdd ip f))) at (stopped86 (code_of cpu) choice s s (λ q y. course86_from (code_of cpu) choice s) (OddCall f) told.0)
+    subst (λ ip. IsTurn (course86_from (code_of cpu) choice s) (course86_from (code_of cpu) choice s) (λ e y. course86_from (code_of cpu) choice s) (Stopped (HasOdd ip f))) at (stopped86 (code_of cpu) choice s s (λ e y. course86_from (code_of cpu) choice s) (OddCall f) told.0)
 
 pub returns-in-NoInstruction-clause-still : goal.returns-in-NoInstruction-clause-still
 returns-in-NoInstruction-clause-still c =

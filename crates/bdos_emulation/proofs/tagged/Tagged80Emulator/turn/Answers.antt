@@ -10,24 +10,24 @@ returns-in-Some-clause-turn c =
     let p = c.args.self.now.program.now in
     let s = state_of c.args.self.now.cpu in
     let t = state_of c.step.new.self in
-    let asked = subst (IsAsked p c.step.new.self) c.in-Some.is (c.in_ok-request-in-Asked.ensures.asked p c.step.ensures.machine) in
-    asked80 p s t c.in-Some.request (stayed80 p s t (λ q y. course80_from p s) c.in-Asked.ensures.step) asked.1.asked
+    let asked = subst (IsAsked p c.step.new.self) c.in-Some.is (c.in_ok-event-in-Asked.ensures.asked p c.step.ensures.machine) in
+    asked80 p s t c.in-Some.event (stayed80 p s t (λ e y. course80_from p s) c.in-Asked.ensures.step) asked.1.asked
 
 pub returns-in-Ended-clause-turn : goal.returns-in-Ended-clause-turn
 returns-in-Ended-clause-turn c =
     let p = c.args.self.now.program.now in
     let s = state_of c.args.self.now.cpu in
-    ended80 p s (state_of c.step.new.self) (λ q y. course80_from p s) c.in-Ended.ensures.step
+    ended80 p s (state_of c.step.new.self) (λ e y. course80_from p s) c.in-Ended.ensures.step
 
 pub returns-in-Left-clause-turn : goal.returns-in-Left-clause-turn
 returns-in-Left-clause-turn c =
     let p = c.args.self.now.program.now in
     let s = state_of c.args.self.now.cpu in
-    left80 p s (state_of c.step.new.self) (λ q y. course80_from p s) c.in-Left.rule c.place.result c.in-Left.ensures.step c.place.ensures
+    left80 p s (state_of c.step.new.self) (λ e y. course80_from p s) c.in-Left.rule c.place.result c.in-Left.ensures.step c.place.ensures
 
 pub returns-in-Left-clause-still : goal.returns-in-Left-clause-still
 returns-in-Left-clause-still c =
     let p = c.args.self.now.program.now in
     let s = state_of c.args.self.now.cpu in
     let t = state_of c.step.new.self in
-    ap (course80_from p) (still80 p s t (λ q y. course80_from p s) c.in-Left.rule c.in-Left.ensures.step)
+    ap (course80_from p) (still80 p s t (λ e y. course80_from p s) c.in-Left.rule c.in-Left.ensures.step)

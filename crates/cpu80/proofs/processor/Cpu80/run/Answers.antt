@@ -20,8 +20,8 @@ returns-in-Asked-clause-step c =
     let p = c.args.program.now in
     let start : State80 = record (state_of c.args.self.now) { mem = memory_of c.as_slice-2.result.now } in
     let same : start ≡ state_of c.args.self.now = ap (λ (m : List Cell). record (state_of c.args.self.now) { mem = memory_of m }) c.as_slice-2.ensures.value in
-    let waits = asked_waits p (state_of c.args.self.now) start (draft_state c.step-outcome.new.self) c.step-outcome.result c.in-Ok.turn c.in-Asked.back same c.in-Ok.is c.in-Asked.is c.step-outcome.ensures.answer c.step-outcome.ensures.call in
-    waiting_step p (state_of c.args.self.now) c.in-Asked.back waits
+    let waits = asked_waits p (state_of c.args.self.now) start (draft_state c.step-outcome.new.self) c.step-outcome.result c.in-Ok.turn c.in-Asked.question c.in-Asked.back same c.in-Ok.is c.in-Asked.is c.step-outcome.ensures.answer c.step-outcome.ensures.asking in
+    waiting_step p (state_of c.args.self.now) c.in-Asked.question c.in-Asked.back waits
 
 pub returns-in-Asked-clause-machine : goal.returns-in-Asked-clause-machine
 returns-in-Asked-clause-machine c =
@@ -31,5 +31,5 @@ returns-in-Asked-clause-machine c =
     record {
       closed = c.requires.machine.closed;
       place = c.requires.machine.place;
-      phase = asked_waits p (state_of c.args.self.now) start (draft_state c.step-outcome.new.self) c.step-outcome.result c.in-Ok.turn c.in-Asked.back same c.in-Ok.is c.in-Asked.is c.step-outcome.ensures.answer c.step-outcome.ensures.call;
+      phase = asked_waits p (state_of c.args.self.now) start (draft_state c.step-outcome.new.self) c.step-outcome.result c.in-Ok.turn c.in-Asked.question c.in-Asked.back same c.in-Ok.is c.in-Asked.is c.step-outcome.ensures.answer c.step-outcome.ensures.asking;
     }

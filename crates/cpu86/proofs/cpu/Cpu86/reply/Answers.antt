@@ -1,12 +1,19 @@
-use Rattle.std.proofs.Common.{sym, ◌∙◌}
-use Rattle.cpu86_effects.specs.State.{state_of}
-use Rattle.cpu86.proofs.Replies.{not_taken, not_taken_told}
+use Rattle.cpu86_effects.specs.State.{state_of, mem_of}
+use Rattle.cpu86.specs.Standing.{standing, said_by}
+use Rattle.cpu86.proofs.Replies.{taken}
 use Rattle.cpu86.proofs.cpu.Cpu86.reply.Goals as goal
 
-pub returns-then-not-fits-clause-reply : goal.returns-then-not-fits-clause-reply
-returns-then-not-fits-clause-reply c =
-    not_taken (state_of c.args.self.now.processor) c.args.self.now.pending c.in-Answer.shape c.from_vec.result c.args.reply.now c.args.choice c.in-Answer.is (sym c.fits.ensures ∙ c.if-not-fits.true)
+pub returns-in-Answer-clause-taken : goal.returns-in-Answer-clause-taken
+returns-in-Answer-clause-taken c e said =
+    let processor = c.args.self.now.processor in
+    taken e (said_by c.args.self.now.pending (mem_of processor.memory)) c.reply_to_call.result c.args.reply.now c.args.choice (state_of processor) (standing c.reply_to_call.new.self) said c.reply_to_call.ensures.reply
 
-pub returns-then-not-fits-clause-taken : goal.returns-then-not-fits-clause-taken
-returns-then-not-fits-clause-taken c =
-    not_taken_told (state_of c.args.self.now.processor) c.args.self.now.pending c.in-Answer.shape c.from_vec.result c.args.reply.now c.args.choice c.in-Answer.is (sym c.fits.ensures ∙ c.if-not-fits.true)
+pub returns-in-Byte-clause-taken : goal.returns-in-Byte-clause-taken
+returns-in-Byte-clause-taken c e said =
+    let processor = c.args.self.now.processor in
+    taken e (said_by c.args.self.now.pending (mem_of processor.memory)) c.reply_to_in.result c.args.reply.now c.args.choice (state_of processor) (standing c.reply_to_in.new.self) said c.reply_to_in.ensures.reply
+
+pub returns-in-Taking-clause-taken : goal.returns-in-Taking-clause-taken
+returns-in-Taking-clause-taken c e said =
+    let processor = c.args.self.now.processor in
+    taken e (said_by c.args.self.now.pending (mem_of processor.memory)) c.reply_to_out.result c.args.reply.now c.args.choice (state_of processor) (standing c.reply_to_out.new.self) said c.reply_to_out.ensures.reply

@@ -1,0 +1,7 @@
+// What answers a program's events: a console, and the bytes of its ports.
+#![tactic(auto)]
+
+mod devices;
+mod ports;
+
+pub use devices::{Devices, EventAnswer};
