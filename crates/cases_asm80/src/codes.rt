@@ -102,6 +102,8 @@ fn opcode(instr: Instr80) -> u8 {
         Instr80::Ret => 0xC9,
         Instr80::Rif(cond) => 0xC0 | condition(cond),
         Instr80::Rst0 => 0xC7,
+        Instr80::In(_) => 0xDB,
+        Instr80::Out(_) => 0xD3,
     }
 }
 
@@ -123,7 +125,9 @@ fn push_goal(text: &mut String, goal: Goal) -> Result<(), AllocError> {
 // What is behind the first byte.
 fn push_operand(text: &mut String, instr: Instr80) -> Result<(), AllocError> {
     match instr {
-        Instr80::Mvi(_, n) | Instr80::AluI(_, n) => write!(text, " {n:02x}"),
+        Instr80::Mvi(_, n) | Instr80::AluI(_, n) | Instr80::In(n) | Instr80::Out(n) => {
+            write!(text, " {n:02x}")
+        }
         Instr80::Lxi(_, word) => push_word(text, word),
         Instr80::Lda(at) | Instr80::Sta(at) | Instr80::Lhld(at) | Instr80::Shld(at) => {
             push_word(text, Word::Num(at))

@@ -1,4 +1,7 @@
 // What a case is read as.
+ghost use Rattle.std.specs.Prelude.{◌≡◌};
+ghost use Rattle.asm80_program.specs.Program.{is_top};
+
 use crate::addresses::addresses_text;
 use crate::operands::{Asked, operands_text};
 use crate::program::program_text;
@@ -14,10 +17,8 @@ pub enum Subject {
     Statements,
     /// A source, answered by the addresses of its statements and the meanings of their labels.
     Addresses,
-    /// A source, answered by its program below F000H.
-    Program,
-    /// A source, answered by its program below 4000H.
-    SmallProgram,
+    /// A source, answered by its program below a top.
+    Program(u16),
     /// Statements, answered by what is asked of their operands.
     Operands(Asked),
 }
@@ -27,11 +28,31 @@ fn subject_of(heading: &str) -> Option<Subject> {
     match heading {
         "= statements" => Some(Subject::Statements),
         "= addresses and meanings" => Some(Subject::Addresses),
-        "= programs below F000H" => Some(Subject::Program),
-        "= programs below 4000H" => Some(Subject::SmallProgram),
         "= values of operands" => Some(Subject::Operands(Asked::Values)),
         "= what operands make" => Some(Subject::Operands(Asked::Form)),
-        _ => None,
+        _ => Some(Subject::Program(top_of(heading)?)),
+    }
+}
+
+// The top that the heading `= programs below F000H` has.
+fn top_of(heading: &str) -> Option<u16> {
+    let (_, top) = heading.split_once("programs below ")?;
+    let (digits, _) = top.split_once('H')?;
+    u16::from_str_radix(digits, 16).ok()
+}
+
+// Whether a program area may have the top.
+fn is_top(top: u16) -> bool
+    ensures { result ≡ is_top top }
+{
+    top % 0x100 == 0 && 0x1000 <= top && top <= 0xFF00
+}
+
+fn program_below(alloc: Global, case: &[u8], top: u16) -> Result<String, ReadFault> {
+    if is_top(top) {
+        program_text(alloc, case, top)
+    } else {
+        Ok(String::from_str(alloc, "no top")?)
     }
 }
 
@@ -39,8 +60,7 @@ fn outcome(alloc: Global, subject: Subject, case: &[u8]) -> Result<String, ReadF
     match subject {
         Subject::Statements => statements_text(alloc, case),
         Subject::Addresses => addresses_text(alloc, case),
-        Subject::Program => program_text(alloc, case, 0xF000),
-        Subject::SmallProgram => program_text(alloc, case, 0x4000),
+        Subject::Program(top) => program_below(alloc, case, top),
         Subject::Operands(asked) => operands_text(alloc, case, asked),
     }
 }

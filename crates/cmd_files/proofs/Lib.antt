@@ -1,3 +1,4 @@
 pub mod Extends
 pub mod Fills
 pub mod Waits
+pub mod Gives

@@ -1,5 +1,5 @@
--- What reading a whole file, and writing one in pieces, can come to.
-use Rattle.std.specs.Prelude.{◌≡◌, ℕ, ◌<◌, ◌⊎◌, List, [], ◌∷◌, length, take}
+-- What reading a whole file in pieces, and writing one, can come to.
+use Rattle.std.specs.Prelude.{◌≡◌, ℕ, ◌<◌, ◌≤◌, ◌⊎◌, List, [], ◌∷◌, ◌++◌, length, take}
 use Rattle.host.specs.declared.HostFault.{HostFault}
 use Rattle.host.specs.declared.HostFault.TheVariants.{Failed, Memory}
 use Rattle.host.specs.Host.{FileTold, HostState, IsFile, appended, Says, Rewrites}
@@ -9,6 +9,13 @@ use Rattle.cmd_files.specs.declared.read.ReadFault.TheVariants.{Failed as ReadFa
 -- the file has more bytes than the limit, where the host tells it; a file that is told to be missing has none
 abbrev pub IsLonger : FileTold → ℕ → Type 0
 IsLonger told limit = (bytes : List ℕ) × IsFile told bytes × (limit < length bytes)
+
+-- the whole file, of at most so many bytes, was given to what takes its bytes, behind those that it had
+pub record GivesFile {S : Type 0} (has : S → List ℕ → Type 0) (told : FileTold) (limit : ℕ) (old new : S) : Type 0 where
+  pub bytes : List ℕ
+  pub whole : IsFile told bytes
+  pub within : length bytes ≤ limit
+  pub given : (before : List ℕ) → has old before → has new (before ++ bytes)
 
 -- what a fault of the host is to the reader of a whole file
 abbrev pub read_fault_of : HostFault → ReadFault

@@ -1,11 +1,11 @@
-// A whole file read into memory.
-ghost use Rattle.std.specs.Prelude.{◌≡◌, ◌^◌, ◌≤◌, IfOk, OnOk, vec_len};
-ghost use Rattle.host.specs.Host.{IsFile, SameFaults, Missing, OnlyReads, ReadFailed};
-ghost use Rattle.cmd_files.specs.Transfer.{IsLonger};
+// A file read in pieces.
+ghost use Rattle.std.specs.Prelude.{◌≡◌, ◌^◌, ◌≤◌, OnOk};
+ghost use Rattle.host.specs.Host.{SameFaults, Missing, OnlyReads, ReadFailed};
+ghost use Rattle.cmd_files.specs.Transfer.{IsLonger, GivesFile};
 
 use crate::PIECE;
 use host::{Host, HostFault};
-use std::alloc::{AllocError, Global};
+use std::alloc::AllocError;
 use thiserror::Error;
 
 /// Why a file was not read.
@@ -45,17 +45,38 @@ impl From<AllocError> for ReadFault {
     }
 }
 
-/// Reads a whole file of at most `limit` bytes (2,147,483,648 at most), in pieces of up to 4,096 bytes.
-pub fn read_file<H: Host>(
-    alloc: Global,
+/// What takes the bytes of a file, one piece after the other.
+pub trait Sink {
+    ghost use Rattle.std.specs.Prelude.{ℕ, List, ◌++◌, OnOk};
+
+    // It has been given these bytes, however they were cut.
+    ghost has: { Self → List ℕ → Type 0 };
+
+    /// Takes the next bytes. After want of memory it is of no use.
+    fn receive(&mut self, piece: &[u8]) -> Result<(), AllocError>
+        ensures { OnOk result ((before : List ℕ) → has self.old before → has self.new (before ++ piece.now)) };
+}
+
+impl Sink for Vec<u8> {
+    ghost use Rattle.std.specs.Prelude.{◌≡◌};
+
+    ghost has = { λ v bytes. v.items ≡ bytes };
+
+    fn receive(&mut self, piece: &[u8]) -> Result<(), AllocError> {
+        self.extend_from_slice(piece)
+    }
+}
+
+/// Reads a whole file of at most `limit` bytes (2,147,483,648 at most) into what takes them, in pieces of up to 4,096 bytes.
+pub fn read_into<H: Host, S: Sink>(
     host: &mut H,
     name: &str,
     limit: usize,
-) -> Result<Vec<u8>, ReadFault>
+    sink: &mut S,
+) -> Result<(), ReadFault>
     requires { limit ≤ 2 ^ 31 }
     ensures only { OnlyReads (H.state host.old) (H.state host.new) }
-    ensures ok { IfOk result (λ bytes. IsFile ((H.state host.old).file name.now) bytes.items) }
-    ensures within { IfOk result (λ bytes. vec_len bytes ≤ limit) }
+    ensures ok { OnOk result (GivesFile S.has ((H.state host.old).file name.now) limit sink.old sink.new) }
     ensures counted { OnOk result (SameFaults (H.state host.old) (H.state host.new)) }
     ensures too_long { result ≡ Err ReadFault.TooLong
         → IsLonger ((H.state host.old).file name.now) limit
@@ -65,14 +86,15 @@ pub fn read_file<H: Host>(
     ensures missing { (H.state host.old).file name.now ≡ Missing
         → SameFaults (H.state host.old) (H.state host.new) }
 {
-    let mut bytes = Vec::new(alloc);
     let mut piece = [0; PIECE];
-    while bytes.len() <= limit {
-        let count = host.read(name, bytes.len() as u64, &mut piece)?;
+    let mut at = 0;
+    while at <= limit {
+        let count = host.read(name, at as u64, &mut piece)?;
         if count == 0 {
-            return Ok(bytes);
+            return Ok(());
         }
-        bytes.extend_from_slice(&piece[..count])?;
+        sink.receive(&piece[..count])?;
+        at += count;
     }
     Err(ReadFault::TooLong)
 }

@@ -1,4 +1,4 @@
-// A text written to a file.
+// A text, or bytes, written to a file.
 ghost use Rattle.std.specs.Prelude.{◌≡◌, ℕ, ◌<◌, ◌≤◌, ◌++◌, take, drop, length, OnOk, OnErr};
 ghost use Rattle.asm86_lines.specs.Written.{text_of};
 ghost use Rattle.host.specs.Host.{SameFaults, OnlyWrites, Rewrites, WriteFailed};
@@ -24,6 +24,20 @@ pub fn write_out<H: Host>(host: &mut H, name: &str, lines: &[Line86]) -> Result<
         add(host, name, &mut waiting, write_line(line.stmt).as_slice())?;
     }
     append_all(host, name, waiting.as_slice())
+}
+
+/// Writes bytes to a file, and takes no memory of its own. After a fault the file is as before, or holds first bytes of them, but
+/// not all.
+pub fn write_bytes<H: Host>(host: &mut H, name: &str, bytes: &[u8]) -> Result<(), HostFault>
+    ensures only { OnlyWrites (H.state host.old) (H.state host.new) name.now }
+    ensures ok { OnOk result (Rewrites (H.state host.old) (H.state host.new) name.now bytes.now) }
+    ensures counted { OnOk result (SameFaults (H.state host.old) (H.state host.new)) }
+    ensures fault { OnErr result
+        (IsBeforeOrPart (H.state host.old) (H.state host.new) name.now bytes.now) }
+    ensures failed { OnErr result (WriteFailed (H.state host.old) (H.state host.new)) }
+{
+    host.begin(name)?;
+    append_all(host, name, bytes)
 }
 
 // Adds bytes to a piece that is not full, and appends it to the file once it is.

@@ -7,7 +7,7 @@ use Rattle.cmd_files.specs.Transfer.{IsLonger}
 use Rattle.cmd_reports.specs.declared.stop.Stop.{Stop}
 use Rattle.cmd_reports.specs.declared.stop.Stop.TheVariants.{ReadFailed, OutOfMemory, FileTooLong}
 
--- the most bytes of a text, and of a source or the console's input
+-- the most bytes of a text, and of a source, the console's input or the bytes of the ports
 abbrev pub text_limit : ℕ
 text_limit = 16777216
 
@@ -18,7 +18,7 @@ input_limit = 1048576
 abbrev pub IsWhole : HostState → List ℕ → ℕ → List ℕ → Type 0
 IsWhole old name limit bytes = IsFile (old.file name) bytes × (length bytes ≤ limit)
 
--- the console's input: none, or a whole file
+-- the console's input, or the bytes of the ports: none, or a whole file
 abbrev pub IsInput : HostState → Option (List ℕ) → List ℕ → Type 0
 IsInput old None bytes = bytes ≡ []
 IsInput old (Some name) bytes = IsWhole old name input_limit bytes
@@ -42,7 +42,7 @@ pub record NoneFailed (old new : HostState) : Type 0 where
 abbrev pub IsTold : HostState → List ℕ → ℕ → List ℕ → Type 0
 IsTold old name limit bytes = (old.file name ≡ Holds bytes) × (length bytes ≤ limit)
 
--- the console's input, likewise
+-- the console's input, or the bytes of the ports, likewise
 abbrev pub InputIsTold : HostState → Option (List ℕ) → List ℕ → Type 0
 InputIsTold old None bytes = bytes ≡ []
 InputIsTold old (Some name) bytes = IsTold old name input_limit bytes

@@ -1,26 +1,36 @@
--- What a source that is no program is to a command.
-use Rattle.std.specs.Prelude.{ℕ, List}
+-- What the file of a source is to a command.
+use Rattle.std.specs.Prelude.{ℕ, List, Result, Ok, Err}
+use Rattle.host.specs.Host.{HostState}
 use Rattle.asm80_tokens.specs.declared.fault.LineRule.{LineRule}
-use Rattle.asm80_tokens.specs.declared.fault.ReadFault.{ReadFault}
-use Rattle.asm80_tokens.specs.declared.fault.ReadFault.TheVariants.{Syntax, Memory as NoRoom}
-use Rattle.asm80_walk.specs.declared.walked.AsmFault.{AsmFault}
-use Rattle.asm80_walk.specs.declared.walked.AsmFault.TheVariants.{Refused, Memory}
+use Rattle.asm80_tokens.specs.Tree.{Statement}
+use Rattle.asm80_program.specs.Program.{Program}
 use Rattle.asm80_source.specs.declared.rule.AsmRule.{AsmRule}
-use Rattle.asm80_source.specs.Source.{IsNoSource, OfLine, OfProgram}
+use Rattle.asm80_source.specs.Assembly.{IsAssembled, IsRefused}
+use Rattle.asm80_source.specs.Source.{IsSource, IsNoSource, OfLine, OfProgram}
 use Rattle.cmd_reports.specs.declared.stop.Stop.{Stop}
-use Rattle.cmd_reports.specs.declared.stop.Stop.TheVariants.{SourceLine, SourceProgram, OutOfMemory}
+use Rattle.cmd_reports.specs.declared.stop.Stop.TheVariants.{SourceLine, SourceProgram}
+use Rattle.cmd_inputs.specs.Files.{IsWhole, input_limit}
 
--- why the bytes give no program: they are no source, by this line and rule, or memory ran out
+-- why the bytes give no program: they are no source, by this line and rule
 pub data SourceStops (bytes : List ℕ) (top : ℕ) : Stop → Type 0 where
   of_line : {line : ℕ} {rule : LineRule} → IsNoSource bytes top line (OfLine rule) → SourceStops bytes top (SourceLine line rule)
   of_program : {line : ℕ} {rule : AsmRule} → IsNoSource bytes top line (OfProgram rule) → SourceStops bytes top (SourceProgram line rule)
-  no_memory : SourceStops bytes top OutOfMemory
 
--- what a fault of the lines, and one of their statements, is to a command
-abbrev pub stop_of_lines : ReadFault → Stop
-stop_of_lines (Syntax line rule) = SourceLine line rule
-stop_of_lines NoRoom = OutOfMemory
+-- what bytes are: the source of a program, or none
+abbrev pub SourceGives : List ℕ → ℕ → Result Program Stop → Type 0
+SourceGives bytes top (Ok p) = IsSource bytes top p
+SourceGives bytes top (Err stop) = SourceStops bytes top stop
 
-abbrev pub stop_of_program : AsmFault → Stop
-stop_of_program (Refused line rule) = SourceProgram line rule
-stop_of_program Memory = OutOfMemory
+-- a whole file, and what its bytes are
+pub record ReadsSource (old : HostState) (name : List ℕ) (top : ℕ) (outcome : Result Program Stop) : Type 0 where
+  pub bytes : List ℕ
+  pub file : IsWhole old name input_limit bytes
+  pub gives : SourceGives bytes top outcome
+
+-- what statements are: a program, or none by a rule of names, values or layout
+pub data StatementsStop (statements : List Statement) (top : ℕ) : Stop → Type 0 where
+  breaks : {line : ℕ} {rule : AsmRule} → IsRefused statements top line rule → StatementsStop statements top (SourceProgram line rule)
+
+abbrev pub StatementsGive : List Statement → ℕ → Result Program Stop → Type 0
+StatementsGive statements top (Ok p) = IsAssembled statements top p
+StatementsGive statements top (Err stop) = StatementsStop statements top stop

@@ -1,9 +1,10 @@
-// The files that a run reads.
+// The files that a command reads.
 ghost use Rattle.std.specs.Prelude.{◌≡◌, ◌^◌, ◌≤◌, IfOk, IfErr, OnOk, option_copied};
 ghost use Rattle.host.specs.Host.{SameFaults, OnlyReads};
+ghost use Rattle.cmd_files.specs.Transfer.{GivesFile};
 ghost use Rattle.cmd_inputs.specs.Files.{IsWhole, IsInput, ReadStops, InputStops};
 
-use cmd_files::{ReadFault, read_file};
+use cmd_files::{ReadFault, Sink, read_into};
 use cmd_reports::Stop;
 use host::Host;
 use std::alloc::Global;
@@ -14,10 +15,31 @@ pub const TEXT_LIMIT: usize = 16_777_216;
 /// The most bytes of a source.
 pub const SOURCE_LIMIT: usize = 1_048_576;
 
-/// The most bytes of a console's input.
+/// The most bytes of a console's input, and of the bytes of ports.
 const INPUT_LIMIT: usize = 1_048_576;
 
-/// Reads the file of a name.
+/// Reads the file of a name into what takes its bytes.
+pub fn read_named_into<'a, H: Host, S: Sink>(
+    host: &mut H,
+    name: &'a str,
+    limit: usize,
+    sink: &mut S,
+) -> Result<(), Stop<'a>>
+    requires { limit ≤ 2 ^ 31 }
+    ensures only { OnlyReads (H.state host.old) (H.state host.new) }
+    ensures read { OnOk result (GivesFile S.has ((H.state host.old).file name.now) limit sink.old sink.new) }
+    ensures counted { OnOk result (SameFaults (H.state host.old) (H.state host.new)) }
+    ensures stopped { IfErr result (ReadStops name.now limit (H.state host.old) (H.state host.new)) }
+{
+    match read_into(host, name, limit, sink) {
+        Ok(()) => Ok(()),
+        Err(ReadFault::Failed) => Err(Stop::ReadFailed(name)),
+        Err(ReadFault::TooLong) => Err(Stop::FileTooLong(name)),
+        Err(ReadFault::Memory) => Err(Stop::OutOfMemory),
+    }
+}
+
+/// Reads the file of a name, whose bytes are kept whole.
 pub fn read_named<'a, H: Host>(
     alloc: Global,
     host: &mut H,
@@ -30,15 +52,12 @@ pub fn read_named<'a, H: Host>(
     ensures counted { OnOk result (SameFaults (H.state host.old) (H.state host.new)) }
     ensures stopped { IfErr result (ReadStops name.now limit (H.state host.old) (H.state host.new)) }
 {
-    match read_file(alloc, host, name, limit) {
-        Ok(bytes) => Ok(bytes),
-        Err(ReadFault::Failed) => Err(Stop::ReadFailed(name)),
-        Err(ReadFault::TooLong) => Err(Stop::FileTooLong(name)),
-        Err(ReadFault::Memory) => Err(Stop::OutOfMemory),
-    }
+    let mut bytes = Vec::new(alloc);
+    read_named_into(host, name, limit, &mut bytes)?;
+    Ok(bytes)
 }
 
-/// Reads the console's input, if there is one.
+/// Reads a file that a run is given if its option stands: the console's input, the bytes of the ports.
 pub fn read_input<'a, H: Host>(
     alloc: Global,
     host: &mut H,

@@ -1,10 +1,10 @@
-// What a command reads: its files, and what their bytes are: the program of a source, the image of a text.
+// What a command reads: its files, and what their bytes are: the program of a source, the lines of a text.
 #![tactic(auto)]
 
 mod files;
 mod source;
 mod text;
 
-pub use files::{SOURCE_LIMIT, TEXT_LIMIT, read_input, read_named};
+pub use files::{read_input, read_named};
 pub use source::read_source;
-pub use text::text_image;
+pub use text::read_text;

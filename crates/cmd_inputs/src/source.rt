@@ -1,57 +1,98 @@
-// The program of a source's bytes.
-ghost use Rattle.std.specs.Prelude.{◌≡◌, true, IfOk, IfErr};
+// The program of a source's file.
+ghost use Rattle.std.specs.Prelude.{◌≡◌, true, ℕ, List, IfOk, IfErr, OnOk, map};
+ghost use Rattle.host.specs.Host.{SameFaults, OnlyReads};
 ghost use Rattle.asm80_program.specs.Program.{is_top};
-ghost use Rattle.asm80_source.specs.Source.{IsSource};
-ghost use Rattle.asm80_text.specs.Reader.{Finishes};
-ghost use Rattle.cmd_inputs.specs.Sources.{SourceStops, stop_of_lines, stop_of_program};
+ghost use Rattle.asm80_tokens.specs.Tree.{statement_of};
+ghost use Rattle.cmd_inputs.specs.Files.{ReadStops, input_limit};
+ghost use Rattle.cmd_inputs.specs.Sources.{ReadsSource, StatementsGive};
 
+use crate::files::{SOURCE_LIMIT, read_named_into};
 use asm80_program::Program80;
 use asm80_text::{Lines, ReadFault, Stmt80};
 use asm80_values::{AsmFault, assemble};
+use cmd_files::Sink;
 use cmd_reports::Stop;
-use std::alloc::Global;
+use host::Host;
+use std::alloc::{AllocError, Global};
 
-/// The program of a source, for a top of the program area, a multiple of 100H from 1000H to 0FF00H; or the first refusal: of a
-/// line, else of names and values, else of the layout.
-pub fn read_source<'a>(alloc: Global, bytes: &[u8], top: u16) -> Result<Program80, Stop<'a>>
+/// The program of the source in the file of a name, for a top of the program area, a multiple of 100H from 1000H to 0FF00H. The
+/// inner answer is the program, or the first refusal: of a line, else of names and values, else of the layout; a command tells
+/// it once its other files are read. The outer one, that the file was not read or memory ran out, is told at once.
+pub fn read_source<'a, H: Host>(
+    alloc: Global,
+    host: &mut H,
+    name: &'a str,
+    top: u16,
+) -> Result<Result<Program80, Stop<'a>>, Stop<'a>>
     requires { is_top top ≡ true }
-    ensures source { IfOk result (IsSource bytes.now top) }
-    ensures stopped { IfErr result (SourceStops bytes.now top) }
+    ensures only { OnlyReads (H.state host.old) (H.state host.new) }
+    ensures read { IfOk result (ReadsSource (H.state host.old) name.now top) }
+    ensures counted { OnOk result (SameFaults (H.state host.old) (H.state host.new)) }
+    ensures stopped { IfErr result (ReadStops name.now input_limit (H.state host.old) (H.state host.new)) }
 {
-    match statements_of(alloc, bytes) {
-        Ok(statements) => match assemble(alloc, statements.as_slice(), top) {
-            Ok(program) => Ok(program),
-            Err(fault) => Err(stop_of_program(fault)),
+    let mut source = SourceLines {
+        lines: Lines::new(alloc)?,
+    };
+    read_named_into(host, name, SOURCE_LIMIT, &mut source)?;
+    Ok(source.program(alloc, top)?)
+}
+
+// The lines of a source, as far as its file was read. Of its bytes only the line that is not complete yet is kept.
+#[derive(Drop)]
+struct SourceLines {
+    lines: Lines,
+}
+
+impl Sink for SourceLines {
+    ghost use Rattle.asm80_text.specs.Reader.{After};
+
+    ghost has = { λ source bytes. After bytes source.lines };
+
+    fn receive(&mut self, piece: &[u8]) -> Result<(), AllocError> {
+        match self.lines.feed(piece) {
+            Ok(()) => Ok(()),
+            Err(fault) => match fault {
+                // A faulty line is told at the end.
+                ReadFault::Syntax(_, _) => Ok(()),
+                ReadFault::Memory => Err(AllocError),
+            },
+        }
+    }
+}
+
+impl SourceLines {
+    ghost use Rattle.asm80_text.specs.Reader.{After};
+    ghost use Rattle.cmd_inputs.specs.Sources.{SourceGives};
+
+    // The program of the whole source, or its first refusal.
+    fn program<'a>(self, alloc: Global, top: u16) -> Result<Result<Program80, Stop<'a>>, AllocError>
+        requires { is_top top ≡ true }
+        ensures { IfOk result (λ outcome. (bytes : List ℕ) → After bytes self.lines → SourceGives bytes top outcome) }
+    {
+        match self.lines.finish() {
+            Ok(statements) => program_of(alloc, statements.as_slice(), top),
+            Err(fault) => match fault {
+                ReadFault::Syntax(line, rule) => Ok(Err(Stop::SourceLine(line, rule))),
+                ReadFault::Memory => Err(AllocError),
+            },
+        }
+    }
+}
+
+// The program of the statements of a source, or the first rule of names, values and layout that they break.
+fn program_of<'a>(
+    alloc: Global,
+    statements: &[Stmt80],
+    top: u16,
+) -> Result<Result<Program80, Stop<'a>>, AllocError>
+    requires { is_top top ≡ true }
+    ensures { IfOk result (StatementsGive (map statement_of statements.now) top) }
+{
+    match assemble(alloc, statements, top) {
+        Ok(program) => Ok(Ok(program)),
+        Err(fault) => match fault {
+            AsmFault::Refused(line, rule) => Ok(Err(Stop::SourceProgram(line, rule))),
+            AsmFault::Memory => Err(AllocError),
         },
-        Err(fault) => Err(stop_of_lines(fault)),
     }
-}
-
-// Why a source is no program by a line of it.
-fn stop_of_lines<'a>(fault: ReadFault) -> Stop<'a>
-    ensures { result ≡ stop_of_lines fault }
-{
-    match fault {
-        ReadFault::Syntax(line, rule) => Stop::SourceLine(line, rule),
-        ReadFault::Memory => Stop::OutOfMemory,
-    }
-}
-
-// Why it is none by its names, values or layout.
-fn stop_of_program<'a>(fault: AsmFault) -> Stop<'a>
-    ensures { result ≡ stop_of_program fault }
-{
-    match fault {
-        AsmFault::Refused(line, rule) => Stop::SourceProgram(line, rule),
-        AsmFault::Memory => Stop::OutOfMemory,
-    }
-}
-
-// The statements of a source.
-fn statements_of(alloc: Global, bytes: &[u8]) -> Result<Vec<Stmt80>, ReadFault>
-    ensures { Finishes bytes.now result }
-{
-    let mut lines = Lines::new(alloc)?;
-    let _ = lines.feed(bytes);
-    lines.finish()
 }

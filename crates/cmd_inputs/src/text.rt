@@ -1,43 +1,78 @@
-// The image of a text's bytes.
-ghost use Rattle.std.specs.Prelude.{◌≡◌, ◌<◌, ◌^◌, ◌⊎◌, true, length, IfOk, IfErr};
+// The lines of a text's file.
+ghost use Rattle.std.specs.Prelude.{◌≡◌, ◌<◌, ◌^◌, true, ℕ, List, length, IfOk, IfErr, OnOk};
+ghost use Rattle.host.specs.Host.{SameFaults, OnlyReads};
 ghost use Rattle.asm86_lines.specs.Image.{statements};
 ghost use Rattle.asm86_lines.specs.Order.{at_start, in_order};
-ghost use Rattle.asm86_text.specs.Reader.{Finishes};
-ghost use Rattle.asm86_image.specs.declared.fault.ImageFault.TheVariants.{Memory};
-ghost use Rattle.cmd_inputs.specs.Texts.{HasImage, IsNoImage, fault_of};
+ghost use Rattle.cmd_inputs.specs.Files.{ReadStops, text_limit};
+ghost use Rattle.cmd_inputs.specs.Texts.{ReadsText};
 
-use asm86_image::{Image86, ImageFault, image};
+use crate::files::{TEXT_LIMIT, read_named_into};
 use asm86_text::{Line86, Text86, TextFault};
-use std::alloc::Global;
+use cmd_files::Sink;
+use cmd_reports::Stop;
+use host::Host;
+use std::alloc::{AllocError, Global};
 
-/// The image of a text; or the first rule that it breaks.
-pub fn text_image(alloc: Global, bytes: &[u8]) -> Result<Image86, ImageFault>
-    ensures image { IfOk result (HasImage bytes.now) }
-    ensures fault { IfErr result (λ fault. (fault ≡ Memory) ⊎ IsNoImage bytes.now fault) }
+/// The lines of the text in the file of a name. The inner answer is the lines, or the first rule that one of them breaks; a
+/// command tells it once its other files are read. The outer one, that the file was not read or memory ran out, is told at once.
+pub fn read_text<'a, H: Host>(
+    alloc: Global,
+    host: &mut H,
+    name: &'a str,
+) -> Result<Result<Vec<Line86>, Stop<'a>>, Stop<'a>>
+    ensures only { OnlyReads (H.state host.old) (H.state host.new) }
+    ensures read { IfOk result (ReadsText (H.state host.old) name.now) }
+    ensures in_order { IfOk result (λ text. IfOk text (λ lines. in_order at_start (statements lines.items) ≡ true)) }
+    ensures few { IfOk result (λ text. IfOk text (λ lines. length lines.items < 2 ^ 28)) }
+    ensures counted { OnOk result (SameFaults (H.state host.old) (H.state host.new)) }
+    ensures stopped { IfErr result (ReadStops name.now text_limit (H.state host.old) (H.state host.new)) }
 {
-    match text_lines(alloc, bytes) {
-        Ok(lines) => image(alloc, lines.as_slice()),
-        Err(fault) => Err(fault_of(fault)),
+    let mut text = TextLines {
+        reader: Text86::new(alloc)?,
+    };
+    read_named_into(host, name, TEXT_LIMIT, &mut text)?;
+    Ok(text.lines()?)
+}
+
+// The lines of a text, as far as its file was read. Of its bytes only the line that is not complete yet is kept.
+#[derive(Drop)]
+struct TextLines {
+    reader: Text86,
+}
+
+impl Sink for TextLines {
+    ghost use Rattle.asm86_text.specs.Reader.{After};
+
+    ghost has = { λ text bytes. After bytes text.reader };
+
+    fn receive(&mut self, piece: &[u8]) -> Result<(), AllocError> {
+        match self.reader.feed(piece) {
+            Ok(()) => Ok(()),
+            Err(fault) => match fault {
+                // A faulty line is told at the end.
+                TextFault::Line(_, _) => Ok(()),
+                TextFault::Memory => Err(AllocError),
+            },
+        }
     }
 }
 
-// The statements of a text.
-fn text_lines(alloc: Global, bytes: &[u8]) -> Result<Vec<Line86>, TextFault>
-    ensures read { Finishes bytes.now result }
-    ensures in_order { IfOk result (λ lines. in_order at_start (statements lines.items) ≡ true) }
-    ensures few { IfOk result (λ lines. length lines.items < 2 ^ 28) }
-{
-    let mut reader = Text86::new(alloc)?;
-    let _ = reader.feed(bytes);
-    reader.finish()
-}
+impl TextLines {
+    ghost use Rattle.asm86_text.specs.Reader.{After};
+    ghost use Rattle.cmd_inputs.specs.Texts.{LinesGive};
 
-// The same fault.
-fn fault_of(fault: TextFault) -> ImageFault
-    ensures { result ≡ fault_of fault }
-{
-    match fault {
-        TextFault::Line(line, rule) => ImageFault::Line(line, rule),
-        TextFault::Memory => ImageFault::Memory,
+    // The lines of the whole text, or the first rule that one of them breaks.
+    fn lines<'a>(self) -> Result<Result<Vec<Line86>, Stop<'a>>, AllocError>
+        ensures read { IfOk result (λ outcome. (bytes : List ℕ) → After bytes self.reader → LinesGive bytes outcome) }
+        ensures in_order { IfOk result (λ outcome. IfOk outcome (λ lines. in_order at_start (statements lines.items) ≡ true)) }
+        ensures few { IfOk result (λ outcome. IfOk outcome (λ lines. length lines.items < 2 ^ 28)) }
+    {
+        match self.reader.finish() {
+            Ok(lines) => Ok(Ok(lines)),
+            Err(fault) => match fault {
+                TextFault::Line(line, rule) => Ok(Err(Stop::TextLine(line, rule))),
+                TextFault::Memory => Err(AllocError),
+            },
+        }
     }
 }

@@ -46,6 +46,16 @@ pub enum Stop<'a> {
     FileTooLong(&'a str),
 }
 
+impl<'a> From<AllocError> for Stop<'a> {
+    ghost use Rattle.cmd_reports.specs.declared.stop.Stop.TheVariants.{OutOfMemory};
+
+    ghost from_gives = { λ _ stop. stop ≡ OutOfMemory };
+
+    fn from(_error: AllocError) -> Stop<'a> {
+        Stop::OutOfMemory
+    }
+}
+
 impl<'a> Stop<'a> {
     /// The status of the process.
     pub fn status(self) -> u8

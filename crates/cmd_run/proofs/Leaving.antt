@@ -8,27 +8,29 @@ use Rattle.cells.specs.declared.Rule.TheVariants.{P1, P9, P12}
 use Rattle.i80.specs.declared.Goal.{Goal}
 use Rattle.i80.specs.declared.Goal.TheVariants.{At as Instr, Boot, Bdos}
 use Rattle.i80.specs.declared.Instr80.{Instr80}
-use Rattle.i80.specs.declared.Instr80.TheVariants.{Pchl, Jmp, Jif, Call, Cif, Ret, Rif, Rst0}
+use Rattle.i80.specs.declared.Instr80.TheVariants.{Pchl, Jmp, Jif, Call, Cif, Ret, Rif, Rst0, In, Out}
 use Rattle.i80.specs.Columns.{length80}
 use Rattle.dialogue.specs.declared.request.Shape.{Shape}
 use Rattle.dialogue.specs.declared.request.Reply.{Reply}
 use Rattle.dialogue.specs.declared.request.Event.{Event}
-use Rattle.dialogue.specs.declared.request.Event.TheVariants.{Call as Asked, End}
+use Rattle.dialogue.specs.declared.request.Event.TheVariants.{Call as Asked, In as AskedIn, Out as AskedOut, End}
 use Rattle.dialogue.specs.Shape.{shape_of}
+use Rattle.dialogue.specs.Fits.{fits_event}
 use Rattle.dialogue.specs.Table.{row_of}
-use Rattle.base_runs.specs.Run.{Answer, Ran, Asks, Ends, Stops, Status, Going, Waiting, Over, Stopped, Run, answers, take_reply, settle, turn_by, turn, turns, start_run}
+use Rattle.base_runs.specs.Run.{Answer, Ran, Asks, Ends, Stops, Status, Going, Waiting, Over, Stopped, Run, take_reply, settle, turn_by, turn, turns, start_run}
 use Rattle.asm80_program.specs.declared.program.Placed.{Placed}
 use Rattle.asm80_program.specs.Program.{Program, IsProgram, instr_at, is_start, line_of_placed, placed_in}
 use Rattle.cpu80_steps.specs.State.{State80, num_of}
 use Rattle.cpu80_steps.specs.Effect.{effect, push}
 use Rattle.cpu80_steps.specs.Call.{Return, ask, ask_after, call_by, is_just_below, seen_by, is_place, place_in, popped_return, return_after}
-use Rattle.cpu80_steps.specs.Step.{go_to, go_on, leave_to, go_by, go_back, jump, enter, call, where_holds, holds, act, act_at, step_at, step80, return_at, replied_to, replied80, machine80}
+use Rattle.cpu80_steps.specs.Step.{go_to, go_on, leave_to, go_by, go_back, jump, enter, call, where_holds, holds, ask_event, ask_port, sent, act, act_at, step_at, step80, return_at, replied_to, replied80, machine80}
 use Rattle.cpu80_steps.specs.Start.{start80, run80}
 use Rattle.cpu80.proofs.Places.{GoesOn, Returns, goes_on, returns_to}
 use Rattle.bdos_talk.specs.declared.emulator.Why.TheVariants.{Left, NoInstruction, StackSegment, OddCall}
 use Rattle.bdos_talk.specs.declared.running.RunEnd.{RunEnd}
 use Rattle.bdos_talk.specs.declared.running.RunEnd.TheVariants.{Ended, Stopped as HasStopped, StepLimit, InputEnded, NoDrive}
-use Rattle.bdos_talk.specs.Talk.{Seen, told_status, console_replies, IsOutcome}
+use Rattle.bdos_ports.specs.Supply.{Supply}
+use Rattle.bdos_talk.specs.Talk.{Seen, told_status, replies_to, IsOutcome}
 use Rattle.bdos_emulation.specs.Courses.{why80, course80}
 use Rattle.cmd_run.specs.Runs80.{IsLineAt, IsLineOf}
 
@@ -107,6 +109,14 @@ where_it_holds p s a None go h = tt
 where_it_holds p s a (Some true) go h = h
 where_it_holds p s a (Some false) go h = to_start p s s a
 
+asked_of : (p : Program) (s : State80) (a : ℕ) (e : Result Event Rule) → Keeps s (ask_port p s a e)
+asked_of p s a e = by_start (is_start p a) e
+  where
+    by_start : (b : Bool) (e : Result Event Rule) → Keeps s (cond b (ask_event s e) (Stops P1))
+    by_start true (Ok e) = refl
+    by_start true (Err r) = tt
+    by_start false e = tt
+
 acted : (p : Program) (s : State80) (a : ℕ) (i : Instr80) → Keeps s (act p s a i)
 acted p s a Pchl = gone_by s s.sp (place_in p s.regs.h s.regs.l)
 acted p s a (Jmp t) = jumped p s t
@@ -116,6 +126,8 @@ acted p s a (Cif c t) = where_it_holds p s a (holds s.flags c) (call p s a t) (c
 acted p s a Ret = back_to s (popped_return p s)
 acted p s a (Rif c) = where_it_holds p s a (holds s.flags c) (go_back s (popped_return p s)) (back_to s (popped_return p s))
 acted p s a Rst0 = tt
+acted p s a (In port) = asked_of p s a (Ok (AskedIn port))
+acted p s a (Out port) = asked_of p s a (sent s port)
 acted p s a i = on_from p s a (effect p s i)
 
 acted_at : (p : Program) (s : State80) (at : ℕ) (i : Option Instr80) → Keeps s (act_at p s at i)
@@ -143,13 +155,15 @@ module _ (p : Program) where
   after_reply s (Err x) e y h back = h
   after_reply s (Ok r) End y h back = h
   after_reply s (Ok r) (Asked q) y h back = back
+  after_reply s (Ok r) (AskedIn port) y h back = back
+  after_reply s (Ok r) (AskedOut port byte) y h back = back
 
   replied_place : (s : State80) (e : Event) (y : Reply) → is_place p s.place ≡ true → is_place p (replied80 p s e y).place ≡ true
   replied_place s e y h = after_reply s (return_at p s s.place) e y h (returns_to p s s.place)
 
   takes : (r : Run State80 Rule) (e : Event) (ys : List Reply) → r.status ≡ Going → is_place p r.state.place ≡ true → Stands p (take_reply (machine80 p) [] r e ys)
   takes r e [] going h = record { place = h; stopped = λ x s q. cc }
-  takes r e (y ∷ ys) going h = by_fit (answers e y)
+  takes r e (y ∷ ys) going h = by_fit (fits_event e y)
     where
       by_fit : (b : Bool) → Stands p (cond b (record r { state = replied80 p r.state e y; replies = ys; used = suc r.used }) (record r { status = Waiting }))
       by_fit true = record { place = replied_place r.state e y h; stopped = λ x s q. let f : Going ≡ Stopped x = sym going ∙ s in cc }
@@ -194,15 +208,15 @@ module _ (p : Program) where
         subst (λ a. (line : ℕ) × IsLineAt p a line) same (line_at_place r.state.place h.place (h.stopped y e))
 
     -- an end of the run has its line
-    pub end_has_line : (input : List ℕ) (limit : ℕ) (o : RunEnd) (v : Seen) → IsOutcome (course80 p page) input limit o v → (line : ℕ) × IsLineOf p o line
-    end_has_line input limit (Ended steps) v h = (0, refl)
-    end_has_line input limit (HasStopped (Left q x)) v h =
-        let ys = console_replies input v.dialogue in
+    pub end_has_line : (supply : Supply) (limit : ℕ) (o : RunEnd) (v : Seen) → IsOutcome (course80 p page) supply limit o v → (line : ℕ) × IsLineOf p o line
+    end_has_line supply limit (Ended steps) v h = (0, refl)
+    end_has_line supply limit (HasStopped (Left q x)) v h =
+        let ys = replies_to supply v.dialogue in
         let r = run80 p page ys limit in
         stopped_at r r.status refl (run_stands ys limit) q x (ap (λ (w : Seen). w.status) (sym h.at) ∙ h.cause)
-    end_has_line input limit (HasStopped (NoInstruction offset)) v h = (0, refl)
-    end_has_line input limit (HasStopped (StackSegment offset)) v h = (0, refl)
-    end_has_line input limit (HasStopped (OddCall offset function)) v h = (0, refl)
-    end_has_line input limit StepLimit v h = (0, refl)
-    end_has_line input limit InputEnded v h = (0, refl)
-    end_has_line input limit (NoDrive function) v h = (0, refl)
+    end_has_line supply limit (HasStopped (NoInstruction offset)) v h = (0, refl)
+    end_has_line supply limit (HasStopped (StackSegment offset)) v h = (0, refl)
+    end_has_line supply limit (HasStopped (OddCall offset function)) v h = (0, refl)
+    end_has_line supply limit StepLimit v h = (0, refl)
+    end_has_line supply limit InputEnded v h = (0, refl)
+    end_has_line supply limit (NoDrive function) v h = (0, refl)

@@ -1,8 +1,9 @@
 -- What the run of `run80` comes to behind its files.
-use Rattle.std.proofs.Common.{◌≡◌, ℕ, List, Err, ◌∙◌, subst}
+use Rattle.std.proofs.Common.{◌≡◌, ℕ, Err, ◌∙◌, subst}
 use Rattle.host.specs.Host.{HostState, SameFiles, OnlyReads, OnlySays, SameFaults}
 use Rattle.asm80_program.specs.Program.{Program}
 use Rattle.cmd_words.specs.Words.{Run80}
+use Rattle.bdos_ports.specs.Supply.{Supply}
 use Rattle.bdos_talk.specs.declared.fault.TalkFault.{TalkFault}
 use Rattle.bdos_talk.specs.declared.fault.TalkFault.TheVariants.{Unsaid as Untold, Memory as NoMemory}
 use Rattle.bdos_talk.specs.declared.running.RunEnd.{RunEnd}
@@ -18,14 +19,14 @@ pub unloaded_halts : (c : Run80) (old new : HostState) (halt : Halt) → OnlyRea
 unloaded_halts c old new (By stop) only s = unloaded only s
 unloaded_halts c old new (Unsaid fault) only s = absurd s
 
-module _ (c : Run80) (old mid new : HostState) (program : Program) (input : List ℕ) (loads : Loads c old program input) (reads : OnlyReads old mid) (counted : SameFaults old mid) (says : OnlySays mid new) where
+module _ (c : Run80) (old mid new : HostState) (program : Program) (supply : Supply) (loads : Loads c old program supply) (reads : OnlyReads old mid) (counted : SameFaults old mid) (says : OnlySays mid new) where
   pub same_files : SameFiles old new
   same_files = λ name. says.files name ∙ reads.files name
 
   -- the run came to an end
-  pub has_run : (o : RunEnd) → RunsTo c program input o mid new → SameFaults mid new → HasRun c old new program o
+  pub has_run : (o : RunEnd) → RunsTo c program supply o mid new → SameFaults mid new → HasRun c old new program o
   has_run o runs s = record {
-    input = input;
+    supply = supply;
     loads = loads;
     start = mid;
     reads = reads;
@@ -35,13 +36,13 @@ module _ (c : Run80) (old mid new : HostState) (program : Program) (input : List
   }
 
   -- or a fault cut it off
-  pub cut_halts : (fault : TalkFault) → IsCut c program input mid new fault → IsHalted c old new (halt_of_talk fault)
-  cut_halts (Untold f) cut = record { program = program; input = input; loads = loads; start = mid; reads = reads; counted = counted; cut = cut; says = says }
+  pub cut_halts : (fault : TalkFault) → IsCut c program supply mid new fault → IsHalted c old new (halt_of_talk fault)
+  cut_halts (Untold f) cut = record { program = program; supply = supply; loads = loads; start = mid; reads = reads; counted = counted; cut = cut; says = says }
   cut_halts NoMemory cut =
-      no_memory (record { program = program; input = input; loads = loads; start = mid; reads = reads; counted = counted; cut = cut; says = says })
+      no_memory (record { program = program; supply = supply; loads = loads; start = mid; reads = reads; counted = counted; cut = cut; says = says })
 
   -- the run did not end, and the command stops for that
-  pub left_or_stopped : (o : RunEnd) (line : ℕ) (stop : Stop) → RunsTo c program input o mid new → SameFaults mid new → ((n : ℕ) → IsLineOf program o n → line ≡ n) → steps_of c.run.steps line o ≡ Err stop → Stops c old new stop
+  pub left_or_stopped : (o : RunEnd) (line : ℕ) (stop : Stop) → RunsTo c program supply o mid new → SameFaults mid new → ((n : ℕ) → IsLineOf program o n → line ≡ n) → steps_of c.run.steps line o ≡ Err stop → Stops c old new stop
   left_or_stopped o line stop runs s at is =
-      let found = end_has_line program loads.assembled.program.program.lawful c.run.page input c.run.steps o runs.run runs.outcome in
+      let found = end_has_line program loads.assembled.program.program.lawful c.run.page supply c.run.steps o runs.run runs.outcome in
       ran program o found.0 (has_run o runs s) found.1 (subst (λ n. steps_of c.run.steps n o ≡ Err stop) (at found.0 found.1) is)

@@ -7,7 +7,10 @@ use Rattle.cmd_reports.specs.declared.stop.Stop.{Stop}
 use Rattle.cmd_reports.specs.declared.stop.Stop.TheVariants.{OutOfMemory}
 use Rattle.cmd_reports.specs.Lines.{status_of}
 use Rattle.cmd_reports.specs.Said.{IsDone, whole, failed as unfinished, no_memory as out_of_memory, Closes, said, unsaid}
+use Rattle.cmd_words.specs.Words.{RunOptions}
+use Rattle.bdos_ports.specs.Supply.{Supply, supply_of}
 use Rattle.cmd_inputs.specs.Files.{input_limit, IsWhole, IsInput, ReadStops, failed, too_long, no_memory, InputStops, NoneFailed, IsTold, InputIsTold}
+use Rattle.cmd_run.specs.Supplies.{IsSupplied, SupplyStops, no_input, no_ports, SupplyIsTold}
 
 -- what was read is what is told
 told_file : (told : FileTold) (bytes read : List ℕ) → told ≡ Holds bytes → IsFile told read → bytes ≡ read
@@ -16,9 +19,14 @@ told_file told bytes read e h = subst (λ f. IsFile f read) e h
 pub told_whole : (old : HostState) (name : List ℕ) (limit : ℕ) (bytes read : List ℕ) → IsTold old name limit bytes → IsWhole old name limit read → read ≡ bytes
 told_whole old name limit bytes read t w = sym (told_file (old.file name) bytes read t.0 w.0)
 
-pub told_input : (old : HostState) (i : Option (List ℕ)) (bytes read : List ℕ) → InputIsTold old i bytes → IsInput old i read → read ≡ bytes
+told_input : (old : HostState) (i : Option (List ℕ)) (bytes read : List ℕ) → InputIsTold old i bytes → IsInput old i read → read ≡ bytes
 told_input old None bytes read t w = w ∙ sym t
 told_input old (Some name) bytes read t w = told_whole old name input_limit bytes read t w
+
+pub told_supply : (old : HostState) (run : RunOptions) (supply read : Supply) → SupplyIsTold run old supply → IsSupplied run old read → read ≡ supply
+told_supply old run supply read t s =
+    ap (λ i. supply_of i read.ports) (told_input old run.input supply.input read.input t.input s.input)
+    ∙ ap (λ p. supply_of supply.input p) (told_input old run.ports supply.ports read.ports t.ports s.ports)
 
 -- only want of memory stops a read
 not_failed : (old mid new : HostState) (name bytes : List ℕ) → NoneFailed old new → new.read_faults ≡ mid.read_faults → old.file name ≡ Holds bytes → ReadFails old mid name → ⊥
@@ -41,9 +49,13 @@ read_stops old mid new name limit bytes _ none e t (failed same f) = absurd (not
 read_stops old mid new name limit bytes _ none e t (too_long same l s) = absurd (not_longer old name bytes limit t l)
 read_stops old mid new name limit bytes _ none e t no_memory = refl
 
-pub input_stops : (old mid new : HostState) (i : Option (List ℕ)) (bytes : List ℕ) (stop : Stop) → NoneFailed old new → new.read_faults ≡ mid.read_faults → InputIsTold old i bytes → InputStops i old mid stop → stop ≡ OutOfMemory
+input_stops : (old mid new : HostState) (i : Option (List ℕ)) (bytes : List ℕ) (stop : Stop) → NoneFailed old new → new.read_faults ≡ mid.read_faults → InputIsTold old i bytes → InputStops i old mid stop → stop ≡ OutOfMemory
 input_stops old mid new None bytes stop none e t s = absurd s
 input_stops old mid new (Some name) bytes stop none e t s = read_stops old mid new name input_limit bytes stop none e t s
+
+pub supply_stops : (old mid new : HostState) (run : RunOptions) (supply : Supply) (stop : Stop) → NoneFailed old new → new.read_faults ≡ mid.read_faults → SupplyIsTold run old supply → SupplyStops run old mid stop → stop ≡ OutOfMemory
+supply_stops old mid new run supply stop none e t (no_input s) = input_stops old mid new run.input supply.input stop none e t.input s
+supply_stops old mid new run supply stop none e t (no_ports input i s) = input_stops old mid new run.ports supply.ports stop none e t.ports s
 
 -- no write failed behind the run
 pub not_unsaid : (old mid new : HostState) → NoneFailed old new → SameFaults old mid → WriteFails mid new → ⊥

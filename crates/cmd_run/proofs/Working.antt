@@ -1,9 +1,10 @@
 -- What the run of `run86` comes to behind its files.
-use Rattle.std.proofs.Common.{◌≡◌, ℕ, ◌<◌, List, refl, ◌∙◌, subst, arith, length}
+use Rattle.std.proofs.Common.{◌≡◌, ℕ, ◌<◌, refl, ◌∙◌, subst, arith, length}
 use Rattle.std.specs.Prelude.{Ok, IfOk}
 use Rattle.host.specs.Host.{HostState, SameFiles, OnlyReads, OnlySays, SameFaults}
 use Rattle.asm86_lines.specs.Image.{Image}
 use Rattle.cmd_words.specs.Words.{Run86}
+use Rattle.bdos_ports.specs.Supply.{Supply}
 use Rattle.bdos_talk.specs.declared.fault.TalkFault.{TalkFault}
 use Rattle.bdos_talk.specs.declared.fault.TalkFault.TheVariants.{Unsaid as Untold, Memory as NoMemory}
 use Rattle.bdos_talk.specs.declared.running.RunEnd.{RunEnd}
@@ -34,15 +35,15 @@ pub unloaded_halts : (c : Run86) (old new : HostState) (halt : Halt) → OnlyRea
 unloaded_halts c old new (By stop) only s = unloaded only s
 unloaded_halts c old new (Unsaid fault) only s = absurd s
 
-module _ (c : Run86) (old mid new : HostState) (image : Image) (input : List ℕ) (loads : Loads c old image input) (reads : OnlyReads old mid) (counted : SameFaults old mid) (says : OnlySays mid new) where
+module _ (c : Run86) (old mid new : HostState) (image : Image) (supply : Supply) (loads : Loads c old image supply) (reads : OnlyReads old mid) (counted : SameFaults old mid) (says : OnlySays mid new) where
   pub same_files : SameFiles old new
   same_files = λ name. says.files name ∙ reads.files name
 
   -- the run came to an end
-  pub has_run : (o : RunEnd) → RunsTo c image input o mid new → SameFaults mid new → HasRun c old new o
+  pub has_run : (o : RunEnd) → RunsTo c image supply o mid new → SameFaults mid new → HasRun c old new o
   has_run o runs s = record {
     image = image;
-    input = input;
+    supply = supply;
     loads = loads;
     start = mid;
     reads = reads;
@@ -52,7 +53,7 @@ module _ (c : Run86) (old mid new : HostState) (image : Image) (input : List ℕ
   }
 
   -- or a fault cut it off
-  pub cut_halts : (fault : TalkFault) → IsCut c image input mid new fault → IsHalted c old new (halt_of_talk fault)
-  cut_halts (Untold f) cut = record { image = image; input = input; loads = loads; start = mid; reads = reads; counted = counted; cut = cut; says = says }
+  pub cut_halts : (fault : TalkFault) → IsCut c image supply mid new fault → IsHalted c old new (halt_of_talk fault)
+  cut_halts (Untold f) cut = record { image = image; supply = supply; loads = loads; start = mid; reads = reads; counted = counted; cut = cut; says = says }
   cut_halts NoMemory cut =
-      no_memory (record { image = image; input = input; loads = loads; start = mid; reads = reads; counted = counted; cut = cut; says = says })
+      no_memory (record { image = image; supply = supply; loads = loads; start = mid; reads = reads; counted = counted; cut = cut; says = says })

@@ -1,26 +1,28 @@
--- The one thing that `run80` comes to by the whole bytes of its source and its input, where no call of the host fails.
+-- The one thing that `run80` comes to by the whole bytes of its source and its devices' files, where no call of the host fails.
 use Rattle.std.specs.Prelude.{◌≡◌, ℕ, List, Result, Err}
 use Rattle.asm80_tokens.specs.declared.fault.LineRule.{LineRule}
 use Rattle.asm80_source.specs.declared.rule.AsmRule.{AsmRule}
 use Rattle.asm80_source.specs.Source.{IsSource, IsNoSource, OfLine, OfProgram}
 use Rattle.asm80_program.specs.Program.{Program}
 use Rattle.host.specs.Host.{HostState}
+use Rattle.bdos_ports.specs.Supply.{Supply}
 use Rattle.cmd_words.specs.Words.{Run80}
 use Rattle.bdos_talk.specs.declared.running.RunEnd.{RunEnd}
 use Rattle.cmd_reports.specs.declared.stop.Stop.{Stop}
 use Rattle.cmd_reports.specs.declared.stop.Stop.TheVariants.{SourceLine, SourceProgram}
-use Rattle.cmd_inputs.specs.Files.{input_limit, NoneFailed, IsTold, InputIsTold}
+use Rattle.cmd_inputs.specs.Files.{input_limit, NoneFailed, IsTold}
 use Rattle.cmd_run.specs.Ends.{steps_of}
+use Rattle.cmd_run.specs.Supplies.{SupplyIsTold}
 use Rattle.cmd_run.specs.Outcomes.{ComesTo, HasStatus}
 use Rattle.cmd_run.specs.Runs80.{IsLineOf, course_of}
 
--- the source is refused, or its program runs over a console with the input and comes to an end
-pub data Comes (c : Run80) (source input : List ℕ) : Result ℕ Stop → Type 0 where
-  of_line : (line : ℕ) (rule : LineRule) → IsNoSource source c.top line (OfLine rule) → Comes c source input (Err (SourceLine line rule))
-  of_program : (line : ℕ) (rule : AsmRule) → IsNoSource source c.top line (OfProgram rule) → Comes c source input (Err (SourceProgram line rule))
-  ran : {r : Result ℕ Stop} (program : Program) (o : RunEnd) (line : ℕ) → IsSource source c.top program → ComesTo (course_of c program) input c.run.steps o → IsLineOf program o line → r ≡ steps_of c.run.steps line o → Comes c source input r
+-- the source is refused, or its program runs over devices with this supply and comes to an end
+pub data Comes (c : Run80) (source : List ℕ) (supply : Supply) : Result ℕ Stop → Type 0 where
+  of_line : (line : ℕ) (rule : LineRule) → IsNoSource source c.top line (OfLine rule) → Comes c source supply (Err (SourceLine line rule))
+  of_program : (line : ℕ) (rule : AsmRule) → IsNoSource source c.top line (OfProgram rule) → Comes c source supply (Err (SourceProgram line rule))
+  ran : {r : Result ℕ Stop} (program : Program) (o : RunEnd) (line : ℕ) → IsSource source c.top program → ComesTo (course_of c program) supply c.run.steps o → IsLineOf program o line → r ≡ steps_of c.run.steps line o → Comes c source supply r
 
 -- where every file is told and within its limit, the status is that of the one thing that the command comes to
 abbrev pub Completes : Run80 → HostState → HostState → ℕ → Type 0
 Completes c old new status =
-    NoneFailed old new → (source input : List ℕ) → IsTold old c.source input_limit source → InputIsTold old c.run.input input → HasStatus (Comes c source input) status
+    NoneFailed old new → (source : List ℕ) (supply : Supply) → IsTold old c.source input_limit source → SupplyIsTold c.run old supply → HasStatus (Comes c source supply) status

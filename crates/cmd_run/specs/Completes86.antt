@@ -1,25 +1,27 @@
--- The one thing that `run86` comes to by the whole bytes of its text and its input, where no call of the host fails.
+-- The one thing that `run86` comes to by the whole bytes of its text and its devices' files, where no call of the host fails.
 use Rattle.std.specs.Prelude.{◌≡◌, ℕ, List, Option, Result, Err}
 use Rattle.i86.specs.declared.Instr86.{Instr86}
 use Rattle.i86.specs.Code.{Reads}
 use Rattle.asm86_lines.specs.Image.{Image}
 use Rattle.host.specs.Host.{HostState}
+use Rattle.bdos_ports.specs.Supply.{Supply}
 use Rattle.cmd_words.specs.Words.{Run86}
 use Rattle.bdos_talk.specs.declared.running.RunEnd.{RunEnd}
 use Rattle.asm86_image.specs.declared.fault.ImageFault.{ImageFault}
 use Rattle.cmd_reports.specs.declared.stop.Stop.{Stop}
-use Rattle.cmd_inputs.specs.Files.{text_limit, NoneFailed, IsTold, InputIsTold}
+use Rattle.cmd_inputs.specs.Files.{text_limit, NoneFailed, IsTold}
 use Rattle.cmd_inputs.specs.Texts.{HasImage, IsNoImage, stop_of_image}
 use Rattle.cmd_run.specs.Ends.{steps_of}
+use Rattle.cmd_run.specs.Supplies.{SupplyIsTold}
 use Rattle.cmd_run.specs.Outcomes.{ComesTo, HasStatus}
 use Rattle.cmd_run.specs.Runs86.{course_of}
 
--- the text is refused, or its image runs over a console with the input and comes to an end
-pub data Comes (c : Run86) (text input : List ℕ) : Result ℕ Stop → Type 0 where
-  refused : {r : Result ℕ Stop} (fault : ImageFault) → IsNoImage text fault → r ≡ Err (stop_of_image fault) → Comes c text input r
-  ran : {r : Result ℕ Stop} (image : Image) (fetch : ℕ → Option Instr86) (o : RunEnd) → HasImage text image → Reads image.code fetch → ComesTo (course_of c image fetch) input c.run.steps o → r ≡ steps_of c.run.steps 0 o → Comes c text input r
+-- the text is refused, or its image runs over devices with this supply and comes to an end
+pub data Comes (c : Run86) (text : List ℕ) (supply : Supply) : Result ℕ Stop → Type 0 where
+  refused : {r : Result ℕ Stop} (fault : ImageFault) → IsNoImage text fault → r ≡ Err (stop_of_image fault) → Comes c text supply r
+  ran : {r : Result ℕ Stop} (image : Image) (fetch : ℕ → Option Instr86) (o : RunEnd) → HasImage text image → Reads image.code fetch → ComesTo (course_of c image fetch) supply c.run.steps o → r ≡ steps_of c.run.steps 0 o → Comes c text supply r
 
 -- where every file is told and within its limit, the status is that of the one thing that the command comes to
 abbrev pub Completes : Run86 → HostState → HostState → ℕ → Type 0
 Completes c old new status =
-    NoneFailed old new → (text input : List ℕ) → IsTold old c.text text_limit text → InputIsTold old c.run.input input → HasStatus (Comes c text input) status
+    NoneFailed old new → (text : List ℕ) (supply : Supply) → IsTold old c.text text_limit text → SupplyIsTold c.run old supply → HasStatus (Comes c text supply) status

@@ -1,4 +1,5 @@
 pub mod Ends
+pub mod Supplies
 pub mod Runs80
 pub mod Runs86
 pub mod Outcomes

@@ -1,14 +1,15 @@
 -- What the commands that run a program come to by the whole bytes of their files, where no call of the host fails.
 use Rattle.std.specs.Prelude.{◌≡◌, ℕ, ◌⊎◌, List, Result, Ok, Err}
 use Rattle.dialogue.specs.declared.request.Reply.{Reply}
+use Rattle.bdos_ports.specs.Supply.{Supply}
 use Rattle.bdos_talk.specs.declared.running.RunEnd.{RunEnd}
 use Rattle.bdos_talk.specs.Talk.{Seen, IsOutcome}
 use Rattle.cmd_reports.specs.declared.stop.Stop.{Stop}
 use Rattle.cmd_reports.specs.Lines.{status_of}
 
--- a run over a console comes to this
-abbrev pub ComesTo : (List Reply → ℕ → Seen) → List ℕ → ℕ → RunEnd → Type 0
-ComesTo course input limit o = (run : Seen) × IsOutcome course input limit o run
+-- a run over devices comes to this
+abbrev pub ComesTo : (List Reply → ℕ → Seen) → Supply → ℕ → RunEnd → Type 0
+ComesTo course supply limit o = (run : Seen) × IsOutcome course supply limit o run
 
 -- the status of a run that ended after so many instructions, or of a stop
 abbrev pub status_by : Result ℕ Stop → ℕ

@@ -8,6 +8,7 @@ use Rattle.host.specs.Host.{HostState, SameFaults, OnlyReads, OnlySays}
 use Rattle.asm80_program.specs.Program.{Program, line_at}
 use Rattle.asm80_source.specs.Source.{IsSource}
 use Rattle.cmd_words.specs.Words.{Run80}
+use Rattle.bdos_ports.specs.Supply.{Supply}
 use Rattle.bdos_talk.specs.declared.emulator.Why.TheVariants.{Left, NoInstruction, StackSegment, OddCall}
 use Rattle.bdos_talk.specs.declared.fault.TalkFault.{TalkFault}
 use Rattle.bdos_talk.specs.declared.fault.TalkFault.TheVariants.{Unsaid as Untold, Memory as NoMemory}
@@ -21,8 +22,9 @@ use Rattle.cmd_reports.specs.Lines.{ended_line}
 use Rattle.cmd_reports.specs.Said.{IsDone, Closes}
 use Rattle.cmd_run.specs.declared.halt.Halt.{Halt}
 use Rattle.cmd_run.specs.declared.halt.Halt.TheVariants.{By, Unsaid}
-use Rattle.cmd_inputs.specs.Files.{input_limit, IsWhole, IsInput, ReadStops, InputStops}
+use Rattle.cmd_inputs.specs.Files.{input_limit, IsWhole, ReadStops}
 use Rattle.cmd_run.specs.Ends.{steps_of, unsaid_status}
+use Rattle.cmd_run.specs.Supplies.{IsSupplied, SupplyStops}
 use Rattle.cmd_inputs.specs.Sources.{SourceStops}
 
 -- the line of the instruction at a place
@@ -46,46 +48,47 @@ abbrev pub course_of : Run80 → Program → List Reply → ℕ → Seen
 course_of c program = course80 program c.run.page
 
 -- the run comes to this end and says its dialogue, or is cut off by a fault
-abbrev pub RunsTo : Run80 → Program → List ℕ → RunEnd → HostState → HostState → Type 0
-RunsTo c program input o old new = SaysRun (course_of c program) input c.run.steps o old new
+abbrev pub RunsTo : Run80 → Program → Supply → RunEnd → HostState → HostState → Type 0
+RunsTo c program supply o old new = SaysRun (course_of c program) supply c.run.steps o old new
 
-abbrev pub IsCut : Run80 → Program → List ℕ → HostState → HostState → TalkFault → Type 0
-IsCut c program input old new = IsCutOff (course_of c program) input c.run.steps old new
+abbrev pub IsCut : Run80 → Program → Supply → HostState → HostState → TalkFault → Type 0
+IsCut c program supply old new = IsCutOff (course_of c program) supply c.run.steps old new
 
 module _ (c : Run80) (old : HostState) where
-  -- the source's file is the source of a program, and this is the console's input
-  pub record Loads (program : Program) (input : List ℕ) : Type 0 where
+  -- the source's file is the source of a program, and this is what the devices have
+  pub record Loads (program : Program) (supply : Supply) : Type 0 where
     pub source : List ℕ
     pub file : IsWhole old c.source input_limit source
     pub assembled : IsSource source c.top program
-    pub given : IsInput old c.run.input input
+    pub supplied : IsSupplied c.run old supply
 
-  -- why there is nothing to run: the source or the input was not read, or the source has no program, or memory ran out
+  -- why there is nothing to run: the source, or what the devices have, was not read, or the source has no
+  -- program, or memory ran out
   pub data LoadStops (new : HostState) : Stop → Type 0 where
     no_source : {stop : Stop} → ReadStops c.source input_limit old new stop → LoadStops new stop
-    no_input : {stop : Stop} (source : List ℕ) → IsWhole old c.source input_limit source → InputStops c.run.input old new stop → LoadStops new stop
-    no_program : {stop : Stop} (source input : List ℕ) → IsWhole old c.source input_limit source → IsInput old c.run.input input → SameFaults old new → SourceStops source c.top stop → LoadStops new stop
+    no_supply : {stop : Stop} (source : List ℕ) → IsWhole old c.source input_limit source → SupplyStops c.run old new stop → LoadStops new stop
+    no_program : {stop : Stop} (source : List ℕ) (supply : Supply) → IsWhole old c.source input_limit source → IsSupplied c.run old supply → SameFaults old new → SourceStops source c.top stop → LoadStops new stop
 
   module _ (new : HostState) where
     -- the files were read, and then the run came to this end and said its dialogue
     pub record HasRun (program : Program) (o : RunEnd) : Type 0 where
-      pub input : List ℕ
-      pub loads : Loads program input
+      pub supply : Supply
+      pub loads : Loads program supply
       pub start : HostState
       pub reads : OnlyReads old start
-      pub runs : RunsTo c program input o start new
+      pub runs : RunsTo c program supply o start new
       pub says : OnlySays start new
       pub counted : SameFaults old new
 
     -- the same, but the run was cut off by a fault
     pub record HasCut (fault : TalkFault) : Type 0 where
       pub program : Program
-      pub input : List ℕ
-      pub loads : Loads program input
+      pub supply : Supply
+      pub loads : Loads program supply
       pub start : HostState
       pub reads : OnlyReads old start
       pub counted : SameFaults old start
-      pub cut : IsCut c program input start new fault
+      pub cut : IsCut c program supply start new fault
       pub says : OnlySays start new
 
     -- why the command stops

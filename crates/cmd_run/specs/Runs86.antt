@@ -1,4 +1,4 @@
--- What `run86` comes to: the run of a text's image over a console, by a choice. The memory is filled with the choice's lowest
+-- What `run86` comes to: the run of a text's image over devices, by a choice. The memory is filled with the choice's lowest
 -- byte, registers and flags hold its lowest bits, and the choice gives each undefined result.
 use Rattle.std.specs.Prelude.{◌≡◌, ℕ, ◌%◌, List, [], ◌∷◌, replicate, Option, Err}
 use Rattle.i86.specs.declared.Instr86.{Instr86}
@@ -9,6 +9,7 @@ use Rattle.asm86_lines.specs.Image.{Image}
 use Rattle.host.specs.declared.HostFault.{HostFault}
 use Rattle.host.specs.Host.{HostState, SameFaults, OnlyReads, OnlySays}
 use Rattle.cmd_words.specs.Words.{Run86}
+use Rattle.bdos_ports.specs.Supply.{Supply}
 use Rattle.bdos_talk.specs.declared.fault.TalkFault.{TalkFault}
 use Rattle.bdos_talk.specs.declared.fault.TalkFault.TheVariants.{Unsaid as Untold, Memory as NoMemory}
 use Rattle.bdos_talk.specs.declared.running.RunEnd.{RunEnd}
@@ -23,9 +24,10 @@ use Rattle.cmd_reports.specs.Lines.{ended_line}
 use Rattle.cmd_reports.specs.Said.{IsDone, Closes}
 use Rattle.cmd_run.specs.declared.halt.Halt.{Halt}
 use Rattle.cmd_run.specs.declared.halt.Halt.TheVariants.{By, Unsaid}
-use Rattle.cmd_inputs.specs.Files.{text_limit, IsWhole, IsInput, ReadStops, InputStops}
+use Rattle.cmd_inputs.specs.Files.{text_limit, IsWhole, ReadStops}
 use Rattle.cmd_inputs.specs.Texts.{HasImage, IsNoImage, stop_of_image}
 use Rattle.cmd_run.specs.Ends.{steps_of, unsaid_status}
+use Rattle.cmd_run.specs.Supplies.{IsSupplied, SupplyStops}
 
 unfoldable pub fill_by : ℕ → List ℕ
 fill_by choice = replicate 0x10000 (choice % 256)
@@ -35,51 +37,52 @@ abbrev pub course_of : Run86 → Image → (ℕ → Option Instr86) → List Rep
 course_of c image fetch = course86 fetch image c.run.page (fill_by c.choice) (start_by c.choice) (c.choice ∷ [])
 
 -- the run comes to this end and says its dialogue, or is cut off by a fault, whatever reads the code
-abbrev pub RunsTo : Run86 → Image → List ℕ → RunEnd → HostState → HostState → Type 0
-RunsTo c image input o old new =
-    (fetch : ℕ → Option Instr86) → Reads image.code fetch → SaysRun (course_of c image fetch) input c.run.steps o old new
+abbrev pub RunsTo : Run86 → Image → Supply → RunEnd → HostState → HostState → Type 0
+RunsTo c image supply o old new =
+    (fetch : ℕ → Option Instr86) → Reads image.code fetch → SaysRun (course_of c image fetch) supply c.run.steps o old new
 
-abbrev pub IsCut : Run86 → Image → List ℕ → HostState → HostState → TalkFault → Type 0
-IsCut c image input old new fault =
-    (fetch : ℕ → Option Instr86) → Reads image.code fetch → IsCutOff (course_of c image fetch) input c.run.steps old new fault
+abbrev pub IsCut : Run86 → Image → Supply → HostState → HostState → TalkFault → Type 0
+IsCut c image supply old new fault =
+    (fetch : ℕ → Option Instr86) → Reads image.code fetch → IsCutOff (course_of c image fetch) supply c.run.steps old new fault
 
 module _ (c : Run86) (old : HostState) where
-  -- the text's file has an image, whose code has one reader, and this is the console's input
-  pub record Loads (image : Image) (input : List ℕ) : Type 0 where
+  -- the text's file has an image, whose code has one reader, and this is what the devices have
+  pub record Loads (image : Image) (supply : Supply) : Type 0 where
     pub text : List ℕ
     pub file : IsWhole old c.text text_limit text
     pub assembled : HasImage text image
     pub reader : HasReader image.code
-    pub given : IsInput old c.run.input input
+    pub supplied : IsSupplied c.run old supply
 
-  -- why there is nothing to run: the text or the input was not read, or the text has no image, or memory ran out
+  -- why there is nothing to run: the text, or what the devices have, was not read, or the text has no image, or
+  -- memory ran out
   pub data LoadStops (new : HostState) : Stop → Type 0 where
     no_text : {stop : Stop} → ReadStops c.text text_limit old new stop → LoadStops new stop
-    no_input : {stop : Stop} (text : List ℕ) → IsWhole old c.text text_limit text → InputStops c.run.input old new stop → LoadStops new stop
-    no_image : {stop : Stop} (fault : ImageFault) (text input : List ℕ) → IsWhole old c.text text_limit text → IsInput old c.run.input input → SameFaults old new → IsNoImage text fault → stop ≡ stop_of_image fault → LoadStops new stop
+    no_supply : {stop : Stop} (text : List ℕ) → IsWhole old c.text text_limit text → SupplyStops c.run old new stop → LoadStops new stop
+    no_image : {stop : Stop} (fault : ImageFault) (text : List ℕ) (supply : Supply) → IsWhole old c.text text_limit text → IsSupplied c.run old supply → SameFaults old new → IsNoImage text fault → stop ≡ stop_of_image fault → LoadStops new stop
     no_memory : LoadStops new OutOfMemory
 
   module _ (new : HostState) where
     -- the files were read, and then the run came to this end and said its dialogue
     pub record HasRun (o : RunEnd) : Type 0 where
       pub image : Image
-      pub input : List ℕ
-      pub loads : Loads image input
+      pub supply : Supply
+      pub loads : Loads image supply
       pub start : HostState
       pub reads : OnlyReads old start
-      pub runs : RunsTo c image input o start new
+      pub runs : RunsTo c image supply o start new
       pub says : OnlySays start new
       pub counted : SameFaults old new
 
     -- the same, but the run was cut off by a fault
     pub record HasCut (fault : TalkFault) : Type 0 where
       pub image : Image
-      pub input : List ℕ
-      pub loads : Loads image input
+      pub supply : Supply
+      pub loads : Loads image supply
       pub start : HostState
       pub reads : OnlyReads old start
       pub counted : SameFaults old start
-      pub cut : IsCut c image input start new fault
+      pub cut : IsCut c image supply start new fault
       pub says : OnlySays start new
 
     -- why the command stops

@@ -5,6 +5,7 @@ mod ends;
 mod halt;
 mod run_source;
 mod run_text;
+mod supplies;
 
 pub use run_source::run80;
 pub use run_text::run86;

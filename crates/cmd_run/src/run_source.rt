@@ -1,9 +1,10 @@
-// The work of `run80`: a source's program runs on the tagged 8080 over a console.
+// The work of `run80`: a source's program runs on the tagged 8080 over devices.
 ghost use Rattle.std.specs.Prelude.{◌≡◌, ℕ, true, IfOk, IfErr, OnOk};
 ghost use Rattle.std.specs.String.{string_bytes};
 ghost use Rattle.host.specs.Host.{SameFiles, SameFaults, OnlyReads, OnlySays};
 ghost use Rattle.asm80_program.specs.Program.{is_top};
 ghost use Rattle.cmd_words.specs.ReadCommands.{run80_read};
+ghost use Rattle.bdos_ports.specs.Supply.{supply_of};
 ghost use Rattle.bdos_talk.specs.declared.running.RunEnd.TheVariants.{Stopped};
 ghost use Rattle.cmd_run.specs.Ends.{Halts};
 ghost use Rattle.cmd_run.specs.Completes80.{Completes};
@@ -11,25 +12,26 @@ ghost use Rattle.cmd_run.specs.Runs80.{IsLineAt, IsLineOf, Loads, LoadStops, Run
 
 use crate::ends::steps_of;
 use crate::halt::{Halt, unsaid_status};
+use crate::supplies::{Supplies, read_supplies};
 use asm80_program::Program80;
 use asm80_values::source_has_one_outcome;
 use bdos_emulation::{RunEnd, TalkFault, Why, run_80};
 use cells::Place;
-use cmd_inputs::{SOURCE_LIMIT, read_input, read_named, read_source};
+use cmd_inputs::read_source;
 use cmd_reports::{ended_line, say_done, say_stop};
 use cmd_words::Run80;
 use host::Host;
 use std::alloc::Global;
 
-// What there is before the run: the program, and the console's input.
+// What there is before the run: the program, and what the devices have.
 #[derive(Drop)]
 struct Loaded {
     program: Program80,
-    input: Vec<u8>,
+    supplies: Supplies,
 }
 
-/// Runs the source of a command over a console, says each event of its dialogue and then what the run came to, and answers
-/// the status. The top of the program area is 4000H, 8000H, 0C000H or 0F000H.
+/// Runs the source of a command over devices, says each event of its dialogue and then what the run came to, and answers the
+/// status. The top of the program area is a multiple of 100H from 1000H to 0FF00H.
 pub fn run80<H: Host>(alloc: Global, host: &mut H, command: &Run80<'_>) -> u8
     requires { is_top command.now.top ≡ true }
     ensures gives { Gives (run80_read command.now) (H.state host.old) (H.state host.new) result }
@@ -61,42 +63,43 @@ fn work<'a, H: Host>(alloc: Global, host: &mut H, command: &Run80<'a>) -> Result
     ensures files { SameFiles (H.state host.old) (H.state host.new) }
 {
     let loaded = load(alloc, host, command)?;
-    let Loaded { program, input } = loaded;
-    let end = run(alloc, host, command, &program, input)?;
+    let Loaded { program, supplies } = loaded;
+    let end = run(alloc, host, command, &program, supplies)?;
     let line = line_of(&program, end);
     let steps = steps_of(end, command.run.steps, line)?;
     Ok(ended_line(alloc, steps)?)
 }
 
-// Reads the files, and makes the program of the source.
+// Reads the files, the source one as its program. That the source is refused is told once all of them are read.
 fn load<'a, H: Host>(alloc: Global, host: &mut H, command: &Run80<'a>) -> Result<Loaded, Halt<'a>>
     requires { is_top command.now.top ≡ true }
     ensures only { OnlyReads (H.state host.old) (H.state host.new) }
-    ensures loaded { IfOk result (λ l. Loads (run80_read command.now) (H.state host.old) l.program l.input.items) }
+    ensures loaded { IfOk result (λ l. Loads (run80_read command.now) (H.state host.old) l.program (supply_of l.supplies.input.items l.supplies.ports.items)) }
     ensures counted { OnOk result (SameFaults (H.state host.old) (H.state host.new)) }
     ensures stopped { IfErr result (Halts (LoadStops (run80_read command.now) (H.state host.old) (H.state host.new))) }
 {
-    let source = read_named(alloc, host, command.source, SOURCE_LIMIT)?;
-    let input = read_input(alloc, host, command.run.input)?;
-    let program = read_source(alloc, source.as_slice(), command.top)?;
-    Ok(Loaded { program, input })
+    let source = read_source(alloc, host, command.source, command.top)?;
+    let supplies = read_supplies(alloc, host, &command.run)?;
+    let program = source?;
+    Ok(Loaded { program, supplies })
 }
 
-// Runs the program over a console with the input.
+// Runs the program over devices with what they have.
 fn run<H: Host>(
     alloc: Global,
     host: &mut H,
     command: &Run80<'_>,
     program: &Program80,
-    input: Vec<u8>,
+    supplies: Supplies,
 ) -> Result<RunEnd, TalkFault>
-    ensures run { IfOk result (λ o. RunsTo (run80_read command.now) program.now input.items o (H.state host.old) (H.state host.new)) }
-    ensures cut { IfErr result (IsCut (run80_read command.now) program.now input.items (H.state host.old) (H.state host.new)) }
+    ensures run { IfOk result (λ o. RunsTo (run80_read command.now) program.now (supply_of supplies.input.items supplies.ports.items) o (H.state host.old) (H.state host.new)) }
+    ensures cut { IfErr result (IsCut (run80_read command.now) program.now (supply_of supplies.input.items supplies.ports.items) (H.state host.old) (H.state host.new)) }
     ensures only { OnlySays (H.state host.old) (H.state host.new) }
     ensures counted { OnOk result (SameFaults (H.state host.old) (H.state host.new)) }
 {
+    let Supplies { input, ports } = supplies;
     let steps = command.run.steps;
-    run_80(alloc, program, &command.run.page, input, steps, host)
+    run_80(alloc, program, &command.run.page, input, ports, steps, host)
 }
 
 // The line of the instruction at which a run left the profile.

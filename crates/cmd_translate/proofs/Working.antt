@@ -4,38 +4,39 @@ use Rattle.std.specs.Prelude.{Result, Ok, Err, IsErrAnd, IfErr}
 use Rattle.host.specs.Host.{HostState, HasRisen, OnlyReads, OnlyWrites, SameFaults, Rewrites, rewritten}
 use Rattle.asm86_lines.specs.Written.{text_of}
 use Rattle.asm80_program.specs.Program.{Program}
+use Rattle.asm80_source.specs.declared.rule.AsmRule.TheVariants.{S1}
 use Rattle.asm80_source.specs.Source.{IsSource, OfLine, OfProgram}
 use Rattle.templates.specs.Plain.{plain}
 use Rattle.cmd_words.specs.Words.{Translate}
 use Rattle.xlt_core.specs.First.{IsFirst}
 use Rattle.cmd_reports.specs.declared.stop.Stop.{Stop}
 use Rattle.cmd_inputs.specs.Files.{IsWhole, input_limit}
-use Rattle.cmd_inputs.specs.Sources.{SourceStops, of_line, of_program, no_memory as no_memory_to_read}
-use Rattle.cmd_translate.specs.Firsts.{IsRefused, no_source}
+use Rattle.cmd_inputs.specs.Sources.{SourceStops, of_line, of_program}
+use Rattle.cmd_translate.specs.Firsts.{no_source, beyond}
 use Rattle.cmd_translate.specs.Translates.{line_of_program, Accepts}
-use Rattle.cmd_translate.specs.Work.{FirstStops, is_refused, no_room, Works, WriteStops, StopsBy, refused, no_memory, unwritten}
+use Rattle.cmd_translate.specs.Work.{FirstStops, is_beyond, Works, WriteStops, StopsBy, refused, unwritten}
 
 -- a result that is an error is judged as one
 pub stops : {T : Type 0} (r : Result T Stop) (P Q : Stop → Type 0) → IsErrAnd r P → ((stop : Stop) → P stop → Q stop) → IfErr r Q
 stops (Ok x) P Q e f = absurd e
 stops (Err stop) P Q e f = f stop e
 
--- a source that is no source is refused
-pub first_stop : (bytes : List ℕ) (top : ℕ) (stop : Stop) → SourceStops bytes top stop → FirstStops bytes top stop
-first_stop bytes top _ (of_line {line = line} {rule = rule} n) = is_refused line (OfLine rule) (no_source n) refl
-first_stop bytes top _ (of_program {line = line} {rule = rule} n) = is_refused line (OfProgram rule) (no_source n) refl
-first_stop bytes top _ no_memory_to_read = no_room
-
 module _ (c : Translate) (old mid new : HostState) (bytes : List ℕ) (file : IsWhole old c.input input_limit bytes) (reads : OnlyReads old mid) (counted : SameFaults old mid) where
   -- the bytes were read, and are refused
-  pub source_stop : (given : List ℕ) → given ≡ bytes → (stop : Stop) → FirstStops given c.top stop → StopsBy c old mid stop
-  source_stop given e stop (is_refused line rule r is) =
-      refused line rule (record { bytes = bytes; file = file; refused = subst (λ b. IsRefused b c.top line rule) e r }) is reads counted
-  source_stop given e _ no_room = no_memory reads
+  pub source_stop : (stop : Stop) → SourceStops bytes c.top stop → StopsBy c old mid stop
+  source_stop _ (of_line {line = line} {rule = rule} n) =
+      refused line (OfLine rule) (record { bytes = bytes; file = file; refused = no_source n }) refl reads counted
+  source_stop _ (of_program {line = line} {rule = rule} n) =
+      refused line (OfProgram rule) (record { bytes = bytes; file = file; refused = no_source n }) refl reads counted
 
-  module _ (given : List ℕ) (same : given ≡ bytes) (p : Program) (source : IsSource given c.top p) (first : IsFirst p) where
+  -- they are the source of a program that is not translated
+  pub program_stop : (p : Program) → IsSource bytes c.top p → (stop : Stop) → FirstStops p stop → StopsBy c old mid stop
+  program_stop p source _ (is_beyond {line = line} b) =
+      refused line (OfProgram S1) (record { bytes = bytes; file = file; refused = beyond p source b }) refl reads counted
+
+  module _ (p : Program) (source : IsSource bytes c.top p) (first : IsFirst p) where
     accepts : Accepts c old p
-    accepts = record { bytes = bytes; file = file; source = subst (λ b. IsSource b c.top p) same source; first = first }
+    accepts = record { bytes = bytes; file = file; source = source; first = first }
 
     module _ (text : List ℕ) (is : text ≡ text_of (plain p)) (writes : OnlyWrites mid new c.output) where
       rewrites_old : (bytes : List ℕ) → Rewrites mid new c.output bytes → Rewrites old new c.output bytes

@@ -6,20 +6,20 @@ use Rattle.host.specs.Host.{HostState, SameSaid, SameFaults, OnlyReads}
 use Rattle.host.specs.Host.{WriteFailed as WriteFails}
 use Rattle.asm80_program.specs.declared.program.Placed.{Placed}
 use Rattle.asm80_program.specs.Program.{Program}
-use Rattle.asm80_source.specs.Source.{SourceRule}
+use Rattle.asm80_source.specs.declared.rule.AsmRule.TheVariants.{S1}
+use Rattle.asm80_source.specs.Source.{SourceRule, OfProgram}
 use Rattle.cmd_files.specs.Transfer.{IsBeforeOrPart}
 use Rattle.cmd_words.specs.Words.{Translate}
 use Rattle.xlt_core.specs.First.{HoldsFirst}
 use Rattle.cmd_reports.specs.declared.stop.Stop.{Stop}
 use Rattle.cmd_reports.specs.declared.stop.Stop.TheVariants.{WriteFailed, OutOfMemory}
 use Rattle.cmd_inputs.specs.Files.{ReadStops, input_limit}
-use Rattle.cmd_translate.specs.Firsts.{IsOtherLine, IsRefused}
+use Rattle.cmd_translate.specs.Firsts.{IsOtherLine, IsBeyond}
 use Rattle.cmd_translate.specs.Translates.{stop_of_rule, line_of_program, Accepts, Refuses, Writes, WritesPart}
 
--- a stop is a refusal of the bytes, or want of memory
-pub data FirstStops (bytes : List ℕ) (top : ℕ) : Stop → Type 0 where
-  is_refused : {stop : Stop} (line : ℕ) (rule : SourceRule) → IsRefused bytes top line rule → stop ≡ stop_of_rule line rule → FirstStops bytes top stop
-  no_room : FirstStops bytes top OutOfMemory
+-- a program is not one of those that are translated
+pub data FirstStops (p : Program) : Stop → Type 0 where
+  is_beyond : {line : ℕ} → IsBeyond p line → FirstStops p (stop_of_rule line (OfProgram S1))
 
 abbrev pub stop_of_write : HostFault → Stop
 stop_of_write Failed = WriteFailed

@@ -5,7 +5,6 @@ ghost use Rattle.host.specs.Host.{SameFaults, OnlyWrites, Rewrites, WriteFailed}
 ghost use Rattle.asm86_lines.specs.Image.{statements};
 ghost use Rattle.asm86_lines.specs.Written.{text_of};
 ghost use Rattle.asm80_program.specs.Program.{is_top};
-ghost use Rattle.asm80_source.specs.Source.{IsSource};
 ghost use Rattle.xlt_core.specs.First.{IsFirst};
 ghost use Rattle.templates.specs.Plain.{plain, plain_statements};
 ghost use Rattle.cmd_words.specs.ReadCommands.{translate_read};
@@ -19,7 +18,7 @@ use asm80_source::AsmRule;
 use asm80_values::source_has_one_outcome;
 use asm86_lines::{Line86, code_size};
 use cmd_files::write_out;
-use cmd_inputs::{SOURCE_LIMIT, read_named, read_source};
+use cmd_inputs::read_source;
 use cmd_reports::{Stop, say_done, say_stop, translated_line};
 use cmd_words::Translate;
 use host::{Host, HostFault};
@@ -60,21 +59,19 @@ fn work<'a, H: Host>(
     ensures worked { IfOk result (λ line. Works (translate_read command.now) (H.state host.old) (H.state host.new) (string_bytes line)) }
     ensures stopped { IfErr result (StopsBy (translate_read command.now) (H.state host.old) (H.state host.new)) }
 {
-    let bytes = read_named(alloc, host, command.input, SOURCE_LIMIT)?;
-    let program = first_program(alloc, bytes.as_slice(), command.top)?;
+    let source = read_source(alloc, host, command.input, command.top)?;
+    let program = first_program(source?)?;
     let text = text_of_program(alloc, &program)?;
     write_text(host, command.output, text.lines.as_slice())?;
     Ok(text.line)
 }
 
-// The program of a source, which has first instructions alone.
-fn first_program<'a>(alloc: Global, bytes: &[u8], top: u16) -> Result<Program80, Stop<'a>>
-    requires { is_top top ≡ true }
-    ensures source { IfOk result (IsSource bytes.now top) }
+// The program, if it has first instructions alone.
+fn first_program<'a>(program: Program80) -> Result<Program80, Stop<'a>>
+    ensures same { IfOk result (λ same. same ≡ program) }
     ensures first { IfOk result IsFirst }
-    ensures stopped { IfErr result (FirstStops bytes.now top) }
+    ensures stopped { IfErr result (FirstStops program) }
 {
-    let program = read_source(alloc, bytes, top)?;
     match line_beyond(&program) {
         None => Ok(program),
         Some(line) => Err(Stop::SourceProgram(line, AsmRule::S1)),

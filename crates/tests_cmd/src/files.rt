@@ -1,7 +1,10 @@
-// Files in memory, read and written whole, and with a call that fails.
+// Files in memory, read and written whole, with a call that fails, and one byte at a time.
+ghost use Rattle.std.specs.Prelude.{◌≤◌, ◌^◌};
+
+use crate::sparing::Sparing;
 use asm86_lines::{Line86, Stmt86};
-use cmd_files::{ReadFault, read_file, say_line, write_out};
-use host::{HostFault, MemHost};
+use cmd_files::{ReadFault, read_into, say_line, write_bytes, write_out};
+use host::{Host, HostFault, MemHost};
 use std::alloc::{AllocError, Global};
 use std::test::Fail;
 
@@ -11,6 +14,20 @@ fn host_failing_at(alloc: Global, call: u64) -> Result<MemHost, AllocError> {
     host.put("long", &[7; 5000])?;
     host.fail_at(call)?;
     Ok(host)
+}
+
+// A whole file, or why it is not read.
+fn read_file<H: Host>(
+    alloc: Global,
+    host: &mut H,
+    name: &str,
+    limit: usize,
+) -> Result<Vec<u8>, ReadFault>
+    requires { limit ≤ 2 ^ 31 }
+{
+    let mut bytes = Vec::new(alloc);
+    read_into(host, name, limit, &mut bytes)?;
+    Ok(bytes)
 }
 
 #[test]
@@ -91,5 +108,43 @@ fn says_whole_lines(rt: HostRuntime) -> Result<(), Fail> {
     assert_eq!(rt; say_line(&mut host, b"!\r\n"), Ok(()));
     assert_eq!(rt; host.said().len(), 5003);
     assert_eq!(rt; host.said().get(5000..), Some(b"!\r\n".as_slice()));
+    Ok(())
+}
+
+#[test]
+fn writes_whole_bytes(rt: HostRuntime) -> Result<(), Fail> {
+    let mut host = host_failing_at(rt.alloc(), 0)?;
+    assert_eq!(rt; write_bytes(&mut host, "new", &[9; 5000]), Ok(()));
+    assert_eq!(rt; write_bytes(&mut host, "long", b"two"), Ok(()));
+    assert_eq!(rt; write_bytes(&mut host, "none", &[]), Ok(()));
+    let new = host.file("new").unwrap_or(&[]);
+    assert_eq!(rt; new, [9; 5000].as_slice());
+    let long = host.file("long").unwrap_or(&[]);
+    assert_eq!(rt; long, b"two".as_slice());
+    assert_eq!(rt; host.file("none").map(|bytes| bytes.len()), Some(0));
+    for (call, kept, first) in [(1, 5000, 7), (2, 0, 0), (3, 4096, 9)] {
+        let mut host = host_failing_at(rt.alloc(), call)?;
+        let written = write_bytes(&mut host, "long", &[9; 5000]);
+        assert_eq!(rt; written, Err(HostFault::Failed));
+        let held = host.file("long").unwrap_or(&[]);
+        assert_eq!(rt; held.len(), kept);
+        assert_eq!(rt; held.first().copied().unwrap_or(0), first);
+    }
+    Ok(())
+}
+
+#[test]
+fn files_go_byte_by_byte(rt: HostRuntime) -> Result<(), Fail> {
+    let mut host = Sparing {
+        host: host_failing_at(rt.alloc(), 0)?,
+    };
+    let bytes = read_file(rt.alloc(), &mut host, "long", 5000)?;
+    assert_eq!(rt; bytes.as_slice(), [7; 5000].as_slice());
+    let refused = read_file(rt.alloc(), &mut host, "long", 4999).err();
+    assert_eq!(rt; refused, Some(ReadFault::TooLong));
+    assert_eq!(rt; write_bytes(&mut host, "new", &[9; 5000]), Ok(()));
+    assert_eq!(rt; host.host.file("new"), Some([9; 5000].as_slice()));
+    assert_eq!(rt; say_line(&mut host, b"said\n"), Ok(()));
+    assert_eq!(rt; host.host.said(), b"said\n".as_slice());
     Ok(())
 }

@@ -44,7 +44,7 @@ const NAMES_AND_FLAGS: [Row; 22] = [
     (&["run80", "A", PLAIN], "none"),
 ];
 
-const OPTIONS_WITH_VALUES: [Row; 18] = [
+const OPTIONS_WITH_VALUES: [Row; 22] = [
     (&["translate", "A", "B", PLAIN, "--top", "1234"], "none"),
     (
         &["translate", "A", "B", "--top=8000", PLAIN],
@@ -66,6 +66,16 @@ const OPTIONS_WITH_VALUES: [Row; 18] = [
         &["translate", "A", "B", PLAIN, "--top", "--", "8000"],
         "none",
     ),
+    (
+        &["translate", "A", "B", PLAIN, "--top", "1000"],
+        "A B top 1000",
+    ),
+    (
+        &["translate", "A", "B", PLAIN, "--top", "fF00"],
+        "A B top ff00",
+    ),
+    (&["translate", "A", "B", PLAIN, "--top", "0F00"], "none"),
+    (&["translate", "A", "B", PLAIN, "--top", "FF01"], "none"),
     (&["translate", "A", "B", PLAIN, "--top"], "none"),
     (&["translate", "A", "B", PLAIN, "--top="], "none"),
     (&["translate", "A", "B", PLAIN, "--top=08000"], "none"),
@@ -80,11 +90,11 @@ const OPTIONS_WITH_VALUES: [Row; 18] = [
     (&["run80", "A", "--choice=1"], "none"),
     (
         &["run86", "T", "--choice", "aB"],
-        "T choice ab input none tail 0 steps 1000000",
+        "T choice ab input none ports none tail 0 steps 1000000",
     ),
     (
         &["run86", "T", CHOICE_32],
-        "T choice ffffffffffffffffffffffffffffffff input none tail 0 steps 1000000",
+        "T choice ffffffffffffffffffffffffffffffff input none ports none tail 0 steps 1000000",
     ),
     (
         &["run86", "T", "--choice=000000000000000000000000000000000"],
@@ -92,10 +102,10 @@ const OPTIONS_WITH_VALUES: [Row; 18] = [
     ),
 ];
 
-const RUN_OPTIONS: [Row; 19] = [
+const RUN_OPTIONS: [Row; 26] = [
     (
         &["run80", "A"],
-        "A top f000 input none tail 0 steps 1000000",
+        "A top f000 input none ports none tail 0 steps 1000000",
     ),
     (
         &[
@@ -107,11 +117,11 @@ const RUN_OPTIONS: [Row; 19] = [
             "x y",
             "--steps=10000000",
         ],
-        "A top f000 input F tail 4 steps 10000000",
+        "A top f000 input F ports none tail 4 steps 10000000",
     ),
     (
         &["run80", "A", "--steps", "00000001"],
-        "A top f000 input none tail 0 steps 1",
+        "A top f000 input none ports none tail 0 steps 1",
     ),
     (&["run80", "A", "--steps=000000001"], "none"),
     (&["run80", "A", "--steps=0"], "none"),
@@ -120,34 +130,47 @@ const RUN_OPTIONS: [Row; 19] = [
     (&["run80", "A", "--input="], "none"),
     (&["run80", "A", "--input", ""], "none"),
     (&["run80", "A", "--input", "-x"], "none"),
+    (&["run80", "A", "--ports="], "none"),
+    (&["run80", "A", "--ports"], "none"),
+    (&["run80", "A", "--ports", "-x"], "none"),
+    (&["run80", "A", "--ports=F", "--ports=F"], "none"),
+    (&["translate", "A", "B", PLAIN, "--ports=F"], "none"),
+    (
+        &["run80", "A", "--ports=-x", "--input", "F"],
+        "A top f000 input F ports -x tail 0 steps 1000000",
+    ),
+    (
+        &["run86", "T", "--ports", "F"],
+        "T choice 0 input none ports F tail 0 steps 1000000",
+    ),
     (
         &["run80", "A", "--input=-x"],
-        "A top f000 input -x tail 0 steps 1000000",
+        "A top f000 input -x ports none tail 0 steps 1000000",
     ),
     (
         &["run80", "A", "--input", "-"],
-        "A top f000 input - tail 0 steps 1000000",
+        "A top f000 input - ports none tail 0 steps 1000000",
     ),
     (
         &["run80", "A", "--tail="],
-        "A top f000 input none tail 0 steps 1000000",
+        "A top f000 input none ports none tail 0 steps 1000000",
     ),
     (
         &["run80", "A", "--tail", ""],
-        "A top f000 input none tail 0 steps 1000000",
+        "A top f000 input none ports none tail 0 steps 1000000",
     ),
     (
         &["run80", "A", "--tail=a=b"],
-        "A top f000 input none tail 4 steps 1000000",
+        "A top f000 input none ports none tail 4 steps 1000000",
     ),
     (
         &["run80", "A", "--tail=--"],
-        "A top f000 input none tail 3 steps 1000000",
+        "A top f000 input none ports none tail 3 steps 1000000",
     ),
     (&["run80", "A", "--tail=a\tb"], "none"),
     (
         &["run80", "A", TAIL_126],
-        "A top f000 input none tail 127 steps 1000000",
+        "A top f000 input none ports none tail 127 steps 1000000",
     ),
     (&["run80", "A", TAIL_127], "none"),
 ];
@@ -160,11 +183,15 @@ fn list_of(alloc: Global, words: &[&str]) -> Result<Vec<String>, AllocError> {
     Ok(list)
 }
 
-// Run options by the input's file, the byte at 80H and the steps.
+// Run options by the files of the input and of the ports, the byte at 80H and the steps.
 fn run_text(alloc: Global, run: &RunOptions) -> Result<String, AllocError> {
     let input = run.input.unwrap_or("none");
+    let ports = run.ports.unwrap_or("none");
     let count = run.page.bytes()[0x24];
-    format!(in alloc; "input {input} tail {count} steps {}", run.steps)
+    format!(in alloc;
+        "input {input} ports {ports} tail {count} steps {}",
+        run.steps
+    )
 }
 
 // The command that words are.

@@ -264,24 +264,34 @@ fn writing(alloc: Global) -> Result<Reply, AllocError> {
     })
 }
 
+// Whether a reply is refused, and the machine asks again.
+fn refuses(cpu: &mut Cpu80, program: &Program80, reply: &Reply) -> bool
+    requires { IsMachineOf program.now cpu.old }
+    ensures { IsMachineOf program.now cpu.new }
+{
+    !cpu.reply(reply) && cpu.step(program) == Asked
+}
+
 // An IN takes any byte and an OUT the answer 0; neither takes a write. A reply that is refused changes nothing.
 #[test]
 fn ports_take_replies_that_fit(rt: HostRuntime) -> Result<(), Fail> {
     let alloc = rt.alloc();
     let program = echoes(alloc)?;
+    let write = writing(alloc)?;
     let page = Page::of_tail(b"").ok_or("a page")?;
     let mut cpu = Cpu80::new(alloc, &program, &page)?;
-    assert!(rt; !cpu.reply(&reply(alloc, 0)));
     assert!(rt; cpu.step(&program) == Asked);
     assert!(rt; matches!(&cpu.asked(alloc)?, Some(Event::In(7))));
-    assert!(rt; !cpu.reply(&reply(alloc, 256)) && !cpu.reply(&writing(alloc)?));
-    assert!(rt; cpu.step(&program) == Asked && cpu.place() == At(0x100));
+    assert!(rt; refuses(&mut cpu, &program, &reply(alloc, 256)));
+    assert!(rt; refuses(&mut cpu, &program, &write));
+    assert!(rt; cpu.place() == At(0x100));
     assert!(rt; matches!(&cpu.asked(alloc)?, Some(Event::In(7))));
     assert!(rt; cpu.reply(&reply(alloc, 255)));
     assert!(rt; cpu.asked(alloc)?.is_none() && cpu.place() == At(0x102));
     assert!(rt; cpu.step(&program) == Asked);
     assert!(rt; matches!(&cpu.asked(alloc)?, Some(Event::Out(8, 255))));
-    assert!(rt; !cpu.reply(&reply(alloc, 1)) && !cpu.reply(&writing(alloc)?));
+    assert!(rt; refuses(&mut cpu, &program, &reply(alloc, 1)));
+    assert!(rt; refuses(&mut cpu, &program, &write));
     assert!(rt; cpu.reply(&reply(alloc, 0)));
     assert!(rt; cpu.step(&program) == Ended && cpu.place() == At(0x104));
     Ok(())

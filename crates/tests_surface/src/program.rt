@@ -4,7 +4,7 @@ use crate::texts::image_of;
 use host::{Host, HostFault, MemHost};
 use std::alloc::{AllocError, Global};
 use std::test::Fail;
-use xlt_app::{write_out, xlt};
+use xlt_app::{write_bytes, write_out, xlt};
 
 fn words(alloc: Global, given: &[&str]) -> Result<Vec<String>, AllocError> {
     let mut words = Vec::new(alloc);
@@ -29,10 +29,12 @@ fn a_host_in_memory(rt: HostRuntime) -> Result<(), Fail> {
 }
 
 #[test]
-fn a_list_of_lines_is_written(rt: HostRuntime) -> Result<(), Fail> {
+fn lines_and_bytes_are_written(rt: HostRuntime) -> Result<(), Fail> {
     let mut host = MemHost::new(rt.alloc());
     assert!(rt; write_out(&mut host, "OUT", &[]).is_ok());
     assert!(rt; host.file("OUT") == Some(b""));
+    assert!(rt; write_bytes(&mut host, "OUT", b"D").is_ok());
+    assert!(rt; host.file("OUT") == Some(b"D"));
     Ok(())
 }
 

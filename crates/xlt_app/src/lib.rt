@@ -6,7 +6,7 @@ ghost use Rattle.std.specs.String.{string_bytes};
 ghost use Rattle.cmd_words.specs.Words.{Translate, Translates, IsCommand};
 ghost use Rattle.xlt_app.specs.Top.{Headline, Outcomes};
 
-pub use cmd_files::write_out;
+pub use cmd_files::{write_bytes, write_out};
 use cmd_reports::words_refused;
 use cmd_run::{run80, run86};
 use cmd_translate::translate;

@@ -1,12 +1,11 @@
-use Rattle.std.proofs.Common.{refl, ap, Err}
-use Rattle.cmd_inputs.specs.Files.{failed, too_long, no_memory}
+use Rattle.std.proofs.Common.{◌≡◌, ◌≤◌, [], length, sym, subst}
+use Rattle.host.specs.Host.{IsFile}
 use Rattle.cmd_inputs.proofs.files.read_named.Goals as goal
 
-pub returns-in-Err-Failed-clause-stopped : goal.returns-in-Err-Failed-clause-stopped
-returns-in-Err-Failed-clause-stopped g c = failed refl (c.in-Err-Failed.ensures.failed (ap Err c.in-Err-Failed.field-0-is))
-
-pub returns-in-Err-TooLong-clause-stopped : goal.returns-in-Err-TooLong-clause-stopped
-returns-in-Err-TooLong-clause-stopped g c = let e = c.in-Err-TooLong.ensures.too_long (ap Err c.in-Err-TooLong.field-0-is) in too_long refl e.0 e.1
-
-pub returns-in-Err-Memory-clause-stopped : goal.returns-in-Err-Memory-clause-stopped
-returns-in-Err-Memory-clause-stopped g c = no_memory
+-- the bytes that were given are those that are kept
+pub returns-clause-read : goal.returns-clause-read
+returns-clause-read g c =
+    let told = (g.H.Host.state c.args.host.now).file c.args.name.now in
+    let file = c.in_ok-read_named_into.ensures.read in
+    let kept : file.bytes ≡ c.read_named_into.new.sink.items = sym (file.given [] c.new-bytes.ensures.items) in
+    (subst (IsFile told) kept file.whole, subst (λ b. length b ≤ c.args.limit) kept file.within)

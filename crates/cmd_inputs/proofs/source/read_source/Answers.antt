@@ -1,13 +1,13 @@
-use Rattle.std.proofs.Common.{ap, Err}
-use Rattle.cmd_inputs.proofs.Refusing.{unread, unassembled}
+use Rattle.std.proofs.lemmas.Result.{err_from_is_err_and}
+use Rattle.cmd_inputs.specs.Files.{no_memory}
 use Rattle.cmd_inputs.proofs.source.read_source.Goals as goal
 
-pub returns-in-Ok-clause-stopped : goal.returns-in-Ok-clause-stopped
-returns-in-Ok-clause-stopped c =
-    let r = c.in-Err-assemble in
-    unassembled c.args.bytes.now c.args.top c.in-Ok.statements.items c.as_slice.result.now c.as_slice.ensures.value c.in-Ok.ensures r.fault c.stop_of_program.result c.stop_of_program.ensures (λ line rule e. r.ensures.refused line rule (ap Err e))
+pub returns-in_err-new-clause-stopped : goal.returns-in_err-new-clause-stopped
+returns-in_err-new-clause-stopped g c =
+    let p = err_from_is_err_and c.from_residual.result c.from_residual.ensures.1 in
+    rw (p.1, p.2) no_memory
 
-pub returns-clause-stopped : goal.returns-clause-stopped
-returns-clause-stopped c =
-    let r = c.in-Err in
-    unread c.args.bytes.now c.args.top r.fault c.stop_of_lines.result c.stop_of_lines.ensures r.ensures
+pub returns-in_err-program-clause-stopped : goal.returns-in_err-program-clause-stopped
+returns-in_err-program-clause-stopped g c =
+    let p = err_from_is_err_and c.from_residual-in_err-program.result c.from_residual-in_err-program.ensures.1 in
+    rw (p.1, p.2) no_memory

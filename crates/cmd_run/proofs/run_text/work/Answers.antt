@@ -4,7 +4,8 @@ use Rattle.cmd_reports.specs.declared.stop.Stop.TheVariants.{OutOfMemory}
 use Rattle.cmd_run.specs.declared.halt.Halt.TheVariants.{By}
 use Rattle.cmd_run.specs.Ends.{halt_of_talk}
 use Rattle.cmd_run.specs.Runs86.{HasRun, IsHalted, ran, no_line}
-use Rattle.cmd_run.proofs.Loading.{halts}
+use Rattle.bdos_ports.specs.Supply.{supply_of}
+use Rattle.cmd_run.proofs.Loading.{judged}
 use Rattle.cmd_run.proofs.Working.{unloaded_halts, has_run, cut_halts, ended_is}
 use Rattle.cmd_run.proofs.run_text.work.Goals as goal
 
@@ -13,7 +14,7 @@ returns-in_err-loaded-clause-halted g c =
     let command = run86_read c.args.command.now in
     let old = g.H.Host.state c.args.host.now in
     let new = g.H.Host.state c.load.new.host in
-    halts c.from_residual.result (λ h. h ≡ c.in_err-loaded.field-0.0) (IsHalted command old new) c.from_residual.ensures.1
+    judged c.from_residual.result (λ h. h ≡ c.in_err-loaded.field-0.0) (IsHalted command old new) c.from_residual.ensures.1
     (λ h is. subst (IsHalted command old new) (sym is) (unloaded_halts command old new c.in_err-loaded.field-0.0 c.in_err-loaded.ensures.only c.in_err-loaded.ensures.stopped))
 
 pub returns-in_err-end-clause-halted : goal.returns-in_err-end-clause-halted
@@ -24,9 +25,9 @@ returns-in_err-end-clause-halted g c =
     let new = g.H.Host.state c.run.new.host in
     let l = c.in_ok-loaded in
     let e = c.in_err-end.ensures in
-    halts c.from_residual-in_err-end.result (λ h. h ≡ halt_of_talk c.in_err-end.field-0.0) (IsHalted command old new) c.from_residual-in_err-end.ensures.1
+    judged c.from_residual-in_err-end.result (λ h. h ≡ halt_of_talk c.in_err-end.field-0.0) (IsHalted command old new) c.from_residual-in_err-end.ensures.1
     (λ h is. subst (IsHalted command old new) (sym is)
-    (cut_halts command old mid new l.loaded.image l.loaded.input.items l.ensures.loaded l.ensures.only l.ensures.counted e.only c.in_err-end.field-0.0 e.cut))
+    (cut_halts command old mid new l.loaded.image (supply_of l.loaded.supplies.input.items l.loaded.supplies.ports.items) l.ensures.loaded l.ensures.only l.ensures.counted e.only c.in_err-end.field-0.0 e.cut))
 
 pub returns-in_err-steps-clause-halted : goal.returns-in_err-steps-clause-halted
 returns-in_err-steps-clause-halted g c =
@@ -36,9 +37,9 @@ returns-in_err-steps-clause-halted g c =
     let new = g.H.Host.state c.run.new.host in
     let l = c.in_ok-loaded in
     let e = c.in_ok-end.ensures in
-    halts c.from_residual-in_err-steps.result (λ h. h ≡ By c.in_err-steps.field-0.0) (IsHalted command old new) c.from_residual-in_err-steps.ensures.1
+    judged c.from_residual-in_err-steps.result (λ h. h ≡ By c.in_err-steps.field-0.0) (IsHalted command old new) c.from_residual-in_err-steps.ensures.1
     (λ h is. subst (IsHalted command old new) (sym is)
-    (ran c.in_ok-end.end (has_run command old mid new l.loaded.image l.loaded.input.items l.ensures.loaded l.ensures.only l.ensures.counted e.only c.in_ok-end.end e.run e.counted) (sym c.in_err-steps.ensures)))
+    (ran c.in_ok-end.end (has_run command old mid new l.loaded.image (supply_of l.loaded.supplies.input.items l.loaded.supplies.ports.items) l.ensures.loaded l.ensures.only l.ensures.counted e.only c.in_ok-end.end e.run e.counted) (sym c.in_err-steps.ensures)))
 
 pub returns-in_err-ended_line-clause-halted : goal.returns-in_err-ended_line-clause-halted
 returns-in_err-ended_line-clause-halted g c =
@@ -48,10 +49,10 @@ returns-in_err-ended_line-clause-halted g c =
     let new = g.H.Host.state c.run.new.host in
     let l = c.in_ok-loaded in
     let e = c.in_ok-end.ensures in
-    halts c.from_residual-in_err-ended_line.result (λ h. h ≡ By OutOfMemory) (IsHalted command old new) c.from_residual-in_err-ended_line.ensures.1
+    judged c.from_residual-in_err-ended_line.result (λ h. h ≡ By OutOfMemory) (IsHalted command old new) c.from_residual-in_err-ended_line.ensures.1
     (λ h is. subst (IsHalted command old new) (sym is)
     (no_line c.in_ok-steps.steps (subst (HasRun command old new) (ended_is command.run.steps 0 c.in_ok-end.end c.in_ok-steps.steps (sym c.in_ok-steps.ensures))
-    (has_run command old mid new l.loaded.image l.loaded.input.items l.ensures.loaded l.ensures.only l.ensures.counted e.only c.in_ok-end.end e.run e.counted))))
+    (has_run command old mid new l.loaded.image (supply_of l.loaded.supplies.input.items l.loaded.supplies.ports.items) l.ensures.loaded l.ensures.only l.ensures.counted e.only c.in_ok-end.end e.run e.counted))))
 
 pub returns-clause-ended : goal.returns-clause-ended
 returns-clause-ended g c =
@@ -63,6 +64,6 @@ returns-clause-ended g c =
     let e = c.in_ok-end.ensures in (
       c.in_ok-steps.steps,
       subst (HasRun command old new) (ended_is command.run.steps 0 c.in_ok-end.end c.in_ok-steps.steps (sym c.in_ok-steps.ensures))
-          (has_run command old mid new l.loaded.image l.loaded.input.items l.ensures.loaded l.ensures.only l.ensures.counted e.only c.in_ok-end.end e.run e.counted),
+          (has_run command old mid new l.loaded.image (supply_of l.loaded.supplies.input.items l.loaded.supplies.ports.items) l.ensures.loaded l.ensures.only l.ensures.counted e.only c.in_ok-end.end e.run e.counted),
       c.in_ok-ended_line.ensures,
     )

@@ -1,58 +1,79 @@
 use Rattle.std.proofs.Common.{◌≡◌, ◌∙◌, ap, sym, subst}
 use Rattle.asm86_lines.specs.Written.{text_of}
+use Rattle.asm80_source.specs.Source.{IsSource}
 use Rattle.cmd_words.specs.ReadCommands.{translate_read}
+use Rattle.cmd_inputs.specs.Sources.{SourceGives}
 use Rattle.cmd_translate.specs.Work.{StopsBy, unread, no_memory}
-use Rattle.cmd_translate.proofs.Working.{stops, source_stop, write_stop, works}
+use Rattle.cmd_translate.proofs.Working.{stops, source_stop, program_stop, write_stop, works}
 use Rattle.cmd_translate.proofs.translation.work.Goals as goal
 
-pub returns-in_err-bytes-clause-stopped : goal.returns-in_err-bytes-clause-stopped
-returns-in_err-bytes-clause-stopped g c =
+pub returns-in_err-source-clause-stopped : goal.returns-in_err-source-clause-stopped
+returns-in_err-source-clause-stopped g c =
     let command = translate_read c.args.command.now in
     let old = g.H.Host.state c.args.host.now in
-    let new = g.H.Host.state c.read_named.new.host in
-    stops c.from_residual.result (λ s. s ≡ c.in_err-bytes.field-0.0) (StopsBy command old new) c.from_residual.ensures.1
-    (λ s is. subst (StopsBy command old new) (sym is) (unread c.in_err-bytes.ensures.stopped c.in_err-bytes.ensures.only))
+    let new = g.H.Host.state c.read_source.new.host in
+    stops c.from_residual.result (λ s. s ≡ c.in_err-source.field-0.0) (StopsBy command old new) c.from_residual.ensures.1
+    (λ s is. subst (StopsBy command old new) (sym is) (unread c.in_err-source.ensures.stopped c.in_err-source.ensures.only))
 
+-- the bytes are no source
+pub returns-in_err-source-2-clause-stopped : goal.returns-in_err-source-2-clause-stopped
+returns-in_err-source-2-clause-stopped g c =
+    let command = translate_read c.args.command.now in
+    let old = g.H.Host.state c.args.host.now in
+    let new = g.H.Host.state c.read_source.new.host in
+    let file = c.in_ok-source.ensures in
+    let bytes = file.read.bytes in
+    stops c.from_residual-in_err-source-2.result (λ s. s ≡ c.in_err-source-2.field-0.0) (StopsBy command old new) c.from_residual-in_err-source-2.ensures.1
+    (λ s is. subst (StopsBy command old new) (sym is)
+    (source_stop command old new new bytes file.read.file file.only file.counted c.in_err-source-2.field-0.0 (subst (SourceGives bytes command.top) c.in_err-source-2.was file.read.gives)))
+
+-- their program is not translated
 pub returns-in_err-program-clause-stopped : goal.returns-in_err-program-clause-stopped
 returns-in_err-program-clause-stopped g c =
     let command = translate_read c.args.command.now in
     let old = g.H.Host.state c.args.host.now in
-    let new = g.H.Host.state c.read_named.new.host in
-    let file = c.in_ok-bytes.ensures in
+    let new = g.H.Host.state c.read_source.new.host in
+    let file = c.in_ok-source.ensures in
+    let bytes = file.read.bytes in
     stops c.from_residual-in_err-program.result (λ s. s ≡ c.in_err-program.field-0.0) (StopsBy command old new) c.from_residual-in_err-program.ensures.1
     (λ s is. subst (StopsBy command old new) (sym is)
-    (source_stop command old new new c.in_ok-bytes.bytes.items file.read file.only file.counted c.as_slice.result.now c.as_slice.ensures.value c.in_err-program.field-0.0 c.in_err-program.ensures.stopped))
+    (program_stop command old new new bytes file.read.file file.only file.counted c.in_ok-source-2.field-0 (subst (SourceGives bytes command.top) c.in_ok-source-2.was file.read.gives)
+    c.in_err-program.field-0.0 c.in_err-program.ensures.stopped))
 
 pub returns-in_err-text-clause-stopped : goal.returns-in_err-text-clause-stopped
 returns-in_err-text-clause-stopped g c =
     let command = translate_read c.args.command.now in
     let old = g.H.Host.state c.args.host.now in
-    let new = g.H.Host.state c.read_named.new.host in
+    let new = g.H.Host.state c.read_source.new.host in
     stops c.from_residual-in_err-text.result (λ s. s ≡ c.in_err-text.field-0.0) (StopsBy command old new) c.from_residual-in_err-text.ensures.1
-    (λ s is. subst (StopsBy command old new) (sym (is ∙ c.in_err-text.ensures.stopped)) (no_memory c.in_ok-bytes.ensures.only))
+    (λ s is. subst (StopsBy command old new) (sym (is ∙ c.in_err-text.ensures.stopped)) (no_memory c.in_ok-source.ensures.only))
 
 pub returns-in_err-write_text-clause-stopped : goal.returns-in_err-write_text-clause-stopped
 returns-in_err-write_text-clause-stopped g c =
     let command = translate_read c.args.command.now in
     let old = g.H.Host.state c.args.host.now in
-    let mid = g.H.Host.state c.read_named.new.host in
+    let mid = g.H.Host.state c.read_source.new.host in
     let new = g.H.Host.state c.write_text.new.host in
-    let file = c.in_ok-bytes.ensures in
+    let file = c.in_ok-source.ensures in
+    let bytes = file.read.bytes in
     let p = c.in_ok-program in
+    let source : IsSource bytes command.top p.program = subst (IsSource bytes command.top) (sym p.ensures.same) (subst (SourceGives bytes command.top) c.in_ok-source-2.was file.read.gives) in
     let write = c.in_err-write_text in
     stops c.from_residual-in_err-write_text.result (λ s. s ≡ write.field-0.0) (StopsBy command old new) c.from_residual-in_err-write_text.ensures.1
     (λ s is. subst (StopsBy command old new) (sym is)
-    (write_stop command old mid new c.in_ok-bytes.bytes.items file.read file.only file.counted c.as_slice.result.now c.as_slice.ensures.value p.program p.ensures.source p.ensures.first
-    (text_of c.as_slice-2.result.now) (ap text_of (c.as_slice-2.ensures.value ∙ c.in_ok-text.ensures.lines)) write.ensures.only write.field-0.0 write.ensures.stopped))
+    (write_stop command old mid new bytes file.read.file file.only file.counted p.program source p.ensures.first
+    (text_of c.as_slice.result.now) (ap text_of (c.as_slice.ensures.value ∙ c.in_ok-text.ensures.lines)) write.ensures.only write.field-0.0 write.ensures.stopped))
 
 pub returns-clause-worked : goal.returns-clause-worked
 returns-clause-worked g c =
     let command = translate_read c.args.command.now in
     let old = g.H.Host.state c.args.host.now in
-    let mid = g.H.Host.state c.read_named.new.host in
+    let mid = g.H.Host.state c.read_source.new.host in
     let new = g.H.Host.state c.write_text.new.host in
-    let file = c.in_ok-bytes.ensures in
+    let file = c.in_ok-source.ensures in
+    let bytes = file.read.bytes in
     let p = c.in_ok-program in
+    let source : IsSource bytes command.top p.program = subst (IsSource bytes command.top) (sym p.ensures.same) (subst (SourceGives bytes command.top) c.in_ok-source-2.was file.read.gives) in
     let write = c.in_ok-write_text in
-    works command old mid new c.in_ok-bytes.bytes.items file.read file.only file.counted c.as_slice.result.now c.as_slice.ensures.value p.program p.ensures.source p.ensures.first
-    (text_of c.as_slice-2.result.now) (ap text_of (c.as_slice-2.ensures.value ∙ c.in_ok-text.ensures.lines)) write.ensures.only write.ensures.written write.ensures.counted _ c.in_ok-text.ensures.line
+    works command old mid new bytes file.read.file file.only file.counted p.program source p.ensures.first
+    (text_of c.as_slice.result.now) (ap text_of (c.as_slice.ensures.value ∙ c.in_ok-text.ensures.lines)) write.ensures.only write.ensures.written write.ensures.counted _ c.in_ok-text.ensures.line
