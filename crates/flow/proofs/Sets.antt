@@ -1,0 +1,206 @@
+-- Sets of parts, by their members.
+use Rattle.std.proofs.Common.{◌≡◌, ◌≢◌, ℕ, ◌+◌, ◌<◌, ◌≤◌, Bool, true, false, ◌||◌, ◌&&◌, List, [], ◌∷◌, get_or, drop, refl, sym, ap, ◌∙◌, ⊎_elim, arith}
+use Rattle.std.proofs.lemmas.List.{drop_more}
+use Rattle.std.proofs.lemmas.Bool.{false≢true, cases_lt}
+use Rattle.cells.specs.declared.Part.{Part}
+use Rattle.cells.specs.declared.Part.TheVariants.{A, B, C, D, E, H, L, S, Z, Ac, P, Cy}
+use Rattle.cells.specs.Parts.{Parts, nothing, only, union, has, these, weight}
+use Rattle.flow.specs.Search.{size, is_left}
+
+or-false : (b : Bool) → (b || false) ≡ b
+or-false true = refl
+or-false false = refl
+
+pub has-nothing : (x : Part) → has nothing x ≡ false
+has-nothing A = refl
+has-nothing B = refl
+has-nothing C = refl
+has-nothing D = refl
+has-nothing E = refl
+has-nothing H = refl
+has-nothing L = refl
+has-nothing S = refl
+has-nothing Z = refl
+has-nothing Ac = refl
+has-nothing P = refl
+has-nothing Cy = refl
+
+pub has-union : (k m : Parts) (x : Part) → has (union k m) x ≡ (has k x || has m x)
+has-union k m A = refl
+has-union k m B = refl
+has-union k m C = refl
+has-union k m D = refl
+has-union k m E = refl
+has-union k m H = refl
+has-union k m L = refl
+has-union k m S = refl
+has-union k m Z = refl
+has-union k m Ac = refl
+has-union k m P = refl
+has-union k m Cy = refl
+
+-- a set of one part has no other
+pub only-has : (q x : Part) → has (only q) x ≡ true → q ≡ x
+only-has A A h = refl
+only-has A x h = absurd (cc)
+only-has B B h = refl
+only-has B x h = absurd (cc)
+only-has C C h = refl
+only-has C x h = absurd (cc)
+only-has D D h = refl
+only-has D x h = absurd (cc)
+only-has E E h = refl
+only-has E x h = absurd (cc)
+only-has H H h = refl
+only-has H x h = absurd (cc)
+only-has L L h = refl
+only-has L x h = absurd (cc)
+only-has S S h = refl
+only-has S x h = absurd (cc)
+only-has Z Z h = refl
+only-has Z x h = absurd (cc)
+only-has Ac Ac h = refl
+only-has Ac x h = absurd (cc)
+only-has P P h = refl
+only-has P x h = absurd (cc)
+only-has Cy Cy h = refl
+only-has Cy x h = absurd (cc)
+
+-- what a part counts for, in a smaller set and a larger one
+weight-le : (b d : Bool) → (b ≡ true → d ≡ true) → weight b 1 ≤ weight d 1
+weight-le true true h = omega arith
+weight-le true false h = absurd (false≢true (h refl))
+weight-le false d h = omega arith
+
+weight-same : (b d : Bool) → weight b 1 ≡ weight d 1 → b ≡ d
+weight-same true true h = refl
+weight-same true false h = absurd (omega arith)
+weight-same false true h = absurd (omega arith)
+weight-same false false h = refl
+
+weight-bit : (b : Bool) → weight b 1 ≤ 1
+weight-bit true = omega arith
+weight-bit false = omega arith
+
+pub size-le : (k : Parts) → size k ≤ 12
+size-le k = omega (arith, weight-bit k.a, weight-bit k.b, weight-bit k.c, weight-bit k.d, weight-bit k.e, weight-bit k.h, weight-bit k.l, weight-bit k.s, weight-bit k.z, weight-bit k.ac, weight-bit k.p, weight-bit k.cy)
+
+abbrev made : Bool → Bool → Bool → Bool → Bool → Bool → Bool → Bool → Bool → Bool → Bool → Bool → Parts
+made a b c d e h l s z ac p cy = record { a = a; b = b; c = c; d = d; e = e; h = h; l = l; s = s; z = z; ac = ac; p = p; cy = cy }
+
+-- sets with the same members are equal
+pub same_members : (k m : Parts) → ((x : Part) → has k x ≡ has m x) → k ≡ m
+same_members k m h =
+    let a' : k.a ≡ m.a = h A in
+    let b' : k.b ≡ m.b = h B in
+    let c' : k.c ≡ m.c = h C in
+    let d' : k.d ≡ m.d = h D in
+    let e' : k.e ≡ m.e = h E in
+    let h' : k.h ≡ m.h = h H in
+    let l' : k.l ≡ m.l = h L in
+    let s' : k.s ≡ m.s = h S in
+    let z' : k.z ≡ m.z = h Z in
+    let ac' : k.ac ≡ m.ac = h Ac in
+    let p' : k.p ≡ m.p = h P in
+    let cy' : k.cy ≡ m.cy = h Cy in
+    let same : made k.a k.b k.c k.d k.e k.h k.l k.s k.z k.ac k.p k.cy ≡ made m.a m.b m.c m.d m.e m.h m.l m.s m.z m.ac m.p m.cy = cc in
+    same
+
+module _ (k m : Parts) (grows : (x : Part) → has k x ≡ true → has m x ≡ true) where
+  a-le : weight k.a 1 ≤ weight m.a 1
+  a-le = weight-le k.a m.a (grows A)
+
+  b-le : weight k.b 1 ≤ weight m.b 1
+  b-le = weight-le k.b m.b (grows B)
+
+  c-le : weight k.c 1 ≤ weight m.c 1
+  c-le = weight-le k.c m.c (grows C)
+
+  d-le : weight k.d 1 ≤ weight m.d 1
+  d-le = weight-le k.d m.d (grows D)
+
+  e-le : weight k.e 1 ≤ weight m.e 1
+  e-le = weight-le k.e m.e (grows E)
+
+  h-le : weight k.h 1 ≤ weight m.h 1
+  h-le = weight-le k.h m.h (grows H)
+
+  l-le : weight k.l 1 ≤ weight m.l 1
+  l-le = weight-le k.l m.l (grows L)
+
+  s-le : weight k.s 1 ≤ weight m.s 1
+  s-le = weight-le k.s m.s (grows S)
+
+  z-le : weight k.z 1 ≤ weight m.z 1
+  z-le = weight-le k.z m.z (grows Z)
+
+  ac-le : weight k.ac 1 ≤ weight m.ac 1
+  ac-le = weight-le k.ac m.ac (grows Ac)
+
+  p-le : weight k.p 1 ≤ weight m.p 1
+  p-le = weight-le k.p m.p (grows P)
+
+  cy-le : weight k.cy 1 ≤ weight m.cy 1
+  cy-le = weight-le k.cy m.cy (grows Cy)
+
+  pub size-grows : size k ≤ size m
+  size-grows = omega (arith, a-le, b-le, c-le, d-le, e-le, h-le, l-le, s-le, z-le, ac-le, p-le, cy-le)
+
+  same_size : size m ≤ size k → (x : Part) → has k x ≡ has m x
+  same_size h A = weight-same k.a m.a (omega (arith, h, a-le, b-le, c-le, d-le, e-le, h-le, l-le, s-le, z-le, ac-le, p-le, cy-le))
+  same_size h B = weight-same k.b m.b (omega (arith, h, a-le, b-le, c-le, d-le, e-le, h-le, l-le, s-le, z-le, ac-le, p-le, cy-le))
+  same_size h C = weight-same k.c m.c (omega (arith, h, a-le, b-le, c-le, d-le, e-le, h-le, l-le, s-le, z-le, ac-le, p-le, cy-le))
+  same_size h D = weight-same k.d m.d (omega (arith, h, a-le, b-le, c-le, d-le, e-le, h-le, l-le, s-le, z-le, ac-le, p-le, cy-le))
+  same_size h E = weight-same k.e m.e (omega (arith, h, a-le, b-le, c-le, d-le, e-le, h-le, l-le, s-le, z-le, ac-le, p-le, cy-le))
+  same_size h H = weight-same k.h m.h (omega (arith, h, a-le, b-le, c-le, d-le, e-le, h-le, l-le, s-le, z-le, ac-le, p-le, cy-le))
+  same_size h L = weight-same k.l m.l (omega (arith, h, a-le, b-le, c-le, d-le, e-le, h-le, l-le, s-le, z-le, ac-le, p-le, cy-le))
+  same_size h S = weight-same k.s m.s (omega (arith, h, a-le, b-le, c-le, d-le, e-le, h-le, l-le, s-le, z-le, ac-le, p-le, cy-le))
+  same_size h Z = weight-same k.z m.z (omega (arith, h, a-le, b-le, c-le, d-le, e-le, h-le, l-le, s-le, z-le, ac-le, p-le, cy-le))
+  same_size h Ac = weight-same k.ac m.ac (omega (arith, h, a-le, b-le, c-le, d-le, e-le, h-le, l-le, s-le, z-le, ac-le, p-le, cy-le))
+  same_size h P = weight-same k.p m.p (omega (arith, h, a-le, b-le, c-le, d-le, e-le, h-le, l-le, s-le, z-le, ac-le, p-le, cy-le))
+  same_size h Cy = weight-same k.cy m.cy (omega (arith, h, a-le, b-le, c-le, d-le, e-le, h-le, l-le, s-le, z-le, ac-le, p-le, cy-le))
+
+  -- a larger set that is another one has more members
+  pub size-rises : k ≢ m → size k < size m
+  size-rises other = ⊎_elim (λ lt. lt) (λ le. absurd (other (same_members k m (same_size le)))) (cases_lt (size k) (size m))
+
+-- a part that is added if it is left
+pub with_left : (left k m : Parts) (q x : Part) → is_left k m q ≡ true → has (union left (only q)) x ≡ (has left x || (has (only q) x && is_left k m x))
+with_left left k m q x is = has-union left (only q) x ∙ ap (λ b. has left x || b) (picked (has (only q) x) refl)
+  where
+    picked : (b : Bool) → has (only q) x ≡ b → b ≡ (b && is_left k m x)
+    picked true one = sym (ap (is_left k m) (sym (only-has q x one)) ∙ is)
+    picked false one = refl
+
+pub without_left : (left k m : Parts) (q x : Part) → is_left k m q ≡ false → has left x ≡ (has left x || (has (only q) x && is_left k m x))
+without_left left k m q x is = sym (ap (λ b. has left x || b) (none (has (only q) x) refl) ∙ or-false (has left x))
+  where
+    none : (b : Bool) → has (only q) x ≡ b → (b && is_left k m x) ≡ false
+    none true one = ap (is_left k m) (sym (only-has q x one)) ∙ is
+    none false one = refl
+
+-- the parts that are left, of some of the parts
+abbrev pub left_of : Part → Parts → Parts → Parts → List Part → Bool
+left_of x left k m qs = has left x || (has (these qs) x && is_left k m x)
+
+spread : (a b c t : Bool) → (a || ((b || c) && t)) ≡ ((a || (b && t)) || (c && t))
+spread true b c t = refl
+spread false true c true = refl
+spread false true true false = refl
+spread false true false false = refl
+spread false false c t = refl
+
+pub left-more : (x q : Part) (left left' k m : Parts) (qs : List Part) → has left' x ≡ (has left x || (has (only q) x && is_left k m x)) → left_of x left' k m qs ≡ left_of x left k m (q ∷ qs)
+left-more x q left left' k m qs is =
+    ap (λ a. a || (has (these qs) x && is_left k m x)) is
+    ∙ sym (spread (has left x) (has (only q) x) (has (these qs) x) (is_left k m x))
+    ∙ sym (ap (λ b. has left x || (b && is_left k m x)) (has-union (only q) (these qs) x))
+
+abbrev pub all_parts : List Part
+all_parts = A ∷ B ∷ C ∷ D ∷ E ∷ H ∷ L ∷ S ∷ Z ∷ Ac ∷ P ∷ Cy ∷ []
+
+pub left-step : (x : Part) (left left' k m : Parts) (d : Part) (i : ℕ) (t : Bool) → i < 12 → has left' x ≡ (has left x || (has (only (get_or all_parts i d)) x && is_left k m x)) → left_of x left k m (drop i all_parts) ≡ t → left_of x left' k m (drop (i + 1) all_parts) ≡ t
+left-step x left left' k m d i t lt is before =
+    left-more x (get_or all_parts i d) left left' k m (drop (i + 1) all_parts) is
+    ∙ ap (left_of x left k m) (sym (drop_more all_parts i d lt))
+    ∙ before

@@ -1,0 +1,5 @@
+use Rattle.flow.proofs.Marks.{found_address}
+use Rattle.flow.proofs.cut.mark_all.Goals as goal
+
+pub loop-address-preserved : goal.loop-address-preserved
+loop-address-preserved c = λ a. found_address c.args.addresses.now c.loop-address.address-index 0 a _ _ _ c.loop-address-test.true (c.mark.ensures a) (c.loop-address.invariant a)

@@ -1,0 +1,11 @@
+pub mod Graph
+pub mod Need
+pub mod Blocks
+pub mod Solving
+pub mod Search
+pub mod Wiring
+pub mod Rounds
+pub mod Begin
+pub mod Inside
+pub mod Cut
+pub mod Saves

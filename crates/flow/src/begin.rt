@@ -1,0 +1,51 @@
+// Where the search begins.
+
+ghost use Rattle.std.specs.Prelude.{◌≡◌, ◌<◌, ◌≤◌, ℕ, length, slice_index, IfOk, IsTrue};
+ghost use Rattle.std.specs.Vec.{vec_capacity};
+ghost use Rattle.i80.specs.Columns.{is_well_formed};
+ghost use Rattle.flow.specs.Begin.{vertex_placed, first_vertices};
+
+use crate::search::Vertex;
+use asm80_program::{Placed, Program80};
+use cells::Keep;
+use std::alloc::{AllocError, Global};
+
+fn vertex_of(placed: &Placed) -> Vertex
+    requires { IsTrue (is_well_formed placed.now.instr) }
+    ensures { result ≡ vertex_placed placed.now }
+{
+    Vertex {
+        defines: i80::defs(placed.instr),
+        need: i80::uses(placed.instr),
+        waits: true,
+    }
+}
+
+/// The nodes of a program, by their numbers: each needs what it uses, and waits.
+pub fn vertices_of(alloc: Global, program: &Program80) -> Result<Vec<Vertex>, AllocError>
+    ensures { IfOk result (λ v. v.items ≡ first_vertices program.now) }
+{
+    let mut vertices = Vec::new(alloc);
+    for placed in program.instrs() {
+        vertices.push(vertex_of(placed))?;
+    }
+    vertices.push(Vertex {
+        defines: Keep::none(),
+        need: Keep::none(),
+        waits: true,
+    })?;
+    Ok(vertices)
+}
+
+/// The work list of so many nodes, with room for all of them.
+pub fn numbers(alloc: Global, count: usize) -> Result<Vec<usize>, AllocError>
+    ensures count { IfOk result (λ v. length v.items ≡ count) }
+    ensures each { IfOk result (λ v. (k : ℕ) → k < count → slice_index v.items k ≡ k) }
+    ensures room { IfOk result (λ v. count ≤ vec_capacity v) }
+{
+    let mut work = Vec::with_capacity(alloc, count)?;
+    for number in 0..count {
+        work.push_reserved(number);
+    }
+    Ok(work)
+}

@@ -1,0 +1,14 @@
+// Tests of needs, blocks and saves, over their public calls.
+#![tactic(auto)]
+
+#[cfg(test)]
+mod blocks;
+#[cfg(test)]
+mod edges;
+#[cfg(test)]
+mod saves;
+#[cfg(test)]
+mod sources;
+mod steps;
+
+pub use steps::solve_six_edges;
