@@ -1,0 +1,5 @@
+pub mod Files
+pub mod Parts
+pub mod Languages
+pub mod Steps
+pub mod Whole

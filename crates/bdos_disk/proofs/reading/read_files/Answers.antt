@@ -1,0 +1,41 @@
+use Rattle.std.proofs.Common.{◌≡◌, ℕ, ◌+◌, ◌-◌, None, Some, [], ◌∷◌, ◌++◌, List, length, drop, sym, ap, ◌∙◌, subst}
+use Rattle.std.specs.Prelude.{if◌then◌else◌}
+use Rattle.std.proofs.lemmas.List.{take_rest}
+use Rattle.bdos_names.specs.Spelled.{BreaksAt}
+use Rattle.bdos_disk.specs.DiskFile.{files_bytes}
+use Rattle.bdos_disk.specs.Reading.{AreFiles, IsNextFile, StopsBy}
+use Rattle.bdos_disk.proofs.Steps.{StillReading, still_breaks, still_next}
+use Rattle.bdos_disk.proofs.Whole.{stops_behind}
+use Rattle.bdos_disk.proofs.reading.read_files.Goals as goal
+
+pub returns-in-Err : goal.returns-in-Err
+returns-in-Err c =
+    let count = c.args.count in
+    let bytes = c.args.bytes.now in
+    let files = c.loop-index.files.items in
+    let last = c.loop-index.last in
+    let room = c.loop-index.room in
+    let at = c.loop-index.at in
+    let index = c.loop-index.index in
+    let here = subst (λ l. StopsBy (BreaksAt (AreFiles last (count - 1 - index + 1) room) files_bytes l) c.in-Err.stop) (take_rest bytes at) c.in-Err.ensures in
+    subst (StopsBy (BreaksAt (AreFiles None count 8000) files_bytes bytes)) (sym c.after.ensures)
+    (stops_behind (BreaksAt (AreFiles last (count - 1 - index + 1) room) files_bytes (drop at bytes)) (BreaksAt (AreFiles None count 8000) files_bytes bytes) at c.in-Err.stop here
+    (still_breaks count c.requires bytes files last room at index c.loop-index.invariant c.loop-index-test.true))
+
+pub loop-index-preserved : goal.loop-index-preserved
+loop-index-preserved c =
+    let count = c.args.count in
+    let bytes = c.args.bytes.now in
+    let files = c.loop-index.files.items in
+    let last = c.loop-index.last in
+    let room = c.loop-index.room in
+    let at = c.loop-index.at in
+    let index = c.loop-index.index in
+    let f = c.in-Ok.next.0 in
+    let used = c.in-Ok.next.1 in
+    let here = subst (λ l. IsNextFile last (count - 1 - index) room l f used) (take_rest bytes at) c.in-Ok.ensures in
+    let next = still_next count c.requires bytes files last room at index c.loop-index.invariant c.loop-index-test.true f used here in
+    let items : c.push.new.self.items ≡ files ++ f ∷ [] = c.push.ensures.items ∙ ap (λ b. if b then (files ++ f ∷ []) else files) (sym c.in_ok-map_err.ensures.variant) in
+    subst (λ l. StillReading count bytes l (Some c.name.result) (room - length c.records.result.now) (at + used) (index + 1)) (sym items)
+    (subst (λ n. StillReading count bytes (files ++ f ∷ []) (Some n) (room - length c.records.result.now) (at + used) (index + 1)) (sym c.name.ensures)
+    (subst (λ (rs : List (List ℕ)). StillReading count bytes (files ++ f ∷ []) (Some f.name) (room - length rs) (at + used) (index + 1)) (sym c.records.ensures) next))

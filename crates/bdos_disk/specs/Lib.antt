@@ -1,0 +1,4 @@
+pub mod Stored
+pub mod Disks
+pub mod DiskFile
+pub mod Reading

@@ -1,0 +1,3 @@
+pub mod Order
+pub mod Going
+pub mod Highest

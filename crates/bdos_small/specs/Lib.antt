@@ -1,0 +1,4 @@
+pub mod Fcb
+pub mod Calls
+pub mod Files
+pub mod Small

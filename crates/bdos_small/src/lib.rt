@@ -1,0 +1,12 @@
+// A small BDOS: a disk in drive A and a console, which answer the calls of a program.
+#![tactic(auto)]
+
+mod bdos;
+mod directory;
+mod fcb;
+mod records;
+mod replies;
+
+pub use bdos::Bdos;
+pub use bdos_console::Answer;
+pub use bdos_disk::{Disk, DiskFault};

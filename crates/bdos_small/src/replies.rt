@@ -1,0 +1,80 @@
+// What a call brings, and replies that write.
+ghost use Rattle.std.specs.Prelude.{◌≡◌, IfOk, [], ◌∷◌};
+ghost use Rattle.bdos_console.specs.Console.{place_in};
+ghost use Rattle.bdos_small.specs.Calls.{block_at, first_place, second_place, telling, writing, writing_both};
+
+use dialogue::{Block, Blocks, Bytes, Range, Reply, Request};
+use std::alloc::{AllocError, Global};
+
+/// The bytes of the k-th block that a call reads.
+pub fn block_at(request: &Request, k: usize) -> &[u8]
+    ensures { result.now ≡ block_at k request.now }
+{
+    match request.blocks.as_slice().get(k) {
+        None => &[],
+        Some(block) => block.bytes.as_slice(),
+    }
+}
+
+/// A reply that writes nothing.
+pub fn telling(alloc: Global, answer: u16) -> Reply
+    ensures { result ≡ telling answer }
+{
+    Reply {
+        answer,
+        writes: Blocks::from_vec(Vec::new(alloc)),
+    }
+}
+
+/// A reply that answers 0 and writes the first range.
+pub fn writing(alloc: Global, request: &Request, bytes: &[u8]) -> Result<Reply, AllocError>
+    ensures { IfOk result (λ y. y ≡ writing request.now 0 bytes.now) }
+{
+    let [first, _] = request.shape.writes;
+    let mut writes = Vec::new(alloc);
+    writes.push(written(alloc, first, bytes)?)?;
+    Ok(Reply {
+        answer: 0,
+        writes: Blocks::from_vec(writes),
+    })
+}
+
+/// A reply that answers 0 and writes both ranges.
+pub fn writing_both(
+    alloc: Global,
+    request: &Request,
+    bytes: &[u8],
+    others: &[u8],
+) -> Result<Reply, AllocError>
+    ensures { IfOk result (λ y. y ≡ writing_both request.now 0 bytes.now others.now) }
+{
+    let [first, second] = request.shape.writes;
+    let mut writes = Vec::new(alloc);
+    writes.push(written(alloc, first, bytes)?)?;
+    writes.push(written(alloc, second, others)?)?;
+    Ok(Reply {
+        answer: 0,
+        writes: Blocks::from_vec(writes),
+    })
+}
+
+// The block that writes bytes where a range begins.
+fn written(alloc: Global, range: Option<Range>, bytes: &[u8]) -> Result<Block, AllocError>
+    ensures { IfOk result (λ b. b ≡ record { at = place_in (range ∷ []); bytes = bytes.now }) }
+{
+    let bytes = Vec::from_slice(alloc, bytes)?;
+    Ok(Block {
+        at: place(range),
+        bytes: Bytes::from_vec(bytes),
+    })
+}
+
+// Where a range begins.
+fn place(range: Option<Range>) -> u16
+    ensures { result ≡ place_in (range ∷ []) }
+{
+    match range {
+        None => 0,
+        Some(range) => range.at,
+    }
+}
