@@ -19,8 +19,8 @@ use Rattle.asm80_program.specs.declared.program.Placed.{Placed}
 use Rattle.asm80_program.specs.Program.{Program, program_of, placed_in, AreLaid}
 use Rattle.templates.specs.Template.{label_of, template}
 use Rattle.templates.specs.Plain.{body, plain_statements, numbered, plain}
-use Rattle.xlt_core.proofs.Standing.{sizes_of-append, MarksNot, marks_not-append}
-use Rattle.xlt_core.proofs.Words.{eq_true}
+use Rattle.sym_sound86.proofs.Standing.{sizes_of-append, MarksNot, marks_not-append}
+use Rattle.sym_sound86.proofs.Words.{eq_true}
 use Rattle.xlt_core.proofs.Shapes.{Names, IsStep, runs, loads, jumps, calls, AreSteps, HasShape, straight, past, Any, names_any, template_shape, step_marks_not, steps_mark_not, template_marks_not}
 use Rattle.xlt_core.proofs.Placing.{length80-some, template_size, IsOf, line_of, skip_of, found_at, later_offset}
 use Rattle.xlt_core.proofs.PlainFacts.{PlainFacts, body_marks_not, body_has_no_sys, body_has_no_end, tail_of, sys_at, end_at, plain_facts}

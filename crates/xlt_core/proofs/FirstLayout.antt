@@ -12,7 +12,7 @@ use Rattle.asm80_program.specs.Program.{Program, program_of, is_top, AreLaid, Is
 use Rattle.templates.specs.Template.{template}
 use Rattle.templates.specs.Plain.{body, plain_statements, plain}
 use Rattle.xlt_core.specs.First.{IsFirstInstr, function, argument, system, finish, HoldsFirst, IsFirst}
-use Rattle.xlt_core.proofs.Standing.{sizes_of-append}
+use Rattle.sym_sound86.proofs.Standing.{sizes_of-append}
 use Rattle.xlt_core.proofs.Shapes.{Names}
 use Rattle.xlt_core.proofs.PlainFacts.{tail_of}
 use Rattle.xlt_core.proofs.Assembling.{Stands, NamesStands, plain_assembles}

@@ -34,8 +34,8 @@ use Rattle.cpu86_steps.specs.Start.{Start, start_byte, start86, run86}
 use Rattle.templates.specs.Plain.{plain_statements, plain}
 use Rattle.xlt_core.specs.First.{IsFirstInstr, HoldsFirst, IsFirst}
 use Rattle.xlt_core.specs.Same.{Same}
-use Rattle.xlt_core.proofs.Standing.{length-code_from}
-use Rattle.xlt_core.proofs.Words.{word_parts, put_word_past, put_word_low, put_word_high}
+use Rattle.sym_sound86.proofs.Standing.{length-code_from}
+use Rattle.sym_sound86.proofs.Words.{word_parts, put_word_past, put_word_low, put_word_high}
 use Rattle.xlt_core.proofs.Link.{Stands, Linked}
 use Rattle.xlt_core.proofs.Placing.{found_holds, lowest_offset}
 use Rattle.xlt_core.proofs.PlainFacts.{PlainFacts, plain_facts, tail_of}

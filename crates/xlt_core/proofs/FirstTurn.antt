@@ -47,8 +47,8 @@ use Rattle.cpu86_steps.specs.Step.{act_from, act_at as act_at86, machine86}
 use Rattle.templates.specs.Template.{template, reg_of}
 use Rattle.templates.specs.Plain.{plain_statements}
 use Rattle.xlt_core.specs.First.{IsFirstInstr, function, argument, system, finish}
-use Rattle.xlt_core.proofs.Standing.{StandAll, bytes_within}
-use Rattle.xlt_core.proofs.Words.{wrap_small, jump_lands, back_on, eq_true, pushed_back, call_keeps}
+use Rattle.sym_sound86.proofs.Standing.{StandAll, bytes_within}
+use Rattle.sym_sound86.proofs.Words.{wrap_small, jump_lands, back_on, eq_true, pushed_back, call_keeps}
 use Rattle.xlt_core.proofs.Link.{Stands, IsLetterOrLost, Linked, regs_write}
 use Rattle.xlt_core.proofs.Placing.{IsPlaced, found_at}
 use Rattle.xlt_core.proofs.PlainFacts.{PlainFacts}

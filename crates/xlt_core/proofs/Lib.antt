@@ -1,5 +1,3 @@
-pub mod Standing
-pub mod Words
 pub mod Link
 pub mod Shapes
 pub mod Placing

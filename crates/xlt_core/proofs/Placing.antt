@@ -14,9 +14,9 @@ use Rattle.asm80_program.specs.declared.program.Placed.{Placed}
 use Rattle.asm80_program.specs.Program.{placed_in, AreLaid}
 use Rattle.templates.specs.Template.{template}
 use Rattle.templates.specs.Plain.{body}
-use Rattle.xlt_core.proofs.Words.{eq_true, eq_false}
+use Rattle.sym_sound86.proofs.Words.{eq_true, eq_false}
 use Rattle.xlt_core.proofs.Shapes.{template_marks_not}
-use Rattle.xlt_core.proofs.Standing.{StandAll, stand_front, stand_back, offset_past}
+use Rattle.sym_sound86.proofs.Standing.{StandAll, stand_front, stand_back, offset_past}
 
 pub length80-some : (i : Instr80) → 1 ≤ length80 i
 length80-some Nop = omega arith

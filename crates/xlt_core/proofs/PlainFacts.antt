@@ -10,7 +10,7 @@ use Rattle.asm80_program.specs.declared.program.Placed.{Placed}
 use Rattle.asm80_program.specs.Program.{Program, placed_in, AreLaid}
 use Rattle.templates.specs.Template.{template}
 use Rattle.templates.specs.Plain.{prologue, call_code, end_code, runtime, body, data_from, ending, plain_statements}
-use Rattle.xlt_core.proofs.Standing.{StandAll, bytes_all, stand_all, stand_front, stand_back, past_mark, MarksNot, marks_not-append, offset_past}
+use Rattle.sym_sound86.proofs.Standing.{StandAll, bytes_all, stand_all, stand_front, stand_back, past_mark, MarksNot, marks_not-append, offset_past}
 use Rattle.xlt_core.proofs.Shapes.{template_marks_not}
 use Rattle.xlt_core.proofs.Placing.{IsPlaced, is_placed}
 

@@ -16,7 +16,7 @@ use Rattle.asm86_lines.specs.declared.line.Stmt86.{Stmt86}
 use Rattle.asm86_lines.specs.declared.line.Stmt86.TheVariants.{Mark, Run, MovOffset, Jmp as JmpTo, Jcc, Call as CallTo}
 use Rattle.asm86_lines.specs.Layout.{size_of, marks, same_label}
 use Rattle.templates.specs.Template.{label_of, template}
-use Rattle.xlt_core.proofs.Standing.{MarksNot}
+use Rattle.sym_sound86.proofs.Standing.{MarksNot}
 
 -- the places that an instruction names are all of a kind
 abbrev pub Names : (Goal → Type 0) → Instr80 → Type 0

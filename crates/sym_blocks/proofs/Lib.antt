@@ -1,0 +1,3 @@
+pub mod Sorts80
+pub mod Sorts86
+pub mod SortsWalk

@@ -1,0 +1,96 @@
+-- Labels as keys: the test that a hash map has for them, and looking one up from the front of a list.
+use Rattle.std.proofs.Common.{◌≡◌, ℕ, ◌-◌, ◌≤◌, Bool, true, false, cond, List, [], ◌∷◌, length, drop, Option, Some, refl, sym, ap, subst, ◌∙◌, arith, ◌==◌}
+use Rattle.asm86_lines.specs.declared.line.Stmt86.{Stmt86}
+use Rattle.asm86_lines.specs.Layout.{marks}
+use Rattle.sym_blocks.specs.Walk86.{behind}
+use Rattle.sym_index.specs.Places.{IsPlace}
+use Rattle.std.proofs.lemmas.Bool.Decides.{nat_tests}
+use Rattle.std.specs.Map.{lookup}
+use Rattle.asm86_lines.specs.declared.line.Label.{Label}
+use Rattle.asm86_lines.specs.declared.line.Label.TheVariants.{At, Skip, User, Sys, End}
+use Rattle.asm86_lines.specs.Layout.{same_label}
+use Rattle.asm86_lines.specs.contracts.line.LabelPartialEq.TheImpl.{eq-value}
+use Rattle.asm86_lines.specs.Image.{offset_in}
+
+eqb_sym : (a b : ℕ) → (a == b) ≡ (b == a)
+eqb_sym a b = grind (arith, nat_tests)
+
+-- the test that a hash map has for labels
+pub eq_is_same : (a b : Label) → eq-value.it a b ≡ same_label b a
+eq_is_same (At a) (At b) = eqb_sym a b
+eq_is_same (At a) (Skip b) = refl
+eq_is_same (At a) (User b) = refl
+eq_is_same (At a) Sys = refl
+eq_is_same (At a) End = refl
+eq_is_same (Skip a) (At b) = refl
+eq_is_same (Skip a) (Skip b) = eqb_sym a b
+eq_is_same (Skip a) (User b) = refl
+eq_is_same (Skip a) Sys = refl
+eq_is_same (Skip a) End = refl
+eq_is_same (User a) (At b) = refl
+eq_is_same (User a) (Skip b) = refl
+eq_is_same (User a) (User b) = eqb_sym a b
+eq_is_same (User a) Sys = refl
+eq_is_same (User a) End = refl
+eq_is_same Sys (At b) = refl
+eq_is_same Sys (Skip b) = refl
+eq_is_same Sys (User b) = refl
+eq_is_same Sys Sys = refl
+eq_is_same Sys End = refl
+eq_is_same End (At b) = refl
+eq_is_same End (Skip b) = refl
+eq_is_same End (User b) = refl
+eq_is_same End Sys = refl
+eq_is_same End End = refl
+
+-- a look-up in a hash map's entries is one from the front of the list
+pub lookup_is : (l : Label) (xs : List (Label × ℕ)) → lookup (eq-value.it l) xs ≡ offset_in xs l
+lookup_is l [] = refl
+lookup_is l (x ∷ xs) =
+    ap (λ b. cond b (Some x.1) (lookup (eq-value.it l) xs)) (eq_is_same l x.0)
+    ∙ ap (λ r. cond (same_label x.0 l) (Some x.1) r) (lookup_is l xs)
+
+same_sym : (a b : Label) → same_label a b ≡ same_label b a
+same_sym (At a) (At b) = eqb_sym a b
+same_sym (At a) (Skip b) = refl
+same_sym (At a) (User b) = refl
+same_sym (At a) Sys = refl
+same_sym (At a) End = refl
+same_sym (Skip a) (At b) = refl
+same_sym (Skip a) (Skip b) = eqb_sym a b
+same_sym (Skip a) (User b) = refl
+same_sym (Skip a) Sys = refl
+same_sym (Skip a) End = refl
+same_sym (User a) (At b) = refl
+same_sym (User a) (Skip b) = refl
+same_sym (User a) (User b) = eqb_sym a b
+same_sym (User a) Sys = refl
+same_sym (User a) End = refl
+same_sym Sys (At b) = refl
+same_sym Sys (Skip b) = refl
+same_sym Sys (User b) = refl
+same_sym Sys Sys = refl
+same_sym Sys End = refl
+same_sym End (At b) = refl
+same_sym End (Skip b) = refl
+same_sym End (User b) = refl
+same_sym End Sys = refl
+same_sym End End = refl
+
+-- what a label's place becomes where one is put in for a label
+pub put_is : (k q : Label) (v : ℕ) (es fs : List (Label × ℕ)) → lookup (eq-value.it q) fs ≡ cond (eq-value.it k q) (Some v) (lookup (eq-value.it q) es) → offset_in fs q ≡ cond (same_label k q) (Some v) (offset_in es q)
+put_is k q v es fs h =
+    sym (lookup_is q fs)
+    ∙ h
+    ∙ ap (λ b. cond b (Some v) (lookup (eq-value.it q) es)) (eq_is_same k q ∙ same_sym q k)
+    ∙ ap (λ r. cond (same_label k q) (Some v) r) (lookup_is q es)
+
+-- one statement more in front
+pub one_more : (xs : List Stmt86) (at : ℕ) (x : Stmt86) (q : Label) (old new : Option ℕ) → at ≤ length xs → drop (at - 1) xs ≡ x ∷ drop at xs → new ≡ cond (marks q x) (Some at) old → IsPlace xs old (behind (drop at xs) q) → IsPlace xs new (behind (drop (at - 1) xs) q)
+one_more xs at x q old new le e f h =
+    subst (λ ys. IsPlace xs new (behind ys q)) (sym e)
+    (subst (λ o. IsPlace xs o (cond (marks q x) (Some (drop at xs)) (behind (drop at xs) q))) (sym f) (by_test (marks q x)))
+  where
+    by_test : (b : Bool) → IsPlace xs (cond b (Some at) old) (cond b (Some (drop at xs)) (behind (drop at xs) q))
+    by_test true = (le, refl)
+    by_test false = h

@@ -1,0 +1,3 @@
+mod Reasons
+mod Ways
+mod Meeting

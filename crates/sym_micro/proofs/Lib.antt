@@ -1,0 +1,4 @@
+pub mod Sorted
+pub mod Ready
+pub mod OneByOne
+pub mod Found

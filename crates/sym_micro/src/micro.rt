@@ -1,0 +1,130 @@
+// Micro-operations.
+
+use cells::{Part, Place};
+use i80::Op;
+use i86::Rotate;
+
+/// A register that holds a byte: those of the 8080, AH of the 8086, and two that instructions use on the way.
+#[derive(Clone, Copy)]
+pub enum ByteSlot {
+    A,
+    B,
+    C,
+    D,
+    E,
+    H,
+    L,
+    Ah,
+    T,
+    U,
+}
+
+/// A register that holds a flag.
+#[derive(Clone, Copy)]
+pub enum FlagSlot {
+    S,
+    Z,
+    Ac,
+    P,
+    Cy,
+}
+
+/// A register that holds a word, and that instructions use on the way.
+#[derive(Clone, Copy)]
+pub enum WordSlot {
+    V,
+    W,
+    X,
+}
+
+/// A word of a processor: two byte registers, or SP or SI.
+#[derive(Clone, Copy)]
+pub enum Wide {
+    /// AH and A.
+    Ax,
+    Bc,
+    De,
+    Hl,
+    Sp,
+    Si,
+}
+
+/// What a byte register may be given.
+#[derive(Clone, Copy)]
+pub enum ByteValue {
+    Of(ByteSlot),
+    Number(u8),
+    /// What a register held at the start, if this is known.
+    Start(bool, Part),
+    /// The high half of a code address, or the low one.
+    Code(Place, bool),
+    /// The high half of a word, or the low one.
+    Half(WordSlot, bool),
+    /// What the last operation gave.
+    Result,
+    /// What the last turn gave.
+    Turned,
+    /// What the next load brings.
+    Loaded,
+}
+
+/// What a word register may be given.
+#[derive(Clone, Copy)]
+pub enum WordValue {
+    Of(Wide),
+    Number(u16),
+    /// A high and a low byte.
+    Join(ByteSlot, ByteSlot),
+    /// What SP held at the start.
+    StartSp,
+    /// A word turned right by 1 with CY.
+    Turned,
+    /// What the next load brings.
+    Loaded,
+    Unknown,
+}
+
+/// What a flag may be given.
+#[derive(Clone, Copy)]
+pub enum FlagValue {
+    /// 0 or 1.
+    Number(bool),
+    /// What it held at the start, if this is known.
+    Start(bool),
+    /// What the last operation left of it.
+    OfResult,
+    /// What the last turn left of CY.
+    OfTurned,
+    /// Its bit in a byte.
+    InByte(ByteSlot),
+    /// The carry that was turned into a word, where the word is known to be one.
+    BroughtBack(WordSlot),
+    Unknown,
+}
+
+/// A micro-operation.
+#[derive(Clone, Copy)]
+pub enum Micro {
+    Byte(ByteSlot, ByteValue),
+    Word(WordSlot, WordValue),
+    Flag(FlagSlot, FlagValue),
+    /// A word of a processor is given what a word register holds.
+    Put(Wide, WordSlot),
+    /// The first is given the sum of the other two.
+    Sum(WordSlot, WordSlot, WordSlot),
+    /// The byte of the five flags.
+    FlagByte(ByteSlot),
+    /// CY is given the other value.
+    Complement,
+    /// An operation on two bytes: ADC and SBB take CY, and CMP subtracts.
+    Operate(Op, ByteSlot, ByteSlot),
+    /// The decimal adjustment of A.
+    Adjust,
+    /// A byte is turned by 1: RCL and RCR through CY.
+    Turn(Rotate, ByteSlot),
+    /// A load or a store at the address that a word register holds.
+    Load8(WordSlot),
+    Load16(WordSlot),
+    Store8(WordSlot, ByteSlot),
+    Store16(WordSlot, WordSlot),
+}

@@ -1,0 +1,217 @@
+// Micro-operations performed.
+
+ghost use Rattle.std.specs.Prelude.{◌≡◌, ◌+◌, ◌≤◌, ◌<◌, length};
+ghost use Rattle.sym_micro.specs.Machine.{micro, micros, weight, weights, moves, all_moves, with_byte, with_word, with_flag, with_halves, with_wide, byte_value, word_value, flag_value, word_in, loads_at, stores_at};
+ghost use Rattle.sym_micro.specs.Stands.{tree_of_action, ActionIsGiven, machine_of, IsReady, GoesOn};
+
+use crate::micro::{ByteSlot, ByteValue, FlagSlot, FlagValue, Micro, Wide, WordSlot, WordValue};
+use crate::outcome::Action;
+use crate::results::{
+    adjusted_term, complement_term, flag_byte_term, operated_term, sum_term, turned_term,
+};
+use crate::run::Run;
+use crate::values::{byte_term, flag_term, word_term};
+use i80::Op;
+use i86::Rotate;
+use sym_terms::{Terms, made_terms_have_sorts};
+
+fn give_byte(terms: &mut Terms, run: &mut Run, slot: ByteSlot, value: ByteValue) -> Option<()>
+    requires { IsReady terms.old run.old }
+    ensures { GoesOn terms.old terms.new run.old run.new 1 0 (λ m. m ≡ with_byte (machine_of terms.old run.old) slot (byte_value (machine_of terms.old run.old) value)) result }
+{
+    made_terms_have_sorts();
+    let term = byte_term(terms, run, value)?;
+    run.set_byte(slot, term);
+    Some(())
+}
+
+fn give_word(terms: &mut Terms, run: &mut Run, slot: WordSlot, value: WordValue) -> Option<()>
+    requires { IsReady terms.old run.old }
+    ensures { GoesOn terms.old terms.new run.old run.new 1 0 (λ m. m ≡ with_word (machine_of terms.old run.old) slot (word_value (machine_of terms.old run.old) value)) result }
+{
+    made_terms_have_sorts();
+    let term = word_term(terms, run, value)?;
+    run.set_word(slot, term);
+    Some(())
+}
+
+fn give_flag(terms: &mut Terms, run: &mut Run, slot: FlagSlot, value: FlagValue) -> Option<()>
+    requires { IsReady terms.old run.old }
+    ensures { GoesOn terms.old terms.new run.old run.new 1 0 (λ m. m ≡ with_flag (machine_of terms.old run.old) slot (flag_value (machine_of terms.old run.old) slot value)) result }
+{
+    made_terms_have_sorts();
+    let term = flag_term(terms, run, slot, value)?;
+    run.set_flag(slot, term);
+    Some(())
+}
+
+// Two bytes are given the halves of a word.
+fn put_halves(
+    terms: &mut Terms,
+    run: &mut Run,
+    high: ByteSlot,
+    low: ByteSlot,
+    from: WordSlot,
+) -> Option<()>
+    requires { IsReady terms.old run.old }
+    ensures { GoesOn terms.old terms.new run.old run.new 2 0 (λ m. m ≡ with_halves (machine_of terms.old run.old) high low (word_in (machine_of terms.old run.old) from)) result }
+{
+    give_byte(terms, run, high, ByteValue::Half(from, true))?;
+    give_byte(terms, run, low, ByteValue::Half(from, false))
+}
+
+fn put(terms: &mut Terms, run: &mut Run, wide: Wide, from: WordSlot) -> Option<()>
+    requires { IsReady terms.old run.old }
+    ensures { GoesOn terms.old terms.new run.old run.new 2 0 (λ m. m ≡ with_wide (machine_of terms.old run.old) wide (word_in (machine_of terms.old run.old) from)) result }
+{
+    match wide {
+        Wide::Ax => put_halves(terms, run, ByteSlot::Ah, ByteSlot::A, from),
+        Wide::Bc => put_halves(terms, run, ByteSlot::B, ByteSlot::C, from),
+        Wide::De => put_halves(terms, run, ByteSlot::D, ByteSlot::E, from),
+        Wide::Hl => put_halves(terms, run, ByteSlot::H, ByteSlot::L, from),
+        Wide::Sp => {
+            run.sp = run.word(from);
+            Some(())
+        }
+        Wide::Si => {
+            run.si = run.word(from);
+            Some(())
+        }
+    }
+}
+
+fn give_sum(
+    terms: &mut Terms,
+    run: &mut Run,
+    slot: WordSlot,
+    a: WordSlot,
+    b: WordSlot,
+) -> Option<()>
+    requires { IsReady terms.old run.old }
+    ensures { GoesOn terms.old terms.new run.old run.new 2 0 (λ m. m ≡ micro (machine_of terms.old run.old) (Micro.Sum slot a b)) result }
+{
+    made_terms_have_sorts();
+    let term = sum_term(terms, run, a, b)?;
+    run.set_word(slot, term);
+    Some(())
+}
+
+fn give_flag_byte(terms: &mut Terms, run: &mut Run, slot: ByteSlot) -> Option<()>
+    requires { IsReady terms.old run.old }
+    ensures { GoesOn terms.old terms.new run.old run.new 2 0 (λ m. m ≡ micro (machine_of terms.old run.old) (Micro.FlagByte slot)) result }
+{
+    made_terms_have_sorts();
+    let term = flag_byte_term(terms, run)?;
+    run.set_byte(slot, term);
+    Some(())
+}
+
+fn complement(terms: &mut Terms, run: &mut Run) -> Option<()>
+    requires { IsReady terms.old run.old }
+    ensures { GoesOn terms.old terms.new run.old run.new 3 0 (λ m. m ≡ micro (machine_of terms.old run.old) Micro.Complement) result }
+{
+    made_terms_have_sorts();
+    let term = complement_term(terms, run)?;
+    run.set_flag(FlagSlot::Cy, term);
+    Some(())
+}
+
+fn operate(terms: &mut Terms, run: &mut Run, op: Op, a: ByteSlot, b: ByteSlot) -> Option<()>
+    requires { IsReady terms.old run.old }
+    ensures { GoesOn terms.old terms.new run.old run.new 2 0 (λ m. m ≡ micro (machine_of terms.old run.old) (Micro.Operate op a b)) result }
+{
+    made_terms_have_sorts();
+    let term = operated_term(terms, run, op, a, b)?;
+    run.result = term;
+    Some(())
+}
+
+fn adjust(terms: &mut Terms, run: &mut Run) -> Option<()>
+    requires { IsReady terms.old run.old }
+    ensures { GoesOn terms.old terms.new run.old run.new 1 0 (λ m. m ≡ micro (machine_of terms.old run.old) Micro.Adjust) result }
+{
+    made_terms_have_sorts();
+    let term = adjusted_term(terms, run)?;
+    run.result = term;
+    Some(())
+}
+
+fn turn(terms: &mut Terms, run: &mut Run, kind: Rotate, slot: ByteSlot) -> Option<()>
+    requires { IsReady terms.old run.old }
+    ensures { GoesOn terms.old terms.new run.old run.new 2 0 (λ m. m ≡ micro (machine_of terms.old run.old) (Micro.Turn kind slot)) result }
+{
+    made_terms_have_sorts();
+    let term = turned_term(terms, run, kind, slot)?;
+    run.turned = term;
+    Some(())
+}
+
+// A load or a store joins the others.
+fn load(terms: &Terms, run: &mut Run, action: Action) -> Option<()>
+    requires ready { IsReady terms.now run.old }
+    requires given { ActionIsGiven terms.now action }
+    requires room { length run.old.actions.items < 512 }
+    ensures { GoesOn terms.now terms.now run.old run.new 0 1 (λ m. m ≡ loads_at (machine_of terms.now run.old) (tree_of_action terms.now action)) result }
+{
+    run.actions.push_reserved(action);
+    run.loads += 1;
+    Some(())
+}
+
+fn store(terms: &Terms, run: &mut Run, action: Action) -> Option<()>
+    requires ready { IsReady terms.now run.old }
+    requires given { ActionIsGiven terms.now action }
+    requires room { length run.old.actions.items < 512 }
+    ensures { GoesOn terms.now terms.now run.old run.new 0 1 (λ m. m ≡ stores_at (machine_of terms.now run.old) (tree_of_action terms.now action)) result }
+{
+    run.actions.push_reserved(action);
+    Some(())
+}
+
+// One micro-operation.
+fn perform_one(terms: &mut Terms, run: &mut Run, step: Micro) -> Option<()>
+    requires ready { IsReady terms.old run.old }
+    requires room { length run.old.actions.items + moves step ≤ 512 }
+    ensures { GoesOn terms.old terms.new run.old run.new (weight step) (moves step) (λ m. m ≡ micro (machine_of terms.old run.old) step) result }
+{
+    match step {
+        Micro::Byte(slot, value) => give_byte(terms, run, slot, value),
+        Micro::Word(slot, value) => give_word(terms, run, slot, value),
+        Micro::Flag(slot, value) => give_flag(terms, run, slot, value),
+        Micro::Put(wide, from) => put(terms, run, wide, from),
+        Micro::Sum(slot, a, b) => give_sum(terms, run, slot, a, b),
+        Micro::FlagByte(slot) => give_flag_byte(terms, run, slot),
+        Micro::Complement => complement(terms, run),
+        Micro::Operate(op, a, b) => operate(terms, run, op, a, b),
+        Micro::Adjust => adjust(terms, run),
+        Micro::Turn(kind, slot) => turn(terms, run, kind, slot),
+        Micro::Load8(address) => {
+            let action = Action::Load8(run.word(address));
+            load(terms, run, action)
+        }
+        Micro::Load16(address) => {
+            let action = Action::Load16(run.word(address));
+            load(terms, run, action)
+        }
+        Micro::Store8(address, byte) => {
+            let action = Action::Store8(run.word(address), run.byte(byte));
+            store(terms, run, action)
+        }
+        Micro::Store16(address, word) => {
+            let action = Action::Store16(run.word(address), run.word(word));
+            store(terms, run, action)
+        }
+    }
+}
+
+/// Micro-operations, one after the other. None only where the terms had no room for a node more.
+pub fn perform(terms: &mut Terms, run: &mut Run, steps: &[Micro]) -> Option<()>
+    requires ready { IsReady terms.old run.old }
+    requires room { length run.old.actions.items + all_moves steps.now ≤ 512 }
+    ensures { GoesOn terms.old terms.new run.old run.new (weights steps.now) (all_moves steps.now) (λ m. m ≡ micros (machine_of terms.old run.old) steps.now) result }
+{
+    for step in steps {
+        perform_one(terms, run, *step)?;
+    }
+    Some(())
+}

@@ -1,0 +1,156 @@
+// The terms of values.
+
+ghost use Rattle.std.specs.Prelude.{◌≡◌, ◌<◌, cond, true};
+ghost use Rattle.cells.specs.declared.Part.TheVariants.{Cy};
+ghost use Rattle.sym_terms.specs.Term.{Num, Start, Unknown, is_flag};
+ghost use Rattle.sym_terms.specs.Trees.{tree_in, IsGiven, Makes};
+ghost use Rattle.sym_blocks.specs.Symbolic86.{turn_kind, turn_carry, brought_back};
+ghost use Rattle.sym_blocks.specs.Block80.{carry_in};
+ghost use Rattle.sym_micro.specs.Machine.{byte_value, word_value, flag_value, wide_in, part_of_flag, ByteIsCoded, WordIsCoded};
+ghost use Rattle.sym_micro.specs.Stands.{machine_of, IsReady};
+
+use crate::micro::{ByteValue, FlagSlot, FlagValue, Wide, WordValue};
+use crate::run::Run;
+use cells::Part;
+use i80::Op;
+use i86::Rotate;
+use sym_terms::{Head, Term, Terms};
+
+/// The term of a value that a byte register may be given.
+pub fn byte_term(terms: &mut Terms, run: &Run, value: ByteValue) -> Option<Term>
+    requires { IsReady terms.old run.now }
+    ensures made { Makes terms.old terms.new 1 (byte_value (machine_of terms.old run.now) value) result }
+    ensures coded { ByteIsCoded value }
+{
+    match value {
+        ByteValue::Of(slot) => Some(run.byte(slot)),
+        ByteValue::Number(n) => byte_number(terms, n),
+        ByteValue::Start(known, part) => start_term(terms, known, part),
+        ByteValue::Code(place, high) => terms.code(place, high),
+        ByteValue::Half(slot, high) => terms.half(run.word(slot), high),
+        ByteValue::Result => Some(run.result),
+        ByteValue::Turned => Some(run.turned),
+        ByteValue::Loaded => terms.loaded(run.loads, false),
+    }
+}
+
+fn byte_number(terms: &mut Terms, n: u8) -> Option<Term>
+    ensures made { Makes terms.old terms.new 1 (Num n) result }
+    ensures small { n < 0x100 }
+{
+    terms.number(u16::from(n))
+}
+
+fn word_number(terms: &mut Terms, n: u16) -> Option<Term>
+    ensures made { Makes terms.old terms.new 1 (Num n) result }
+    ensures small { n < 0x10000 }
+{
+    terms.number(n)
+}
+
+/// The term of a value that a word register may be given.
+pub fn word_term(terms: &mut Terms, run: &Run, value: WordValue) -> Option<Term>
+    requires { IsReady terms.old run.now }
+    ensures made { Makes terms.old terms.new 1 (word_value (machine_of terms.old run.now) value) result }
+    ensures coded { WordIsCoded value }
+{
+    match value {
+        WordValue::Of(wide) => wide_term(terms, run, wide),
+        WordValue::Number(n) => word_number(terms, n),
+        WordValue::Join(high, low) => terms.join(run.byte(high), run.byte(low)),
+        WordValue::StartSp => terms.start_sp(),
+        WordValue::Turned => terms.turn(4, run.held.a, run.held.cy),
+        WordValue::Loaded => terms.loaded(run.loads, true),
+        WordValue::Unknown => terms.unknown(),
+    }
+}
+
+// The word of a processor.
+fn wide_term(terms: &mut Terms, run: &Run, wide: Wide) -> Option<Term>
+    requires { IsReady terms.old run.now }
+    ensures { Makes terms.old terms.new 1 (wide_in (machine_of terms.old run.now) wide) result }
+{
+    match wide {
+        Wide::Ax => terms.join(run.ah, run.held.a),
+        Wide::Bc => terms.join(run.held.b, run.held.c),
+        Wide::De => terms.join(run.held.d, run.held.e),
+        Wide::Hl => terms.join(run.held.h, run.held.l),
+        Wide::Sp => Some(run.sp),
+        Wide::Si => Some(run.si),
+    }
+}
+
+/// The term of a value that a flag may be given.
+pub fn flag_term(terms: &mut Terms, run: &Run, slot: FlagSlot, value: FlagValue) -> Option<Term>
+    requires { IsReady terms.old run.now }
+    ensures { Makes terms.old terms.new 1 (flag_value (machine_of terms.old run.now) slot value) result }
+{
+    let part = part_of(slot);
+    match value {
+        FlagValue::Number(set) => terms.number(u16::from(set)),
+        FlagValue::Start(known) => start_term(terms, known, part),
+        FlagValue::OfResult => terms.flag(part, run.result),
+        FlagValue::OfTurned => terms.flag(Part::Cy, run.turned),
+        FlagValue::InByte(byte) => terms.bit(run.byte(byte), part),
+        FlagValue::BroughtBack(word) => brought_back(terms, run.word(word)),
+        FlagValue::Unknown => terms.unknown(),
+    }
+}
+
+// The part that a flag is.
+fn part_of(slot: FlagSlot) -> Part
+    ensures part { result ≡ part_of_flag slot }
+    ensures flag { is_flag result ≡ true }
+{
+    match slot {
+        FlagSlot::S => Part::S,
+        FlagSlot::Z => Part::Z,
+        FlagSlot::Ac => Part::Ac,
+        FlagSlot::P => Part::P,
+        FlagSlot::Cy => Part::Cy,
+    }
+}
+
+// What a part held at the start, if this is known.
+fn start_term(terms: &mut Terms, known: bool, part: Part) -> Option<Term>
+    ensures { Makes terms.old terms.new 1 (cond known (Start part) Unknown) result }
+{
+    if known {
+        terms.start(part)
+    } else {
+        terms.unknown()
+    }
+}
+
+// The carry of a turned word.
+fn brought_back(terms: &mut Terms, word: Term) -> Option<Term>
+    requires { IsGiven terms.old word }
+    ensures { Makes terms.old terms.new 1 (brought_back (tree_in terms.old word)) result }
+{
+    match terms.head(word) {
+        Head::Turned(carry) => Some(carry),
+        _ => terms.unknown(),
+    }
+}
+
+/// The carry that an operation takes.
+pub fn carry_term(terms: &mut Terms, run: &Run, op: Op) -> Option<Term>
+    requires { IsReady terms.old run.now }
+    ensures { Makes terms.old terms.new 1 (carry_in op (tree_in terms.old run.now.held.cy)) result }
+{
+    match op {
+        Op::Adc | Op::Sbb => Some(run.held.cy),
+        _ => terms.number(0),
+    }
+}
+
+/// The carry that a turn takes.
+pub fn turn_carry_term(terms: &mut Terms, run: &Run, kind: Rotate) -> Option<Term>
+    requires { IsReady terms.old run.now }
+    ensures { Makes terms.old terms.new 1 (turn_carry kind (tree_in terms.old run.now.held.cy)) result }
+{
+    match kind {
+        Rotate::Rcl | Rotate::Rcr => Some(run.held.cy),
+        _ => terms.number(0),
+    }
+}

@@ -1,0 +1,13 @@
+use Rattle.std.proofs.Common.{◌∙◌, ap, lit≤}
+use Rattle.sym_micro.specs.Machine.{as86}
+use Rattle.sym_micro.specs.Stands.{machine_of}
+use Rattle.sym_micro.proofs.Ready.{goes_on_as}
+use Rattle.sym_run86.proofs.Lists.{count_word_is}
+use Rattle.sym_run86.proofs.arithmetic.count_word.Goals as goal
+
+pub returns : goal.returns
+returns c =
+    let old = c.args.terms.now in
+    let r = c.args.run.now in
+    goes_on_as old c.perform.new.terms r c.perform.new.run 10 24 0 2 _ _ c.perform.result (lit≤ tt) (lit≤ tt) c.perform.ensures
+    (λ m e. ap as86 e ∙ count_word_is (machine_of old r) c.args.count c.args.on c.count_step-step.result c.wide_of-wide.result c.count_step-step.ensures c.wide_of-wide.ensures)

@@ -1,0 +1,2 @@
+// What a block's outcome means for runs of the two machines, and when the two are in step: definitions alone.
+#![tactic(auto)]

@@ -1,0 +1,13 @@
+mod Values
+mod Replaying
+mod Writing
+mod Denoting
+mod Answering
+mod Holding
+mod Computing
+mod Moves
+mod Sums
+mod Rows
+mod Leaving
+mod Standing
+mod Blocks

@@ -1,0 +1,16 @@
+pub mod Standing
+pub mod Words
+mod Values
+mod Replaying
+mod Writing
+mod Denoting
+mod Words86
+mod Alu86
+mod Counts86
+mod Rows86
+mod Positions
+mod Stepping
+mod Walking
+mod Walks
+mod Sound
+mod Runtime

@@ -1,0 +1,4 @@
+mod Choosing
+mod Same
+mod Agreeing
+mod Replaying
