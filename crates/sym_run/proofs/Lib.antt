@@ -1,1 +1,2 @@
 pub mod Still
+mod Coming

@@ -1,9 +1,10 @@
 -- What a Work holds: a pool of terms, an outcome over its ids, and the parts that are kept.
-use Rattle.std.specs.Prelude.{◌≡◌, Bool, List}
+use Rattle.std.specs.Prelude.{◌≡◌, Bool, List, Result, Ok, Err}
 use Rattle.cells.specs.Parts.{Parts}
 use Rattle.xlt_pool.specs.Contents.{Contents}
 use Rattle.sym_terms.specs.declared.head.Term.{Term as TermId}
 use Rattle.sym_terms.specs.Trees.{tree_in, IsGiven}
+use Rattle.sym_blocks.specs.declared.reason.Reason.{Reason}
 use Rattle.sym_blocks.specs.Outcome.{Outcome}
 use Rattle.sym_micro.specs.declared.outcome.Action.{Action as ActionId}
 use Rattle.sym_micro.specs.declared.outcome.Held.{Held as HeldIds}
@@ -29,6 +30,12 @@ pub record OutcomeStands (pool : Contents) (ids : OutcomeIds) (x : Outcome) : Ty
   pub actions : trees_of_actions pool ids.actions ≡ x.actions
   pub exit : ExitIs pool x.exit ids.exit
   pub direct : ids.direct ≡ x.direct
+
+-- a walk through a text comes to an outcome, or to the same reason
+abbrev pub Comes : Contents → OutcomeIds → Result Outcome Reason → Result (Unit {0}) Reason → Type 0
+Comes pool ids (Ok x) (Ok u) = OutcomeStands pool ids x
+Comes pool ids (Err r) (Err q) = q ≡ r
+Comes pool ids tree came = ⊥
 
 pub record WorkState : Type 0 where
   pub terms : Contents

@@ -6,18 +6,22 @@ ghost use Rattle.sym_terms.specs.Term.{Num};
 ghost use Rattle.sym_terms.specs.Trees.{tree_in, IsGiven, Grows};
 ghost use Rattle.sym_blocks.specs.Outcome.{Outcome as OutcomeTree};
 ghost use Rattle.sym_blocks.specs.Block80.{IsBlock, block80};
+ghost use Rattle.sym_blocks.specs.Walk86.{walk86};
 ghost use Rattle.sym_blocks.specs.Agree.{agrees};
 ghost use Rattle.sym_micro.specs.Stands.{id_of_part};
-ghost use Rattle.sym_run.specs.Outcomes.{OutcomeStands};
+ghost use Rattle.sym_run.specs.Outcomes.{OutcomeStands, Comes};
 
 use asm80_program::Program80;
 use cells::{Keep, Part};
 use std::alloc::{AllocError, Global};
 use std::marker::Model;
 use sym_agree::agree;
+use sym_blocks::Reason;
+use sym_index::Index86;
 use sym_micro::{Action, Exit, Held, Run, Way};
 use sym_run80::run_block;
 use sym_terms::{Head, Term, Terms};
+use sym_walk::run_text;
 use xlt_pool::Mark;
 
 /// How many nodes there may be: enough for one block on both sides.
@@ -153,6 +157,7 @@ impl Work {
         ensures second { self.new.second ≡ self.old.second }
         ensures still { (x : OutcomeTree) → OutcomeStands self.old.terms self.old.second x → OutcomeStands self.new.terms self.new.second x }
         ensures keep { self.new.keep ≡ self.old.keep }
+        ensures leaves { self.old.terms.spare ≡ 8192 → 240 * 16 + 32 ≤ self.new.terms.spare }
     {
         let exit = run_block(&mut self.terms, &mut self.first.run, program, leader, count)?;
         self.first.exit = exit;
@@ -160,11 +165,49 @@ impl Work {
         Some(())
     }
 
+    /// What the text does at the label of a block of so many 8080 instructions, whose kept parts are what they were, becomes the second
+    /// outcome; or the reason why it has none: the text has no such label, or the walk meets Length or Form, whichever comes first. None
+    /// only where there was no room for a node more, as never for the first run of a text after `new` or `reset`, before which one block
+    /// of the 8080 may be run.
+    pub fn run86(
+        &mut self,
+        program: &Program80,
+        text: &Index86,
+        leader: u16,
+        count: u32,
+    ) -> Option<Result<(), Reason>>
+        requires { IsBlock program.now leader count }
+        ensures grows { Grows self.old.terms self.new.terms (240 * count + 32) }
+        ensures stands { MatchOption result (self.new.terms.spare ≡ 0) (λ came. Comes self.new.terms self.new.second (walk86 program.now text.now self.old.keep leader count) came) }
+        ensures room { 240 * count + 32 ≤ self.old.terms.spare → IsSome result }
+        ensures first { self.new.first ≡ self.old.first }
+        ensures still { (x : OutcomeTree) → OutcomeStands self.old.terms self.old.first x → OutcomeStands self.new.terms self.new.first x }
+        ensures keep { self.new.keep ≡ self.old.keep }
+    {
+        let keep = self.keep;
+        let run = &mut self.second.run;
+        match run_text(&mut self.terms, run, program, text, keep, leader, count)? {
+            Ok(end) => {
+                self.second.exit = end.exit;
+                self.second.direct = end.direct;
+                Some(Ok(()))
+            }
+            Err(reason) => Some(Err(reason)),
+        }
+    }
+
     /// The outcome of the last `run80`.
     pub fn first(&self) -> &Outcome
         ensures { result.now ≡ self.now.first }
     {
         &self.first
+    }
+
+    /// The outcome of the last `run86`.
+    pub fn second(&self) -> &Outcome
+        ensures { result.now ≡ self.now.second }
+    {
+        &self.second
     }
 
     /// Whether a term of the 8080 agrees with one of the 8086. No term is made, and none is walked.

@@ -24,11 +24,11 @@ pub fn exchange_top(terms: &mut Terms, run: &mut Run) -> Option<()>
         terms,
         run,
         &[
-            Micro::Word(WordSlot::W, WordValue::Of(Wide::Sp)),
-            Micro::Word(WordSlot::V, WordValue::Of(Wide::Hl)),
+            Micro::Word(WordSlot::V, WordValue::Of(Wide::Sp)),
+            Micro::Word(WordSlot::W, WordValue::Of(Wide::Hl)),
             Micro::Word(WordSlot::X, WordValue::Loaded),
-            Micro::Load16(WordSlot::W),
-            Micro::Store16(WordSlot::W, WordSlot::V),
+            Micro::Load16(WordSlot::V),
+            Micro::Store16(WordSlot::V, WordSlot::W),
             Micro::Put(Wide::Hl, WordSlot::X),
         ],
     )

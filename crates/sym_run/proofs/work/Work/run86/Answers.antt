@@ -1,0 +1,58 @@
+use Rattle.std.proofs.Common.{◌≡◌, ◌+◌, ◌*◌, Result, Ok, Err, subst}
+use Rattle.cells.specs.Parts.{Parts}
+use Rattle.sym_terms.specs.Trees.{Grows}
+use Rattle.sym_blocks.specs.declared.reason.Reason.{Reason}
+use Rattle.sym_blocks.specs.Outcome.{Outcome}
+use Rattle.sym_blocks.specs.Walk86.{walk86}
+use Rattle.sym_walk.specs.Ends.{EndStands}
+use Rattle.sym_run.specs.Outcomes.{OutcomeStands}
+use Rattle.sym_run.proofs.Still.{stands_still}
+use Rattle.sym_run.proofs.Coming.{ids_of, comes_to_end, comes_to_reason}
+use Rattle.sym_run.proofs.work.Work.run86.Goals as goal
+
+pub returns-in_err-end-clause-still : goal.returns-in_err-end-clause-still
+returns-in_err-end-clause-still c =
+    let new = c.run_text.new.terms in
+    let n = 240 * c.args.count + 32 in
+    let terms : c.self-inside.inside.0.0 ≡ c.args.self.now.terms = cc in
+    let first : c.args.self.now.first ≡ c.self-inside.inside.0.1.0 = cc in
+    let grows : Grows c.args.self.now.terms new n = subst (λ t. Grows t new n) terms c.run_text.ensures.grows in
+    λ x h. subst (λ ids. OutcomeStands new ids x) first (stands_still c.args.self.now.terms new n grows c.args.self.now.first x h)
+
+pub returns-in-Ok-clause-stands : goal.returns-in-Ok-clause-stands
+returns-in-Ok-clause-stands c =
+    let new = c.run_text.new.terms in
+    let r = c.run_text.new.run in
+    let tree : Parts → Result Outcome Reason = λ keep. walk86 c.args.program.now c.args.text.now keep c.args.leader c.args.count in
+    let keep : c.self-inside.inside.0.1.1.1.0 ≡ c.args.self.now.keep = cc in
+    let end = subst (λ e. EndStands new r (tree c.self-inside.inside.0.1.1.1.0) e) c.in-Ok.is c.in_ok-end.ensures.gives in
+    comes_to_end new r (tree c.args.self.now.keep) c.in-Ok.end (subst (λ k. EndStands new r (tree k) (Ok c.in-Ok.end)) keep end)
+
+pub returns-in-Ok-clause-still : goal.returns-in-Ok-clause-still
+returns-in-Ok-clause-still c =
+    let new = c.run_text.new.terms in
+    let n = 240 * c.args.count + 32 in
+    let terms : c.self-inside.inside.0.0 ≡ c.args.self.now.terms = cc in
+    let first : c.args.self.now.first ≡ c.self-inside.inside.0.1.0 = cc in
+    let grows : Grows c.args.self.now.terms new n = subst (λ t. Grows t new n) terms c.run_text.ensures.grows in
+    λ x h. subst (λ ids. OutcomeStands new ids x) first (stands_still c.args.self.now.terms new n grows c.args.self.now.first x h)
+
+pub returns-in-Err-clause-stands : goal.returns-in-Err-clause-stands
+returns-in-Err-clause-stands c =
+    let new = c.run_text.new.terms in
+    let r = c.run_text.new.run in
+    let old = c.self-inside.inside.0.1.1.0 in
+    let tree : Parts → Result Outcome Reason = λ keep. walk86 c.args.program.now c.args.text.now keep c.args.leader c.args.count in
+    let keep : c.self-inside.inside.0.1.1.1.0 ≡ c.args.self.now.keep = cc in
+    let end = subst (λ e. EndStands new r (tree c.self-inside.inside.0.1.1.1.0) e) c.in-Err.is c.in_ok-end.ensures.gives in
+    comes_to_reason new r (ids_of r (record { exit = old.exit; direct = old.direct })) (tree c.args.self.now.keep) c.in-Err.reason
+    (subst (λ k. EndStands new r (tree k) (Err c.in-Err.reason)) keep end)
+
+pub returns-in-Err-clause-still : goal.returns-in-Err-clause-still
+returns-in-Err-clause-still c =
+    let new = c.run_text.new.terms in
+    let n = 240 * c.args.count + 32 in
+    let terms : c.self-inside.inside.0.0 ≡ c.args.self.now.terms = cc in
+    let first : c.args.self.now.first ≡ c.self-inside.inside.0.1.0 = cc in
+    let grows : Grows c.args.self.now.terms new n = subst (λ t. Grows t new n) terms c.run_text.ensures.grows in
+    λ x h. subst (λ ids. OutcomeStands new ids x) first (stands_still c.args.self.now.terms new n grows c.args.self.now.first x h)

@@ -1,0 +1,4 @@
+mod BothWays
+mod Ending
+mod Steps
+mod Addresses
