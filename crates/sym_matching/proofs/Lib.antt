@@ -1,3 +1,3 @@
-mod Reasons
+pub mod Reasons
 mod Ways
 mod Meeting

@@ -95,6 +95,7 @@ module _ (sorts : StepsKeepSorts) (law80 : BlocksRun80) (law86 : WalksRun86) (te
       memory = after.memory;
       dma = w.dma ∙ dma ∙ sym r.dma;
       segments = w.stack_segment ∙ segments ∙ sym w.data_segment;
+      exits = m.exit;
       ways = ways_meet terms (places (offsets_of lines)) e d envs x.exit o.exit r.way w.way m.exit r.takes w.takes;
       way_is_sorted = way_sorted d o.exit w.way sorted.exit w.takes;
       parts = kept_stands;

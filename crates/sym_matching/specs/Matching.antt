@@ -17,7 +17,7 @@ use Rattle.sym_terms.specs.Values86.{Env86}
 use Rattle.sym_blocks.specs.Outcome.{Outcome}
 use Rattle.sym_blocks.specs.Block80.{IsBlock, block80}
 use Rattle.sym_blocks.specs.Walk86.{walk86}
-use Rattle.sym_blocks.specs.Agree.{way_agrees}
+use Rattle.sym_blocks.specs.Agree.{way_agrees, exit_agrees}
 use Rattle.sym_blocks.specs.BlockMatch.{Keeps, kept_by, lost_by, is_last, block_reason}
 use Rattle.sym_blocks.specs.Sorts.{WayIsSorted, StatementsAreCoded}
 use Rattle.sym_runs.specs.Runs80.{env80, BlockRuns80, BlockLeaves80}
@@ -40,6 +40,7 @@ pub record BlocksStand (p : Program) (lines : List Line86) (fetch : ℕ → Opti
   pub memory : MemoryStands p (places (offsets_of lines)) run80.ended.mem run86.ended.mem
   pub dma : run86.ended.dma ≡ run80.ended.dma
   pub segments : run86.ended.ss ≡ run86.ended.ds
+  pub exits : exit_agrees (block80 p first count).exit outcome.exit ≡ true
   pub ways : way_agrees run80.way run86.way ≡ true
   pub way_is_sorted : WayIsSorted run86.way
   pub parts : (q : Part) → has (kept_by keeps run80.way) q ≡ true → StandsIn (places (offsets_of lines)) run80.ended run86.ended q

@@ -1,6 +1,6 @@
 -- What a block's outcome means for the tagged 8080 that runs the block: its parts, SP and memory have the values of the outcome's
 -- terms, and its last step answers as the outcome's exit says.
-use Rattle.std.specs.Prelude.{◌≡◌, ◌<◌, ℕ, ◌+◌, ◌-◌, Bool, true, false, cond, List, [], ◌∷◌, ◌++◌, Some, Result, Ok, Err, ◌⊎◌}
+use Rattle.std.specs.Prelude.{◌≡◌, ◌<◌, ℕ, ◌+◌, ◌-◌, Bool, true, false, cond, List, [], ◌∷◌, ◌++◌, length, Some, Result, Ok, Err, ◌⊎◌}
 use Rattle.cells.specs.declared.Place.{Place}
 use Rattle.cells.specs.declared.Place.TheVariants.{At}
 use Rattle.cells.specs.declared.Cell.{Cell}
@@ -17,7 +17,7 @@ use Rattle.cpu80_steps.specs.Memory.{is_closed, is_kept, put, Halves, read_word}
 use Rattle.cpu80_steps.specs.Effect.{push}
 use Rattle.cpu80_steps.specs.Call.{Return, call_system, place_if, is_place, popped_return}
 use Rattle.cpu80_steps.specs.Step.{step80, leave_to, return_at, machine80}
-use Rattle.sym_terms.specs.Term.{Term, same_bool}
+use Rattle.sym_terms.specs.Term.{Term, High, Low, Loaded16, same_bool}
 use Rattle.sym_terms.specs.Values80.{Env80, Load80, LoadedByte, LoadedWord, Byte, Word, OneBit, word_of, Val80}
 use Rattle.sym_blocks.specs.Outcome.{Action, Load8, Load16, Store8, Store16, Way, Goto, ByTerms, Call, Sys, SysReturn, Boot, Leave, In, Out, Exit, One, Two, Held, Outcome}
 use Rattle.sym_blocks.specs.Block80.{reg_term, IsBlock, block80}
@@ -84,9 +84,10 @@ Takes80 e (One way) taken = taken ≡ way
 Takes80 e (Two flag value where_so otherwise) taken =
     (b : Bool) × Val80 e flag (OneBit (Some b)) × (taken ≡ cond (same_bool b value) where_so otherwise)
 
--- a place that two bytes name: those of a register pair; or those that are loaded from SP as a return, SP rising by 2
+-- a place that two bytes name: those of a register pair; or those of the next word that is loaded, from SP as a return, SP rising by 2
 pub record GoesByPair80 (p : Program) (e : Env80) (t : State80) (h l : Term) (a : Answer State80 Rule) : Type 0 where
   pub place : Place
+  pub is_held : IsHeldPlace p place
   pub high : Val80 e h (Byte (Hi place))
   pub low : Val80 e l (Byte (Lo place))
   pub is_place : is_place p place ≡ true
@@ -94,7 +95,10 @@ pub record GoesByPair80 (p : Program) (e : Env80) (t : State80) (h l : Term) (a 
 
 pub record GoesByReturn80 (p : Program) (e : Env80) (t : State80) (h l : Term) (a : Answer State80 Rule) : Type 0 where
   pub place : Place
+  pub is_held : IsHeldPlace p place
   pub loaded : read_word p t t.sp ≡ Ok (record { high = Hi place; low = Lo place })
+  pub is_high : h ≡ High (Loaded16 (length e.loads))
+  pub is_low : l ≡ Low (Loaded16 (length e.loads))
   pub high : Val80 (with_load e (LoadedWord (Hi place) (Lo place))) h (Byte (Hi place))
   pub low : Val80 (with_load e (LoadedWord (Hi place) (Lo place))) l (Byte (Lo place))
   pub is_place : is_place p place ≡ true

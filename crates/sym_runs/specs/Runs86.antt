@@ -1,6 +1,6 @@
 -- What a walk's outcome means for the 8086 that runs the text: its parts, SP and memory have the values of the outcome's terms, and
 -- the machine comes to where the outcome's exit leads, or asks what it says.
-use Rattle.std.specs.Prelude.{◌≡◌, ◌<◌, ◌≤◌, ℕ, ◌+◌, ◌*◌, ◌/◌, ◌%◌, Bool, true, false, cond, List, [], ◌∷◌, ◌++◌, length, Option, Some, None, Result, Ok, ◌⊎◌}
+use Rattle.std.specs.Prelude.{◌≡◌, ◌≢◌, ◌<◌, ◌≤◌, ℕ, ◌+◌, ◌*◌, ◌/◌, ◌%◌, Bool, true, false, cond, List, [], ◌∷◌, ◌++◌, length, Option, Some, None, Result, Ok, ◌⊎◌}
 use Rattle.cells.specs.declared.Place.{Place}
 use Rattle.cells.specs.declared.Place.TheVariants.{At as AtPlace, Exit as EndPlace}
 use Rattle.cells.specs.declared.Part.{Part}
@@ -20,7 +20,7 @@ use Rattle.asm80_program.specs.Program.{Program, is_start}
 use Rattle.cpu86_steps.specs.State.{State86, Regs86, Flags86, reg8, wrap, put, put_word, word_at, push}
 use Rattle.cpu86_steps.specs.Call.{call_system}
 use Rattle.cpu86_steps.specs.Step.{step86, machine86}
-use Rattle.sym_terms.specs.Term.{Term, same_bool}
+use Rattle.sym_terms.specs.Term.{Term, High, Low, Loaded16, same_bool}
 use Rattle.sym_terms.specs.Values86.{Env86, Load86, LoadedByte, LoadedWord, Number, Val86, start86}
 use Rattle.sym_blocks.specs.Outcome.{Action, Load8, Load16, Store8, Store16, Way, Goto, ByTerms, Call, Sys, SysReturn, Boot, Leave, In, Out, Exit, One, Two, Held, Outcome}
 use Rattle.templates.specs.Template.{reg_of}
@@ -93,10 +93,12 @@ Takes86 e (One way) taken = taken ≡ way
 Takes86 e (Two flag value where_so otherwise) taken =
     (b : Bool) × Val86 e flag (Number (as_bit b)) × (taken ≡ cond (same_bool b value) where_so otherwise)
 
--- a place that two bytes name: those of BX; or those of the word that RET pops
+-- a place that two bytes name: those of BX; or those of the next word that is loaded, which RET pops
 pub record GoesByPair86 (e : Env86) (t : State86) (h l : Term) (u : State86) : Type 0 where
   pub high_byte : ℕ
   pub low_byte : ℕ
+  pub high_fits : high_byte < 256
+  pub low_fits : low_byte < 256
   pub high : Val86 e h (Number high_byte)
   pub low : Val86 e l (Number low_byte)
   pub leads : u ≡ record t { ip = 256 * high_byte + low_byte }
@@ -104,6 +106,8 @@ pub record GoesByPair86 (e : Env86) (t : State86) (h l : Term) (u : State86) : T
 pub record GoesByReturn86 (e : Env86) (t : State86) (h l : Term) (u : State86) : Type 0 where
   pub word : ℕ
   pub popped : word ≡ word_at t.mem t.sp
+  pub is_high : h ≡ High (Loaded16 (length e.loads))
+  pub is_low : l ≡ Low (Loaded16 (length e.loads))
   pub high : Val86 (with_load e (LoadedWord word)) h (Number (word / 256))
   pub low : Val86 (with_load e (LoadedWord word)) l (Number (word % 256))
   pub leads : u ≡ record t { ip = word; sp = wrap (t.sp + 2) }
@@ -138,20 +142,22 @@ Leads86 p offset e t Leave u = ⊥
 Leads86 p offset e t (In port next) u = ⊥
 Leads86 p offset e t (Out port next) u = ⊥
 
--- what the machine asks at `u` by a way, with any choice, and where it goes on: INT 224 calls the system, IN and OUT ask a port
-abbrev pub Asks86 : Program → (ℕ → Option Instr86) → (Label → Option ℕ) → State86 → Way → State86 → Type 0
-Asks86 p fetch offset t (Sys back) u =
-    (n : ℕ) × GoesOnAt p offset back n × ((choice : ℕ) → step86 fetch u choice ≡ call_system (record t { ip = n }) choice)
-Asks86 p fetch offset t (In port next) u =
+-- what the machine asks at `u` by a way, with any choice, and where it goes on: INT 224, of a direct call with a function other than
+-- 0, calls the system; IN and OUT ask a port
+abbrev pub Asks86 : Program → (ℕ → Option Instr86) → (Label → Option ℕ) → Bool → State86 → Way → State86 → Type 0
+Asks86 p fetch offset direct t (Sys back) u =
+    (n : ℕ) × (direct ≡ true) × (t.regs.cl ≢ 0) × GoesOnAt p offset back n
+    × ((choice : ℕ) → step86 fetch u choice ≡ call_system (record t { ip = n }) choice)
+Asks86 p fetch offset direct t (In port next) u =
     (n : ℕ) × GoesOnAt p offset next n × ((choice : ℕ) → step86 fetch u choice ≡ Asks (AskedIn port) (record t { ip = n }))
-Asks86 p fetch offset t (Out port next) u =
+Asks86 p fetch offset direct t (Out port next) u =
     (n : ℕ) × GoesOnAt p offset next n × ((choice : ℕ) → step86 fetch u choice ≡ Asks (AskedOut port t.regs.al) (record t { ip = n }))
-Asks86 p fetch offset t (Goto q) u = ⊥
-Asks86 p fetch offset t (ByTerms h l) u = ⊥
-Asks86 p fetch offset t (Call target back) u = ⊥
-Asks86 p fetch offset t SysReturn u = ⊥
-Asks86 p fetch offset t Boot u = ⊥
-Asks86 p fetch offset t Leave u = ⊥
+Asks86 p fetch offset direct t (Goto q) u = ⊥
+Asks86 p fetch offset direct t (ByTerms h l) u = ⊥
+Asks86 p fetch offset direct t (Call target back) u = ⊥
+Asks86 p fetch offset direct t SysReturn u = ⊥
+Asks86 p fetch offset direct t Boot u = ⊥
+Asks86 p fetch offset direct t Leave u = ⊥
 
 -- the machine comes to where the way leads in at least one step; or it asks in the step that follows
 pub record Leaves86 (p : Program) (fetch : ℕ → Option Instr86) (offset : Label → Option ℕ) (count : ℕ) (e : Env86) (t : State86) (way : Way) (steps : ℕ) (u : State86) : Type 0 where
@@ -159,9 +165,9 @@ pub record Leaves86 (p : Program) (fetch : ℕ → Option Instr86) (offset : Lab
   pub few : steps ≤ 10 * count
   pub leads : Leads86 p offset e t way u
 
-pub record LeavesAsking86 (p : Program) (fetch : ℕ → Option Instr86) (offset : Label → Option ℕ) (count : ℕ) (e : Env86) (t : State86) (way : Way) (steps : ℕ) (u : State86) : Type 0 where
+pub record LeavesAsking86 (p : Program) (fetch : ℕ → Option Instr86) (offset : Label → Option ℕ) (count : ℕ) (direct : Bool) (t : State86) (way : Way) (steps : ℕ) (u : State86) : Type 0 where
   pub few : steps + 1 ≤ 10 * count
-  pub asks : Asks86 p fetch offset t way u
+  pub asks : Asks86 p fetch offset direct t way u
 
 -- A text is walked: each instruction of the walk is one step that runs on, whatever the choices give, up to where the taken way
 -- leads; only what asks asks in the step behind them. The state with which the terms end has their values.
@@ -180,8 +186,9 @@ pub record WalkRuns86 (p : Program) (fetch : ℕ → Option Instr86) (offset : L
   pub stack_segment : ended.ss ≡ s.ss
   pub way : Way
   pub takes : Takes86 (with_loads e loads) o.exit way
-  pub leaves : Leaves86 p fetch offset count (with_loads e loads) ended way steps arrived ⊎ LeavesAsking86 p fetch offset count (with_loads e loads) ended way steps arrived
-  pub direct : o.direct ≡ true → LeavesAsking86 p fetch offset count (with_loads e loads) ended way steps arrived
+  pub leaves : Leaves86 p fetch offset count (with_loads e loads) ended way steps arrived ⊎ LeavesAsking86 p fetch offset count o.direct ended way steps arrived
+  pub one : o.direct ≡ true → o.exit ≡ One way
+  pub direct : o.direct ≡ true → LeavesAsking86 p fetch offset count o.direct ended way steps arrived
 
 -- the offset of each label of a text
 abbrev pub offsets_of : List Line86 → Label → Option ℕ

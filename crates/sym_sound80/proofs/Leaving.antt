@@ -24,13 +24,14 @@ use Rattle.cpu80_steps.specs.Memory.{read_word}
 use Rattle.cpu80_steps.specs.Effect.{push}
 use Rattle.cpu80_steps.specs.Call.{Return, place_if, is_place, same_place, place_in, popped_return, return_after}
 use Rattle.cpu80_steps.specs.Step.{go_to, leave_to, go_by, go_back, jump as jump80, enter, call as call80, flipped, holds, where_holds as where_holds80, ask_event, ask_port, sent, return_at}
-use Rattle.sym_terms.specs.Term.{same_bool}
+use Rattle.sym_terms.specs.Term.{High, Low, Loaded16, same_bool}
 use Rattle.sym_terms.specs.Values80.{Env80, Load80, Byte, OneBit, Val80}
 use Rattle.sym_blocks.specs.Outcome.{Way, Goto, ByTerms, Call, Leave, In, Out, Exit, One, Held}
 use Rattle.sym_blocks.specs.Block80.{Symbolic80, goto, jump, call, return_by, asking, flag_term, wanted, where_holds}
+use Rattle.sym_runs.specs.States.{IsCell}
 use Rattle.sym_runs.specs.Runs80.{env80, FlagsHold80, Takes80, Answers80}
 use Rattle.sym_sound80.proofs.Denoting.{Denotes, word_loaded}
-use Rattle.sym_sound80.proofs.Answering.{ok_is, err_is_not, then_is, number_is}
+use Rattle.sym_sound80.proofs.Answering.{ok_is, err_is_not, then_is, number_is, read_word_is}
 
 -- the place after a call of an instruction is taken
 abbrev pub ReturnIsTaken : Program → ℕ → Goal → Type 0
@@ -49,16 +50,16 @@ same_place_is (At a) EndPlace e = absurd (cc)
 same_place_is EndPlace (At b) e = absurd (cc)
 same_place_is EndPlace EndPlace e = refl
 
-record NamesPlace (p : Program) (high low : Cell) (q : Place) : Type 0 where
-  high_is : high ≡ Hi q
-  low_is : low ≡ Lo q
-  is_place : is_place p q ≡ true
+pub record NamesPlace (p : Program) (high low : Cell) (q : Place) : Type 0 where
+  pub high_is : high ≡ Hi q
+  pub low_is : low ≡ Lo q
+  pub is_place : is_place p q ≡ true
 
-place_if_is : (b : Bool) (q r : Place) → place_if b q ≡ Ok r → (b ≡ true) × (q ≡ r)
+pub place_if_is : (b : Bool) (q r : Place) → place_if b q ≡ Ok r → (b ≡ true) × (q ≡ r)
 place_if_is true q r e = (refl, ok_is q r e)
 place_if_is false q r e = absurd (err_is_not P1 r e)
 
-place_is : (p : Program) (high low : Cell) (q : Place) → place_in p high low ≡ Ok q → NamesPlace p high low q
+pub place_is : (p : Program) (high low : Cell) (q : Place) → place_in p high low ≡ Ok q → NamesPlace p high low q
 place_is p (Hi r) (Lo o) q e =
     let f = place_if_is (same_place r o && is_place p r) r q e in
     let g = and_parts (same_place r o) (is_place p r) f.0 in
@@ -93,6 +94,7 @@ module _ (p : Program) (s0 : State80) (loads : List Load80) (x : Symbolic80) (s 
           let n = place_is p s.regs.h s.regs.l q h in
           inr (inl (record {
             place = q;
+            is_held = subst (λ (c : Cell). IsCell p c) n.high_is (d.is_state.regs H);
             high = subst (λ (c : Cell). Val80 (env80 s0 loads) x.held.h (Byte c)) n.high_is (d.holds.in_regs H);
             low = subst (λ (c : Cell). Val80 (env80 s0 loads) x.held.l (Byte c)) n.low_is (d.holds.in_regs L);
             is_place = n.is_place;
@@ -112,10 +114,14 @@ module _ (p : Program) (s0 : State80) (loads : List Load80) (x : Symbolic80) (s 
           let n = place_is p w.high w.low b.0 b.1 in
           let is : record { place = b.0; sp = wrap (s.sp + 2); is_popped = true } ≡ back = ok_is _ back b.2 in
           let halves : w ≡ record { high = Hi b.0; low = Lo b.0 } = ap (λ c. record { high = c; low = w.low }) n.high_is ∙ ap (λ c. record { high = Hi b.0; low = c }) n.low_is in
+          let read = read_word_is p s s.sp w d.is_state.sp a.1 in
           let loaded = word_loaded p s0 loads x s (Hi b.0) (Lo b.0) d in
           inr (inr (record {
             place = b.0;
+            is_held = subst (λ (c : Cell). IsCell p c) (read.4 ∙ n.low_is) (d.is_state.mem s.sp read.1);
             loaded = a.1 ∙ ap Ok halves;
+            is_high = ap (λ k. High (Loaded16 k)) (sym d.count);
+            is_low = ap (λ k. Low (Loaded16 k)) (sym d.count);
             high = (Lo b.0, loaded);
             low = (Hi b.0, loaded);
             is_place = n.is_place;

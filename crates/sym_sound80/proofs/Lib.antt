@@ -2,12 +2,12 @@ mod Values
 mod Replaying
 mod Writing
 mod Denoting
-mod Answering
+pub mod Answering
 mod Holding
 mod Computing
 mod Moves
 mod Sums
 mod Rows
-mod Leaving
+pub mod Leaving
 mod Standing
 mod Blocks

@@ -8,9 +8,9 @@ mod Words86
 mod Alu86
 mod Counts86
 mod Rows86
-mod Positions
-mod Stepping
-mod Walking
+pub mod Positions
+pub mod Stepping
+pub mod Walking
 mod Walks
 mod Sound
 mod Runtime

@@ -110,15 +110,16 @@ module _ (keep : MadeTermsKeepValues) (sorts : MadeTermsHaveSorts) (steps : Step
     stack_segment = r.denotes.ss;
     way = r.way;
     takes = r.takes;
+    one = r.one;
     leaves = leaves r.leaves;
     direct = λ h. asking r.leaves (r.is_asked h);
   })
     where
-      leaves : Leaves keep sorts steps p lines a coded fetch reads w same_text same_next choices e offsets s segments 1 (10 * count) r.count (with_loads e r.loads) r.ended r.way r.arrived → Leaves86 p fetch (offsets_of lines) count (with_loads e r.loads) r.ended r.way r.count r.arrived ⊎ LeavesAsking86 p fetch (offsets_of lines) count (with_loads e r.loads) r.ended r.way r.count r.arrived
+      leaves : Leaves keep sorts steps p lines a coded fetch reads w same_text same_next choices e offsets s segments r.direct 1 (10 * count) r.count (with_loads e r.loads) r.ended r.way r.arrived → Leaves86 p fetch (offsets_of lines) count (with_loads e r.loads) r.ended r.way r.count r.arrived ⊎ LeavesAsking86 p fetch (offsets_of lines) count r.direct r.ended r.way r.count r.arrived
       leaves (arrives low few l) = inl (record { some = low; few = few; leads = l })
       leaves (asks few l) = inr (record { few = few; asks = l })
 
-      asking : (l : Leaves keep sorts steps p lines a coded fetch reads w same_text same_next choices e offsets s segments 1 (10 * count) r.count (with_loads e r.loads) r.ended r.way r.arrived) → IsAsked keep sorts steps p lines a coded fetch reads w same_text same_next choices e offsets s segments 1 (10 * count) r.count (with_loads e r.loads) r.ended r.way r.arrived l → LeavesAsking86 p fetch (offsets_of lines) count (with_loads e r.loads) r.ended r.way r.count r.arrived
+      asking : (l : Leaves keep sorts steps p lines a coded fetch reads w same_text same_next choices e offsets s segments r.direct 1 (10 * count) r.count (with_loads e r.loads) r.ended r.way r.arrived) → IsAsked keep sorts steps p lines a coded fetch reads w same_text same_next choices e offsets s segments r.direct 1 (10 * count) r.count (with_loads e r.loads) r.ended r.way r.arrived l → LeavesAsking86 p fetch (offsets_of lines) count r.direct r.ended r.way r.count r.arrived
       asking (arrives low few l) h = absurd h
       asking (asks few l) h = record { few = few; asks = l }
 

@@ -23,7 +23,7 @@ use Rattle.asm80_program.specs.Program.{Program, is_start}
 use Rattle.cpu86_steps.specs.State.{State86, Flags86, wrap, word, word_at, push}
 use Rattle.cpu86_steps.specs.Flags.{jumps}
 use Rattle.cpu86_steps.specs.Step.{step86, machine86}
-use Rattle.sym_terms.specs.Term.{same_bool}
+use Rattle.sym_terms.specs.Term.{High, Low, Loaded16, same_bool}
 use Rattle.sym_terms.specs.Values86.{Env86, Load86, Number, Val86}
 use Rattle.sym_terms.specs.Laws.{MadeTermsKeepValues, MadeTermsHaveSorts}
 use Rattle.sym_blocks.specs.declared.reason.Reason.{Reason}
@@ -177,10 +177,10 @@ module _ (keep : MadeTermsKeepValues) (sorts : MadeTermsHaveSorts) (steps : Step
   return_leads loads x t d =
       let n = word_at t.mem t.sp in
       let loaded = word_loaded e s0 loads x t n d in
-      inr (record { word = n; popped = refl; high = (n, loaded, refl); low = (n, loaded, refl); leads = refl })
+      inr (record { word = n; popped = refl; is_high = ap (λ k. High (Loaded16 k)) (sym d.count); is_low = ap (λ k. Low (Loaded16 k)) (sym d.count); high = (n, loaded, refl); low = (n, loaded, refl); leads = refl })
 
   pub bx_leads : (loads : List Load86) (x : Symbolic86) (t : State86) → Denotes e s0 loads x t → Leads86 p (offsets_of lines) (with_loads e loads) t (bx_way x) (record t { ip = word t.regs.bh t.regs.bl })
-  bx_leads loads x t d = inl (record { high_byte = t.regs.bh; low_byte = t.regs.bl; high = d.in_regs Bh; low = d.in_regs Bl; leads = refl })
+  bx_leads loads x t d = inl (record { high_byte = t.regs.bh; low_byte = t.regs.bl; high_fits = d.is_state.regs Bh; low_fits = d.is_state.regs Bl; high = d.in_regs Bh; low = d.in_regs Bl; leads = refl })
 
   -- the place after the block comes next
   next_is : (rest : List Stmt86) (at : ℕ) → Position (statements lines) rest at → comes_next w rest ≡ true → offsets_of lines (At w.after) ≡ Some at

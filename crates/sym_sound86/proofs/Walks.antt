@@ -1,8 +1,9 @@
 -- The walk before a conditional jump.
-use Rattle.std.proofs.Common.{◌≡◌, ℕ, zero, suc, ◌+◌, ◌*◌, ◌/◌, ◌%◌, ◌<◌, ◌≤◌, Bool, true, false, cond, not, List, ◌∷◌, length, Option, Some, Result, Ok, refl, sym, ap, subst, ◌∙◌, arith, ⊎_elim}
-use Rattle.std.specs.Prelude.{◌||◌}
+use Rattle.std.proofs.Common.{◌≡◌, ◌≢◌, ℕ, zero, suc, ◌+◌, ◌*◌, ◌/◌, ◌%◌, ◌<◌, ◌≤◌, Bool, true, false, cond, not, List, ◌∷◌, length, Option, Some, Result, Ok, refl, sym, ap, subst, ◌∙◌, arith, ⊎_elim}
+use Rattle.std.specs.Prelude.{◌||◌, ◌==◌}
 use Rattle.cells.specs.declared.Place.{Place}
 use Rattle.cells.specs.declared.Place.TheVariants.{At as AtPlace, Exit as EndPlace}
+use Rattle.i86.specs.declared.Reg8.TheVariants.{Cl}
 use Rattle.i86.specs.declared.Reg16.{Reg16}
 use Rattle.i86.specs.declared.Jump.{Jump}
 use Rattle.i86.specs.declared.Instr86.{Instr86}
@@ -23,7 +24,7 @@ use Rattle.cpu86_steps.specs.State.{State86}
 use Rattle.cpu86_steps.specs.Flags.{jumps}
 use Rattle.cpu86_steps.specs.Effect.{effect}
 use Rattle.cpu86_steps.specs.Step.{step86, machine86}
-use Rattle.sym_terms.specs.Term.{Num, Code, is_word}
+use Rattle.sym_terms.specs.Term.{Term, Num, Code, is_word}
 use Rattle.sym_terms.specs.Making.{low}
 use Rattle.sym_terms.specs.Values86.{Env86, Load86, Number, Val86}
 use Rattle.sym_terms.specs.Laws.{IsMadeAs, MadeTermsKeepValues, MadeTermsHaveSorts}
@@ -46,6 +47,11 @@ use Rattle.sym_sound86.proofs.Walking.{has_sorts, ok_is, err_is_not, then_is, co
 word_sorted : (n : ℕ) → n < 0x10000 → IsMadeAs is_word (Num n)
 word_sorted n lt = (lt, Rattle.std.proofs.lemmas.Bool.lt-ltb n 0x10000 lt)
 
+-- a direct call has a function other than 0
+call_is_some : (d : Env86) (c : Term) (n : ℕ) → is_call c ≡ true → Val86 d c (Number n) → n ≢ 0
+call_is_some d (Num m) n h v z = let none : not (0 == 0) ≡ true = subst (λ k. not (k == 0) ≡ true) (sym v ∙ z) h in absurd (cc)
+call_is_some d c n h v z = absurd (cc)
+
 abbrev pub is_instruction : Met → ℕ
 is_instruction (EndsAt l) = 0
 is_instruction (Instruction x rest) = 1
@@ -53,14 +59,14 @@ is_instruction Nothing = 0
 
 module _ (keep : MadeTermsKeepValues) (sorts : MadeTermsHaveSorts) (steps : StepsKeepSorts) (p : Program) (lines : List Line86) (a : Assembles lines) (coded : StatementsAreCoded (statements lines)) (fetch : ℕ → Option Instr86) (reads : Reads (image_of lines).code fetch) (w : Surroundings) (same_text : w.text ≡ statements lines) (same_start : w.goes_on ≡ is_start p w.after) (choices : List ℕ) (e : Env86) (offsets : (q : Place) → e.offset q ≡ offsets_of lines (label_of q)) (s0 : State86) (segments : s0.ss ≡ s0.ds) where
   -- where a way leads, in at least so many steps; or what is asked in the step that follows
-  pub data Leaves (least room count : ℕ) (d : Env86) (t : State86) (way : Way) (u : State86) : Type 0 where
-    arrives : least ≤ count → count ≤ room → Leads86 p (offsets_of lines) d t way u → Leaves least room count d t way u
-    asks : count + 1 ≤ room → Asks86 p fetch (offsets_of lines) t way u → Leaves least room count d t way u
+  pub data Leaves (direct : Bool) (least room count : ℕ) (d : Env86) (t : State86) (way : Way) (u : State86) : Type 0 where
+    arrives : least ≤ count → count ≤ room → Leads86 p (offsets_of lines) d t way u → Leaves direct least room count d t way u
+    asks : count + 1 ≤ room → Asks86 p fetch (offsets_of lines) direct t way u → Leaves direct least room count d t way u
 
   -- it is asked in the step that follows
-  abbrev pub IsAsked : (least room count : ℕ) (d : Env86) (t : State86) (way : Way) (u : State86) → Leaves least room count d t way u → Type 0
-  IsAsked least room count d t way u (arrives a b c) = ⊥
-  IsAsked least room count d t way u (asks a b) = Unit {0}
+  abbrev pub IsAsked : (direct : Bool) (least room count : ℕ) (d : Env86) (t : State86) (way : Way) (u : State86) → Leaves direct least room count d t way u → Type 0
+  IsAsked direct least room count d t way u (arrives a b c) = ⊥
+  IsAsked direct least room count d t way u (asks a b) = Unit {0}
 
   -- a walk with an outcome
   pub record WalkRuns (least room used : ℕ) (t : State86) (o : Outcome) : Type 0 where
@@ -76,8 +82,9 @@ module _ (keep : MadeTermsKeepValues) (sorts : MadeTermsHaveSorts) (steps : Step
     pub is : outcome86 x direct exit ≡ o
     pub way : Way
     pub takes : Takes86 (with_loads e loads) exit way
-    pub leaves : Leaves least room count (with_loads e loads) ended way arrived
-    pub is_asked : direct ≡ true → IsAsked least room count (with_loads e loads) ended way arrived leaves
+    pub one : direct ≡ true → exit ≡ One way
+    pub leaves : Leaves direct least room count (with_loads e loads) ended way arrived
+    pub is_asked : direct ≡ true → IsAsked direct least room count (with_loads e loads) ended way arrived leaves
 
   -- a step before
   later : (room used : ℕ) (t u : State86) (o : Outcome) → step86 fetch t (choice_at choices used) ≡ Ran u → WalkRuns 0 room (suc used) u o → WalkRuns 1 (suc room) used t o
@@ -94,15 +101,16 @@ module _ (keep : MadeTermsKeepValues) (sorts : MadeTermsHaveSorts) (steps : Step
     is = r.is;
     way = r.way;
     takes = r.takes;
+    one = r.one;
     leaves = one_more r.leaves;
     is_asked = λ f. still_asked r.leaves (r.is_asked f);
   }
     where
-      one_more : Leaves 0 room r.count (with_loads e r.loads) r.ended r.way r.arrived → Leaves 1 (suc room) (suc r.count) (with_loads e r.loads) r.ended r.way r.arrived
+      one_more : Leaves r.direct 0 room r.count (with_loads e r.loads) r.ended r.way r.arrived → Leaves r.direct 1 (suc room) (suc r.count) (with_loads e r.loads) r.ended r.way r.arrived
       one_more (arrives low few l) = arrives (omega arith) (omega (arith, few)) l
       one_more (asks few l) = asks (omega (arith, few)) l
 
-      still_asked : (l : Leaves 0 room r.count (with_loads e r.loads) r.ended r.way r.arrived) → IsAsked 0 room r.count (with_loads e r.loads) r.ended r.way r.arrived l → IsAsked 1 (suc room) (suc r.count) (with_loads e r.loads) r.ended r.way r.arrived (one_more l)
+      still_asked : (l : Leaves r.direct 0 room r.count (with_loads e r.loads) r.ended r.way r.arrived) → IsAsked r.direct 0 room r.count (with_loads e r.loads) r.ended r.way r.arrived l → IsAsked r.direct 1 (suc room) (suc r.count) (with_loads e r.loads) r.ended r.way r.arrived (one_more l)
       still_asked (arrives low few l) h = absurd h
       still_asked (asks few l) h = tt
 
@@ -120,15 +128,16 @@ module _ (keep : MadeTermsKeepValues) (sorts : MadeTermsHaveSorts) (steps : Step
     is = r.is;
     way = r.way;
     takes = r.takes;
+    one = r.one;
     leaves = fewer r.leaves;
     is_asked = λ f. still_asked r.leaves (r.is_asked f);
   }
     where
-      fewer : Leaves least room r.count (with_loads e r.loads) r.ended r.way r.arrived → Leaves 0 room r.count (with_loads e r.loads) r.ended r.way r.arrived
+      fewer : Leaves r.direct least room r.count (with_loads e r.loads) r.ended r.way r.arrived → Leaves r.direct 0 room r.count (with_loads e r.loads) r.ended r.way r.arrived
       fewer (arrives low few l) = arrives (omega arith) few l
       fewer (asks few l) = asks few l
 
-      still_asked : (l : Leaves least room r.count (with_loads e r.loads) r.ended r.way r.arrived) → IsAsked least room r.count (with_loads e r.loads) r.ended r.way r.arrived l → IsAsked 0 room r.count (with_loads e r.loads) r.ended r.way r.arrived (fewer l)
+      still_asked : (l : Leaves r.direct least room r.count (with_loads e r.loads) r.ended r.way r.arrived) → IsAsked r.direct least room r.count (with_loads e r.loads) r.ended r.way r.arrived l → IsAsked r.direct 0 room r.count (with_loads e r.loads) r.ended r.way r.arrived (fewer l)
       still_asked (arrives low few l) h = absurd h
       still_asked (asks few l) h = tt
 
@@ -147,12 +156,13 @@ module _ (keep : MadeTermsKeepValues) (sorts : MadeTermsHaveSorts) (steps : Step
     is = ok_is _ o is;
     way = way;
     takes = refl;
+    one = λ f. absurd (cc);
     leaves = arrives (omega arith) (omega arith) leads;
     is_asked = λ f. absurd (cc);
   }
 
   -- one way, in which something is asked
-  asked : (loads : List Load86) (x : Symbolic86) (room used : ℕ) (t : State86) (direct : Bool) (way : Way) (o : Outcome) → Denotes e s0 loads x t → Asks86 p fetch (offsets_of lines) t way t → outcome86 x direct (One way) ≡ o → WalkRuns 1 (suc room) used t o
+  asked : (loads : List Load86) (x : Symbolic86) (room used : ℕ) (t : State86) (direct : Bool) (way : Way) (o : Outcome) → Denotes e s0 loads x t → Asks86 p fetch (offsets_of lines) direct t way t → outcome86 x direct (One way) ≡ o → WalkRuns 1 (suc room) used t o
   asked loads x room used t direct way o d asking is = record {
     count = 0;
     arrived = t;
@@ -166,6 +176,7 @@ module _ (keep : MadeTermsKeepValues) (sorts : MadeTermsHaveSorts) (steps : Step
     is = is;
     way = way;
     takes = refl;
+    one = λ f. refl;
     leaves = asks (omega arith) asking;
     is_asked = λ f. tt;
   }
@@ -232,17 +243,17 @@ module _ (keep : MadeTermsKeepValues) (sorts : MadeTermsHaveSorts) (steps : Step
       later room used t u o step (again loads (with_reg16 x r (offset_term l)) u rest (sets_word keep sorts e s0 loads x (past t 3) r (offset_term l) n (stands e s0 loads x t (t.ip + 3) d) lt v.0 v.1) (steps.offset x r l so) (subst (Position (statements lines) rest) (sym at) (position_next (statements lines) (MovOffset r l) rest t.ip q)) h)
 
   -- what asks: the machine asks, whatever the choice gives
-  asks_system : (loads : List Load86) (x : Symbolic86) (t : State86) (rest : List Stmt86) → Denotes e s0 loads x t → Position (statements lines) (Run Int224 ∷ rest) t.ip → Asks86 p fetch (offsets_of lines) t (AskSystem (back_from_system w rest)) t
-  asks_system loads x t rest d q =
+  asks_system : (loads : List Load86) (x : Symbolic86) (t : State86) (rest : List Stmt86) → Denotes e s0 loads x t → Position (statements lines) (Run Int224 ∷ rest) t.ip → is_call x.held.c ≡ true → Asks86 p fetch (offsets_of lines) true t (AskSystem (back_from_system w rest)) t
+  asks_system loads x t rest d q called =
       let next = position_next (statements lines) (Run Int224) rest t.ip q in
-      (t.ip + 2, system_back keep sorts steps p lines a coded fetch reads w same_text same_start choices e offsets s0 segments rest (t.ip + 2) next, λ c. steps_as lines a fetch reads (Run Int224) rest t Int224 c q refl refl (stack_is keep sorts steps p lines a coded fetch reads w same_text same_start choices e offsets s0 segments loads x t d))
+      (t.ip + 2, refl, call_is_some (with_loads e loads) x.held.c t.regs.cl called (d.in_regs Cl), system_back keep sorts steps p lines a coded fetch reads w same_text same_start choices e offsets s0 segments rest (t.ip + 2) next, λ c. steps_as lines a fetch reads (Run Int224) rest t Int224 c q refl refl (stack_is keep sorts steps p lines a coded fetch reads w same_text same_start choices e offsets s0 segments loads x t d))
 
-  asks_in : (loads : List Load86) (x : Symbolic86) (t : State86) (port : ℕ) (rest : List Stmt86) → Denotes e s0 loads x t → Position (statements lines) (Run (InAl port) ∷ rest) t.ip → (comes_next w rest || not w.goes_on) ≡ true → Asks86 p fetch (offsets_of lines) t (In port (AtPlace w.after)) t
+  asks_in : (loads : List Load86) (x : Symbolic86) (t : State86) (port : ℕ) (rest : List Stmt86) → Denotes e s0 loads x t → Position (statements lines) (Run (InAl port) ∷ rest) t.ip → (comes_next w rest || not w.goes_on) ≡ true → Asks86 p fetch (offsets_of lines) false t (In port (AtPlace w.after)) t
   asks_in loads x t port rest d q h =
       let next = position_next (statements lines) (Run (InAl port)) rest t.ip q in
       (t.ip + 2, goes_on_next keep sorts steps p lines a coded fetch reads w same_text same_start choices e offsets s0 segments rest (t.ip + 2) next h, λ c. steps_as lines a fetch reads (Run (InAl port)) rest t (InAl port) c q refl refl (stack_is keep sorts steps p lines a coded fetch reads w same_text same_start choices e offsets s0 segments loads x t d))
 
-  asks_out : (loads : List Load86) (x : Symbolic86) (t : State86) (port : ℕ) (rest : List Stmt86) → Denotes e s0 loads x t → Position (statements lines) (Run (OutAl port) ∷ rest) t.ip → (comes_next w rest || not w.goes_on) ≡ true → Asks86 p fetch (offsets_of lines) t (Out port (AtPlace w.after)) t
+  asks_out : (loads : List Load86) (x : Symbolic86) (t : State86) (port : ℕ) (rest : List Stmt86) → Denotes e s0 loads x t → Position (statements lines) (Run (OutAl port) ∷ rest) t.ip → (comes_next w rest || not w.goes_on) ≡ true → Asks86 p fetch (offsets_of lines) false t (Out port (AtPlace w.after)) t
   asks_out loads x t port rest d q h =
       let next = position_next (statements lines) (Run (OutAl port)) rest t.ip q in
       (t.ip + 2, goes_on_next keep sorts steps p lines a coded fetch reads w same_text same_start choices e offsets s0 segments rest (t.ip + 2) next h, λ c. steps_as lines a fetch reads (Run (OutAl port)) rest t (OutAl port) c q refl refl (stack_is keep sorts steps p lines a coded fetch reads w same_text same_start choices e offsets s0 segments loads x t d))
@@ -253,7 +264,7 @@ module _ (keep : MadeTermsKeepValues) (sorts : MadeTermsHaveSorts) (steps : Step
   runs_any loads x room used t JmpBx rest o d so q again h = one_step loads x room used t _ (bx_way x) o d (bx_steps keep sorts steps p lines a coded fetch reads w same_text same_start choices e offsets s0 segments rest t (choice_at choices used) q (stack_is keep sorts steps p lines a coded fetch reads w same_text same_start choices e offsets s0 segments loads x t d)) (bx_leads keep sorts steps p lines a coded fetch reads w same_text same_start choices e offsets s0 segments loads x t d) h
   runs_any loads x room used t Int224 rest o d so q again h =
       let f = cond_is (is_call x.held.c) _ o h in
-      asked loads x room used t true (AskSystem (back_from_system w rest)) o d (asks_system loads x t rest d q) (ok_is _ o f.1)
+      asked loads x room used t true (AskSystem (back_from_system w rest)) o d (asks_system loads x t rest d q f.0) (ok_is _ o f.1)
   runs_any loads x room used t (InAl port) rest o d so q again h =
       let f = cond_is (comes_next w rest || not w.goes_on) _ o h in
       asked loads x room used t false (In port (AtPlace w.after)) o d (asks_in loads x t port rest d q f.0) (ok_is _ o f.1)
@@ -310,6 +321,7 @@ module _ (keep : MadeTermsKeepValues) (sorts : MadeTermsHaveSorts) (steps : Step
             is = ok_is _ o jumped.2;
             way = way;
             takes = tk;
+            one = λ f. absurd (cc);
             leaves = arrives (omega arith) (omega (arith, few)) r.leads;
             is_asked = λ f. absurd (cc);
           }
@@ -367,6 +379,7 @@ module _ (keep : MadeTermsKeepValues) (sorts : MadeTermsHaveSorts) (steps : Step
         is = ok_is _ o f.2;
         way = f.0;
         takes = refl;
+        one = λ g. refl;
         leaves = arrives (omega arith) (omega arith) (label_leads keep sorts steps p lines a coded fetch reads w same_text same_start choices e offsets s0 segments (with_loads e loads) l f.0 t t.ip f.1 q);
         is_asked = λ g. absurd (cc);
       }

@@ -1,4 +1,4 @@
 mod Choosing
 mod Same
 mod Agreeing
-mod Replaying
+pub mod Replaying

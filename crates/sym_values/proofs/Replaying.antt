@@ -47,7 +47,7 @@ loads_snoc16 offset (LoadedWord x y ∷ xs) (LoadedByte86 m ∷ ys) p q w h s = 
 same_address : (offset : Place → Option ℕ) (n m : ℕ) → WordStands offset (NumCell (n / 256)) (NumCell (n % 256)) m → m ≡ n
 same_address offset n m h = let high = h.0 in let low = h.1 in omega (arith, high, low)
 
-open_cell : (p : Program) (a : ℕ) → is_kept p a ≡ false → is_closed p a ≡ false
+pub open_cell : (p : Program) (a : ℕ) → is_kept p a ≡ false → is_closed p a ≡ false
 open_cell p a h = left_false (is_closed p a) (a == 6 || a == 7) h
   where
     left_false : (b c : Bool) → (b || c) ≡ false → b ≡ false
@@ -56,7 +56,7 @@ open_cell p a h = left_false (is_closed p a) (a == 6 || a == 7) h
 
 module _ (p : Program) (offset : Place → Option ℕ) where
   -- a byte that is stored on both sides
-  put_stands : (m : ℕ → Cell) (n : ℕ → ℕ) (at : ℕ) (c : Cell) (b : ℕ) → MemoryStands p offset m n → Stands offset c b → b < 256 → MemoryStands p offset (put80 m at c) (put n at b)
+  pub put_stands : (m : ℕ → Cell) (n : ℕ → ℕ) (at : ℕ) (c : Cell) (b : ℕ) → MemoryStands p offset m n → Stands offset c b → b < 256 → MemoryStands p offset (put80 m at c) (put n at b)
   put_stands m n at c b h s lt = record {
     cells = λ a la oa. by_place a (a == at) (h.cells a la oa);
     bytes = λ a. by_byte a (a == at);
@@ -70,7 +70,7 @@ module _ (p : Program) (offset : Place → Option ℕ) where
       by_byte a true = lt
       by_byte a false = h.bytes a
 
-  put_word_stands : (m : ℕ → Cell) (n : ℕ → ℕ) (at : ℕ) (x y : Cell) (w : ℕ) → MemoryStands p offset m n → WordStands offset x y w → w < 0x10000 → at + 1 < 0x10000 → MemoryStands p offset (put80 (put80 m at y) (at + 1) x) (put_word n at w)
+  pub put_word_stands : (m : ℕ → Cell) (n : ℕ → ℕ) (at : ℕ) (x y : Cell) (w : ℕ) → MemoryStands p offset m n → WordStands offset x y w → w < 0x10000 → at + 1 < 0x10000 → MemoryStands p offset (put80 (put80 m at y) (at + 1) x) (put_word n at w)
   put_word_stands m n at x y w h s lw la =
       let next : wrap (at + 1) ≡ at + 1 = omega (arith, la) in
       let high : w / 256 < 256 = omega (arith, lw) in

@@ -1,0 +1,10 @@
+pub mod Exits
+pub mod Running
+pub mod Writes
+pub mod Asking
+pub mod Replying
+pub mod Standing
+pub mod Going
+pub mod System
+pub mod Ways
+pub mod Linked

@@ -1,0 +1,5 @@
+mod FollowBlocks
+mod Opening
+mod Memory
+mod Following
+mod Examples
