@@ -1,0 +1,4 @@
+mod Passing
+mod Templates
+mod Ways
+mod Ending

@@ -1,0 +1,7 @@
+pub mod Laid
+mod Standing
+mod Reasons
+mod Matching
+mod Examples
+mod Coded
+mod Parts
