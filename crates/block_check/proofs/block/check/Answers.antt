@@ -1,0 +1,47 @@
+use Rattle.std.proofs.Common.{◌≡◌, Some, ap, sym, subst}
+use Rattle.asm80_program.specs.Program.{Program}
+use Rattle.flow.specs.Blocks.{block_at}
+use Rattle.sym_blocks.specs.Block80.{IsBlock, block80}
+use Rattle.sym_blocks.specs.Walk86.{walk86}
+use Rattle.sym_blocks.specs.BlockMatch.{block_reason}
+use Rattle.block_check.specs.Kept.{KeepsNeeds}
+use Rattle.block_check.specs.Comparing.{HoldsOutcomes, AfterShown, verdict_of}
+use Rattle.block_check.proofs.Needed.{leader_block}
+use Rattle.block_check.proofs.block.check.Goals as goal
+
+pub check_kept-requires-clause-block : goal.check_kept-requires-clause-block
+check_kept-requires-clause-block c =
+    let p = c.args.program.now in
+    let b = leader_block p c.args.leader (c.blocks_cut_the_program.ensures p c.top-top.ensures.program) c.requires.leader in
+    let at : block_at c.args.graph.now.program c.args.leader ≡ block_at p c.args.leader = ap (λ (q : Program). block_at q c.args.leader) c.requires.program in
+    let found : block_at p c.args.leader ≡ Some b.0 = b.1 in
+    let here = c.in-Some.ensures in
+    let same : b.0 ≡ c.in-Some.count = cc in
+    subst (λ n. IsBlock p c.args.leader n) same b.2
+
+pub unreachable-requires : goal.unreachable-requires
+unreachable-requires c =
+    let p = c.args.program.now in
+    let b = leader_block p c.args.leader (c.blocks_cut_the_program.ensures p c.top-top.ensures.program) c.requires.leader in
+    let at : block_at c.args.graph.now.program c.args.leader ≡ block_at p c.args.leader = ap (λ (q : Program). block_at q c.args.leader) c.requires.program in
+    let found : block_at p c.args.leader ≡ Some b.0 = b.1 in
+    let here = c.in-None.ensures in
+    cc
+
+pub returns-clause-verdict : goal.returns-clause-verdict
+returns-clause-verdict c = λ k count needs e.
+    let p = c.args.program.now in
+    let at : block_at c.args.graph.now.program c.args.leader ≡ block_at p c.args.leader = ap (λ (q : Program). block_at q c.args.leader) c.requires.program in
+    let here = c.in-Some.ensures in
+    let same : c.in-Some.count ≡ count = cc in
+    subst (λ n. c.check_kept.result ≡ verdict_of (block_reason p c.args.text.now k c.args.leader n)) same
+    (c.check_kept.ensures.verdict k (subst (λ q. KeepsNeeds q k) (sym c.requires.program) needs))
+
+pub returns-clause-outcomes : goal.returns-clause-outcomes
+returns-clause-outcomes c = λ k count needs e.
+    let p = c.args.program.now in
+    let at : block_at c.args.graph.now.program c.args.leader ≡ block_at p c.args.leader = ap (λ (q : Program). block_at q c.args.leader) c.requires.program in
+    let here = c.in-Some.ensures in
+    let same : c.in-Some.count ≡ count = cc in
+    subst (λ n. AfterShown c.check_kept.result (HoldsOutcomes c.check_kept.new.work (block80 p c.args.leader n) (walk86 p c.args.text.now (k.at c.args.leader) c.args.leader n))) same
+    (c.check_kept.ensures.outcomes k (subst (λ q. KeepsNeeds q k) (sym c.requires.program) needs))

@@ -1,0 +1,62 @@
+use Rattle.std.proofs.Common.{◌≡◌, ◌∙◌, Result, Ok, Err, ap, subst}
+use Rattle.cells.specs.Parts.{Parts}
+use Rattle.sym_blocks.specs.declared.reason.Reason.{Reason}
+use Rattle.sym_blocks.specs.Outcome.{Outcome}
+use Rattle.sym_blocks.specs.Block80.{block80}
+use Rattle.sym_blocks.specs.Walk86.{walk86}
+use Rattle.sym_blocks.specs.BlockMatch.{kept_by_exit}
+use Rattle.sym_micro.specs.Exits.{tree_of_exit}
+use Rattle.sym_run.specs.Outcomes.{OutcomeStands, Comes}
+use Rattle.block_check.specs.Kept.{wanted_parts, lost_of, kept_behind}
+use Rattle.block_check.specs.Comparing.{HoldsOutcomes, first_of, second_of, reason_by, verdict_of}
+use Rattle.block_check.proofs.Found.{are_ready, found, after_shown, reason_found}
+use Rattle.block_check.proofs.block.check_kept.Goals as goal
+
+pub reason_of-requires : goal.reason_of-requires
+reason_of-requires c =
+    let w = c.run86.new.self in
+    let x : Outcome = block80 c.args.program.now c.args.leader c.args.count in
+    let walk : Parts → Result Outcome Reason = λ keep. walk86 c.args.program.now c.args.text.now keep c.args.leader c.args.count in
+    let first : OutcomeStands w.terms w.first x = c.run86.ensures.still x c.in-Some.ensures.stands in
+    let came = rw c.in-Some-Ok.field-0-is at c.in-Some-Ok.ensures.stands in
+    are_ready w x (walk c.run80.new.self.keep) first came
+
+pub returns-in-Some-Ok-clause-verdict : goal.returns-in-Some-Ok-clause-verdict
+returns-in-Some-Ok-clause-verdict c = λ k h.
+    let w = c.run86.new.self in
+    let x : Outcome = block80 c.args.program.now c.args.leader c.args.count in
+    let walk : Parts → Result Outcome Reason = λ keep. walk86 c.args.program.now c.args.text.now keep c.args.leader c.args.count in
+    let first : OutcomeStands w.terms w.first x = c.run86.ensures.still x c.in-Some.ensures.stands in
+    let came = rw c.in-Some-Ok.field-0-is at c.in-Some-Ok.ensures.stands in
+    let at : c.kept_from.result ≡ k.at c.args.leader = c.kept_from.ensures k h in
+    let keep : c.run80.new.self.keep ≡ k.at c.args.leader = cc in
+    let exit : c.exit-exit.result ≡ w.first.exit = cc in
+    let kept : wanted_parts c.kept_by_exit-wanted.result ≡ kept_by_exit k (tree_of_exit w.terms w.first.exit) = rw (← exit) (c.kept_by_exit-wanted.ensures w.terms k h) in
+    let back : c.kept_behind-back.result ≡ kept_behind k (tree_of_exit w.terms w.first.exit) = rw (← exit) (c.kept_behind-back.ensures w.terms k h) in
+    let same : reason_by (wanted_parts c.kept_by_exit-wanted.result) (lost_of c.kept_behind-back.result) (first_of w) (second_of w) ≡ reason_by (kept_by_exit k (tree_of_exit w.terms w.first.exit)) (lost_of (kept_behind k (tree_of_exit w.terms w.first.exit))) (first_of w) (second_of w) = λ i. reason_by (kept i) (lost_of (back i)) (first_of w) (second_of w) in
+    c.verdict_of.ensures
+    ∙ ap verdict_of (c.reason_of.ensures ∙ (same ∙ found w k x (walk (k.at c.args.leader)) first (subst (λ held. Comes w.terms w.second (walk held) (Ok tt)) keep came)))
+
+pub returns-in-Some-Ok-clause-outcomes : goal.returns-in-Some-Ok-clause-outcomes
+returns-in-Some-Ok-clause-outcomes c = λ k h.
+    let w = c.run86.new.self in
+    let x : Outcome = block80 c.args.program.now c.args.leader c.args.count in
+    let walk : Parts → Result Outcome Reason = λ keep. walk86 c.args.program.now c.args.text.now keep c.args.leader c.args.count in
+    let first : OutcomeStands w.terms w.first x = c.run86.ensures.still x c.in-Some.ensures.stands in
+    let came = rw c.in-Some-Ok.field-0-is at c.in-Some-Ok.ensures.stands in
+    let at : c.kept_from.result ≡ k.at c.args.leader = c.kept_from.ensures k h in
+    let keep : c.run80.new.self.keep ≡ k.at c.args.leader = cc in
+    after_shown c.verdict_of.result (HoldsOutcomes w x (walk (k.at c.args.leader))) (record {
+      first = first;
+      second = subst (λ held. Comes w.terms w.second (walk held) (Ok tt)) keep came;
+    })
+
+pub returns-in-Some-Err-clause-verdict : goal.returns-in-Some-Err-clause-verdict
+returns-in-Some-Err-clause-verdict c = λ k h.
+    let w = c.run86.new.self in
+    let x : Outcome = block80 c.args.program.now c.args.leader c.args.count in
+    let walk : Parts → Result Outcome Reason = λ keep. walk86 c.args.program.now c.args.text.now keep c.args.leader c.args.count in
+    let came = rw c.in-Some-Err.field-0-is at c.in-Some-Err.ensures.stands in
+    let at : c.kept_from.result ≡ k.at c.args.leader = c.kept_from.ensures k h in
+    let keep : c.run80.new.self.keep ≡ k.at c.args.leader = cc in
+    reason_found w.terms w.second k x (walk (k.at c.args.leader)) c.in-Some-Err.reason (subst (λ held. Comes w.terms w.second (walk held) (Err c.in-Some-Err.reason)) keep came)

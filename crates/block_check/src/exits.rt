@@ -1,0 +1,97 @@
+// Whether the exits of two outcomes agree.
+
+ghost use Rattle.std.specs.Prelude.{◌≡◌, ◌&&◌};
+ghost use Rattle.sym_terms.specs.Term.{same_place, same_bool};
+ghost use Rattle.sym_terms.specs.Trees.{tree_in, IsGiven};
+ghost use Rattle.sym_blocks.specs.Agree.{agrees, way_agrees, ways_agree, exit_agrees};
+ghost use Rattle.sym_micro.specs.Exits.{tree_of_way, tree_of_exit, WayIsGiven, ExitIsGiven};
+
+use cells::Place;
+use sym_run::{Exit, Way, Work};
+use sym_terms::Term;
+
+fn same_place(one: Place, other: Place) -> bool
+    ensures { result ≡ same_place one other }
+{
+    match (one, other) {
+        (Place::At(a), Place::At(b)) => a == b,
+        (Place::Exit, Place::Exit) => true,
+        _ => false,
+    }
+}
+
+fn same_value(one: bool, other: bool) -> bool
+    ensures { result ≡ same_bool one other }
+{
+    if one { other } else { !other }
+}
+
+// Whether the halves of an address agree with their partners.
+fn halves_agree(work: &Work, high: Term, low: Term, upper: Term, lower: Term) -> bool
+    requires high { IsGiven work.now.terms high }
+    requires low { IsGiven work.now.terms low }
+    requires upper { IsGiven work.now.terms upper }
+    requires lower { IsGiven work.now.terms lower }
+    ensures { result ≡ (agrees (tree_in work.now.terms high) (tree_in work.now.terms upper) && agrees (tree_in work.now.terms low) (tree_in work.now.terms lower)) }
+{
+    let first = work.agree(high, upper);
+    let second = work.agree(low, lower);
+    first && second
+}
+
+// Whether a way agrees with its partner.
+fn way_agrees(work: &Work, one: Way, other: Way) -> bool
+    requires one { WayIsGiven work.now.terms one }
+    requires other { WayIsGiven work.now.terms other }
+    ensures { result ≡ way_agrees (tree_of_way work.now.terms one) (tree_of_way work.now.terms other) }
+{
+    match (one, other) {
+        (Way::Leave, _) => true,
+        (Way::Goto(q), Way::Goto(r)) => same_place(q, r),
+        (Way::ByTerms(h, l), Way::ByTerms(u, v)) => halves_agree(work, h, l, u, v),
+        (Way::Call(q, back), Way::Call(r, other_back)) => same_place(q, r)
+            && same_place(back, other_back),
+        (Way::Sys(back), Way::Sys(other_back)) => same_place(back, other_back),
+        (Way::SysReturn, Way::SysReturn) | (Way::Boot, Way::Boot) => true,
+        (Way::In(port, next), Way::In(other_port, other_next)) => port == other_port
+            && same_place(next, other_next),
+        (Way::Out(port, next), Way::Out(other_port, other_next)) => port == other_port
+            && same_place(next, other_next),
+        _ => false,
+    }
+}
+
+// Whether two ways agree with two, by the same value of a flag in their order, by opposite values crosswise.
+fn ways_agree(work: &Work, same: bool, ours: (Way, Way), theirs: (Way, Way)) -> bool
+    requires where_so { WayIsGiven work.now.terms ours.0 }
+    requires otherwise { WayIsGiven work.now.terms ours.1 }
+    requires first { WayIsGiven work.now.terms theirs.0 }
+    requires second { WayIsGiven work.now.terms theirs.1 }
+    ensures { result ≡ ways_agree same (tree_of_way work.now.terms ours.0) (tree_of_way work.now.terms ours.1) (tree_of_way work.now.terms theirs.0) (tree_of_way work.now.terms theirs.1) }
+{
+    let (where_so, otherwise) = ours;
+    let (first, second) = theirs;
+    if same {
+        way_agrees(work, where_so, first) && way_agrees(work, otherwise, second)
+    } else {
+        way_agrees(work, where_so, second) && way_agrees(work, otherwise, first)
+    }
+}
+
+/// Whether an exit agrees with its partner.
+pub fn exit_agrees(work: &Work, one: Exit, other: Exit) -> bool
+    requires one { ExitIsGiven work.now.terms one }
+    requires other { ExitIsGiven work.now.terms other }
+    ensures { result ≡ exit_agrees (tree_of_exit work.now.terms one) (tree_of_exit work.now.terms other) }
+{
+    match (one, other) {
+        (Exit::One(Way::Leave), _) => true,
+        (Exit::One(way), Exit::One(partner)) => way_agrees(work, way, partner),
+        (Exit::Two(f, v, a, b), Exit::Two(g, w, x, y)) => {
+            let flags = work.agree(f, g);
+            let ways = ways_agree(work, same_value(v, w), (a, b), (x, y));
+            flags && ways
+        }
+        _ => false,
+    }
+}
