@@ -8,26 +8,37 @@ use Rattle.host.specs.Host.{HostState, Holds, Missing, IsFile, HasRisen, OnlyFil
 use Rattle.asm86_lines.specs.Image.{Assembles, image_of}
 use Rattle.cmd_files.specs.Transfer.{CutsLine}
 use Rattle.asm80_program.specs.Program.{Program, IsProgram}
-use Rattle.asm80_source.specs.Source.{IsSource, SourceRule, OfLine, OfProgram}
-use Rattle.templates.specs.Plain.{plain}
+use Rattle.asm80_source.specs.Source.{IsSource, SourceRule, IsNoSource, OfLine, OfProgram}
+use Rattle.asm86_lines.specs.Layout.{sizes_of}
+use Rattle.templates.specs.Plain.{plain, plain_statements}
 use Rattle.cmd_words.specs.Words.{Translate}
-use Rattle.xlt_core.specs.First.{IsFirst}
+use Rattle.plain_texts.specs.Fits.{CodeFits}
 use Rattle.i86.specs.Decode.{HasReader}
-use Rattle.xlt_core.specs.Same.{Same}
+use Rattle.sym_same.specs.Same.{Same}
 use Rattle.cmd_reports.specs.declared.stop.Stop.{Stop}
+use Rattle.cmd_reports.specs.declared.stop.Stop.TheVariants.{CodeTooLarge}
 use Rattle.cmd_reports.specs.Lines.{named_line, memory_line}
 use Rattle.cmd_reports.specs.Said.{SaysLine, SaysLast, IsDone, whole, failed, no_memory, Closes, said, unsaid}
 use Rattle.cmd_inputs.specs.Files.{ReadStops, failed as read_failed, too_long as file_too_long, no_memory as no_memory_to_read, NoneFailed, IsTold, input_limit}
-use Rattle.cmd_translate.specs.Firsts.{IsRefused}
-use Rattle.cmd_translate.specs.Translates.{line_of_program, refusal_line, Accepts, Refuses, Writes, WritesPart, HasSame, SaysOfWrite, EndsWith, Gives, translated, refused, unread, unwritten, unsaid as line_unsaid, no_memory as no_room, no_memory_to_write, no_memory_to_say, too_long, stop_of_rule, Decides}
-use Rattle.cmd_translate.specs.Work.{Works, FailsToWrite, StopsBy, unread as stop_unread, refused as stop_refused, no_memory as stop_no_memory, unwritten as stop_unwritten, stop_of_write}
-use Rattle.cmd_translate.proofs.Verdicts.{SourceLaw, accepted_or_refused, refused_once}
+use Rattle.cmd_inputs.specs.Sources.{stop_of_rule, refusal_line}
+use Rattle.cmd_translate.specs.Translates.{line_of_program, size_line, IsTooLarge, Accepts, Refuses, Exceeds, Writes, WritesPart, HasSame, SaysOfWrite, EndsWith, Gives, translated, refused, unread, unwritten, unsaid as line_unsaid, no_memory as no_room, no_memory_to_write, no_memory_to_say, too_large, too_long, Decides}
+use Rattle.cmd_translate.specs.Work.{Works, FailsToWrite, StopsBy, unread as stop_unread, refused as stop_refused, too_large as stop_too_large, no_memory as stop_no_memory, unwritten as stop_unwritten, stop_of_write}
 
--- the law of programs of the first instructions
-pub record FirstLaw : Type 0 where
-  pub assembles : (p : Program) → IsProgram p → IsFirst p → Assembles (plain p)
-  pub reader : (p : Program) → IsProgram p → IsFirst p → HasReader (image_of (plain p)).code
-  pub same : (p : Program) → IsProgram p → IsFirst p → Same p (image_of (plain p))
+-- the law of plain texts
+pub record PlainLaw : Type 0 where
+  pub assembles : (p : Program) → IsProgram p → CodeFits p → Assembles (plain p)
+  pub reader : (p : Program) → IsProgram p → CodeFits p → HasReader (image_of (plain p)).code
+  pub same : (p : Program) → IsProgram p → CodeFits p → Same p (image_of (plain p))
+
+-- the law of sources
+pub record SourceLaw : Type 0 where
+  pub program : (bytes : List ℕ) (top : ℕ) (p q : Program) → IsSource bytes top p → IsSource bytes top q → p ≡ q
+  pub refusal : (bytes : List ℕ) (top m n : ℕ) (r s : SourceRule) → IsNoSource bytes top m r → IsNoSource bytes top n s → (m ≡ n) × (r ≡ s)
+  pub apart : (bytes : List ℕ) (top n : ℕ) (p : Program) (r : SourceRule) → IsSource bytes top p → IsNoSource bytes top n r → ⊥
+
+-- code that fits is not too large
+not_both : (p : Program) (size : ℕ) → CodeFits p → IsTooLarge p size → ⊥
+not_both p size fits large = let is = large.1 in let more = large.0 in omega (arith, is, more, fits)
 
 -- a count that rose before stays risen where it does not fall
 risen_on : (a b c : ℕ) → HasRisen a b → b ≤ c → HasRisen a c
@@ -68,16 +79,16 @@ module _ (c : Translate) (old mid new : HostState) where
     whole = ⊎_elim (λ all. inl all) (λ r. inr (risen_behind old.write_faults mid.write_faults new.write_faults only.writes r)) s.whole;
   }
 
-  has_same : FirstLaw → (p : Program) → Accepts c old p → HasSame c old new p
+  has_same : PlainLaw → (p : Program) → Accepts c old p → HasSame c old new p
   has_same law p a = record {
     image = image_of (plain p);
-    assembled = record { assembles = law.assembles p a.source.program.program.lawful a.first; is = refl };
-    reader = law.reader p a.source.program.program.lawful a.first;
-    same = law.same p a.source.program.program.lawful a.first;
+    assembled = record { assembles = law.assembles p a.source.program.program.lawful a.fits; is = refl };
+    reader = law.reader p a.source.program.program.lawful a.fits;
+    same = law.same p a.source.program.program.lawful a.fits;
   }
 
   -- the text was written
-  pub worked : FirstLaw → (line : List ℕ) → Works c old mid line → (status : ℕ) → IsDone line mid new status → Gives c old new status
+  pub worked : PlainLaw → (line : List ℕ) → Works c old mid line → (status : ℕ) → IsDone line mid new status → Gives c old new status
   worked law line w _ (whole only s faults) =
       translated w.program w.accepts (writes_on w.program only w.writes) (has_same law w.program w.accepts) (said_on (line_of_program w.program) w.quiet (subst (Says mid new) w.line s))
       (record { reads = faults.reads ∙ w.faults.reads; writes = faults.writes ∙ w.faults.writes })
@@ -103,6 +114,7 @@ module _ (c : Translate) (old mid new : HostState) where
   memory_end : (stop : Stop) → StopsBy c old mid stop → SaysLast memory_line mid new → Gives c old new 5
   memory_end _ (stop_unread s only) l = quiet_end only l
   memory_end _ (stop_refused line rule r e only same) l = quiet_end only l
+  memory_end _ (stop_too_large size x e only same) l = quiet_end only l
   memory_end _ (stop_no_memory only) l = quiet_end only l
   memory_end _ (stop_unwritten fault w e) l = no_memory_to_write w.program w.accepts (part_on w.program l.only w.part) (of_write memory_line w l)
 
@@ -125,6 +137,10 @@ module _ (c : Translate) (old mid new : HostState) where
   refused_end line (OfProgram rule) r only status (said e l) =
       subst (Gives c old new) (sym e) (refused line (OfProgram rule) r (ends_with (refusal_line line (OfProgram rule)) only l))
 
+  large_end : (size : ℕ) → Exceeds c old size → OnlyReads old mid → (status : ℕ) → Closes (CodeTooLarge size) mid new status → Gives c old new status
+  large_end size x only status (unsaid n e l) = subst (Gives c old new) (sym e) (quiet_end only l)
+  large_end size x only status (said e l) = subst (Gives c old new) (sym e) (too_large size x (ends_with (size_line size) only l))
+
   unwritten_end : (fault : HostFault) → FailsToWrite c old mid → (status : ℕ) → Closes (stop_of_write fault) mid new status → Gives c old new status
   unwritten_end Failed w status (unsaid n e l) = let fixed : true ≡ false = n in absurd cc
   unwritten_end Memory w status (unsaid n e l) = let fixed : true ≡ false = n in absurd cc
@@ -137,6 +153,7 @@ module _ (c : Translate) (old mid new : HostState) where
   pub stopped : (stop : Stop) → StopsBy c old mid stop → (status : ℕ) → Closes stop mid new status → Gives c old new status
   stopped stop (stop_unread s only) status closes = unread_end stop s only status closes
   stopped stop (stop_refused line rule r e only same) status closes = refused_end line rule r only status (subst (λ s. Closes s mid new status) e closes)
+  stopped stop (stop_too_large size x e only same) status closes = large_end size x only status (subst (λ s. Closes s mid new status) e closes)
   stopped _ (stop_no_memory only) status (said e l) = subst (Gives c old new) (sym e) (quiet_end only l)
   stopped _ (stop_no_memory only) status (unsaid n e l) = subst (Gives c old new) (sym e) (quiet_end only l)
   stopped stop (stop_unwritten fault w e) status closes = unwritten_end fault w status (subst (λ s. Closes s mid new status) e closes)
@@ -149,24 +166,42 @@ module _ (law : SourceLaw) (c : Translate) (old new : HostState) (none : NoneFai
   source_told : (p : Program) (a : Accepts c old p) → IsSource bytes c.top p
   source_told p a = subst (λ b. IsSource b c.top p) (same_bytes a.bytes a.file.0) a.source
 
-  refusal_told : (line : ℕ) (rule : SourceRule) (r : Refuses c old line rule) → IsRefused bytes c.top line rule
-  refusal_told line rule r = subst (λ b. IsRefused b c.top line rule) (same_bytes r.bytes r.file.0) r.refused
+  refusal_told : (line : ℕ) (rule : SourceRule) (r : Refuses c old line rule) → IsNoSource bytes c.top line rule
+  refusal_told line rule r = subst (λ b. IsNoSource b c.top line rule) (same_bytes r.bytes r.file.0) r.refused
+
+  large_told : (size : ℕ) (x : Exceeds c old size) → IsSource bytes c.top x.program
+  large_told size x = subst (λ b. IsSource b c.top x.program) (same_bytes x.bytes x.file.0) x.source
+
+  -- the one program of the source
+  one_program : (p q : Program) → IsSource bytes c.top p → IsSource bytes c.top q → p ≡ q
+  one_program p q s t = law.program bytes c.top p q s t
 
   whole_line : (line : List ℕ) → EndsWith c old new line → Says old new line
   whole_line line e = let s = line_on c old e.mid new line e.reads e.says.line in ⊎_elim (λ all. subst (Says old new) (take_all s.count line all) s.said) (λ r. absurd (none.writes r)) s.whole
 
   pub decides : (status : ℕ) → (status ≡ 5 → ⊥) → Gives c old new status → Decides c old new bytes status
   decides _ ne (translated p a w h s f) = record {
-    two = inl refl;
-    accepted = (λ e. (p, source_told p a, a.first), λ x. refl);
-    refused = λ line rule r. absurd (accepted_or_refused law bytes c.top p (source_told p a) a.first line rule r);
+    three = inl refl;
+    accepted = (λ e. (p, source_told p a, a.fits), λ x. refl);
+    refused = λ line rule r. absurd (law.apart bytes c.top line p rule (source_told p a) r);
+    too_large = λ q size t large. absurd (not_both q size (subst CodeFits (one_program p q (source_told p a) t) a.fits) large);
   }
   decides _ ne (refused line rule r ends) = record {
-    two = inr refl;
-    accepted = (λ e. absurd (omega arith), λ x. absurd (accepted_or_refused law bytes c.top x.0 x.1 x.2 line rule (refusal_told line rule r)));
+    three = inr (inl refl);
+    accepted = (λ e. absurd (omega arith), λ x. absurd (law.apart bytes c.top line x.0 rule x.1 (refusal_told line rule r)));
     refused = λ other kind s.
-        let e = refused_once law bytes c.top line other rule kind (refusal_told line rule r) s in
+        let e = law.refusal bytes c.top line other rule kind (refusal_told line rule r) s in
         (refl, subst (λ k. Says old new (refusal_line other k)) e.1 (subst (λ n. Says old new (refusal_line n rule)) e.0 (whole_line (refusal_line line rule) ends)));
+    too_large = λ q size t large. absurd (law.apart bytes c.top line q rule t (refusal_told line rule r));
+  }
+  decides _ ne (too_large size x ends) = record {
+    three = inr (inr refl);
+    accepted = (λ e. absurd (omega arith), λ y. absurd (not_both x.program size (subst CodeFits (one_program y.0 x.program y.1 (large_told size x)) y.2) x.large));
+    refused = λ line rule r. absurd (law.apart bytes c.top line x.program rule (large_told size x) r);
+    too_large = λ q other t large.
+        let same = one_program x.program q (large_told size x) t in
+        let sizes : size ≡ other = x.large.1 ∙ ap (λ (z : Program). sizes_of (plain_statements z)) same ∙ sym large.1 in
+        (refl, subst (λ n. Says old new (size_line n)) sizes (whole_line (size_line size) ends));
   }
   decides _ ne (unread f ends) = absurd (⊎_elim none.reads (λ m. let there : Missing ≡ Holds bytes = sym m ∙ told.0 in cc) f)
   decides _ ne (unwritten p a w s) = absurd (none.writes (risen_on old.write_faults s.mid.write_faults new.write_faults s.failed s.only.writes))

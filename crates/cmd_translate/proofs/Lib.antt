@@ -1,4 +1,2 @@
-pub mod Firsts
-pub mod Verdicts
 pub mod Finish
 pub mod Working

@@ -1,42 +1,35 @@
 -- What the steps of the work come to.
 use Rattle.std.proofs.Common.{◌≡◌, ℕ, ◌<◌, inl, inr, ⊎_elim, List, length, take, refl, ap, ◌∙◌, subst}
-use Rattle.std.specs.Prelude.{Result, Ok, Err, IsErrAnd, IfErr}
 use Rattle.host.specs.Host.{HostState, HasRisen, OnlyReads, OnlyWrites, SameFaults, Rewrites, rewritten}
 use Rattle.asm86_lines.specs.Written.{text_of}
 use Rattle.asm80_program.specs.Program.{Program}
-use Rattle.asm80_source.specs.declared.rule.AsmRule.TheVariants.{S1}
 use Rattle.asm80_source.specs.Source.{IsSource, OfLine, OfProgram}
 use Rattle.templates.specs.Plain.{plain}
 use Rattle.cmd_words.specs.Words.{Translate}
-use Rattle.xlt_core.specs.First.{IsFirst}
+use Rattle.plain_texts.specs.Fits.{CodeFits}
 use Rattle.cmd_reports.specs.declared.stop.Stop.{Stop}
 use Rattle.cmd_inputs.specs.Files.{IsWhole, input_limit}
 use Rattle.cmd_inputs.specs.Sources.{SourceStops, of_line, of_program}
-use Rattle.cmd_translate.specs.Firsts.{no_source, beyond}
 use Rattle.cmd_translate.specs.Translates.{line_of_program, Accepts}
-use Rattle.cmd_translate.specs.Work.{FirstStops, is_beyond, Works, WriteStops, StopsBy, refused, unwritten}
-
--- a result that is an error is judged as one
-pub stops : {T : Type 0} (r : Result T Stop) (P Q : Stop → Type 0) → IsErrAnd r P → ((stop : Stop) → P stop → Q stop) → IfErr r Q
-stops (Ok x) P Q e f = absurd e
-stops (Err stop) P Q e f = f stop e
+use Rattle.cmd_translate.specs.Work.{TextStops, is_large, no_room, Works, WriteStops, StopsBy, refused, too_large, no_memory, unwritten}
 
 module _ (c : Translate) (old mid new : HostState) (bytes : List ℕ) (file : IsWhole old c.input input_limit bytes) (reads : OnlyReads old mid) (counted : SameFaults old mid) where
   -- the bytes were read, and are refused
   pub source_stop : (stop : Stop) → SourceStops bytes c.top stop → StopsBy c old mid stop
   source_stop _ (of_line {line = line} {rule = rule} n) =
-      refused line (OfLine rule) (record { bytes = bytes; file = file; refused = no_source n }) refl reads counted
+      refused line (OfLine rule) (record { bytes = bytes; file = file; refused = n }) refl reads counted
   source_stop _ (of_program {line = line} {rule = rule} n) =
-      refused line (OfProgram rule) (record { bytes = bytes; file = file; refused = no_source n }) refl reads counted
+      refused line (OfProgram rule) (record { bytes = bytes; file = file; refused = n }) refl reads counted
 
-  -- they are the source of a program that is not translated
-  pub program_stop : (p : Program) → IsSource bytes c.top p → (stop : Stop) → FirstStops p stop → StopsBy c old mid stop
-  program_stop p source _ (is_beyond {line = line} b) =
-      refused line (OfProgram S1) (record { bytes = bytes; file = file; refused = beyond p source b }) refl reads counted
+  -- they are the source of a program that has no text
+  pub text_stop : (p : Program) → IsSource bytes c.top p → (stop : Stop) → TextStops p stop → StopsBy c old mid stop
+  text_stop p source _ (is_large {size = size} l) =
+      too_large size (record { program = p; bytes = bytes; file = file; source = source; large = l }) refl reads counted
+  text_stop p source _ no_room = no_memory reads
 
-  module _ (p : Program) (source : IsSource bytes c.top p) (first : IsFirst p) where
+  module _ (p : Program) (source : IsSource bytes c.top p) (fits : CodeFits p) where
     accepts : Accepts c old p
-    accepts = record { bytes = bytes; file = file; source = source; first = first }
+    accepts = record { bytes = bytes; file = file; source = source; fits = fits }
 
     module _ (text : List ℕ) (is : text ≡ text_of (plain p)) (writes : OnlyWrites mid new c.output) where
       rewrites_old : (bytes : List ℕ) → Rewrites mid new c.output bytes → Rewrites old new c.output bytes

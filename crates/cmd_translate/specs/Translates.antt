@@ -1,49 +1,56 @@
 -- What `translate` gives, by its status: the causes, the files, what is said, and after status 0 the headline.
-use Rattle.std.specs.Prelude.{◌≡◌, ◌≢◌, ℕ, ◌⊎◌, ◌↔◌, List, codes, length}
+use Rattle.std.specs.Prelude.{◌≡◌, ◌≢◌, ◌≤◌, ℕ, ◌⊎◌, ◌↔◌, List, codes, length}
 use Rattle.host.specs.Host.{HostState, OnlyFileChanged, Says, Rewrites, SameFaults, OnlyReads, OnlySays, ReadFailed, WriteFailed}
 use Rattle.asm86_lines.specs.Layout.{sizes_of}
 use Rattle.asm86_lines.specs.Image.{Image, IsImage}
 use Rattle.asm86_lines.specs.Written.{text_of}
 use Rattle.asm80_program.specs.Program.{Program}
-use Rattle.asm80_source.specs.Source.{IsSource, SourceRule, OfLine, OfProgram}
+use Rattle.asm80_source.specs.Source.{IsSource, SourceRule, IsNoSource}
 use Rattle.templates.specs.Plain.{plain, plain_statements}
 use Rattle.cmd_files.specs.Transfer.{IsLonger, IsBeforeOrPart, CutsLine}
 use Rattle.cmd_words.specs.Words.{Translate}
-use Rattle.xlt_core.specs.First.{IsFirst}
 use Rattle.i86.specs.Decode.{HasReader}
-use Rattle.xlt_core.specs.Same.{Same}
-use Rattle.cmd_reports.specs.declared.stop.Stop.{Stop}
-use Rattle.cmd_reports.specs.declared.stop.Stop.TheVariants.{SourceLine, SourceProgram}
+use Rattle.plain_texts.specs.Fits.{CodeFits}
+use Rattle.sym_same.specs.Same.{Same}
+use Rattle.cmd_reports.specs.declared.stop.Stop.TheVariants.{CodeTooLarge}
 use Rattle.cmd_reports.specs.Lines.{line_of, named_line, memory_line, translated_line}
 use Rattle.cmd_reports.specs.Said.{SaysLine, SaysLast}
 use Rattle.cmd_inputs.specs.Files.{IsWhole, NoneFailed, IsTold, input_limit}
-use Rattle.cmd_translate.specs.Firsts.{IsRefused}
+use Rattle.cmd_inputs.specs.Sources.{refusal_line}
 
 -- the line of status 0: the program's instructions and data cells, and the bytes of its plain text's code
 abbrev pub line_of_program : Program → List ℕ
 line_of_program p = translated_line (length p.instrs) (length p.cells) (sizes_of (plain_statements p))
 
--- the line of status 1, which is that of a stop
-abbrev pub stop_of_rule : ℕ → SourceRule → Stop
-stop_of_rule line (OfLine rule) = SourceLine line rule
-stop_of_rule line (OfProgram rule) = SourceProgram line rule
+-- the line of status 13: so many bytes are too many
+abbrev pub size_line : ℕ → List ℕ
+size_line size = line_of (CodeTooLarge size)
 
-abbrev pub refusal_line : ℕ → SourceRule → List ℕ
-refusal_line line rule = line_of (stop_of_rule line rule)
+-- the code of a program's plain text has so many bytes, more than 65,535
+abbrev pub IsTooLarge : Program → ℕ → Type 0
+IsTooLarge p size = (0x10000 ≤ size) × (size ≡ sizes_of (plain_statements p))
 
 module _ (c : Translate) (old : HostState) where
-  -- the source's file has this program, which is one of those that are translated
+  -- the source's file has this program, whose code fits
   pub record Accepts (p : Program) : Type 0 where
     pub bytes : List ℕ
     pub file : IsWhole old c.input input_limit bytes
     pub source : IsSource bytes c.top p
-    pub first : IsFirst p
+    pub fits : CodeFits p
 
   -- the source's file is refused at a line for a rule
   pub record Refuses (line : ℕ) (rule : SourceRule) : Type 0 where
     pub bytes : List ℕ
     pub file : IsWhole old c.input input_limit bytes
-    pub refused : IsRefused bytes c.top line rule
+    pub refused : IsNoSource bytes c.top line rule
+
+  -- the source's file has a program whose code is too large
+  pub record Exceeds (size : ℕ) : Type 0 where
+    pub program : Program
+    pub bytes : List ℕ
+    pub file : IsWhole old c.input input_limit bytes
+    pub source : IsSource bytes c.top program
+    pub large : IsTooLarge program size
 
   module _ (new : HostState) where
     -- the plain text of a program took the output's place, and no other file has changed
@@ -93,15 +100,18 @@ module _ (c : Translate) (old : HostState) where
       no_memory : EndsWith memory_line → Gives 5
       no_memory_to_write : (p : Program) → Accepts p → WritesPart p → SaysOfWrite memory_line → Gives 5
       no_memory_to_say : (p : Program) → Accepts p → Writes p → WriteFailed old new → CutsLine (line_of_program p) old new → Gives 5
+      -- the code is too large
+      too_large : (size : ℕ) → Exceeds size → EndsWith (size_line size) → Gives 13
       -- the source's file is longer than its limit
       too_long : IsLonger (old.file c.input) input_limit → EndsWith (named_line (codes "file too long: ") c.input) → Gives 14
 
-    -- what the status of a source is, want of memory aside: 0 exactly where it is that of a program that is translated, and
-    -- else 1 with the line and the rule at which it is refused
+    -- what the status of a source is, want of memory aside: 0 exactly where it is that of a program whose code fits; 13 with the size
+    -- where the code does not; and else 1 with the line and the rule at which it is refused
     pub record Decides (bytes : List ℕ) (status : ℕ) : Type 0 where
-      pub two : (status ≡ 0) ⊎ (status ≡ 1)
-      pub accepted : (status ≡ 0) ↔ ((p : Program) × IsSource bytes c.top p × IsFirst p)
-      pub refused : (line : ℕ) (rule : SourceRule) → IsRefused bytes c.top line rule → (status ≡ 1) × Says old new (refusal_line line rule)
+      pub three : (status ≡ 0) ⊎ ((status ≡ 1) ⊎ (status ≡ 13))
+      pub accepted : (status ≡ 0) ↔ ((p : Program) × IsSource bytes c.top p × CodeFits p)
+      pub refused : (line : ℕ) (rule : SourceRule) → IsNoSource bytes c.top line rule → (status ≡ 1) × Says old new (refusal_line line rule)
+      pub too_large : (p : Program) (size : ℕ) → IsSource bytes c.top p → IsTooLarge p size → (status ≡ 13) × Says old new (size_line size)
 
     -- so it is where no call failed and the host tells a source within its limit
     abbrev pub Completes : ℕ → Type 0

@@ -1,25 +1,23 @@
 -- What the work of `translate` comes to, before its last line is said.
-use Rattle.std.specs.Prelude.{◌≡◌, ℕ, List, All, Option, Some, None}
+use Rattle.std.specs.Prelude.{◌≡◌, ℕ, List}
 use Rattle.host.specs.declared.HostFault.{HostFault}
 use Rattle.host.specs.declared.HostFault.TheVariants.{Failed, Memory}
 use Rattle.host.specs.Host.{HostState, SameSaid, SameFaults, OnlyReads}
 use Rattle.host.specs.Host.{WriteFailed as WriteFails}
-use Rattle.asm80_program.specs.declared.program.Placed.{Placed}
 use Rattle.asm80_program.specs.Program.{Program}
-use Rattle.asm80_source.specs.declared.rule.AsmRule.TheVariants.{S1}
-use Rattle.asm80_source.specs.Source.{SourceRule, OfProgram}
+use Rattle.asm80_source.specs.Source.{SourceRule}
 use Rattle.cmd_files.specs.Transfer.{IsBeforeOrPart}
 use Rattle.cmd_words.specs.Words.{Translate}
-use Rattle.xlt_core.specs.First.{HoldsFirst}
 use Rattle.cmd_reports.specs.declared.stop.Stop.{Stop}
-use Rattle.cmd_reports.specs.declared.stop.Stop.TheVariants.{WriteFailed, OutOfMemory}
+use Rattle.cmd_reports.specs.declared.stop.Stop.TheVariants.{WriteFailed, OutOfMemory, CodeTooLarge}
 use Rattle.cmd_inputs.specs.Files.{ReadStops, input_limit}
-use Rattle.cmd_translate.specs.Firsts.{IsOtherLine, IsBeyond}
-use Rattle.cmd_translate.specs.Translates.{stop_of_rule, line_of_program, Accepts, Refuses, Writes, WritesPart}
+use Rattle.cmd_inputs.specs.Sources.{stop_of_rule}
+use Rattle.cmd_translate.specs.Translates.{line_of_program, IsTooLarge, Accepts, Refuses, Exceeds, Writes, WritesPart}
 
--- a program is not one of those that are translated
-pub data FirstStops (p : Program) : Stop → Type 0 where
-  is_beyond : {line : ℕ} → IsBeyond p line → FirstStops p (stop_of_rule line (OfProgram S1))
+-- a program has no text: its code is too large, or memory ran out
+pub data TextStops (p : Program) : Stop → Type 0 where
+  is_large : {size : ℕ} → IsTooLarge p size → TextStops p (CodeTooLarge size)
+  no_room : TextStops p OutOfMemory
 
 abbrev pub stop_of_write : HostFault → Stop
 stop_of_write Failed = WriteFailed
@@ -47,13 +45,9 @@ module _ (c : Translate) (old new : HostState) where
   pub data StopsBy : Stop → Type 0 where
     unread : {stop : Stop} → ReadStops c.input input_limit old new stop → OnlyReads old new → StopsBy stop
     refused : {stop : Stop} (line : ℕ) (rule : SourceRule) → Refuses c old line rule → stop ≡ stop_of_rule line rule → OnlyReads old new → SameFaults old new → StopsBy stop
+    too_large : {stop : Stop} (size : ℕ) → Exceeds c old size → stop ≡ CodeTooLarge size → OnlyReads old new → SameFaults old new → StopsBy stop
     no_memory : OnlyReads old new → StopsBy OutOfMemory
     unwritten : {stop : Stop} (fault : HostFault) → FailsToWrite → stop ≡ stop_of_write fault → StopsBy stop
-
--- the least line of instructions of another kind; None where there are none
-abbrev pub IsLeastOther : List Placed → Option ℕ → Type 0
-IsLeastOther xs None = All HoldsFirst xs
-IsLeastOther xs (Some line) = IsOtherLine xs line
 
 -- a write of a text failed, for the host or for want of its memory
 pub record WriteStops (old new : HostState) (name text : List ℕ) (stop : Stop) : Type 0 where

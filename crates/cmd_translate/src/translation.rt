@@ -1,20 +1,20 @@
 // The work of `translate`: the source in, the plain text out.
-ghost use Rattle.std.specs.Prelude.{◌≡◌, ◌^◌, ◌<◌, true, IfOk, IfErr, OnOk, length};
+ghost use Rattle.std.specs.Prelude.{◌≡◌, ◌^◌, ◌<◌, true, IfOk, IfErr, OnOk, length, vec_len};
 ghost use Rattle.std.specs.String.{string_bytes};
 ghost use Rattle.host.specs.Host.{SameFaults, OnlyWrites, Rewrites, WriteFailed};
 ghost use Rattle.asm86_lines.specs.Image.{statements};
 ghost use Rattle.asm86_lines.specs.Written.{text_of};
-ghost use Rattle.asm80_program.specs.Program.{is_top};
-ghost use Rattle.xlt_core.specs.First.{IsFirst};
+ghost use Rattle.asm80_program.specs.Program.{Program, is_top};
+ghost use Rattle.plain_texts.specs.Fits.{CodeFits};
+ghost use Rattle.xlt_core.specs.declared.translation.Mode.TheVariants.{Plain};
+ghost use Rattle.xlt_core.specs.Translation.{HasNoText};
 ghost use Rattle.templates.specs.Plain.{plain, plain_statements};
 ghost use Rattle.cmd_words.specs.ReadCommands.{translate_read};
 ghost use Rattle.cmd_reports.specs.declared.stop.Stop.TheVariants.{OutOfMemory};
 ghost use Rattle.cmd_translate.specs.Translates.{line_of_program, Gives, Completes};
-ghost use Rattle.cmd_translate.specs.Work.{FirstStops, Works, StopsBy, WriteStops};
+ghost use Rattle.cmd_translate.specs.Work.{TextStops, Works, StopsBy, WriteStops};
 
-use crate::first::line_beyond;
 use asm80_program::Program80;
-use asm80_source::AsmRule;
 use asm80_values::source_has_one_outcome;
 use asm86_lines::{Line86, code_size};
 use cmd_files::write_out;
@@ -23,8 +23,7 @@ use cmd_reports::{Stop, say_done, say_stop, translated_line};
 use cmd_words::Translate;
 use host::{Host, HostFault};
 use std::alloc::{AllocError, Global};
-use templates::plain_text;
-use xlt_core::first_is_same;
+use xlt_core::{CoreFault, Mode, plain_is_same};
 
 // The plain text of a program, and the line that says how much it is.
 #[derive(Drop)]
@@ -40,7 +39,7 @@ pub fn translate<H: Host>(alloc: Global, host: &mut H, command: &Translate<'_>) 
     ensures gives { Gives (translate_read command.now) (H.state host.old) (H.state host.new) result }
     ensures completes { Completes (translate_read command.now) (H.state host.old) (H.state host.new) result }
 {
-    first_is_same();
+    plain_is_same();
     source_has_one_outcome();
     match work(alloc, host, command) {
         Ok(line) => say_done(host, line.as_str()),
@@ -60,43 +59,45 @@ fn work<'a, H: Host>(
     ensures stopped { IfErr result (StopsBy (translate_read command.now) (H.state host.old) (H.state host.new)) }
 {
     let source = read_source(alloc, host, command.input, command.top)?;
-    let program = first_program(source?)?;
+    let program = source?;
     let text = text_of_program(alloc, &program)?;
     write_text(host, command.output, text.lines.as_slice())?;
     Ok(text.line)
 }
 
-// The program, if it has first instructions alone.
-fn first_program<'a>(program: Program80) -> Result<Program80, Stop<'a>>
-    ensures same { IfOk result (λ same. same ≡ program) }
-    ensures first { IfOk result IsFirst }
-    ensures stopped { IfErr result (FirstStops program) }
-{
-    match line_beyond(&program) {
-        None => Ok(program),
-        Some(line) => Err(Stop::SourceProgram(line, AsmRule::S1)),
-    }
-}
-
 // The plain text of a program, with its line.
 fn text_of_program<'a>(alloc: Global, program: &Program80) -> Result<Text, Stop<'a>>
     ensures lines { IfOk result (λ t. t.lines.items ≡ plain program.now) }
+    ensures fits { IfOk result (λ t. CodeFits program.now) }
     ensures line { IfOk result (λ t. string_bytes t.line ≡ line_of_program program.now) }
-    ensures stopped { IfErr result (λ stop. stop ≡ OutOfMemory) }
+    ensures stopped { IfErr result (TextStops program.now) }
 {
-    match plain_with_line(alloc, program) {
-        Ok(text) => Ok(text),
-        Err(_) => Err(Stop::OutOfMemory),
+    let lines = lines_of(alloc, program)?;
+    let line = line_of(alloc, program, lines.as_slice())?;
+    Ok(Text { lines, line })
+}
+
+// The lines of the plain text, whose code fits.
+fn lines_of<'a>(alloc: Global, program: &Program80) -> Result<Vec<Line86>, Stop<'a>>
+    ensures lines { IfOk result (λ lines. lines.items ≡ plain program.now) }
+    ensures fits { IfOk result (λ lines. CodeFits program.now) }
+    ensures few { IfOk result (λ lines. vec_len lines < 2 ^ 20) }
+    ensures stopped { IfErr result (TextStops program.now) }
+{
+    match xlt_core::translate(alloc, program, Mode::Plain) {
+        Ok(lines) => Ok(lines),
+        Err(fault) => Err(stop_of(fault)),
     }
 }
 
-fn plain_with_line(alloc: Global, program: &Program80) -> Result<Text, AllocError>
-    ensures lines { IfOk result (λ t. t.lines.items ≡ plain program.now) }
-    ensures line { IfOk result (λ t. string_bytes t.line ≡ line_of_program program.now) }
+// Why there is no text.
+fn stop_of<'a>(fault: CoreFault) -> Stop<'a>
+    ensures { (p : Program) → HasNoText Plain p fault → TextStops p result }
 {
-    let lines = plain_text(alloc, program)?;
-    let line = line_of(alloc, program, lines.as_slice())?;
-    Ok(Text { lines, line })
+    match fault {
+        CoreFault::CodeTooLarge(size) => Stop::CodeTooLarge(size),
+        CoreFault::Memory => Stop::OutOfMemory,
+    }
 }
 
 // The line of a program's plain text.

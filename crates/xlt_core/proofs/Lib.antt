@@ -1,12 +1,1 @@
-pub mod Link
-pub mod Shapes
-pub mod Placing
-pub mod PlainFacts
-pub mod Letter
-pub mod FirstTurn
-pub mod Assembling
-pub mod FirstLayout
-pub mod FirstStart
-pub mod CodeBytes
-pub mod FirstText
-pub mod Rows
+mod Matching

@@ -13,7 +13,7 @@ gives-in-Ok g c =
     let mid = g.H.Host.state c.work.new.host in
     let new = g.H.Host.state c.say_done.new.host in
     worked (translate_read c.args.command.now) (g.H.Host.state c.args.host.now) mid new
-    (record { assembles = c.first_is_same.ensures.assembles; reader = c.first_is_same.ensures.reader; same = c.first_is_same.ensures.same })
+    (record { assembles = c.plain_is_same.ensures.assembles; reader = c.plain_is_same.ensures.reader; same = c.plain_is_same.ensures.same })
     (string_bytes c.in-Ok.line) c.in-Ok.ensures.worked c.say_done.result
     (subst (λ l. IsDone l mid new c.say_done.result) c.as_str.ensures.value c.say_done.ensures)
 

@@ -1,0 +1,132 @@
+-- The plain text matches its program, each instruction alone.
+use Rattle.std.proofs.Common.{◌≡◌, ℕ, ◌+◌, ◌==◌, Bool, true, false, cond, List, [], ◌∷◌, Option, Some, None, refl, sym, ap, subst, ◌∙◌, inl, inr}
+use Rattle.std.specs.Prelude.{is_some, map, IfSome}
+use Rattle.std.proofs.lemmas.Bool.{eqb-true}
+use Rattle.cells.specs.declared.Place.TheVariants.{At}
+use Rattle.cells.specs.declared.Part.{Part}
+use Rattle.cells.specs.declared.Part.TheVariants.{A, B, C, D, E, H, L, S, Z, Ac, P, Cy}
+use Rattle.cells.specs.Parts.{Parts, has, nothing, everything}
+use Rattle.i80.specs.declared.Instr80.{Instr80}
+use Rattle.asm86_lines.specs.declared.line.Stmt86.{Stmt86}
+use Rattle.asm86_lines.specs.Image.{Assembles, statements}
+use Rattle.asm80_program.specs.declared.program.Placed.{Placed}
+use Rattle.asm80_program.specs.Program.{Program, IsProgram, NameStarts, placed_in, instr_of_placed, instr_at, is_start, named_by}
+use Rattle.asm80_program.specs.Taken.{takes}
+use Rattle.templates.specs.Plain.{plain, plain_statements}
+use Rattle.plain_texts.specs.Fits.{CodeFits}
+use Rattle.sym_blocks.specs.declared.reason.Reason.{Reason}
+use Rattle.sym_blocks.specs.Block80.{IsBlock}
+use Rattle.sym_blocks.specs.BlockMatch.{Keeps, block_reason}
+use Rattle.sym_blocks.specs.Sorts.{StatementsAreCoded}
+use Rattle.sym_runs.specs.Runtime.{HasRuntime}
+use Rattle.sym_runs.specs.Linked.{HasBlock, IsFirstOf}
+use Rattle.sym_linking.specs.Cuts.{IsCut}
+use Rattle.sym_texts.specs.Matches.{HasOpening, DataStands, DataAreCoded, or_next, blocks_reason}
+use Rattle.sym_same.specs.Laws.{IsMatch}
+use Rattle.sym_plain.specs.Plain.{OnesAreBlocks, PlainBlocksMatch}
+use Rattle.plain_texts.proofs.Statements.{statements-numbered}
+use Rattle.sym_texts.specs.Ones.{ones, all_kept}
+
+-- what is known of plain texts
+pub record TextLaw : Type 0 where
+  pub assembles : (p : Program) → IsProgram p → CodeFits p → Assembles (plain p)
+  pub coded : (p : Program) → IsProgram p → StatementsAreCoded (statements (plain p))
+  pub data_coded : (p : Program) → IsProgram p → DataAreCoded (statements (plain p))
+  pub opening : (p : Program) → IsProgram p → HasOpening p (statements (plain p))
+  pub runtime : (p : Program) → IsProgram p → HasRuntime (statements (plain p))
+  pub data_stand : (p : Program) → IsProgram p → DataStands p (plain p)
+
+-- the blocks of one instruction are the instructions
+
+abbrev ones_of : List Placed → List (ℕ × ℕ)
+ones_of xs = map (λ (x : Placed). (x.at, 1)) xs
+
+same_at : (a b : ℕ) → a ≡ b → (a == b) ≡ true
+same_at a b e = subst (λ n. (a == n) ≡ true) e (reflexive a)
+  where
+    reflexive : (n : ℕ) → (n == n) ≡ true
+    reflexive n = grind (Rattle.std.proofs.Common.arith, Rattle.std.proofs.lemmas.Bool.Decides.nat_tests)
+
+first_in : (xs : List Placed) (a : ℕ) → is_some (placed_in xs a) ≡ true → HasBlock (ones_of xs) a 1
+first_in [] a h = absurd (cc)
+first_in (x ∷ xs) a h = by_here (x.at == a) refl h (first_in xs a)
+  where
+    by_here : (t : Bool) → (x.at == a) ≡ t → is_some (cond t (Some x) (placed_in xs a)) ≡ true → (is_some (placed_in xs a) ≡ true → HasBlock (ones_of xs) a 1) → HasBlock (ones_of (x ∷ xs)) a 1
+    by_here true e g rest = inl (eqb-true x.at a e, refl)
+    by_here false e g rest = inr (rest g)
+
+starts_in : (xs : List Placed) (a count : ℕ) → HasBlock (ones_of xs) a count → (is_some (placed_in xs a) ≡ true) × (count ≡ 1)
+starts_in [] a count h = absurd h
+starts_in (x ∷ xs) a count (inl is) = (ap (λ t. is_some (cond t (Some x) (placed_in xs a))) (same_at x.at a is.0), sym is.1)
+starts_in (x ∷ xs) a count (inr has) = let r = starts_in xs a count has in (by_here (x.at == a) r.0, r.1)
+  where
+    by_here : (t : Bool) → is_some (placed_in xs a) ≡ true → is_some (cond t (Some x) (placed_in xs a)) ≡ true
+    by_here true g = refl
+    by_here false g = g
+
+-- each place that is named is an instruction's
+names_start : (p : Program) (xs : List Placed) → NameStarts p xs → (at a : ℕ) (i : Instr80) → instr_of_placed (placed_in xs at) ≡ Some i → named_by i ≡ Some a → is_start p a ≡ true
+names_start p [] n at a i h g = absurd (cc)
+names_start p (x ∷ xs) n at a i h g = by_here (x.at == at) h (names_start p xs n.1 at a i)
+  where
+    instr_is : (i j : Instr80) → ◌≡◌ {A = Option Instr80} (Some i) (Some j) → i ≡ j
+    instr_is i j h = cc
+
+    by_here : (t : Bool) → instr_of_placed (cond t (Some x) (placed_in xs at)) ≡ Some i → (instr_of_placed (placed_in xs at) ≡ Some i → named_by i ≡ Some a → is_start p a ≡ true) → is_start p a ≡ true
+    by_here true e rest = subst (λ o. IfSome o (λ b. is_start p b ≡ true)) (ap named_by (instr_is x.instr i e) ∙ g) n.0
+    by_here false e rest = rest e g
+
+module _ (blocks : OnesAreBlocks) (p : Program) (is : IsProgram p) where
+  first_of : (a : ℕ) → is_start p a ≡ true → IsFirstOf (ones p) (At a)
+  first_of a h = (1, first_in p.instrs a h)
+
+  ones_cut : IsCut p (ones p)
+  ones_cut = record {
+    blocks = λ first count has. let s = starts_in p.instrs first count has in subst (λ n. IsBlock p first n) (sym s.1) (blocks p is first s.0);
+    begins = first_of 0x100 is.first;
+    follows = λ first count has h. first_of _ h;
+    named = λ at a i h n. first_of a (names_start p p.instrs is.named at a i h n);
+    taken = λ a h t. first_of a h;
+  }
+
+has_everything : (q : Part) → has everything q ≡ true
+has_everything A = refl
+has_everything B = refl
+has_everything C = refl
+has_everything D = refl
+has_everything E = refl
+has_everything H = refl
+has_everything L = refl
+has_everything S = refl
+has_everything Z = refl
+has_everything Ac = refl
+has_everything P = refl
+has_everything Cy = refl
+
+kept_at_start : (p : Program) (a : ℕ) → is_start p a ≡ true → (q : Part) → has ((all_kept p).at a) q ≡ true
+kept_at_start p a h q = ap (λ t. has (cond t everything nothing) q) h ∙ has_everything q
+
+-- no block has a reason
+none_of : (p : Program) (text : List Stmt86) (keeps : Keeps) (xs : List Placed) → ((a : ℕ) → HasBlock (ones_of xs) a 1 → block_reason p text keeps a 1 ≡ None) → blocks_reason p text keeps (ones_of xs) ≡ None
+none_of p text keeps [] each = refl
+none_of p text keeps (x ∷ xs) each =
+    ap (λ o. or_next x.at o (blocks_reason p text keeps (ones_of xs))) (each x.at (inl (refl, refl)))
+    ∙ none_of p text keeps xs (λ a has. each a (inr has))
+
+pub plain_matches : TextLaw → OnesAreBlocks → PlainBlocksMatch → (p : Program) → IsProgram p → CodeFits p → IsMatch p (plain p) (ones p) (all_kept p)
+plain_matches text blocks match p is fits = record {
+  program = is;
+  assembles = text.assembles p is fits;
+  coded = text.coded p is;
+  data_coded = text.data_coded p is;
+  is_cut = ones_cut blocks p is;
+  returns = λ a q start taken kept. has_everything q;
+  matches = record {
+    opening = text.opening p is;
+    runtime = text.runtime p is;
+    cells = text.data_stand p is;
+    blocks = none_of p (statements (plain p)) (all_kept p) p.instrs
+        (λ a has. subst (λ xs. block_reason p xs (all_kept p) a 1 ≡ None) (sym (statements-numbered 1 (plain_statements p)))
+        (match p (all_kept p) is (kept_at_start p) a (starts_in p.instrs a 1 has).0));
+  };
+}

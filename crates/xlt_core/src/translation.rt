@@ -1,0 +1,67 @@
+// The text of a program.
+ghost use Rattle.std.specs.Prelude.{◌≡◌, ◌<◌, ◌≤◌, ◌^◌, IfOk, IfErr, vec_len};
+ghost use Rattle.asm86_lines.specs.Image.{statements};
+ghost use Rattle.asm86_lines.specs.Layout.{sizes_of};
+ghost use Rattle.xlt_core.specs.Translation.{text_by, HasNoText};
+
+use asm80_program::Program80;
+use asm86_lines::{Line86, code_size};
+use std::alloc::{AllocError, Global};
+use templates::plain_text;
+use thiserror::Error;
+
+/// How a program is written.
+#[derive(Clone, Copy, PartialEq, Eq)]
+pub enum Mode {
+    /// Each instruction by its template with a save of the flags, without an analysis.
+    Plain,
+}
+
+/// Why a program has no text.
+#[derive(Clone, Copy, Debug, PartialEq, Eq, Drop, Error)]
+pub enum CoreFault {
+    /// The code has this number of bytes, above 65,535.
+    #[error("the code has {0} bytes")]
+    CodeTooLarge(u32),
+    #[error("out of memory")]
+    Memory,
+}
+
+impl From<AllocError> for CoreFault {
+    ghost use Rattle.xlt_core.specs.declared.translation.CoreFault.TheVariants.{Memory};
+
+    ghost from_gives = { λ _ fault. fault ≡ Memory };
+
+    fn from(_error: AllocError) -> CoreFault {
+        CoreFault::Memory
+    }
+}
+
+// The most bytes of code: those of one segment but one.
+const MOST_CODE: usize = 0xFFFF;
+
+// The lines of a mode, whatever the size of their code.
+fn lines_by(alloc: Global, program: &Program80, mode: Mode) -> Result<Vec<Line86>, AllocError>
+    ensures value { IfOk result (λ lines. lines.items ≡ text_by mode program.now) }
+    ensures few { IfOk result (λ lines. vec_len lines < 2 ^ 20) }
+{
+    match mode {
+        Mode::Plain => plain_text(alloc, program),
+    }
+}
+
+/// The text of a program, which means the same as the program (`plain_is_same`). Its lines are numbered from 1, and it has fewer than
+/// 2^20.
+pub fn translate(alloc: Global, program: &Program80, mode: Mode) -> Result<Vec<Line86>, CoreFault>
+    ensures value { IfOk result (λ lines. lines.items ≡ text_by mode program.now) }
+    ensures fits { IfOk result (λ lines. sizes_of (statements (text_by mode program.now)) < 0x10000) }
+    ensures few { IfOk result (λ lines. vec_len lines < 2 ^ 20) }
+    ensures none { IfErr result (HasNoText mode program.now) }
+{
+    let lines = lines_by(alloc, program, mode)?;
+    let size = code_size(lines.as_slice());
+    if size > MOST_CODE {
+        return Err(CoreFault::CodeTooLarge(size as u32));
+    }
+    Ok(lines)
+}
