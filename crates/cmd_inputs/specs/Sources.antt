@@ -6,15 +6,24 @@ use Rattle.asm80_tokens.specs.Tree.{Statement}
 use Rattle.asm80_program.specs.Program.{Program}
 use Rattle.asm80_source.specs.declared.rule.AsmRule.{AsmRule}
 use Rattle.asm80_source.specs.Assembly.{IsAssembled, IsRefused}
-use Rattle.asm80_source.specs.Source.{IsSource, IsNoSource, OfLine, OfProgram}
+use Rattle.asm80_source.specs.Source.{IsSource, IsNoSource, SourceRule, OfLine, OfProgram}
 use Rattle.cmd_reports.specs.declared.stop.Stop.{Stop}
 use Rattle.cmd_reports.specs.declared.stop.Stop.TheVariants.{SourceLine, SourceProgram}
+use Rattle.cmd_reports.specs.Lines.{line_of}
 use Rattle.cmd_inputs.specs.Files.{IsWhole, input_limit}
 
 -- why the bytes give no program: they are no source, by this line and rule
 pub data SourceStops (bytes : List ℕ) (top : ℕ) : Stop → Type 0 where
   of_line : {line : ℕ} {rule : LineRule} → IsNoSource bytes top line (OfLine rule) → SourceStops bytes top (SourceLine line rule)
   of_program : {line : ℕ} {rule : AsmRule} → IsNoSource bytes top line (OfProgram rule) → SourceStops bytes top (SourceProgram line rule)
+
+-- the stop of a line and a rule, and its line
+abbrev pub stop_of_rule : ℕ → SourceRule → Stop
+stop_of_rule line (OfLine rule) = SourceLine line rule
+stop_of_rule line (OfProgram rule) = SourceProgram line rule
+
+abbrev pub refusal_line : ℕ → SourceRule → List ℕ
+refusal_line line rule = line_of (stop_of_rule line rule)
 
 -- what bytes are: the source of a program, or none
 abbrev pub SourceGives : List ℕ → ℕ → Result Program Stop → Type 0

@@ -12,7 +12,7 @@ use Rattle.asm80_source.specs.declared.rule.AsmRule.TheVariants.{V1, V2, V3, V4,
 use Rattle.asm86_lines.specs.declared.line.TextRule.{TextRule}
 use Rattle.asm86_lines.specs.declared.line.TextRule.TheVariants.{M1, M2, M3, M4, M5, M6}
 use Rattle.cmd_reports.specs.declared.stop.Stop.{Stop}
-use Rattle.cmd_reports.specs.declared.stop.Stop.TheVariants.{SourceLine, SourceProgram, ReadFailed, WriteFailed, OutOfMemory, LeftProfile, StepLimit, InputEnded, TextLine, ShortJump, NoInstruction, StackSegment, OddCall, NoDrive, CodeTooLarge, FileTooLong}
+use Rattle.cmd_reports.specs.declared.stop.Stop.TheVariants.{SourceLine, SourceProgram, ReadFailed, WriteFailed, OutOfMemory, LeftProfile, StepLimit, InputEnded, TextLine, ShortJump, NoInstruction, StackSegment, OddCall, BadDisk, NoDrive, CodeTooLarge, FileTooLong}
 
 -- ---- rules by name
 
@@ -117,6 +117,7 @@ status_of (ShortJump line) = 10
 status_of (NoInstruction offset) = 11
 status_of (StackSegment offset) = 11
 status_of (OddCall offset function) = 11
+status_of (BadDisk place) = 12
 status_of (NoDrive function) = 12
 status_of (CodeTooLarge size) = 13
 status_of (FileTooLong name) = 14
@@ -136,6 +137,7 @@ is_fixed (ShortJump line) = false
 is_fixed (NoInstruction offset) = false
 is_fixed (StackSegment offset) = false
 is_fixed (OddCall offset function) = false
+is_fixed (BadDisk place) = false
 is_fixed (NoDrive function) = false
 is_fixed (CodeTooLarge size) = false
 is_fixed (FileTooLong name) = false
@@ -154,6 +156,7 @@ line_of (ShortJump line) = rule_line (codes "text line ") line (codes "short")
 line_of (NoInstruction offset) = stopped_line offset (codes "no instruction")
 line_of (StackSegment offset) = stopped_line offset (codes "stack segment")
 line_of (OddCall offset function) = stopped_line offset (odd_call function)
+line_of (BadDisk place) = count_line (codes "disk refused: byte ") place []
 line_of (NoDrive function) = drive_line function
 line_of (CodeTooLarge size) = count_line (codes "code too large: ") size (codes " bytes")
 line_of (FileTooLong name) = named_line (codes "file too long: ") name.now
@@ -164,6 +167,10 @@ line_of (FileTooLong name) = named_line (codes "file too long: ") name.now
 abbrev pub translated_line : ℕ → ℕ → ℕ → List ℕ
 translated_line instructions cells code =
     codes "translated: " ++ (decimal instructions ++ (codes " instructions, " ++ (decimal cells ++ (codes " data bytes, " ++ (decimal code ++ codes " code bytes\n")))))
+
+-- how many of the INX, DCX and DAD have flags to be saved
+abbrev pub saves_line : ℕ → ℕ → List ℕ
+saves_line saved sums = codes "saves " ++ (decimal saved ++ (codes " of " ++ (decimal sums ++ codes "\n")))
 
 -- how many instructions ran
 abbrev pub ended_line : ℕ → List ℕ

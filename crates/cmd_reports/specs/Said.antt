@@ -1,5 +1,7 @@
 -- What is said last, and the status that goes with it.
-use Rattle.std.specs.Prelude.{◌≡◌, ℕ, ◌≤◌, ◌⊎◌, List, length, take, false}
+use Rattle.std.specs.Prelude.{◌≡◌, ℕ, ◌≤◌, ◌⊎◌, List, length, take, false, Result, Ok, Err}
+use Rattle.host.specs.declared.HostFault.{HostFault}
+use Rattle.host.specs.declared.HostFault.TheVariants.{Failed, Memory}
 use Rattle.host.specs.Host.{HostState, HasRisen, Says, SameFaults, OnlySays, WriteFailed}
 use Rattle.cmd_files.specs.Transfer.{CutsLine}
 use Rattle.cmd_reports.specs.declared.stop.Stop.{Stop}
@@ -26,11 +28,17 @@ pub record LosesLine (line : List ℕ) (old new : HostState) : Type 0 where
   pub cut : CutsLine line old new
   pub failed : WriteFailed old new
 
--- the line of status 0 is said whole; or a fault is the status, 4 or for want of memory 5, and the line is not said whole
+-- what is said with status 0, a line or several, is said whole; or a fault is the status, 4 or for want of memory 5, and it is not said whole
 pub data IsDone (line : List ℕ) (old new : HostState) : ℕ → Type 0 where
   whole : OnlySays old new → Says old new line → SameFaults old new → IsDone line old new 0
   failed : LosesLine line old new → IsDone line old new 4
   no_memory : LosesLine line old new → IsDone line old new 5
+
+-- the status by how what is said with status 0 was said
+abbrev pub said_status : Result Unit HostFault → ℕ
+said_status (Ok _) = 0
+said_status (Err Failed) = 4
+said_status (Err Memory) = 5
 
 -- the line of a stop is said; want of memory for a line that needs some is a stop of its own
 pub data Closes (stop : Stop) (old new : HostState) : ℕ → Type 0 where

@@ -38,6 +38,8 @@ pub enum Stop<'a> {
     StackSegment(u16),
     /// The INT at this offset calls this function in a way that the profile lacks.
     OddCall(u16, u8),
+    /// The disk's file is none: the byte at this place, counted from 0, cannot go on.
+    BadDisk(u32),
     /// A call of this function needs a drive that is not there.
     NoDrive(u8),
     /// The code has this number of bytes, above 65,535.
@@ -71,7 +73,7 @@ impl<'a> Stop<'a> {
             Stop::InputEnded => 9,
             Stop::TextLine(_, _) | Stop::ShortJump(_) => 10,
             Stop::NoInstruction(_) | Stop::StackSegment(_) | Stop::OddCall(_, _) => 11,
-            Stop::NoDrive(_) => 12,
+            Stop::BadDisk(_) | Stop::NoDrive(_) => 12,
             Stop::CodeTooLarge(_) => 13,
             Stop::FileTooLong(_) => 14,
         }
@@ -113,6 +115,7 @@ impl<'a> Stop<'a> {
             Stop::NoInstruction(offset) => stopped_line(alloc, offset, "no instruction"),
             Stop::StackSegment(offset) => stopped_line(alloc, offset, "stack segment"),
             Stop::OddCall(offset, function) => odd_call_line(alloc, offset, function),
+            Stop::BadDisk(place) => count_line(alloc, "disk refused: byte ", place, ""),
             Stop::NoDrive(function) => drive_line(alloc, function),
             Stop::CodeTooLarge(size) => count_line(alloc, "code too large: ", size, " bytes"),
             Stop::FileTooLong(name) => named_line(alloc, "file too long: ", name),
@@ -141,8 +144,8 @@ pub fn count_line(alloc: Global, text: &str, number: u32, what: &str) -> Result<
     format!(in alloc; "{text}{number}{what}\n")
 }
 
-// A word in four hexadecimal digits.
-fn word_digits(alloc: Global, word: u16) -> Result<String, AllocError>
+/// A word in four hexadecimal digits.
+pub fn word_digits(alloc: Global, word: u16) -> Result<String, AllocError>
     ensures { IfOk result (λ digits. string_bytes digits ≡ word_digits word) }
 {
     hex::encode(alloc, &[(word / 256) as u8, (word % 256) as u8])

@@ -9,9 +9,9 @@ use Rattle.std.proofs.lemmas.Option.{none-some, same_Some}
 use Rattle.std.proofs.lemmas.Slice.Eq.{bytes_eq-Decides}
 use Rattle.std.proofs.Math.Seq.{drop-cons}
 use Rattle.cmd_words.specs.declared.table.CommandName.{CommandName}
-use Rattle.cmd_words.specs.declared.table.CommandName.TheVariants.{Translate, Run80, Run86}
+use Rattle.cmd_words.specs.declared.table.CommandName.TheVariants.{Translate, Flags, Run80, Run86}
 use Rattle.cmd_words.specs.declared.table.OptionName.{OptionName}
-use Rattle.cmd_words.specs.declared.table.OptionName.TheVariants.{Top, Choice, Input, Ports, Tail, Steps, Plain}
+use Rattle.cmd_words.specs.declared.table.OptionName.TheVariants.{Top, Choice, Input, Disk, Ports, OutDisk, Tail, Steps, Plain}
 use Rattle.cmd_words.specs.Table.{Word, option_word, options_of, flags_of, named_among}
 use Rattle.cmd_words.specs.Items.{Item, Name, Setting, is_value, Begins, name, flag, parted, joined, mark}
 use Rattle.cmd_words.specs.Forms.{is_equals, has_equals, First, first_item, joined_item, parted_item, lone_item}
@@ -38,7 +38,9 @@ option_words : (o : OptionName) → IsOptionWord (option_word o)
 option_words Top = record { alone = refl; whole = refl; begins = λ text. refl; place = λ text. lt-ltb _ _ (omega arith); before = λ text. refl; after = λ text. refl }
 option_words Choice = record { alone = refl; whole = refl; begins = λ text. refl; place = λ text. lt-ltb _ _ (omega arith); before = λ text. refl; after = λ text. refl }
 option_words Input = record { alone = refl; whole = refl; begins = λ text. refl; place = λ text. lt-ltb _ _ (omega arith); before = λ text. refl; after = λ text. refl }
+option_words Disk = record { alone = refl; whole = refl; begins = λ text. refl; place = λ text. lt-ltb _ _ (omega arith); before = λ text. refl; after = λ text. refl }
 option_words Ports = record { alone = refl; whole = refl; begins = λ text. refl; place = λ text. lt-ltb _ _ (omega arith); before = λ text. refl; after = λ text. refl }
+option_words OutDisk = record { alone = refl; whole = refl; begins = λ text. refl; place = λ text. lt-ltb _ _ (omega arith); before = λ text. refl; after = λ text. refl }
 option_words Tail = record { alone = refl; whole = refl; begins = λ text. refl; place = λ text. lt-ltb _ _ (omega arith); before = λ text. refl; after = λ text. refl }
 option_words Steps = record { alone = refl; whole = refl; begins = λ text. refl; place = λ text. lt-ltb _ _ (omega arith); before = λ text. refl; after = λ text. refl }
 option_words Plain = record { alone = refl; whole = refl; begins = λ text. refl; place = λ text. lt-ltb _ _ (omega arith); before = λ text. refl; after = λ text. refl }
@@ -49,9 +51,12 @@ no_flag Translate Plain p e = absurd (none-some p e)
 no_flag Translate Top p e = refl
 no_flag Translate Choice p e = refl
 no_flag Translate Input p e = refl
+no_flag Translate Disk p e = refl
 no_flag Translate Ports p e = refl
+no_flag Translate OutDisk p e = refl
 no_flag Translate Tail p e = refl
 no_flag Translate Steps p e = refl
+no_flag Flags o p e = refl
 no_flag Run80 o p e = refl
 no_flag Run86 o p e = refl
 
@@ -116,5 +121,6 @@ rule_of_form c w ws rest item e = let P : First → Type 0 = BeginsAs c (w ∷ w
 -- the mark begins no item
 pub no_item_at_mark : (c : CommandName) (ws : List Word) → first_item c mark ws ≡ None
 no_item_at_mark Translate ws = refl
+no_item_at_mark Flags ws = refl
 no_item_at_mark Run80 ws = refl
 no_item_at_mark Run86 ws = refl

@@ -3,7 +3,7 @@ use Rattle.std.proofs.Common.{◌≡◌, List, [], ◌∷◌, ◌++◌, Option, 
 use Rattle.std.proofs.lemmas.List.{append-nil}
 use Rattle.std.proofs.lemmas.List.Elements.{filter_map-append}
 use Rattle.cmd_words.specs.declared.table.OptionName.{OptionName}
-use Rattle.cmd_words.specs.declared.table.OptionName.TheVariants.{Top, Choice, Input, Ports, Tail, Steps, Plain}
+use Rattle.cmd_words.specs.declared.table.OptionName.TheVariants.{Top, Choice, Input, Disk, Ports, OutDisk, Tail, Steps, Plain}
 use Rattle.cmd_words.specs.Table.{Word}
 use Rattle.cmd_words.specs.Items.{Item, Name, Setting}
 use Rattle.cmd_words.specs.Given.{name_in, names_of, text_in, texts_of, Occurrence, occurrence, names, gathered}
@@ -40,14 +40,16 @@ texts_with o items p text (Some given) e = rw (filter_map-append (text_in o) ite
 texts_with o items p text None e = rw (filter_map-append (text_in o) items (Setting p text ∷ []), e) (ap occurrence (append-nil _))
 
 pub gathered-more : (items : List Item) (item : Item) → gathered (items ++ (item ∷ [])) ≡ item_more (gathered items) item
-gathered-more items (Name w) = rw (names_of-name items w, texts_of-name Top items w, texts_of-name Choice items w, texts_of-name Input items w, texts_of-name Ports items w, texts_of-name Tail items w, texts_of-name Steps items w, texts_of-name Plain items w) refl
-gathered-more items (Setting p text) = rw (names_of-setting items p text, texts_with Top items p text _ refl, texts_with Choice items p text _ refl, texts_with Input items p text _ refl, texts_with Ports items p text _ refl, texts_with Tail items p text _ refl, texts_with Steps items p text _ refl, texts_with Plain items p text _ refl) (settled p)
+gathered-more items (Name w) = rw (names_of-name items w, texts_of-name Top items w, texts_of-name Choice items w, texts_of-name Input items w, texts_of-name Disk items w, texts_of-name Ports items w, texts_of-name OutDisk items w, texts_of-name Tail items w, texts_of-name Steps items w, texts_of-name Plain items w) refl
+gathered-more items (Setting p text) = rw (names_of-setting items p text, texts_with Top items p text _ refl, texts_with Choice items p text _ refl, texts_with Input items p text _ refl, texts_with Disk items p text _ refl, texts_with Ports items p text _ refl, texts_with OutDisk items p text _ refl, texts_with Tail items p text _ refl, texts_with Steps items p text _ refl, texts_with Plain items p text _ refl) (settled p)
   where
-    settled : (p : OptionName) → record { names = names (names_of items); top = more_with (text_in Top (Setting p text)) (occurrence (texts_of Top items)); choice = more_with (text_in Choice (Setting p text)) (occurrence (texts_of Choice items)); input = more_with (text_in Input (Setting p text)) (occurrence (texts_of Input items)); ports = more_with (text_in Ports (Setting p text)) (occurrence (texts_of Ports items)); tail = more_with (text_in Tail (Setting p text)) (occurrence (texts_of Tail items)); steps = more_with (text_in Steps (Setting p text)) (occurrence (texts_of Steps items)); plain = more_with (text_in Plain (Setting p text)) (occurrence (texts_of Plain items)) } ≡ item_more (gathered items) (Setting p text)
+    settled : (p : OptionName) → record { names = names (names_of items); top = more_with (text_in Top (Setting p text)) (occurrence (texts_of Top items)); choice = more_with (text_in Choice (Setting p text)) (occurrence (texts_of Choice items)); input = more_with (text_in Input (Setting p text)) (occurrence (texts_of Input items)); disk = more_with (text_in Disk (Setting p text)) (occurrence (texts_of Disk items)); ports = more_with (text_in Ports (Setting p text)) (occurrence (texts_of Ports items)); out_disk = more_with (text_in OutDisk (Setting p text)) (occurrence (texts_of OutDisk items)); tail = more_with (text_in Tail (Setting p text)) (occurrence (texts_of Tail items)); steps = more_with (text_in Steps (Setting p text)) (occurrence (texts_of Steps items)); plain = more_with (text_in Plain (Setting p text)) (occurrence (texts_of Plain items)) } ≡ item_more (gathered items) (Setting p text)
     settled Top = refl
     settled Choice = refl
     settled Input = refl
+    settled Disk = refl
     settled Ports = refl
+    settled OutDisk = refl
     settled Tail = refl
     settled Steps = refl
     settled Plain = refl

@@ -4,7 +4,7 @@ use Rattle.std.specs.List.{filter_map}
 use Rattle.std.specs.Str.{bytes_eq}
 use Rattle.cmd_words.specs.declared.table.CommandName.{CommandName}
 use Rattle.cmd_words.specs.declared.table.OptionName.{OptionName}
-use Rattle.cmd_words.specs.declared.table.OptionName.TheVariants.{Top, Choice, Input, Ports, Tail, Steps, Plain}
+use Rattle.cmd_words.specs.declared.table.OptionName.TheVariants.{Top, Choice, Input, Disk, Ports, OutDisk, Tail, Steps, Plain}
 use Rattle.cmd_words.specs.Table.{Word, option_word}
 use Rattle.cmd_words.specs.Items.{Item, Name, Setting, Sorts}
 
@@ -53,7 +53,9 @@ pub record Gathered : Type 0 where
   pub top : Occurrence
   pub choice : Occurrence
   pub input : Occurrence
+  pub disk : Occurrence
   pub ports : Occurrence
+  pub out_disk : Occurrence
   pub tail : Occurrence
   pub steps : Occurrence
   pub plain : Occurrence
@@ -64,7 +66,9 @@ gathered items = record {
   top = occurrence (texts_of Top items);
   choice = occurrence (texts_of Choice items);
   input = occurrence (texts_of Input items);
+  disk = occurrence (texts_of Disk items);
   ports = occurrence (texts_of Ports items);
+  out_disk = occurrence (texts_of OutDisk items);
   tail = occurrence (texts_of Tail items);
   steps = occurrence (texts_of Steps items);
   plain = occurrence (texts_of Plain items);

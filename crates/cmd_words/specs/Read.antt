@@ -9,7 +9,7 @@ use Rattle.cmd_words.specs.declared.given.Names.{Names as ReadNames}
 use Rattle.cmd_words.specs.declared.given.Names.TheVariants as read_names
 use Rattle.cmd_words.specs.declared.given.Occurrence.{Occurrence as ReadOccurrence}
 use Rattle.cmd_words.specs.declared.given.Occurrence.TheVariants as read_occurrence
-use Rattle.cmd_words.specs.declared.table.OptionName.TheVariants.{Top, Choice, Input, Ports, Tail, Steps, Plain}
+use Rattle.cmd_words.specs.declared.table.OptionName.TheVariants.{Top, Choice, Input, Disk, Ports, OutDisk, Tail, Steps, Plain}
 use Rattle.cmd_words.specs.Table.{Word}
 use Rattle.cmd_words.specs.Items.{Item, Name, Setting}
 use Rattle.cmd_words.specs.Forms.{First}
@@ -52,7 +52,9 @@ item_more g (Name w) = record g { names = one_name_more g.names w }
 item_more g (Setting Top text) = record g { top = one_more g.top text }
 item_more g (Setting Choice text) = record g { choice = one_more g.choice text }
 item_more g (Setting Input text) = record g { input = one_more g.input text }
+item_more g (Setting Disk text) = record g { disk = one_more g.disk text }
 item_more g (Setting Ports text) = record g { ports = one_more g.ports text }
+item_more g (Setting OutDisk text) = record g { out_disk = one_more g.out_disk text }
 item_more g (Setting Tail text) = record g { tail = one_more g.tail text }
 item_more g (Setting Steps text) = record g { steps = one_more g.steps text }
 item_more g (Setting Plain text) = record g { plain = one_more g.plain text }

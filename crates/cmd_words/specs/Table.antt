@@ -2,19 +2,20 @@
 use Rattle.std.specs.Prelude.{ℕ, List, [], ◌∷◌, codes, Option, find}
 use Rattle.std.specs.Str.{bytes_eq}
 use Rattle.cmd_words.specs.declared.table.CommandName.{CommandName}
-use Rattle.cmd_words.specs.declared.table.CommandName.TheVariants.{Translate, Run80, Run86}
+use Rattle.cmd_words.specs.declared.table.CommandName.TheVariants.{Translate, Flags, Run80, Run86}
 use Rattle.cmd_words.specs.declared.table.OptionName.{OptionName}
-use Rattle.cmd_words.specs.declared.table.OptionName.TheVariants.{Top, Choice, Input, Ports, Tail, Steps, Plain}
+use Rattle.cmd_words.specs.declared.table.OptionName.TheVariants.{Top, Choice, Input, Disk, Ports, OutDisk, Tail, Steps, Plain}
 
 -- a word is a list of bytes
 abbrev pub Word : Type 0
 Word = List ℕ
 
 abbrev pub commands : List CommandName
-commands = Translate ∷ (Run80 ∷ (Run86 ∷ []))
+commands = Translate ∷ (Flags ∷ (Run80 ∷ (Run86 ∷ [])))
 
 abbrev pub command_word : CommandName → Word
 command_word Translate = codes "translate"
+command_word Flags = codes "flags"
 command_word Run80 = codes "run80"
 command_word Run86 = codes "run86"
 
@@ -22,7 +23,9 @@ abbrev pub option_word : OptionName → Word
 option_word Top = codes "--top"
 option_word Choice = codes "--choice"
 option_word Input = codes "--input"
+option_word Disk = codes "--disk"
 option_word Ports = codes "--ports"
+option_word OutDisk = codes "--out-disk"
 option_word Tail = codes "--tail"
 option_word Steps = codes "--steps"
 option_word Plain = codes "--plain"
@@ -30,12 +33,14 @@ option_word Plain = codes "--plain"
 -- the options with a value that a command takes
 abbrev pub options_of : CommandName → List OptionName
 options_of Translate = Top ∷ []
-options_of Run80 = Top ∷ (Input ∷ (Ports ∷ (Tail ∷ (Steps ∷ []))))
-options_of Run86 = Choice ∷ (Input ∷ (Ports ∷ (Tail ∷ (Steps ∷ []))))
+options_of Flags = Top ∷ []
+options_of Run80 = Top ∷ (Input ∷ (Disk ∷ (Ports ∷ (OutDisk ∷ (Tail ∷ (Steps ∷ []))))))
+options_of Run86 = Choice ∷ (Input ∷ (Disk ∷ (Ports ∷ (OutDisk ∷ (Tail ∷ (Steps ∷ []))))))
 
 -- the options without a value, its flags
 abbrev pub flags_of : CommandName → List OptionName
 flags_of Translate = Plain ∷ []
+flags_of Flags = []
 flags_of Run80 = []
 flags_of Run86 = []
 

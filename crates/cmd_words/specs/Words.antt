@@ -13,11 +13,18 @@ pub record Translate : Type 0 where
   pub output : Word
   pub top : ℕ
 
--- `[--input F] [--ports F] [--tail T] [--steps N]`: the names of the files of the input and of the ports' bytes, the start page
--- of the tail, the most steps
+-- `flags IN [--top H]`
+pub record Flags : Type 0 where
+  pub source : Word
+  pub top : ℕ
+
+-- `[--input F] [--disk F] [--ports F] [--out-disk F] [--tail T] [--steps N]`: the names of the files of the input, the disk and
+-- the ports' bytes, and of the file for the disk at the end; the start page of the tail, the most steps
 pub record RunOptions : Type 0 where
   pub input : Option Word
+  pub disk : Option Word
   pub ports : Option Word
+  pub out_disk : Option Word
   pub page : List ℕ
   pub steps : ℕ
 
@@ -35,6 +42,7 @@ pub record Run86 : Type 0 where
 
 pub data Command : Type 0 where
   Translates : (command : Translate) → Command
+  ListsFlags : (command : Flags) → Command
   Runs80 : (command : Run80) → Command
   Runs86 : (command : Run86) → Command
 
@@ -60,7 +68,7 @@ steps_of g = text_or (codes "1000000") g.steps >>= steps_value
 abbrev pub page_of : Gathered → Option (List ℕ)
 page_of g = text_or [] g.tail >>= page_of_tail
 
--- a file that a run reads has a name, if there is one
+-- a file that a run reads or writes has a name, if there is one
 abbrev pub input_file : Occurrence → Option (Option Word)
 input_file Absent = Some None
 input_file (Once text) = option_map Some (file_name text)
@@ -95,13 +103,21 @@ translate_of g = do
   top ← top_of g
   Some (record { input = files.0; output = files.1; top = top })
 
+abbrev pub flags_command_of : Gathered → Option Flags
+flags_command_of g = do
+  source ← one_file g.names
+  top ← top_of g
+  Some (record { source = source; top = top })
+
 abbrev pub run_options_of : Gathered → Option RunOptions
 run_options_of g = do
   input ← input_file g.input
+  disk ← input_file g.disk
   ports ← input_file g.ports
+  out_disk ← input_file g.out_disk
   page ← page_of g
   steps ← steps_of g
-  Some (record { input = input; ports = ports; page = page; steps = steps })
+  Some (record { input = input; disk = disk; ports = ports; out_disk = out_disk; page = page; steps = steps })
 
 abbrev pub run80_of : Gathered → Option Run80
 run80_of g = do
@@ -120,6 +136,7 @@ run86_of g = do
 -- the command that its name and what stands behind it make
 abbrev pub command_of : CommandName → Gathered → Option Command
 command_of named.Translate g = option_map Translates (translate_of g)
+command_of named.Flags g = option_map ListsFlags (flags_command_of g)
 command_of named.Run80 g = option_map Runs80 (run80_of g)
 command_of named.Run86 g = option_map Runs86 (run86_of g)
 

@@ -3,8 +3,8 @@
 ghost use Rattle.std.specs.Prelude.{◌≡◌, ℕ, List, map, option_copied, option_map, MatchOption};
 ghost use Rattle.std.specs.String.{string_bytes};
 ghost use Rattle.cmd_words.specs.Read.{files_of, input_of, names_read, occurrence_of};
-ghost use Rattle.cmd_words.specs.ReadCommands.{command_read, run80_read, run86_read, run_options_read, translate_read};
-ghost use Rattle.cmd_words.specs.Words.{choice_of, command_of, input_file, once, one_file, page_of, run80_of, run86_of, run_options_of, steps_of, text_or, top_of, translate_of, two_files, Command as CommandValue, IsCommand, IsNoCommand};
+ghost use Rattle.cmd_words.specs.ReadCommands.{command_read, flags_read, run80_read, run86_read, run_options_read, translate_read};
+ghost use Rattle.cmd_words.specs.Words.{choice_of, command_of, flags_command_of, input_file, once, one_file, page_of, run80_of, run86_of, run_options_of, steps_of, text_or, top_of, translate_of, two_files, Command as CommandValue, IsCommand, IsNoCommand};
 
 use crate::given::{Given, Names, Occurrence};
 use crate::items::first_word;
@@ -16,6 +16,7 @@ use dialogue::Page;
 #[derive(Drop)]
 pub enum Command<'a> {
     Translate(Translate<'a>),
+    Flags(Flags<'a>),
     Run80(Run80<'a>),
     Run86(Run86<'a>),
 }
@@ -25,6 +26,13 @@ pub enum Command<'a> {
 pub struct Translate<'a> {
     pub input: &'a str,
     pub output: &'a str,
+    pub top: u16,
+}
+
+/// `flags IN [--top H]`: a source's file, and the top of the program area.
+#[derive(Clone, Copy)]
+pub struct Flags<'a> {
+    pub source: &'a str,
     pub top: u16,
 }
 
@@ -44,12 +52,14 @@ pub struct Run86<'a> {
     pub run: RunOptions<'a>,
 }
 
-/// `[--input F] [--ports F] [--tail T] [--steps N]`: the files of the console's input and of the ports' bytes, if there are such,
-/// the start page, and the most instructions that run.
+/// `[--input F] [--disk F] [--ports F] [--out-disk F] [--tail T] [--steps N]`: the files of the console's input, of the disk and of
+/// the ports' bytes, and the file for the disk at the end, if there are such; the start page, and the most instructions that run.
 #[derive(Drop)]
 pub struct RunOptions<'a> {
     pub input: Option<&'a str>,
+    pub disk: Option<&'a str>,
     pub ports: Option<&'a str>,
+    pub out_disk: Option<&'a str>,
     pub page: Page,
     pub steps: u32,
 }
@@ -86,7 +96,7 @@ impl<'a> Occurrence<'a> {
         }
     }
 
-    // A file that a run reads, if there is one.
+    // A file that a run reads or writes, if there is one.
     fn input_file(self) -> Option<Option<&'a str>>
         ensures { input_of result ≡ input_file (occurrence_of self.entry) }
     {
@@ -137,12 +147,16 @@ impl<'a> Given<'a> {
         ensures { option_map run_options_read result ≡ run_options_of self.now }
     {
         let input = self.input.input_file()?;
+        let disk = self.disk.input_file()?;
         let ports = self.ports.input_file()?;
+        let out_disk = self.out_disk.input_file()?;
         let page = self.page()?;
         let steps = self.steps()?;
         Some(RunOptions {
             input,
+            disk,
             ports,
+            out_disk,
             page,
             steps,
         })
@@ -155,6 +169,14 @@ impl<'a> Given<'a> {
         let (input, output) = self.names.two_files()?;
         let top = self.top()?;
         Some(Translate { input, output, top })
+    }
+
+    fn flags(&self) -> Option<Flags<'a>>
+        ensures { option_map flags_read result ≡ flags_command_of self.now }
+    {
+        let source = self.names.one_file()?;
+        let top = self.top()?;
+        Some(Flags { source, top })
     }
 
     fn run80(&self) -> Option<Run80<'a>>
@@ -181,6 +203,7 @@ impl<'a> Given<'a> {
     {
         match name {
             CommandName::Translate => Some(Command::Translate(self.translate()?)),
+            CommandName::Flags => Some(Command::Flags(self.flags()?)),
             CommandName::Run80 => Some(Command::Run80(self.run80()?)),
             CommandName::Run86 => Some(Command::Run86(self.run86()?)),
         }

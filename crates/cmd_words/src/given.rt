@@ -34,7 +34,9 @@ pub struct Given<'a> {
     pub top: Occurrence<'a>,
     pub choice: Occurrence<'a>,
     pub input: Occurrence<'a>,
+    pub disk: Occurrence<'a>,
     pub ports: Occurrence<'a>,
+    pub out_disk: Occurrence<'a>,
     pub tail: Occurrence<'a>,
     pub steps: Occurrence<'a>,
     pub plain: Occurrence<'a>,
@@ -51,7 +53,9 @@ impl<'a> Model for Given<'a> {
       top = occurrence_of g.top;
       choice = occurrence_of g.choice;
       input = occurrence_of g.input;
+      disk = occurrence_of g.disk;
       ports = occurrence_of g.ports;
+      out_disk = occurrence_of g.out_disk;
       tail = occurrence_of g.tail;
       steps = occurrence_of g.steps;
       plain = occurrence_of g.plain;
@@ -114,7 +118,9 @@ impl<'a> Given<'a> {
             top: Occurrence::Absent,
             choice: Occurrence::Absent,
             input: Occurrence::Absent,
+            disk: Occurrence::Absent,
             ports: Occurrence::Absent,
+            out_disk: Occurrence::Absent,
             tail: Occurrence::Absent,
             steps: Occurrence::Absent,
             plain: Occurrence::Absent,
@@ -145,7 +151,9 @@ impl<'a> Given<'a> {
             OptionName::Top => self.top = self.top.and(text),
             OptionName::Choice => self.choice = self.choice.and(text),
             OptionName::Input => self.input = self.input.and(text),
+            OptionName::Disk => self.disk = self.disk.and(text),
             OptionName::Ports => self.ports = self.ports.and(text),
+            OptionName::OutDisk => self.out_disk = self.out_disk.and(text),
             OptionName::Tail => self.tail = self.tail.and(text),
             OptionName::Steps => self.steps = self.steps.and(text),
             OptionName::Plain => self.plain = self.plain.and(text),

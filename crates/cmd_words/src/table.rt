@@ -7,6 +7,7 @@ ghost use Rattle.cmd_words.specs.Table.{command_named, command_word, commands, f
 #[derive(Clone, Copy)]
 pub enum CommandName {
     Translate,
+    Flags,
     Run80,
     Run86,
 }
@@ -17,14 +18,17 @@ pub enum OptionName {
     Top,
     Choice,
     Input,
+    Disk,
     Ports,
+    OutDisk,
     Tail,
     Steps,
     Plain,
 }
 
-const COMMANDS: [CommandName; 3] = [
+const COMMANDS: [CommandName; 4] = [
     CommandName::Translate,
+    CommandName::Flags,
     CommandName::Run80,
     CommandName::Run86,
 ];
@@ -45,6 +49,7 @@ impl CommandName {
     {
         match self {
             CommandName::Translate => "translate",
+            CommandName::Flags => "flags",
             CommandName::Run80 => "run80",
             CommandName::Run86 => "run86",
         }
@@ -71,9 +76,9 @@ impl CommandName {
         use OptionName::*;
 
         match self {
-            CommandName::Translate => &[Top],
-            CommandName::Run80 => &[Top, Input, Ports, Tail, Steps],
-            CommandName::Run86 => &[Choice, Input, Ports, Tail, Steps],
+            CommandName::Translate | CommandName::Flags => &[Top],
+            CommandName::Run80 => &[Top, Input, Disk, Ports, OutDisk, Tail, Steps],
+            CommandName::Run86 => &[Choice, Input, Disk, Ports, OutDisk, Tail, Steps],
         }
     }
 
@@ -83,7 +88,7 @@ impl CommandName {
     {
         match self {
             CommandName::Translate => &[OptionName::Plain],
-            CommandName::Run80 | CommandName::Run86 => &[],
+            CommandName::Flags | CommandName::Run80 | CommandName::Run86 => &[],
         }
     }
 }
@@ -103,7 +108,9 @@ impl OptionName {
             OptionName::Top => "--top",
             OptionName::Choice => "--choice",
             OptionName::Input => "--input",
+            OptionName::Disk => "--disk",
             OptionName::Ports => "--ports",
+            OptionName::OutDisk => "--out-disk",
             OptionName::Tail => "--tail",
             OptionName::Steps => "--steps",
             OptionName::Plain => "--plain",

@@ -1,20 +1,12 @@
-use Rattle.std.proofs.Common.{subst}
-use Rattle.host.specs.Host.{Says}
-use Rattle.cmd_files.specs.Transfer.{CutsLine}
-use Rattle.cmd_reports.specs.Said.{whole, failed, no_memory}
+use Rattle.std.proofs.Common.{sym, subst}
+use Rattle.cmd_reports.specs.Said.{IsDone, said_status}
+use Rattle.cmd_reports.proofs.Said.{done_by}
 use Rattle.cmd_reports.proofs.say.say_done.Goals as goal
 
-pub returns-in-Ok : goal.returns-in-Ok
-returns-in-Ok g c =
-    let e = c.in-Ok.ensures in
-    whole e.only (subst (Says (g.H.Host.state c.args.host.now) (g.H.Host.state c.say_line.new.host)) c.as_bytes.ensures.value e.ok) e.counted
-
-pub returns-in-Err-Failed : goal.returns-in-Err-Failed
-returns-in-Err-Failed g c =
-    let e = c.in-Err-Failed.ensures in
-    failed (record { only = e.only; cut = subst (λ l. CutsLine l (g.H.Host.state c.args.host.now) (g.H.Host.state c.say_line.new.host)) c.as_bytes.ensures.value e.fault; failed = e.failed })
-
-pub returns-in-Err-Memory : goal.returns-in-Err-Memory
-returns-in-Err-Memory g c =
-    let e = c.in-Err-Memory.ensures in
-    no_memory (record { only = e.only; cut = subst (λ l. CutsLine l (g.H.Host.state c.args.host.now) (g.H.Host.state c.say_line.new.host)) c.as_bytes.ensures.value e.fault; failed = e.failed })
+pub returns : goal.returns
+returns g c =
+    let old = g.H.Host.state c.args.host.now in
+    let new = g.H.Host.state c.say_line.new.host in
+    let e = c.say_line.ensures in
+    subst (IsDone c.args.line.now old new) (sym c.said_status.ensures)
+    (subst (λ l. IsDone l old new (said_status c.say_line.result)) c.as_bytes.ensures.value (done_by c.as_bytes.result.now old new c.say_line.result e.only e.ok e.counted e.fault e.failed))
