@@ -1,9 +1,8 @@
-// Runs over a console and ports.
+// Runs over a small BDOS and ports.
 ghost use Rattle.std.specs.Prelude.{◌≡◌, ◌∷◌, [], ℕ, length, Option, IfOk, IfErr, OnOk};
 ghost use Rattle.i86.specs.declared.Instr86.{Instr86};
 ghost use Rattle.i86.specs.Code.{Reads};
 ghost use Rattle.host.specs.Host.{SameFaults, OnlySays};
-ghost use Rattle.bdos_ports.specs.Supply.{supply_of};
 ghost use Rattle.bdos_talk.specs.Talk.{SaysRun, IsCutOff};
 ghost use Rattle.bdos_emulation.specs.Courses.{course80, course86};
 ghost use Rattle.bdos_emulation.specs.Starts.{start_by};
@@ -20,51 +19,46 @@ use dialogue::Page;
 use host::Host;
 use std::alloc::Global;
 
-/// Runs an 8080 program over a console with this input, and over ports that give these bytes, for up to `limit` instructions,
-/// and says each event of its dialogue.
+/// Runs an 8080 program over devices for up to `limit` instructions, and says each event of its dialogue.
 pub fn run_80<H: Host>(
     alloc: Global,
     program: &Program80,
     page: &Page,
-    input: Vec<u8>,
-    ports: Vec<u8>,
+    devices: &mut Devices,
     limit: u32,
     host: &mut H,
 ) -> Result<RunEnd, TalkFault>
-    ensures run { IfOk result (λ o. SaysRun (course80 program.now page.now) (supply_of input.items ports.items) limit o (H.state host.old) (H.state host.new)) }
-    ensures cut { IfErr result (IsCutOff (course80 program.now page.now) (supply_of input.items ports.items) limit (H.state host.old) (H.state host.new)) }
+    ensures run { IfOk result (λ o. SaysRun (course80 program.now page.now) devices.old limit o devices.new (H.state host.old) (H.state host.new)) }
+    ensures cut { IfErr result (IsCutOff (course80 program.now page.now) devices.old limit (H.state host.old) (H.state host.new)) }
     ensures only { OnlySays (H.state host.old) (H.state host.new) }
     ensures counted { OnOk result (SameFaults (H.state host.old) (H.state host.new)) }
 {
     let mut machine = Tagged80::new(alloc, program, page)?;
-    let mut devices = Devices::new(input, ports);
-    converse(alloc, &mut machine, &mut devices, host, limit)
+    converse(alloc, &mut machine, devices, host, limit)
 }
 
-/// Runs the image of an 8086 program over a console with this input, and over ports that give these bytes, for up to `limit`
-/// instructions, and says each event of its dialogue. The fill is memory before the page and the image are put into it; the choice gives what registers and flags hold
-/// at the start, and each undefined result.
+/// Runs the image of an 8086 program over devices for up to `limit` instructions, and says each event of its dialogue. The fill is
+/// memory before the page and the image are put into it; the choice gives what registers and flags hold at the start, and each
+/// undefined result.
 pub fn run_86<H: Host>(
     alloc: Global,
     image: &Image86,
     page: &Page,
     fill: &[u8],
     choice: u128,
-    input: Vec<u8>,
-    ports: Vec<u8>,
+    devices: &mut Devices,
     limit: u32,
     host: &mut H,
 ) -> Result<RunEnd, TalkFault>
     requires { length fill.now ≡ 0x10000 }
-    ensures run { IfOk result (λ o. (fetch : ℕ → Option Instr86) → Reads image.now.code fetch → SaysRun (course86 fetch image.now page.now fill.now (start_by choice) (choice ∷ [])) (supply_of input.items ports.items) limit o (H.state host.old) (H.state host.new)) }
-    ensures cut { IfErr result (λ fault. (fetch : ℕ → Option Instr86) → Reads image.now.code fetch → IsCutOff (course86 fetch image.now page.now fill.now (start_by choice) (choice ∷ [])) (supply_of input.items ports.items) limit (H.state host.old) (H.state host.new) fault) }
+    ensures run { IfOk result (λ o. (fetch : ℕ → Option Instr86) → Reads image.now.code fetch → SaysRun (course86 fetch image.now page.now fill.now (start_by choice) (choice ∷ [])) devices.old limit o devices.new (H.state host.old) (H.state host.new)) }
+    ensures cut { IfErr result (λ fault. (fetch : ℕ → Option Instr86) → Reads image.now.code fetch → IsCutOff (course86 fetch image.now page.now fill.now (start_by choice) (choice ∷ [])) devices.old limit (H.state host.old) (H.state host.new) fault) }
     ensures only { OnlySays (H.state host.old) (H.state host.new) }
     ensures counted { OnOk result (SameFaults (H.state host.old) (H.state host.new)) }
 {
     let start = start_by(choice);
     let mut machine = Plain86::new(alloc, image, start, page, fill, choice)?;
-    let mut devices = Devices::new(input, ports);
-    converse(alloc, &mut machine, &mut devices, host, limit)
+    converse(alloc, &mut machine, devices, host, limit)
 }
 
 // The registers, segments and flags at the start.

@@ -1,10 +1,16 @@
 -- What a system has left to answer with.
-use Rattle.std.specs.Prelude.{ℕ, List}
+use Rattle.std.specs.Prelude.{ℕ, List, None}
+use Rattle.bdos_disk.specs.Stored.{Stored}
+use Rattle.bdos_small.specs.Small.{Small, small_of}
 
--- the input of its console, and the bytes that its ports give
+-- a small BDOS with its disk and the input of its console, and the bytes that its ports give
 pub record Supply : Type 0 where
-  pub input : List ℕ
+  pub system : Small
   pub ports : List ℕ
 
-abbrev pub supply_of : List ℕ → List ℕ → Supply
-supply_of input ports = record { input = input; ports = ports }
+abbrev pub supply_of : Small → List ℕ → Supply
+supply_of system ports = record { system = system; ports = ports }
+
+-- what devices have before the first event: no search goes on
+abbrev pub first_supply : List Stored → List ℕ → List ℕ → Supply
+first_supply disk input ports = supply_of (small_of disk input None) ports

@@ -1,10 +1,15 @@
 // The answers to the events of a program.
-ghost use Rattle.std.specs.Prelude.{◌≡◌, ℕ, IfOk, OnErr, Some};
+ghost use Rattle.std.specs.Prelude.{◌≡◌, ℕ, List, IfOk, OnErr, Some};
 ghost use Rattle.dialogue.specs.Lawful.{IsLawful, IsLawfulEvent};
-ghost use Rattle.bdos_ports.specs.Events.{port_reply};
+ghost use Rattle.dialogue.specs.declared.request.Event.TheVariants as Event;
+ghost use Rattle.dialogue.specs.declared.request.Request.{Request};
+ghost use Rattle.bdos_console.specs.Console.{FitsRequest};
+ghost use Rattle.bdos_small.specs.Small.{Small, ChangesByReply};
+ghost use Rattle.bdos_ports.specs.Supply.{supply_of};
+ghost use Rattle.bdos_ports.specs.Events.{of_system, port_reply, FitsEvent, TakesByReply};
 
 use crate::ports::PortBytes;
-use bdos_console::{Answer, Console};
+use bdos_small::{Answer, Bdos, Disk};
 use dialogue::{Blocks, Event, Reply, Request};
 use std::alloc::{AllocError, Global};
 use std::marker::Model;
@@ -18,10 +23,10 @@ pub enum EventAnswer {
     NoDrive(u8),
 }
 
-/// A console and ports, seen as what they have left to answer with.
+/// A small BDOS and ports, seen as what they have left to answer with.
 #[derive(Drop)]
 pub struct Devices {
-    console: Console,
+    bdos: Bdos,
     ports: PortBytes,
 }
 
@@ -30,33 +35,39 @@ impl Model for Devices {
 
     ghost Value = { Supply };
 
-    ghost view = { λ d. supply_of d.console d.ports };
+    ghost view = { λ d. supply_of d.bdos d.ports };
 }
 
 impl Devices {
-    ghost use Rattle.bdos_ports.specs.Supply.{supply_of};
-    ghost use Rattle.bdos_ports.specs.Events.{EventAnswered, read_port, event_answer, FitsEvent, TakesByReply, IsLine};
+    ghost use Rattle.bdos_ports.specs.Supply.{first_supply};
+    ghost use Rattle.bdos_ports.specs.Events.{EventAnswered, read_port, event_answer, FitsEvent, TakesByReply};
 
-    /// A console with this input, and ports that give these bytes.
-    pub fn new(input: Vec<u8>, ports: Vec<u8>) -> Devices
-        ensures { result ≡ supply_of input.items ports.items }
+    /// A BDOS with this disk and this input of its console, and ports that give these bytes.
+    pub fn new(disk: Disk, input: Vec<u8>, ports: Vec<u8>) -> Devices
+        ensures { result ≡ first_supply disk input.items ports.items }
     {
         Devices {
-            console: Console::new(input),
+            bdos: Bdos::new(disk, input),
             ports: PortBytes::new(ports),
         }
     }
 
-    /// The answer to an event: a call is the console's to answer; an IN takes the next port byte, and without one left it is as
+    /// The disk of the BDOS.
+    pub fn disk(&self) -> &Disk
+        ensures { result.now ≡ self.now.system.disk }
+    {
+        self.bdos.disk()
+    }
+
+    /// The answer to an event: a call is the BDOS's to answer; an IN takes the next port byte, and without one left it is as
     /// where input has ended; an OUT is answered 0. Only a reply takes anything, so that after another answer or want of memory the
-    /// event can be answered anew; only a line of input wants memory. The end of a program is not answered.
+    /// event can be answered anew. The end of a program is not answered.
     pub fn answer(&mut self, alloc: Global, event: &Event) -> Result<EventAnswer, AllocError>
         requires { IsLawfulEvent event.now }
         ensures answer { IfOk result (λ a. event_answer self.old event.now ≡ Some (record { answer = a; left = self.new })) }
         ensures fits { IfOk result (λ a. FitsEvent event.now a) }
         ensures takes { IfOk result (λ a. TakesByReply a self.old self.new) }
         ensures memory { OnErr result (self.new ≡ self.old) }
-        ensures wanted { OnErr result (IsLine event.now self.old) }
     {
         match event {
             Event::Call(request) => self.call(alloc, request),
@@ -73,18 +84,14 @@ impl Devices {
         ensures fits { IfOk result (λ a. FitsEvent (Event.Call request.now) a) }
         ensures takes { IfOk result (λ a. TakesByReply a self.old self.new) }
         ensures memory { OnErr result (self.new ≡ self.old) }
-        ensures wanted { OnErr result (IsLine (Event.Call request.now) self.old) }
     {
-        match self.console.answer(alloc, request)? {
-            Answer::Reply(reply) => Ok(EventAnswer::Reply(reply)),
-            Answer::InputEnded => Ok(EventAnswer::InputEnded),
-            Answer::NoDrive => Ok(EventAnswer::NoDrive(request.shape.function)),
-        }
+        let answer = self.bdos.answer(alloc, request)?;
+        Ok(of_system(request.shape.function, answer))
     }
 
     // IN: the next byte.
     fn read_port(&mut self, alloc: Global) -> EventAnswer
-        ensures answer { ◌≡◌ {A = EventAnswered} (record { answer = result; left = self.new }) (read_port self.old.input self.old.ports) }
+        ensures answer { ◌≡◌ {A = EventAnswered} (record { answer = result; left = self.new }) (read_port self.old.system self.old.ports) }
         ensures fits { (port : ℕ) → FitsEvent (Event.In port) result }
         ensures takes { TakesByReply result self.old self.new }
     {
@@ -92,6 +99,19 @@ impl Devices {
             None => EventAnswer::InputEnded,
             Some(byte) => port_reply(alloc, byte),
         }
+    }
+}
+
+// The answer of the system to a call of a function.
+fn of_system(function: u8, answer: Answer) -> EventAnswer
+    ensures answer { result ≡ of_system function answer }
+    ensures fits { (q : Request) → FitsRequest q answer → FitsEvent (Event.Call q) result }
+    ensures takes { (before after : Small) (ports : List ℕ) → ChangesByReply answer before after → TakesByReply result (supply_of before ports) (supply_of after ports) }
+{
+    match answer {
+        Answer::Reply(reply) => EventAnswer::Reply(reply),
+        Answer::InputEnded => EventAnswer::InputEnded,
+        Answer::NoDrive => EventAnswer::NoDrive(function),
     }
 }
 

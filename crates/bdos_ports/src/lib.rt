@@ -1,4 +1,4 @@
-// What answers a program's events: a console, and the bytes of its ports.
+// What answers a program's events: a small BDOS, and the bytes of its ports.
 #![tactic(auto)]
 
 mod devices;

@@ -1,5 +1,5 @@
 // The small BDOS and its answers.
-ghost use Rattle.std.specs.Prelude.{◌≡◌, ◌≢◌, true, IfOk, OnErr, None};
+ghost use Rattle.std.specs.Prelude.{◌≡◌, true, IfOk, OnErr, None};
 ghost use Rattle.dialogue.specs.Fits.{fits};
 ghost use Rattle.dialogue.specs.Lawful.{IsLawful};
 ghost use Rattle.bdos_console.specs.Console.{FitsRequest};
@@ -58,10 +58,9 @@ impl Bdos {
     }
 
     /// The answer to a call. Any answer but a reply leaves everything as before, and so does want of memory, so that the call can be
-    /// answered anew. Function 0 ends a program and is not asked.
+    /// answered anew. Function 0 ends a program and is not asked; it is answered `NoDrive`.
     pub fn answer(&mut self, alloc: Global, request: &Request) -> Result<Answer, AllocError>
-        requires lawful { IsLawful request.now }
-        requires asked { request.now.shape.function ≢ 0 }
+        requires { IsLawful request.now }
         ensures answer { IfOk result (λ a. ◌≡◌ {A = Answered} (record { answer = a; left = self.new }) (small_answer self.old request.now)) }
         ensures fits { IfOk result (λ a. FitsRequest request.now a) }
         ensures changes { IfOk result (λ a. ChangesByReply a self.old self.new) }

@@ -16,7 +16,7 @@ use Rattle.bdos_talk.specs.declared.emulator.Turn.TheVariants.{Ran, Asks, Ended}
 use Rattle.bdos_talk.specs.declared.running.RunEnd.{RunEnd}
 use Rattle.bdos_talk.specs.declared.running.RunEnd.TheVariants.{Ended as HasEnded, InputEnded, NoDrive}
 use Rattle.bdos_talk.specs.Lines.{event_line}
-use Rattle.bdos_talk.specs.Talk.{Seen, reply_then, reply_from, replies_to, refusal_then, refusal_from, refusal}
+use Rattle.bdos_talk.specs.Talk.{Seen, reply_then, reply_from, replies_to, refusal_then, refusal_from, refusal, left_from, left_after}
 use Rattle.bdos_talk.specs.Turns.{Past, Course, after_ran, after_asked, standing, IsTurn, Begins}
 use Rattle.bdos_talk.specs.declared.fault.TalkFault.{TalkFault}
 use Rattle.bdos_talk.specs.declared.fault.TalkFault.TheVariants.{Unsaid, Memory}
@@ -33,6 +33,7 @@ module _ (before mid : Course) (answered : Event → Reply → Course) (supply :
     goes = λ t ys n. let e : 1 + n ≡ suc n = omega arith in ap (before t ys) e ∙ h t ys n;
     replies = λ es. refl;
     refuses = λ es. refl;
+    leaves = λ es. refl;
     says = says_nothing old;
   }
 
@@ -53,47 +54,50 @@ module _ (before mid : Course) (answered : Event → Reply → Course) (supply :
             ∙ ap (λ c. c (after_ran (after_asked t e)) ys n) (sym a.3);
         replies = λ es. ap (λ o. reply_from o (λ rest. replies_to rest es)) a.1;
         refuses = λ es. ap (λ o. refusal_from o (λ rest. refusal rest es)) a.1;
+        leaves = λ es. ap (λ o. left_from supply o (λ rest. left_after rest es)) a.1;
         says = said ∙ ap (said_more old.said) (event_lines-one e);
       }
 
   -- no reply
   module _ (e : Event) (count : ℕ) (h : IsTurn before mid answered (Asks e)) (said : Says old new (event_line e)) where
-    rest_waits : (o : RunEnd) → replies_to supply (e ∷ []) ≡ [] → IsEnd o count Waiting (refusal supply (e ∷ [])) → Rest o count before supply old new
-    rest_waits o none end = record {
+    rest_waits : (o : RunEnd) → replies_to supply (e ∷ []) ≡ [] → IsEnd o count Waiting (refusal supply (e ∷ [])) → left_after supply (e ∷ []) ≡ supply → Rest o count before supply supply old new
+    rest_waits o none end leaves = record {
       events = e ∷ [];
       status = Waiting;
       goes = λ t n. h t [] n;
       none = none;
       end = end;
+      leaves = leaves;
       says = said ∙ ap (said_more old.said) (event_lines-one e);
     }
 
-    rest_by : (a : EventAnswer) (left : Supply) (o : RunEnd) → event_answer supply e ≡ Some (record { answer = a; left = left }) → refusal_then a None ≡ Some o → Rest o count before supply old new
+    rest_by : (a : EventAnswer) (left : Supply) (o : RunEnd) → event_answer supply e ≡ Some (record { answer = a; left = left }) → refusal_then a None ≡ Some o → Rest o count before supply supply old new
     rest_by (Replies y) left o is f = cc
     rest_by NoInput left o is f =
         let same : InputEnded ≡ o = cc in
         let end : refusal supply (e ∷ []) ≡ Some InputEnded = ap (λ x. refusal_from x (λ rest. None)) is in
-        subst (λ o. Rest o count before supply old new) same (rest_waits InputEnded (ap (λ x. reply_from x (λ rest. [])) is) (refl, end))
+        subst (λ o. Rest o count before supply supply old new) same (rest_waits InputEnded (ap (λ x. reply_from x (λ rest. [])) is) (refl, end) (ap (λ x. left_from supply x (λ rest. rest)) is))
     rest_by (Refuses function) left o is f =
         let same : NoDrive function ≡ o = cc in
         let end : refusal supply (e ∷ []) ≡ Some (NoDrive function) = ap (λ x. refusal_from x (λ rest. None)) is in
-        subst (λ o. Rest o count before supply old new) same (rest_waits (NoDrive function) (ap (λ x. reply_from x (λ rest. [])) is) (refl, end))
+        subst (λ o. Rest o count before supply supply old new) same (rest_waits (NoDrive function) (ap (λ x. reply_from x (λ rest. [])) is) (refl, end) (ap (λ x. left_from supply x (λ rest. rest)) is))
 
-    rest_from : (a : Option EventAnswered) (o : RunEnd) → event_answer supply e ≡ a → refusal_from a (λ rest. None) ≡ Some o → Rest o count before supply old new
+    rest_from : (a : Option EventAnswered) (o : RunEnd) → event_answer supply e ≡ a → refusal_from a (λ rest. None) ≡ Some o → Rest o count before supply supply old new
     rest_from None o is f = cc
     rest_from (Some a) o is f = rest_by a.answer a.left o is f
 
     pub turn_answered : (after : Course) (left : Supply) (o : Option RunEnd) → IsAnswered e (answered e) after supply left o → IsTurnDone count before after supply left old new o
     turn_answered after left None a = advance_replied after e left h a said
-    turn_answered after left (Some o) a = rest_from (event_answer supply e) o refl a
+    turn_answered after left (Some o) a = subst (λ l. Rest o count before supply l old new) (sym a.1) (rest_from (event_answer supply e) o refl a.0)
 
-  pub rest_ended : (count : ℕ) → IsTurn before mid answered Ended → Says old new (codes "end\n") → Rest (HasEnded count) count before supply old new
+  pub rest_ended : (count : ℕ) → IsTurn before mid answered Ended → Says old new (codes "end\n") → Rest (HasEnded count) count before supply supply old new
   rest_ended count h said = record {
     events = End ∷ [];
     status = Over;
     goes = λ t n. h t [] n;
     none = refl;
     end = (refl, refl);
+    leaves = refl;
     says = said ∙ ap (said_more old.said) (event_lines-one End);
   }
 

@@ -10,7 +10,7 @@ use Rattle.bdos_talk.specs.declared.fault.TalkFault.TheVariants.{Unsaid, Memory}
 use Rattle.bdos_talk.specs.declared.running.RunEnd.{RunEnd}
 use Rattle.bdos_talk.specs.declared.running.RunEnd.TheVariants.{Ended, Stopped as HasStopped, StepLimit, InputEnded, NoDrive}
 use Rattle.bdos_talk.specs.Lines.{event_lines}
-use Rattle.bdos_talk.specs.Talk.{Seen, replies_to, refusal, IsAt, HasOneRun, IsCause, IsOutcome, SaysRun, HasFirst, SaysFirst, SaysCut, IsCutOff}
+use Rattle.bdos_talk.specs.Talk.{Seen, replies_to, refusal, left_after, IsAt, HasOneRun, IsCause, IsOutcome, SaysRun, HasFirst, SaysFirst, SaysCut, IsCutOff}
 use Rattle.bdos_talk.specs.Turns.{Course, nothing, standing, Begins}
 use Rattle.bdos_talk.specs.Advance.{Advance, IsEnd, Rest, Grows, SaysTurn, CutsTurn, IsTurnCutOff}
 use Rattle.bdos_talk.proofs.Said.{event_lines-append, says_nothing, says_then}
@@ -25,6 +25,7 @@ advance_none c supply h = record {
   goes = λ t ys n. let e : 0 + n ≡ n = omega arith in ap (c t ys) e;
   replies = λ es. refl;
   refuses = λ es. refl;
+  leaves = λ es. refl;
   says = says_nothing h;
 }
 
@@ -46,6 +47,7 @@ advance_then j a b c i l r f g h x y = record {
       ∙ ap (λ ys. x.taken ++ ys) (y.replies es)
       ∙ sym (append_assoc x.taken y.taken (replies_to r es));
   refuses = λ es. ap (refusal i) (append_assoc x.events y.events es) ∙ x.refuses (y.events ++ es) ∙ y.refuses es;
+  leaves = λ es. ap (left_after i) (append_assoc x.events y.events es) ∙ x.leaves (y.events ++ es) ∙ y.leaves es;
   says = says_then f g h (event_lines x.events) (event_lines y.events) x.says y.says ∙ ap (said_more f.said) (sym (event_lines-append x.events y.events));
 }
 
@@ -62,16 +64,17 @@ module _ (c b : Course) (one : HasOneRun (c nothing)) (supply left : Supply) (ol
       ∙ begins (x.next nothing) []
       ∙ ap (standing Going) (x.dialogue nothing))
 
-  pub says_limit : Begins b → SaysRun (c nothing) supply j StepLimit old mid
+  pub says_limit : Begins b → SaysRun (c nothing) supply j StepLimit left old mid
   says_limit begins = record {
     run = standing Going x.events;
     outcome = record { at = reached begins; cause = refl };
     only = outcome_one (c nothing) one supply j StepLimit (standing Going x.events) (record { at = reached begins; cause = refl });
     says = x.says;
+    leaves = sym (ap (left_after supply) (sym (append-nil x.events)) ∙ x.leaves []);
   }
 
   -- where it comes to an end
-  module _ (o : RunEnd) (count limit : ℕ) (begins : Begins b) (within : suc j ≤ limit) (is : count ≡ suc j) (y : Rest o count b left mid new) where
+  module _ (o : RunEnd) (count limit : ℕ) (begins : Begins b) (within : suc j ≤ limit) (is : count ≡ suc j) (last : Supply) (y : Rest o count b left last mid new) where
     rests : (m : ℕ) → standing y.status (x.events ++ y.events) ≡ c nothing (replies_to supply (x.events ++ y.events)) (j + suc m)
     rests m =
         let ys : replies_to supply (x.events ++ y.events) ≡ x.taken ++ [] = x.replies y.events ∙ ap (λ zs. x.taken ++ zs) y.none in
@@ -108,12 +111,13 @@ module _ (c b : Course) (one : HasOneRun (c nothing)) (supply left : Supply) (ol
         let all : j + suc m ≡ limit = omega arith in
         record { at = rests_at limit m all; cause = cause o y.end }
 
-    pub says_end : SaysRun (c nothing) supply limit o old new
+    pub says_end : SaysRun (c nothing) supply limit o last old new
     says_end = record {
       run = standing y.status (x.events ++ y.events);
       outcome = outcome;
       only = outcome_one (c nothing) one supply limit o (standing y.status (x.events ++ y.events)) outcome;
       says = says_then old mid new (event_lines x.events) (event_lines y.events) x.says y.says ∙ ap (said_more old.said) (sym (event_lines-append x.events y.events));
+      leaves = sym (x.leaves y.events ∙ y.leaves);
     }
 
   -- where a fault comes: the events up to it are the run's first

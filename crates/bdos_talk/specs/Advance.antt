@@ -15,7 +15,7 @@ use Rattle.bdos_talk.specs.declared.fault.TalkFault.TheVariants.{Unsaid, Memory}
 use Rattle.bdos_talk.specs.declared.running.RunEnd.{RunEnd}
 use Rattle.bdos_talk.specs.declared.running.RunEnd.TheVariants.{Ended, Stopped as HasStopped, StepLimit, InputEnded, NoDrive}
 use Rattle.bdos_talk.specs.Lines.{event_line, event_lines}
-use Rattle.bdos_talk.specs.Talk.{replies_to, refusal_from, refusal}
+use Rattle.bdos_talk.specs.Talk.{replies_to, refusal_from, refusal, left_after}
 use Rattle.bdos_talk.specs.Turns.{Past, Course, standing}
 
 -- after k more turns, in which the devices gave a part of what they had, the run goes on; the events of these turns were said
@@ -27,6 +27,7 @@ pub record Advance (k : ℕ) (before after : Course) (supply left : Supply) (old
   pub goes : (t : Past) (ys : List Reply) (n : ℕ) → before t (taken ++ ys) (k + n) ≡ after (next t) ys n
   pub replies : (es : List Event) → replies_to supply (events ++ es) ≡ taken ++ replies_to left es
   pub refuses : (es : List Event) → refusal supply (events ++ es) ≡ refusal left es
+  pub leaves : (es : List Event) → left_after supply (events ++ es) ≡ left_after left es
   pub says : Says old new (event_lines events)
 
 -- the end of a run, by its status, the number of its last turn, and what the devices refuse
@@ -37,13 +38,14 @@ IsEnd StepLimit count status refused = ⊥
 IsEnd InputEnded count status refused = (status ≡ Waiting) × (refused ≡ Some InputEnded)
 IsEnd (NoDrive function) count status refused = (status ≡ Waiting) × (refused ≡ Some (NoDrive function))
 
--- after one more turn, the one of this number, the run goes on no more; its events were said
-pub record Rest (o : RunEnd) (count : ℕ) (before : Course) (supply : Supply) (old new : HostState) : Type 0 where
+-- after one more turn, the one of this number, the run goes on no more; its events were said, and the devices have this left
+pub record Rest (o : RunEnd) (count : ℕ) (before : Course) (supply left : Supply) (old new : HostState) : Type 0 where
   pub events : List Event
   pub status : Status Why
   pub goes : (t : Past) (n : ℕ) → before t [] (suc n) ≡ standing status (t.dialogue ++ events)
   pub none : replies_to supply events ≡ []
   pub end : IsEnd o count status (refusal supply events)
+  pub leaves : left_after supply events ≡ left
   pub says : Says old new (event_lines events)
 
 -- after one more turn, or before it, the dialogue has these events more
@@ -77,10 +79,10 @@ IsLineCutOff line old new Memory = SameSaid old new × SameFaults old new
 -- what a turn comes to: the end of the run, if it is its last
 abbrev pub IsTurnDone : ℕ → Course → Course → Supply → Supply → HostState → HostState → Option RunEnd → Type 0
 IsTurnDone count before after supply left old new None = Advance 1 before after supply left old new
-IsTurnDone count before after supply left old new (Some o) = Rest o count before supply old new
+IsTurnDone count before after supply left old new (Some o) = Rest o count before supply left old new
 
 -- what the answer to an event comes to, of a machine that waits
 abbrev pub IsAnswered : Event → (Reply → Course) → Course → Supply → Supply → Option RunEnd → Type 0
 IsAnswered e answered after supply left None =
     (y : Reply) × (event_answer supply e ≡ Some (record { answer = Replies y; left = left })) × (fits_event e y ≡ true) × (after ≡ answered y)
-IsAnswered e answered after supply left (Some o) = refusal_from (event_answer supply e) (λ rest. None) ≡ Some o
+IsAnswered e answered after supply left (Some o) = (refusal_from (event_answer supply e) (λ rest. None) ≡ Some o) × (left ≡ supply)

@@ -59,6 +59,21 @@ abbrev pub refusal : Supply → List Event → Option RunEnd
 refusal supply [] = None
 refusal supply (e ∷ es) = refusal_from (event_answer supply e) (λ left. refusal left es)
 
+-- what the devices have left behind the events of a dialogue: each reply takes something, and after the first event that gets none
+-- all is as before it
+abbrev pub left_then : EventAnswer → Supply → Supply → Supply
+left_then (Replies y) before rest = rest
+left_then Ends before rest = before
+left_then (Refuses function) before rest = before
+
+abbrev pub left_from : Supply → Option EventAnswered → (Supply → Supply) → Supply
+left_from before None rest = before
+left_from before (Some a) rest = left_then a.answer before (rest a.left)
+
+abbrev pub left_after : Supply → List Event → Supply
+left_after supply [] = supply
+left_after supply (e ∷ es) = left_from supply (event_answer supply e) (λ left. left_after left es)
+
 -- the run over devices after n turns: given their replies to its own dialogue, it is so
 abbrev pub IsAt : (List Reply → ℕ → Seen) → Supply → ℕ → Seen → Type 0
 IsAt course supply n v = v ≡ course (replies_to supply v.dialogue) n
@@ -94,12 +109,14 @@ module _ (course : List Reply → ℕ → Seen) (supply : Supply) (limit : ℕ) 
     pub at : IsAt course supply limit v
     pub cause : IsCause o v
 
-  -- the run comes to this and no run over these devices to anything else, and its whole dialogue was said
-  pub record SaysRun (o : RunEnd) (old new : HostState) : Type 0 where
+  -- the run comes to this and no run over these devices to anything else, its whole dialogue was said, and this is what the
+  -- devices have left
+  pub record SaysRun (o : RunEnd) (left : Supply) (old new : HostState) : Type 0 where
     pub run : Seen
     pub outcome : IsOutcome o run
     pub only : (e : RunEnd) (v : Seen) → IsOutcome e v → (e ≡ o) × (v ≡ run)
     pub says : Says old new (event_lines run.dialogue)
+    pub leaves : left ≡ left_after supply run.dialogue
 
   -- these are the first events of the dialogue that the run has at the limit
   pub record HasFirst (events : List Event) : Type 0 where

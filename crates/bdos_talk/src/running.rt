@@ -1,4 +1,4 @@
-// The loop that runs a machine over a console and ports.
+// The loop that runs a machine over a small BDOS and ports.
 ghost use Rattle.std.specs.Prelude.{◌≡◌, None, IfOk, IfErr, OnOk};
 ghost use Rattle.dialogue.specs.Lawful.{IsLawfulEvent};
 ghost use Rattle.host.specs.Host.{SameFaults, OnlySays};
@@ -38,7 +38,7 @@ pub fn converse<E: Emulator, H: Host>(
     limit: u32,
 ) -> Result<RunEnd, TalkFault>
     requires { E.runs machine.old }
-    ensures run { IfOk result (λ o. SaysRun (E.course machine.old nothing) devices.old limit o (H.state host.old) (H.state host.new)) }
+    ensures run { IfOk result (λ o. SaysRun (E.course machine.old nothing) devices.old limit o devices.new (H.state host.old) (H.state host.new)) }
     ensures cut { IfErr result (IsCutOff (E.course machine.old nothing) devices.old limit (H.state host.old) (H.state host.new)) }
     ensures only { OnlySays (H.state host.old) (H.state host.new) }
     ensures counted { OnOk result (SameFaults (H.state host.old) (H.state host.new)) }

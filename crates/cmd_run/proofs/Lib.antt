@@ -5,3 +5,5 @@ pub mod Sources
 pub mod Told
 pub mod Completing80
 pub mod Completing86
+pub mod Kept
+pub mod Disks

@@ -7,20 +7,14 @@ use Rattle.asm86_image.specs.declared.fault.ImageFault.{ImageFault}
 use Rattle.cmd_run.specs.Runs86.{LoadStops, no_image, no_memory as nothing}
 use Rattle.asm86_image.specs.declared.fault.ImageFault.TheVariants.{Line, Memory}
 use Rattle.cmd_words.specs.Words.{RunOptions, Run86}
-use Rattle.bdos_ports.specs.Supply.{Supply}
 use Rattle.cmd_reports.specs.declared.stop.Stop.{Stop}
 use Rattle.cmd_inputs.specs.Files.{IsWhole, IsInput, ReadStops, failed, too_long, no_memory, InputStops, text_limit, input_limit}
 use Rattle.host.specs.Host.{IsFile}
-use Rattle.cmd_run.specs.Supplies.{IsSupplied, SupplyStops, no_input, no_ports}
+use Rattle.cmd_run.specs.Supplies.{Given, IsDiskFile, DiskFileStops, IsSupplied, SupplyStops, no_input, no_disk_file, no_ports}
 use Rattle.asm86_lines.specs.declared.line.Line86.{Line86}
 use Rattle.asm86_text.specs.Stream.{TextGives}
 use Rattle.asm86_image.specs.Refusals.{ImageRefused}
 use Rattle.cmd_inputs.specs.Texts.{unread, refused, stop_of_image, LinesStop, breaks}
-
--- a result that is an error is judged as one
-pub judged : {T E : Type 0} (r : Result T E) (P Q : E → Type 0) → IsErrAnd r P → ((error : E) → P error → Q error) → IfErr r Q
-judged (Ok x) P Q e f = absurd e
-judged (Err error) P Q e f = f error e
 
 module _ (old mid new : HostState) (only : OnlyReads old mid) (counted : SameFaults old mid) where
   -- what is told of the files behind a first read is told before it
@@ -43,22 +37,31 @@ module _ (old mid new : HostState) (only : OnlyReads old mid) (counted : SameFau
   input_stops_before None stop s = absurd s
   input_stops_before (Some name) stop s = stops_before name input_limit stop s
 
-  pub supply_before : (run : RunOptions) (supply : Supply) → IsSupplied run mid supply → IsSupplied run old supply
-  supply_before run supply s = record { input = input_before run.input supply.input s.input; ports = input_before run.ports supply.ports s.ports }
+  pub disk_before : (name : Option (List ℕ)) (bytes : List ℕ) → IsDiskFile mid name bytes → IsDiskFile old name bytes
+  disk_before None bytes w = w
+  disk_before (Some name) bytes w = whole_before name input_limit bytes w
+
+  pub disk_stops_before : (name : Option (List ℕ)) (stop : Stop) → DiskFileStops name mid new stop → DiskFileStops name old new stop
+  disk_stops_before None stop s = s
+  disk_stops_before (Some name) stop s = stops_before name input_limit stop s
+
+  pub supply_before : (run : RunOptions) (given : Given) → IsSupplied run mid given → IsSupplied run old given
+  supply_before run given s = record { input = input_before run.input given.input s.input; disk = disk_before run.disk given.disk s.disk; ports = input_before run.ports given.ports s.ports }
 
   pub supply_stops_before : (run : RunOptions) (stop : Stop) → SupplyStops run mid new stop → SupplyStops run old new stop
   supply_stops_before run stop (no_input s) = no_input (input_stops_before run.input stop s)
-  supply_stops_before run stop (no_ports input i s) = no_ports input (input_before run.input input i) (input_stops_before run.ports stop s)
+  supply_stops_before run stop (no_disk_file input i s) = no_disk_file input (input_before run.input input i) (disk_stops_before run.disk stop s)
+  supply_stops_before run stop (no_ports input disk i d s) = no_ports input disk (input_before run.input input i) (disk_before run.disk disk d) (input_stops_before run.ports stop s)
 
-module _ (c : Run86) (old new : HostState) (text : List ℕ) (supply : Supply) (file : IsWhole old c.text text_limit text) (supplied : IsSupplied c.run old supply) (same : SameFaults old new) where
+module _ (c : Run86) (old new : HostState) (text : List ℕ) (given : Given) (file : IsWhole old c.text text_limit text) (supplied : IsSupplied c.run old given) (same : SameFaults old new) where
   -- a text of which a line breaks a rule
   pub lines_stop : (stop : Stop) → LinesStop text stop → LoadStops c old new stop
-  lines_stop _ (breaks {line = line} {rule = rule} h) = no_image (Line line rule) text supply file supplied same (unread h) refl
+  lines_stop _ (breaks {line = line} {rule = rule} h) = no_image (Line line rule) text given file supplied same (unread h) refl
 
   -- a text whose lines have no image
-  pub image_stops : (lines given : List Line86) → given ≡ lines → TextGives text (Ok lines) → (fault : ImageFault) → (fault ≡ Memory) ⊎ ImageRefused given fault → LoadStops c old new (stop_of_image fault)
-  image_stops lines given e reads fault h =
+  pub image_stops : (lines made : List Line86) → made ≡ lines → TextGives text (Ok lines) → (fault : ImageFault) → (fault ≡ Memory) ⊎ ImageRefused made fault → LoadStops c old new (stop_of_image fault)
+  image_stops lines made e reads fault h =
       ⊎_elim
       (λ m. subst (λ f. LoadStops c old new (stop_of_image f)) (sym m) nothing)
-      (λ r. no_image fault text supply file supplied same (refused lines reads (subst (λ l. ImageRefused l fault) e r)) refl)
+      (λ r. no_image fault text given file supplied same (refused lines reads (subst (λ l. ImageRefused l fault) e r)) refl)
       h

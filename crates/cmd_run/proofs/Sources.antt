@@ -1,5 +1,6 @@
 -- What the run of `run80` comes to behind its files.
-use Rattle.std.proofs.Common.{◌≡◌, ℕ, Err, ◌∙◌, subst}
+use Rattle.std.proofs.Common.{◌≡◌, ℕ, ◌∙◌, subst}
+use Rattle.std.specs.Prelude.{Result}
 use Rattle.host.specs.Host.{HostState, SameFiles, OnlyReads, OnlySays, SameFaults}
 use Rattle.asm80_program.specs.Program.{Program}
 use Rattle.cmd_words.specs.Words.{Run80}
@@ -11,8 +12,10 @@ use Rattle.cmd_run.specs.declared.halt.Halt.{Halt}
 use Rattle.cmd_run.specs.declared.halt.Halt.TheVariants.{By, Unsaid}
 use Rattle.cmd_reports.specs.declared.stop.Stop.{Stop}
 use Rattle.cmd_run.specs.Ends.{steps_of, Halts, halt_of_talk}
-use Rattle.cmd_run.specs.Runs80.{Loads, LoadStops, RunsTo, IsCut, HasRun, Stops, IsLineOf, IsHalted, unloaded, ran, no_memory}
+use Rattle.cmd_run.specs.Keeping.{is_kept, kept_name, Keeps, KeepStops, DiskAlone}
+use Rattle.cmd_run.specs.Runs80.{Loads, LoadStops, RunsTo, IsCut, HasRun, HasCut, HasCome, LosesDisk, Stops, IsLineOf, IsHalted, unloaded, no_memory, no_line, unkept}
 use Rattle.cmd_run.proofs.Leaving.{end_has_line}
+use Rattle.cmd_run.proofs.Kept.{same_alone, alone_behind, alone_kept, alone_lost}
 
 -- where nothing was loaded, the command halts
 pub unloaded_halts : (c : Run80) (old new : HostState) (halt : Halt) → OnlyReads old new → Halts (LoadStops c old new) halt → IsHalted c old new halt
@@ -20,11 +23,8 @@ unloaded_halts c old new (By stop) only s = unloaded only s
 unloaded_halts c old new (Unsaid fault) only s = absurd s
 
 module _ (c : Run80) (old mid new : HostState) (program : Program) (supply : Supply) (loads : Loads c old program supply) (reads : OnlyReads old mid) (counted : SameFaults old mid) (says : OnlySays mid new) where
-  pub same_files : SameFiles old new
-  same_files = λ name. says.files name ∙ reads.files name
-
   -- the run came to an end
-  pub has_run : (o : RunEnd) → RunsTo c program supply o mid new → SameFaults mid new → HasRun c old new program o
+  abbrev pub has_run : (o : RunEnd) → RunsTo c program supply o mid new → SameFaults mid new → HasRun c old new program o
   has_run o runs s = record {
     supply = supply;
     loads = loads;
@@ -41,8 +41,41 @@ module _ (c : Run80) (old mid new : HostState) (program : Program) (supply : Sup
   cut_halts NoMemory cut =
       no_memory (record { program = program; supply = supply; loads = loads; start = mid; reads = reads; counted = counted; cut = cut; says = says })
 
-  -- the run did not end, and the command stops for that
-  pub left_or_stopped : (o : RunEnd) (line : ℕ) (stop : Stop) → RunsTo c program supply o mid new → SameFaults mid new → ((n : ℕ) → IsLineOf program o n → line ≡ n) → steps_of c.run.steps line o ≡ Err stop → Stops c old new stop
-  left_or_stopped o line stop runs s at is =
-      let found = end_has_line program loads.assembled.program.program.lawful c.run.page supply c.run.steps o runs.run runs.outcome in
-      ran program o found.0 (has_run o runs s) found.1 (subst (λ n. steps_of c.run.steps n o ≡ Err stop) (at found.0 found.1) is)
+  -- the disk was written behind it, if its file is
+  pub come : (o : RunEnd) (line : ℕ) (came : Result ℕ Stop) (kept : HostState) (runs : RunsTo c program supply o mid new) (s : SameFaults mid new) → ((n : ℕ) → IsLineOf program o n → line ≡ n) → came ≡ steps_of c.run.steps line o → Keeps (kept_name c.run.out_disk o) runs.0.system.disk new kept → HasCome c old kept came
+  come o line came kept runs s at is keeps =
+      let found = end_has_line program loads.assembled.program.program.lawful c.run.page supply c.run.steps o runs.1.run runs.1.outcome in
+      record {
+        program = program;
+        end = o;
+        line = found.0;
+        mid = new;
+        run = has_run o runs s;
+        at = found.1;
+        is = subst (λ n. came ≡ steps_of c.run.steps n o) (at found.0 found.1) is;
+        keeps = keeps;
+      }
+
+  -- or it was not
+  pub lose : (o : RunEnd) (kept : HostState) (stop : Stop) (runs : RunsTo c program supply o mid new) (s : SameFaults mid new) → KeepStops (kept_name c.run.out_disk o) runs.0.system.disk new kept stop → LosesDisk c old kept stop
+  lose o kept stop runs s stops = record { program = program; end = o; mid = new; run = has_run o runs s; stops = stops }
+
+-- no file changes but that of the disk
+run_files : (c : Run80) (old new : HostState) (program : Program) (o : RunEnd) → HasRun c old new program o → SameFiles old new
+run_files c old new program o h = λ name. h.says.files name ∙ h.reads.files name
+
+pub cut_files : (c : Run80) (old new : HostState) (fault : TalkFault) → HasCut c old new fault → SameFiles old new
+cut_files c old new fault h = λ name. h.says.files name ∙ h.reads.files name
+
+pub come_alone : (c : Run80) (old new : HostState) (came : Result ℕ Stop) → HasCome c old new came → DiskAlone c.run.out_disk old new
+come_alone c old new came h =
+    alone_behind c.run.out_disk old h.mid new (run_files c old h.mid h.program h.end h.run)
+    (alone_kept (is_kept h.end) c.run.out_disk h.run.runs.0.system.disk h.mid new h.keeps)
+
+pub stops_alone : (c : Run80) (old new : HostState) (stop : Stop) → Stops c old new stop → DiskAlone c.run.out_disk old new
+stops_alone c old new stop (unloaded only s) = same_alone c.run.out_disk old new only.files
+stops_alone c old new _ (no_memory cut) = same_alone c.run.out_disk old new (cut_files c old new NoMemory cut)
+stops_alone c old new _ (no_line program o h) = same_alone c.run.out_disk old new (run_files c old new program o h)
+stops_alone c old new stop (unkept l) =
+    alone_behind c.run.out_disk old l.mid new (run_files c old l.mid l.program l.end l.run)
+    (alone_lost (is_kept l.end) c.run.out_disk l.run.runs.0.system.disk l.mid new stop l.stops)

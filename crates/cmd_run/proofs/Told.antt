@@ -1,81 +1,28 @@
--- Files that the host tells, where no call of it fails.
-use Rattle.std.proofs.Common.{◌≡◌, ℕ, ◌⊎◌, inl, inr, ⊎_elim, List, length, refl, sym, ap, ◌∙◌, subst, arith, Option, Some, None}
-use Rattle.host.specs.Host.{HostState, FileTold, Holds, Missing, IsFile, HasRisen, SameFiles, SameFaults}
-use Rattle.host.specs.Host.{ReadFailed as ReadFails, WriteFailed as WriteFails}
-use Rattle.cmd_files.specs.Transfer.{IsLonger}
+-- What the files of the devices have, where the host tells them and no call of it fails.
+use Rattle.std.proofs.Common.{◌≡◌, ℕ, List, Option, Some, None, sym, ap, ◌∙◌}
+use Rattle.host.specs.Host.{HostState}
 use Rattle.cmd_reports.specs.declared.stop.Stop.{Stop}
 use Rattle.cmd_reports.specs.declared.stop.Stop.TheVariants.{OutOfMemory}
-use Rattle.cmd_reports.specs.Lines.{status_of}
-use Rattle.cmd_reports.specs.Said.{IsDone, whole, failed as unfinished, no_memory as out_of_memory, Closes, said, unsaid}
 use Rattle.cmd_words.specs.Words.{RunOptions}
-use Rattle.bdos_ports.specs.Supply.{Supply, supply_of}
-use Rattle.cmd_inputs.specs.Files.{input_limit, IsWhole, IsInput, ReadStops, failed, too_long, no_memory, InputStops, NoneFailed, IsTold, InputIsTold}
-use Rattle.cmd_run.specs.Supplies.{IsSupplied, SupplyStops, no_input, no_ports, SupplyIsTold}
+use Rattle.cmd_inputs.specs.Files.{input_limit, NoneFailed}
+use Rattle.cmd_inputs.proofs.Told.{told_whole, told_input, read_stops, input_stops}
+use Rattle.cmd_run.specs.Supplies.{Given, given_of, IsDiskFile, DiskIsTold, DiskFileStops, IsSupplied, SupplyStops, no_input, no_disk_file, no_ports, SupplyIsTold}
 
--- what was read is what is told
-told_file : (told : FileTold) (bytes read : List ℕ) → told ≡ Holds bytes → IsFile told read → bytes ≡ read
-told_file told bytes read e h = subst (λ f. IsFile f read) e h
+told_disk : (old : HostState) (name : Option (List ℕ)) (bytes read : List ℕ) → DiskIsTold old name bytes → IsDiskFile old name read → read ≡ bytes
+told_disk old None bytes read t w = w ∙ sym t
+told_disk old (Some name) bytes read t w = told_whole old name input_limit bytes read t w
 
-pub told_whole : (old : HostState) (name : List ℕ) (limit : ℕ) (bytes read : List ℕ) → IsTold old name limit bytes → IsWhole old name limit read → read ≡ bytes
-told_whole old name limit bytes read t w = sym (told_file (old.file name) bytes read t.0 w.0)
+pub told_given : (old : HostState) (run : RunOptions) (given read : Given) → SupplyIsTold run old given → IsSupplied run old read → read ≡ given
+told_given old run given read t s =
+    ap (λ i. given_of i read.disk read.ports) (told_input old run.input given.input read.input t.input s.input)
+    ∙ ap (λ d. given_of given.input d read.ports) (told_disk old run.disk given.disk read.disk t.disk s.disk)
+    ∙ ap (λ p. given_of given.input given.disk p) (told_input old run.ports given.ports read.ports t.ports s.ports)
 
-told_input : (old : HostState) (i : Option (List ℕ)) (bytes read : List ℕ) → InputIsTold old i bytes → IsInput old i read → read ≡ bytes
-told_input old None bytes read t w = w ∙ sym t
-told_input old (Some name) bytes read t w = told_whole old name input_limit bytes read t w
+disk_stops : (old mid new : HostState) (name : Option (List ℕ)) (bytes : List ℕ) (stop : Stop) → NoneFailed old new → new.read_faults ≡ mid.read_faults → DiskIsTold old name bytes → DiskFileStops name old mid stop → stop ≡ OutOfMemory
+disk_stops old mid new None bytes stop none e t s = s
+disk_stops old mid new (Some name) bytes stop none e t s = read_stops old mid new name input_limit bytes stop none e t s
 
-pub told_supply : (old : HostState) (run : RunOptions) (supply read : Supply) → SupplyIsTold run old supply → IsSupplied run old read → read ≡ supply
-told_supply old run supply read t s =
-    ap (λ i. supply_of i read.ports) (told_input old run.input supply.input read.input t.input s.input)
-    ∙ ap (λ p. supply_of supply.input p) (told_input old run.ports supply.ports read.ports t.ports s.ports)
-
--- only want of memory stops a read
-not_failed : (old mid new : HostState) (name bytes : List ℕ) → NoneFailed old new → new.read_faults ≡ mid.read_faults → old.file name ≡ Holds bytes → ReadFails old mid name → ⊥
-not_failed old mid new name bytes none e t f =
-    ⊎_elim
-    (λ r. none.reads (subst (HasRisen old.read_faults) (sym e) r))
-    (λ m. let g : Holds bytes ≡ Missing = sym t ∙ m in cc)
-    f
-
-not_longer : (old : HostState) (name bytes : List ℕ) (limit : ℕ) → IsTold old name limit bytes → IsLonger (old.file name) limit → ⊥
-not_longer old name bytes limit t l =
-    let same : bytes ≡ l.0 = told_file (old.file name) bytes l.0 t.0 l.1 in
-    let size : length bytes ≡ length l.0 = ap length same in
-    let few = t.1 in
-    let many = l.2 in
-    omega (arith, size, few, many)
-
-pub read_stops : (old mid new : HostState) (name : List ℕ) (limit : ℕ) (bytes : List ℕ) (stop : Stop) → NoneFailed old new → new.read_faults ≡ mid.read_faults → IsTold old name limit bytes → ReadStops name limit old mid stop → stop ≡ OutOfMemory
-read_stops old mid new name limit bytes _ none e t (failed same f) = absurd (not_failed old mid new name bytes none e t.0 f)
-read_stops old mid new name limit bytes _ none e t (too_long same l s) = absurd (not_longer old name bytes limit t l)
-read_stops old mid new name limit bytes _ none e t no_memory = refl
-
-input_stops : (old mid new : HostState) (i : Option (List ℕ)) (bytes : List ℕ) (stop : Stop) → NoneFailed old new → new.read_faults ≡ mid.read_faults → InputIsTold old i bytes → InputStops i old mid stop → stop ≡ OutOfMemory
-input_stops old mid new None bytes stop none e t s = absurd s
-input_stops old mid new (Some name) bytes stop none e t s = read_stops old mid new name input_limit bytes stop none e t s
-
-pub supply_stops : (old mid new : HostState) (run : RunOptions) (supply : Supply) (stop : Stop) → NoneFailed old new → new.read_faults ≡ mid.read_faults → SupplyIsTold run old supply → SupplyStops run old mid stop → stop ≡ OutOfMemory
-supply_stops old mid new run supply stop none e t (no_input s) = input_stops old mid new run.input supply.input stop none e t.input s
-supply_stops old mid new run supply stop none e t (no_ports input i s) = input_stops old mid new run.ports supply.ports stop none e t.ports s
-
--- no write failed behind the run
-pub not_unsaid : (old mid new : HostState) → NoneFailed old new → SameFaults old mid → WriteFails mid new → ⊥
-not_unsaid old mid new none same f = none.writes (subst (λ n. HasRisen n new.write_faults) same.writes f)
-
--- the reads are those before the last line
-pub closes_reads : (stop : Stop) (mid new : HostState) (status : ℕ) → Closes stop mid new status → new.read_faults ≡ mid.read_faults
-closes_reads stop mid new status (said e s) = s.only.reads
-closes_reads stop mid new status (unsaid n e s) = s.only.reads
-
-pub closes_status : (stop : Stop) (mid new : HostState) (status : ℕ) → Closes stop mid new status → (status ≡ 5) ⊎ (status ≡ status_of stop)
-closes_status stop mid new status (said e s) = inr e
-closes_status stop mid new status (unsaid n e s) = inl e
-
-pub memory_status : (stop : Stop) (mid new : HostState) (status : ℕ) → stop ≡ OutOfMemory → Closes stop mid new status → status ≡ 5
-memory_status stop mid new status e (said s l) = s ∙ ap status_of e
-memory_status stop mid new status e (unsaid n s l) = s
-
--- the last line changes no file
-pub done_files : (line : List ℕ) (old new : HostState) (status : ℕ) → IsDone line old new status → SameFiles old new
-done_files line old new _ (whole only s counted) = only.files
-done_files line old new _ (unfinished s) = s.only.files
-done_files line old new _ (out_of_memory s) = s.only.files
+pub supply_stops : (old mid new : HostState) (run : RunOptions) (given : Given) (stop : Stop) → NoneFailed old new → new.read_faults ≡ mid.read_faults → SupplyIsTold run old given → SupplyStops run old mid stop → stop ≡ OutOfMemory
+supply_stops old mid new run given stop none e t (no_input s) = input_stops old mid new run.input given.input stop none e t.input s
+supply_stops old mid new run given stop none e t (no_disk_file input i s) = disk_stops old mid new run.disk given.disk stop none e t.disk s
+supply_stops old mid new run given stop none e t (no_ports input disk i d s) = input_stops old mid new run.ports given.ports stop none e t.ports s

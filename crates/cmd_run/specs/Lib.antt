@@ -1,5 +1,7 @@
 pub mod Ends
 pub mod Supplies
+pub mod Keeping
+pub mod Lasts
 pub mod Runs80
 pub mod Runs86
 pub mod Outcomes

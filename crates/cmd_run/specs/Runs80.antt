@@ -1,5 +1,5 @@
 -- What `run80` comes to: the run of a source's program on the tagged 8080.
-use Rattle.std.specs.Prelude.{◌≡◌, ℕ, List, Some, Err}
+use Rattle.std.specs.Prelude.{◌≡◌, ℕ, List, Some, Result}
 use Rattle.cells.specs.declared.Place.{Place}
 use Rattle.cells.specs.declared.Place.TheVariants.{At, Exit}
 use Rattle.dialogue.specs.declared.request.Reply.{Reply}
@@ -18,13 +18,14 @@ use Rattle.bdos_talk.specs.Talk.{Seen, SaysRun, IsCutOff}
 use Rattle.bdos_emulation.specs.Courses.{course80}
 use Rattle.cmd_reports.specs.declared.stop.Stop.{Stop}
 use Rattle.cmd_reports.specs.declared.stop.Stop.TheVariants.{OutOfMemory}
-use Rattle.cmd_reports.specs.Lines.{ended_line}
-use Rattle.cmd_reports.specs.Said.{IsDone, Closes}
+use Rattle.cmd_reports.specs.Said.{Closes}
 use Rattle.cmd_run.specs.declared.halt.Halt.{Halt}
 use Rattle.cmd_run.specs.declared.halt.Halt.TheVariants.{By, Unsaid}
 use Rattle.cmd_inputs.specs.Files.{input_limit, IsWhole, ReadStops}
 use Rattle.cmd_run.specs.Ends.{steps_of, unsaid_status}
-use Rattle.cmd_run.specs.Supplies.{IsSupplied, SupplyStops}
+use Rattle.cmd_run.specs.Keeping.{kept_name, Keeps, KeepStops}
+use Rattle.cmd_run.specs.Lasts.{EndsBy}
+use Rattle.cmd_run.specs.Supplies.{Given, IsSupplied, SupplyStops, HasDisk, DiskStops}
 use Rattle.cmd_inputs.specs.Sources.{SourceStops}
 
 -- the line of the instruction at a place
@@ -49,7 +50,7 @@ course_of c program = course80 program c.run.page
 
 -- the run comes to this end and says its dialogue, or is cut off by a fault
 abbrev pub RunsTo : Run80 → Program → Supply → RunEnd → HostState → HostState → Type 0
-RunsTo c program supply o old new = SaysRun (course_of c program) supply c.run.steps o old new
+RunsTo c program supply o old new = (left : Supply) × SaysRun (course_of c program) supply c.run.steps o left old new
 
 abbrev pub IsCut : Run80 → Program → Supply → HostState → HostState → TalkFault → Type 0
 IsCut c program supply old new = IsCutOff (course_of c program) supply c.run.steps old new
@@ -60,14 +61,17 @@ module _ (c : Run80) (old : HostState) where
     pub source : List ℕ
     pub file : IsWhole old c.source input_limit source
     pub assembled : IsSource source c.top program
-    pub supplied : IsSupplied c.run old supply
+    pub given : Given
+    pub supplied : IsSupplied c.run old given
+    pub devices : HasDisk given supply
 
   -- why there is nothing to run: the source, or what the devices have, was not read, or the source has no
-  -- program, or memory ran out
+  -- program, or the disk's file is none, or memory ran out
   pub data LoadStops (new : HostState) : Stop → Type 0 where
     no_source : {stop : Stop} → ReadStops c.source input_limit old new stop → LoadStops new stop
     no_supply : {stop : Stop} (source : List ℕ) → IsWhole old c.source input_limit source → SupplyStops c.run old new stop → LoadStops new stop
-    no_program : {stop : Stop} (source : List ℕ) (supply : Supply) → IsWhole old c.source input_limit source → IsSupplied c.run old supply → SameFaults old new → SourceStops source c.top stop → LoadStops new stop
+    no_program : {stop : Stop} (source : List ℕ) (given : Given) → IsWhole old c.source input_limit source → IsSupplied c.run old given → SameFaults old new → SourceStops source c.top stop → LoadStops new stop
+    no_disk : {stop : Stop} (source : List ℕ) (given : Given) (program : Program) → IsWhole old c.source input_limit source → IsSupplied c.run old given → SameFaults old new → IsSource source c.top program → DiskStops given.disk stop → LoadStops new stop
 
   module _ (new : HostState) where
     -- the files were read, and then the run came to this end and said its dialogue
@@ -91,24 +95,39 @@ module _ (c : Run80) (old : HostState) where
       pub cut : IsCut c program supply start new fault
       pub says : OnlySays start new
 
-    -- why the command stops
-    pub data Stops : Stop → Type 0 where
-      unloaded : {stop : Stop} → OnlyReads old new → LoadStops new stop → Stops stop
-      ran : {stop : Stop} (program : Program) (o : RunEnd) (line : ℕ) → HasRun program o → IsLineOf program o line → steps_of c.run.steps line o ≡ Err stop → Stops stop
-      no_memory : HasCut NoMemory → Stops OutOfMemory
-      no_line : (program : Program) (steps : ℕ) → HasRun program (Ended steps) → Stops OutOfMemory
+  -- the run came to this, and then the disk was written, if its file is
+  pub record HasCome (new : HostState) (came : Result ℕ Stop) : Type 0 where
+    pub program : Program
+    pub end : RunEnd
+    pub line : ℕ
+    pub mid : HostState
+    pub run : HasRun mid program end
+    pub at : IsLineOf program end line
+    pub is : came ≡ steps_of c.run.steps line end
+    pub keeps : Keeps (kept_name c.run.out_disk end) run.runs.0.system.disk mid new
 
-    abbrev pub IsHalted : Halt → Type 0
-    IsHalted (By stop) = Stops stop
-    IsHalted (Unsaid fault) = HasCut (Untold fault)
+  -- the run came to an end, and its disk was not written
+  pub record LosesDisk (new : HostState) (stop : Stop) : Type 0 where
+    pub program : Program
+    pub end : RunEnd
+    pub mid : HostState
+    pub run : HasRun mid program end
+    pub stops : KeepStops (kept_name c.run.out_disk end) run.runs.0.system.disk mid new stop
 
-    -- the run ended, and this is the line that says so
-    abbrev pub HasEnded : List ℕ → Type 0
-    HasEnded line = (program : Program) × (steps : ℕ) × HasRun program (Ended steps) × (line ≡ ended_line steps)
+  -- why the command stops before the line of its run
+  pub data Stops (new : HostState) : Stop → Type 0 where
+    unloaded : {stop : Stop} → OnlyReads old new → LoadStops new stop → Stops new stop
+    no_memory : HasCut new NoMemory → Stops new OutOfMemory
+    no_line : (program : Program) (o : RunEnd) → HasRun new program o → Stops new OutOfMemory
+    unkept : {stop : Stop} → LosesDisk new stop → Stops new stop
 
-  -- what the command gives, by its status: the run ended, and its line is said; or a line of the run was not said, and then
-  -- nothing more is; or the command stops, and the line of the stop is said
+  abbrev pub IsHalted : HostState → Halt → Type 0
+  IsHalted new (By stop) = Stops new stop
+  IsHalted new (Unsaid fault) = HasCut new (Untold fault)
+
+  -- what the command gives, by its status: the run came to an end, and the line of that is said; or a line of the run was not said,
+  -- and then nothing more is; or the command stops before, and the line of the stop is said
   pub data Gives (new : HostState) : ℕ → Type 0 where
-    ended : {status : ℕ} (program : Program) (steps : ℕ) (mid : HostState) → HasRun mid program (Ended steps) → IsDone (ended_line steps) mid new status → Gives new status
+    ran : {status : ℕ} (kept : HostState) (came : Result ℕ Stop) → HasCome kept came → EndsBy came kept new status → Gives new status
     unsaid : {status : ℕ} (fault : HostFault) → status ≡ unsaid_status fault → HasCut new (Untold fault) → Gives new status
     stopped : {status : ℕ} (mid : HostState) (stop : Stop) → Stops mid stop → Closes stop mid new status → Gives new status

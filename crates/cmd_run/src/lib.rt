@@ -3,6 +3,8 @@
 
 mod ends;
 mod halt;
+mod keeping;
+mod last;
 mod run_source;
 mod run_text;
 mod supplies;

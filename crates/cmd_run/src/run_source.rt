@@ -1,33 +1,37 @@
 // The work of `run80`: a source's program runs on the tagged 8080 over devices.
 ghost use Rattle.std.specs.Prelude.{◌≡◌, ℕ, true, IfOk, IfErr, OnOk};
-ghost use Rattle.std.specs.String.{string_bytes};
-ghost use Rattle.host.specs.Host.{SameFiles, SameFaults, OnlyReads, OnlySays};
+ghost use Rattle.host.specs.Host.{SameFaults, OnlyReads};
 ghost use Rattle.asm80_program.specs.Program.{is_top};
 ghost use Rattle.cmd_words.specs.ReadCommands.{run80_read};
-ghost use Rattle.bdos_ports.specs.Supply.{supply_of};
 ghost use Rattle.bdos_talk.specs.declared.running.RunEnd.TheVariants.{Stopped};
 ghost use Rattle.cmd_run.specs.Ends.{Halts};
+ghost use Rattle.cmd_run.specs.Keeping.{DiskAlone};
+ghost use Rattle.cmd_run.specs.Lasts.{IsMade, came_of};
 ghost use Rattle.cmd_run.specs.Completes80.{Completes};
-ghost use Rattle.cmd_run.specs.Runs80.{IsLineAt, IsLineOf, Loads, LoadStops, RunsTo, IsCut, HasEnded, IsHalted, Gives};
+ghost use Rattle.cmd_run.specs.Runs80.{IsLineAt, IsLineOf, Loads, LoadStops, HasCome, IsHalted, Gives};
 
 use crate::ends::steps_of;
 use crate::halt::{Halt, unsaid_status};
-use crate::supplies::{Supplies, read_supplies};
+use crate::keeping::{keep_disk, kept_name};
+use crate::last::{Last, last_of, say_ending};
+use crate::supplies::{devices_of, read_supplies};
 use asm80_program::Program80;
 use asm80_values::source_has_one_outcome;
-use bdos_emulation::{RunEnd, TalkFault, Why, run_80};
+use bdos_disk::disks_read_back;
+use bdos_emulation::{RunEnd, Why, run_80};
+use bdos_ports::Devices;
 use cells::Place;
 use cmd_inputs::read_source;
-use cmd_reports::{ended_line, say_done, say_stop};
+use cmd_reports::say_stop;
 use cmd_words::Run80;
 use host::Host;
 use std::alloc::Global;
 
-// What there is before the run: the program, and what the devices have.
+// What there is before the run: the program, and the devices.
 #[derive(Drop)]
 struct Loaded {
     program: Program80,
-    supplies: Supplies,
+    devices: Devices,
 }
 
 /// Runs the source of a command over devices, says each event of its dialogue and then what the run came to, and answers the
@@ -35,10 +39,11 @@ struct Loaded {
 pub fn run80<H: Host>(alloc: Global, host: &mut H, command: &Run80<'_>) -> u8
     requires { is_top command.now.top ≡ true }
     ensures gives { Gives (run80_read command.now) (H.state host.old) (H.state host.new) result }
-    ensures files { SameFiles (H.state host.old) (H.state host.new) }
+    ensures files { DiskAlone (run80_read command.now).run.out_disk (H.state host.old) (H.state host.new) }
     ensures completes { Completes (run80_read command.now) (H.state host.old) (H.state host.new) result }
 {
     source_has_one_outcome();
+    disks_read_back();
     carry_out(alloc, host, command)
 }
 
@@ -46,60 +51,59 @@ pub fn run80<H: Host>(alloc: Global, host: &mut H, command: &Run80<'_>) -> u8
 fn carry_out<H: Host>(alloc: Global, host: &mut H, command: &Run80<'_>) -> u8
     requires { is_top command.now.top ≡ true }
     ensures gives { Gives (run80_read command.now) (H.state host.old) (H.state host.new) result }
-    ensures files { SameFiles (H.state host.old) (H.state host.new) }
+    ensures files { DiskAlone (run80_read command.now).run.out_disk (H.state host.old) (H.state host.new) }
 {
     match work(alloc, host, command) {
-        Ok(line) => say_done(host, line.as_str()),
+        Ok(last) => say_ending(host, last),
         Err(Halt::By(stop)) => say_stop(alloc, host, stop),
         Err(Halt::Unsaid(fault)) => unsaid_status(fault),
     }
 }
 
-// The work up to the last line, which is the answer where the run ended.
-fn work<'a, H: Host>(alloc: Global, host: &mut H, command: &Run80<'a>) -> Result<String, Halt<'a>>
+// The work up to the last line, whose memory is taken before the disk is written.
+fn work<'a, H: Host>(alloc: Global, host: &mut H, command: &Run80<'a>) -> Result<Last<'a>, Halt<'a>>
     requires { is_top command.now.top ≡ true }
-    ensures ended { IfOk result (λ line. HasEnded (run80_read command.now) (H.state host.old) (H.state host.new) (string_bytes line)) }
+    ensures made { IfOk result IsMade }
+    ensures came { IfOk result (λ last. HasCome (run80_read command.now) (H.state host.old) (H.state host.new) (came_of last)) }
     ensures halted { IfErr result (IsHalted (run80_read command.now) (H.state host.old) (H.state host.new)) }
-    ensures files { SameFiles (H.state host.old) (H.state host.new) }
 {
     let loaded = load(alloc, host, command)?;
-    let Loaded { program, supplies } = loaded;
-    let end = run(alloc, host, command, &program, supplies)?;
+    let Loaded { program, devices } = loaded;
+    let mut devices = devices;
+    let steps = command.run.steps;
+    let end = run_80(
+        alloc,
+        &program,
+        &command.run.page,
+        &mut devices,
+        steps,
+        host,
+    )?;
     let line = line_of(&program, end);
-    let steps = steps_of(end, command.run.steps, line)?;
-    Ok(ended_line(alloc, steps)?)
+    let last = last_of(alloc, steps_of(end, steps, line))?;
+    keep_disk(
+        alloc,
+        host,
+        kept_name(command.run.out_disk, end),
+        devices.disk(),
+    )?;
+    Ok(last)
 }
 
-// Reads the files, the source one as its program. That the source is refused is told once all of them are read.
+// Reads the files, the source one as its program, and makes the devices. That the source or the disk is refused is told once all of
+// them are read.
 fn load<'a, H: Host>(alloc: Global, host: &mut H, command: &Run80<'a>) -> Result<Loaded, Halt<'a>>
     requires { is_top command.now.top ≡ true }
     ensures only { OnlyReads (H.state host.old) (H.state host.new) }
-    ensures loaded { IfOk result (λ l. Loads (run80_read command.now) (H.state host.old) l.program (supply_of l.supplies.input.items l.supplies.ports.items)) }
+    ensures loaded { IfOk result (λ l. Loads (run80_read command.now) (H.state host.old) l.program l.devices) }
     ensures counted { OnOk result (SameFaults (H.state host.old) (H.state host.new)) }
     ensures stopped { IfErr result (Halts (LoadStops (run80_read command.now) (H.state host.old) (H.state host.new))) }
 {
     let source = read_source(alloc, host, command.source, command.top)?;
     let supplies = read_supplies(alloc, host, &command.run)?;
     let program = source?;
-    Ok(Loaded { program, supplies })
-}
-
-// Runs the program over devices with what they have.
-fn run<H: Host>(
-    alloc: Global,
-    host: &mut H,
-    command: &Run80<'_>,
-    program: &Program80,
-    supplies: Supplies,
-) -> Result<RunEnd, TalkFault>
-    ensures run { IfOk result (λ o. RunsTo (run80_read command.now) program.now (supply_of supplies.input.items supplies.ports.items) o (H.state host.old) (H.state host.new)) }
-    ensures cut { IfErr result (IsCut (run80_read command.now) program.now (supply_of supplies.input.items supplies.ports.items) (H.state host.old) (H.state host.new)) }
-    ensures only { OnlySays (H.state host.old) (H.state host.new) }
-    ensures counted { OnOk result (SameFaults (H.state host.old) (H.state host.new)) }
-{
-    let Supplies { input, ports } = supplies;
-    let steps = command.run.steps;
-    run_80(alloc, program, &command.run.page, input, ports, steps, host)
+    let devices = devices_of(alloc, supplies)?;
+    Ok(Loaded { program, devices })
 }
 
 // The line of the instruction at which a run left the profile.

@@ -5,7 +5,6 @@ use Rattle.dialogue.specs.declared.request.Reply.{Reply}
 use Rattle.cpu80_steps.specs.Start.{start80}
 use Rattle.cpu80_steps.specs.Step.{machine80}
 use Rattle.cpu80.specs.State.{state_of}
-use Rattle.bdos_ports.specs.Supply.{supply_of}
 use Rattle.bdos_talk.specs.declared.fault.TalkFault.TheVariants.{Memory}
 use Rattle.bdos_talk.specs.Talk.{Seen, SaysRun, IsCutOff}
 use Rattle.bdos_talk.specs.Turns.{nothing}
@@ -21,9 +20,9 @@ returns-in_err-machine-clause-cut g c =
     let page = c.args.page.now in
     let limit = c.args.limit in
     let host = g.H.Host.state c.args.host.now in
-    on_fault c.from_residual.result (λ h. h ≡ Memory) (IsCutOff (course80 p page) (supply_of c.args.input.items c.args.ports.items) limit host host) c.from_residual.ensures.1
-    (λ h is. subst (IsCutOff (course80 p page) (supply_of c.args.input.items c.args.ports.items) limit host host) (sym is)
-    (says_none (course80 p page) (one_run (machine80 p) [] why80 (start80 p page)) (supply_of c.args.input.items c.args.ports.items) limit host, record { reads = refl; writes = refl }))
+    on_fault c.from_residual.result (λ h. h ≡ Memory) (IsCutOff (course80 p page) c.args.devices.now limit host host) c.from_residual.ensures.1
+    (λ h is. subst (IsCutOff (course80 p page) c.args.devices.now limit host host) (sym is)
+    (says_none (course80 p page) (one_run (machine80 p) [] why80 (start80 p page)) c.args.devices.now limit host, record { reads = refl; writes = refl }))
 
 pub returns-clause-cut : goal.returns-clause-cut
 returns-clause-cut g c =
@@ -35,8 +34,7 @@ returns-clause-cut g c =
     let new = g.H.Host.state c.converse.new.host in
     let first : List Reply → ℕ → Seen = course80_from m.program.now (state_of m.cpu) nothing in
     let is : first ≡ course80 p page = ap (λ q. course80_from q (state_of m.cpu) nothing) c.in_ok-machine.ensures.program ∙ ap (λ s. course80_from p s nothing) c.in_ok-machine.ensures.start in
-    subst (λ i. IfErr c.converse.result (IsCutOff (course80 p page) i limit old new)) c.new-devices.ensures
-    (subst (λ course. IfErr c.converse.result (IsCutOff course c.new-devices.result limit old new)) is c.converse.ensures.cut)
+    subst (λ course. IfErr c.converse.result (IsCutOff course c.args.devices.now limit old new)) is c.converse.ensures.cut
 
 pub returns-clause-run : goal.returns-clause-run
 returns-clause-run g c =
@@ -48,5 +46,5 @@ returns-clause-run g c =
     let new = g.H.Host.state c.converse.new.host in
     let first : List Reply → ℕ → Seen = course80_from m.program.now (state_of m.cpu) nothing in
     let is : first ≡ course80 p page = ap (λ q. course80_from q (state_of m.cpu) nothing) c.in_ok-machine.ensures.program ∙ ap (λ s. course80_from p s nothing) c.in_ok-machine.ensures.start in
-    let supply : c.new-devices.result ≡ supply_of c.args.input.items c.args.ports.items = c.new-devices.ensures in
-    IfOk-weaker c.converse.result (λ o. SaysRun first c.new-devices.result limit o old new) (λ o. SaysRun (course80 p page) (supply_of c.args.input.items c.args.ports.items) limit o old new) (λ o h. subst (λ i. SaysRun (course80 p page) i limit o old new) supply (subst (λ course. SaysRun course c.new-devices.result limit o old new) is h)) c.converse.ensures.run
+    let left = c.converse.new.devices in
+    IfOk-weaker c.converse.result (λ o. SaysRun first c.args.devices.now limit o left old new) (λ o. SaysRun (course80 p page) c.args.devices.now limit o left old new) (λ o h. subst (λ course. SaysRun course c.args.devices.now limit o left old new) is h) c.converse.ensures.run

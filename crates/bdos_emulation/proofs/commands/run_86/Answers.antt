@@ -6,7 +6,6 @@ use Rattle.dialogue.specs.declared.request.Reply.{Reply}
 use Rattle.cpu86_steps.specs.Start.{start86}
 use Rattle.cpu86_steps.specs.Step.{machine86}
 use Rattle.cpu86.specs.Standing.{standing, code_of}
-use Rattle.bdos_ports.specs.Supply.{supply_of}
 use Rattle.bdos_talk.specs.declared.fault.TalkFault.TheVariants.{Memory}
 use Rattle.bdos_talk.specs.Talk.{Seen, SaysRun, IsCutOff}
 use Rattle.bdos_talk.specs.Turns.{nothing}
@@ -31,10 +30,11 @@ returns-clause-run g c =
     let state : (standing m.cpu).state ≡ start86 image page fill (start_by choice) = c.in_ok-machine.ensures.state ∙ ap (start86 image page fill) c.start_by-start.ensures in
     let first : List Reply → ℕ → Seen = course86_from (code_of m.cpu) m.choice (standing m.cpu).state nothing in
     let run : (fetch : ℕ → Option Instr86) → List Reply → ℕ → Seen = λ fetch. course86 fetch image page fill (start_by choice) (choice ∷ []) in
-    let supply : c.new-devices.result ≡ supply_of c.args.input.items c.args.ports.items = c.new-devices.ensures in
-    IfOk-weaker c.converse.result (λ o. SaysRun first c.new-devices.result limit o old new) (λ o. (fetch : ℕ → Option Instr86) → Reads image.code fetch → SaysRun (run fetch) (supply_of c.args.input.items c.args.ports.items) limit o old new) (λ o h fetch reads.
+    let given = c.args.devices.now in
+    let left = c.converse.new.devices in
+    IfOk-weaker c.converse.result (λ o. SaysRun first given limit o left old new) (λ o. (fetch : ℕ → Option Instr86) → Reads image.code fetch → SaysRun (run fetch) given limit o left old new) (λ o h fetch reads.
     let is = course86_is fetch image page fill (start_by choice) choice m.choice (code_of m.cpu) (standing m.cpu).state c.in_ok-machine.ensures.choice c.in_ok-machine.ensures.code state c.new.ensures.reader reads in
-    subst (λ i. SaysRun (run fetch) i limit o old new) supply (subst (λ course. SaysRun course c.new-devices.result limit o old new) is h)) c.converse.ensures.run
+    subst (λ course. SaysRun course given limit o left old new) is h) c.converse.ensures.run
 
 pub returns-clause-cut : goal.returns-clause-cut
 returns-clause-cut g c =
@@ -49,10 +49,10 @@ returns-clause-cut g c =
     let state : (standing m.cpu).state ≡ start86 image page fill (start_by choice) = c.in_ok-machine.ensures.state ∙ ap (start86 image page fill) c.start_by-start.ensures in
     let first : List Reply → ℕ → Seen = course86_from (code_of m.cpu) m.choice (standing m.cpu).state nothing in
     let run : (fetch : ℕ → Option Instr86) → List Reply → ℕ → Seen = λ fetch. course86 fetch image page fill (start_by choice) (choice ∷ []) in
-    let supply : c.new-devices.result ≡ supply_of c.args.input.items c.args.ports.items = c.new-devices.ensures in
-    IfErr-weaker c.converse.result (IsCutOff first c.new-devices.result limit old new) (λ fault. (fetch : ℕ → Option Instr86) → Reads image.code fetch → IsCutOff (run fetch) (supply_of c.args.input.items c.args.ports.items) limit old new fault) (λ fault h fetch reads.
+    let given = c.args.devices.now in
+    IfErr-weaker c.converse.result (IsCutOff first given limit old new) (λ fault. (fetch : ℕ → Option Instr86) → Reads image.code fetch → IsCutOff (run fetch) given limit old new fault) (λ fault h fetch reads.
     let is = course86_is fetch image page fill (start_by choice) choice m.choice (code_of m.cpu) (standing m.cpu).state c.in_ok-machine.ensures.choice c.in_ok-machine.ensures.code state c.new.ensures.reader reads in
-    subst (λ i. IsCutOff (run fetch) i limit old new fault) supply (subst (λ course. IsCutOff course c.new-devices.result limit old new fault) is h)) c.converse.ensures.cut
+    subst (λ course. IsCutOff course given limit old new fault) is h) c.converse.ensures.cut
 
 pub returns-in_err-machine-clause-cut : goal.returns-in_err-machine-clause-cut
 returns-in_err-machine-clause-cut g c =
@@ -63,6 +63,6 @@ returns-in_err-machine-clause-cut g c =
     let limit = c.args.limit in
     let host = g.H.Host.state c.args.host.now in
     let run : (fetch : ℕ → Option Instr86) → List Reply → ℕ → Seen = λ fetch. course86 fetch image page fill (start_by choice) (choice ∷ []) in
-    on_fault c.from_residual.result (λ h. h ≡ Memory) (λ fault. (fetch : ℕ → Option Instr86) → Reads image.code fetch → IsCutOff (run fetch) (supply_of c.args.input.items c.args.ports.items) limit host host fault) c.from_residual.ensures.1
-    (λ h is fetch reads. subst (IsCutOff (run fetch) (supply_of c.args.input.items c.args.ports.items) limit host host) (sym is)
-    (says_none (run fetch) (one_run (machine86 fetch) (choice ∷ []) why86 (start86 image page fill (start_by choice))) (supply_of c.args.input.items c.args.ports.items) limit host, record { reads = refl; writes = refl }))
+    on_fault c.from_residual.result (λ h. h ≡ Memory) (λ fault. (fetch : ℕ → Option Instr86) → Reads image.code fetch → IsCutOff (run fetch) c.args.devices.now limit host host fault) c.from_residual.ensures.1
+    (λ h is fetch reads. subst (IsCutOff (run fetch) c.args.devices.now limit host host) (sym is)
+    (says_none (run fetch) (one_run (machine86 fetch) (choice ∷ []) why86 (start86 image page fill (start_by choice))) c.args.devices.now limit host, record { reads = refl; writes = refl }))

@@ -51,8 +51,8 @@ returns-in-Some-clause-run g c =
     let new = g.H.Host.state c.turn.new.host in
     let supply = c.args.devices.now in
     let left = c.loop-count.devices in
-    let done : Rest end (j + 1) before left mid new = subst (IsTurnDone (j + 1) before after left c.turn.new.devices mid new) c.in-Some.is c.in_ok-end.ensures.done in
-    says_end first before (g.met.E.Emulator.single c.args.machine.now) supply left old mid new j c.loop-count.invariant.advance end (j + 1) c.args.limit (g.met.E.Emulator.begins c.loop-count.machine) (omega arith) (omega arith) done
+    let done : Rest end (j + 1) before left c.turn.new.devices mid new = subst (IsTurnDone (j + 1) before after left c.turn.new.devices mid new) c.in-Some.is c.in_ok-end.ensures.done in
+    says_end first before (g.met.E.Emulator.single c.args.machine.now) supply left old mid new j c.loop-count.invariant.advance end (j + 1) c.args.limit (g.met.E.Emulator.begins c.loop-count.machine) (omega arith) (omega arith) c.turn.new.devices done
 
 -- no turn is left
 pub returns-clause-run : goal.returns-clause-run
@@ -62,7 +62,7 @@ returns-clause-run g c =
     let old = g.H.Host.state c.args.host.now in
     let mid = g.H.Host.state c.loop-count.host in
     let all : c.loop-count.count ≡ c.args.limit = omega arith in
-    subst (λ n. SaysRun (first nothing) c.args.devices.now n StepLimit old mid) all (says_limit first before (g.met.E.Emulator.single c.args.machine.now) c.args.devices.now c.loop-count.devices old mid mid c.loop-count.count c.loop-count.invariant.advance (g.met.E.Emulator.begins c.loop-count.machine))
+    subst (λ n. SaysRun (first nothing) c.args.devices.now n StepLimit c.loop-count.devices old mid) all (says_limit first before (g.met.E.Emulator.single c.args.machine.now) c.args.devices.now c.loop-count.devices old mid mid c.loop-count.count c.loop-count.invariant.advance (g.met.E.Emulator.begins c.loop-count.machine))
 
 -- a fault
 pub returns-in_err-end-clause-cut : goal.returns-in_err-end-clause-cut

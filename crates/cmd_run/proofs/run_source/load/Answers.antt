@@ -2,10 +2,11 @@ use Rattle.std.proofs.Common.{◌≡◌, sym, subst}
 use Rattle.cmd_words.specs.ReadCommands.{run80_read}
 use Rattle.cmd_run.specs.declared.halt.Halt.TheVariants.{By}
 use Rattle.cmd_run.specs.Ends.{Halts}
-use Rattle.bdos_ports.specs.Supply.{supply_of}
+use Rattle.cmd_run.specs.Supplies.{given_of}
 use Rattle.cmd_inputs.specs.Sources.{SourceGives}
-use Rattle.cmd_run.specs.Runs80.{LoadStops, no_source, no_supply, no_program}
-use Rattle.cmd_run.proofs.Loading.{judged, supply_before, faults_before, supply_stops_before}
+use Rattle.cmd_run.specs.Runs80.{LoadStops, no_source, no_supply, no_program, no_disk}
+use Rattle.cmd_inputs.proofs.Told.{judged}
+use Rattle.cmd_run.proofs.Loading.{supply_before, faults_before, supply_stops_before}
 use Rattle.cmd_run.proofs.run_source.load.Goals as goal
 
 pub returns-in_err-source-clause-stopped : goal.returns-in_err-source-clause-stopped
@@ -34,9 +35,46 @@ returns-in_err-program-clause-stopped g c =
     let new = g.H.Host.state c.read_supplies.new.host in
     let first = c.in_ok-source.ensures in
     let second = c.in_ok-supplies.ensures in
-    let supply = supply_of c.in_ok-supplies.supplies.input.items c.in_ok-supplies.supplies.ports.items in
+    let s = c.in_ok-supplies.supplies in
+    let given = given_of s.input.items s.disk.items s.ports.items in
     judged c.from_residual-in_err-program.result (λ h. h ≡ By c.in_err-program.field-0.0) (Halts (LoadStops command old new)) c.from_residual-in_err-program.ensures.1
     (λ h is. subst (Halts (LoadStops command old new)) (sym is)
-    (no_program first.read.bytes supply first.read.file (supply_before old mid new first.only first.counted command.run supply second.read)
+    (no_program first.read.bytes given first.read.file (supply_before old mid new first.only first.counted command.run given second.read)
     (faults_before old mid new first.only first.counted second.counted)
     (subst (SourceGives first.read.bytes command.top) c.in_err-program.was first.read.gives)))
+
+-- the disk's file is none
+pub returns-in_err-devices-clause-stopped : goal.returns-in_err-devices-clause-stopped
+returns-in_err-devices-clause-stopped g c =
+    let command = run80_read c.args.command.now in
+    let old = g.H.Host.state c.args.host.now in
+    let mid = g.H.Host.state c.read_source.new.host in
+    let new = g.H.Host.state c.read_supplies.new.host in
+    let first = c.in_ok-source.ensures in
+    let second = c.in_ok-supplies.ensures in
+    let s = c.in_ok-supplies.supplies in
+    let given = given_of s.input.items s.disk.items s.ports.items in
+    judged c.from_residual-in_err-devices.result (λ h. h ≡ By c.in_err-devices.field-0.0) (Halts (LoadStops command old new)) c.from_residual-in_err-devices.ensures.1
+    (λ h is. subst (Halts (LoadStops command old new)) (sym is)
+    (no_disk first.read.bytes given c.in_ok-program.program first.read.file (supply_before old mid new first.only first.counted command.run given second.read)
+    (faults_before old mid new first.only first.counted second.counted)
+    (subst (SourceGives first.read.bytes command.top) c.in_ok-program.was first.read.gives) c.in_err-devices.ensures.stopped))
+
+pub returns-clause-loaded : goal.returns-clause-loaded
+returns-clause-loaded g c =
+    let command = run80_read c.args.command.now in
+    let old = g.H.Host.state c.args.host.now in
+    let mid = g.H.Host.state c.read_source.new.host in
+    let new = g.H.Host.state c.read_supplies.new.host in
+    let first = c.in_ok-source.ensures in
+    let second = c.in_ok-supplies.ensures in
+    let s = c.in_ok-supplies.supplies in
+    let given = given_of s.input.items s.disk.items s.ports.items in
+    record {
+      source = first.read.bytes;
+      file = first.read.file;
+      assembled = subst (SourceGives first.read.bytes command.top) c.in_ok-program.was first.read.gives;
+      given = given;
+      supplied = supply_before old mid new first.only first.counted command.run given second.read;
+      devices = c.in_ok-devices.ensures.devices;
+    }

@@ -6,4 +6,4 @@ pub returns-clause-completes : goal.returns-clause-completes
 returns-clause-completes g c =
     let old = g.H.Host.state c.args.host.now in
     let new = g.H.Host.state c.carry_out.new.host in
-    completes80 c.source_has_one_outcome.ensures.program c.source_has_one_outcome.ensures.refusal c.source_has_one_outcome.ensures.apart (run80_read c.args.command.now) old new c.carry_out.result c.carry_out.ensures.gives
+    completes80 c.source_has_one_outcome.ensures.program c.source_has_one_outcome.ensures.refusal c.source_has_one_outcome.ensures.apart (record { told = c.disks_read_back.ensures.told; taken = c.disks_read_back.ensures.taken }) (run80_read c.args.command.now) old new c.carry_out.result c.carry_out.ensures.gives

@@ -7,9 +7,10 @@ use Rattle.cmd_run.specs.declared.halt.Halt.TheVariants.{By}
 use Rattle.cmd_run.specs.Ends.{Halts}
 use Rattle.asm86_lines.specs.Image.{IsImage}
 use Rattle.cmd_inputs.specs.Texts.{stop_of_image, LinesGive}
-use Rattle.bdos_ports.specs.Supply.{supply_of}
-use Rattle.cmd_run.specs.Runs86.{LoadStops, no_text, no_supply, no_memory}
-use Rattle.cmd_run.proofs.Loading.{judged, supply_before, faults_before, supply_stops_before, lines_stop, image_stops}
+use Rattle.cmd_run.specs.Supplies.{given_of}
+use Rattle.cmd_run.specs.Runs86.{LoadStops, no_text, no_supply, no_disk, no_memory}
+use Rattle.cmd_inputs.proofs.Told.{judged}
+use Rattle.cmd_run.proofs.Loading.{supply_before, faults_before, supply_stops_before, lines_stop, image_stops}
 use Rattle.cmd_run.proofs.run_text.load.Goals as goal
 
 pub returns-in_err-text-clause-stopped : goal.returns-in_err-text-clause-stopped
@@ -38,10 +39,11 @@ returns-in_err-lines-clause-stopped g c =
     let new = g.H.Host.state c.read_supplies.new.host in
     let first = c.in_ok-text.ensures in
     let second = c.in_ok-supplies.ensures in
-    let supply = supply_of c.in_ok-supplies.supplies.input.items c.in_ok-supplies.supplies.ports.items in
+    let s = c.in_ok-supplies.supplies in
+    let given = given_of s.input.items s.disk.items s.ports.items in
     judged c.from_residual-in_err-lines.result (λ h. h ≡ By c.in_err-lines.field-0.0) (Halts (LoadStops command old new)) c.from_residual-in_err-lines.ensures.1
     (λ h is. subst (Halts (LoadStops command old new)) (sym is)
-    (lines_stop command old new first.read.bytes supply first.read.file (supply_before old mid new first.only first.counted command.run supply second.read)
+    (lines_stop command old new first.read.bytes given first.read.file (supply_before old mid new first.only first.counted command.run given second.read)
     (faults_before old mid new first.only first.counted second.counted) c.in_err-lines.field-0.0
     (subst (LinesGive first.read.bytes) c.in_err-lines.was first.read.gives)))
 
@@ -54,12 +56,36 @@ returns-in_err-image-clause-stopped g c =
     let new = g.H.Host.state c.read_supplies.new.host in
     let first = c.in_ok-text.ensures in
     let second = c.in_ok-supplies.ensures in
-    let supply = supply_of c.in_ok-supplies.supplies.input.items c.in_ok-supplies.supplies.ports.items in
+    let s = c.in_ok-supplies.supplies in
+    let given = given_of s.input.items s.disk.items s.ports.items in
     judged c.from_residual-in_err-image.result (λ h. h ≡ By (stop_of_image c.in_err-image.field-0.0)) (Halts (LoadStops command old new)) c.from_residual-in_err-image.ensures.1
     (λ h is. subst (Halts (LoadStops command old new)) (sym is)
-    (image_stops command old new first.read.bytes supply first.read.file (supply_before old mid new first.only first.counted command.run supply second.read)
+    (image_stops command old new first.read.bytes given first.read.file (supply_before old mid new first.only first.counted command.run given second.read)
     (faults_before old mid new first.only first.counted second.counted)
     c.in_ok-lines.lines.items c.as_slice.result.now c.as_slice.ensures.value (subst (LinesGive first.read.bytes) c.in_ok-lines.was first.read.gives) c.in_err-image.field-0.0 c.in_err-image.ensures.answer))
+
+-- the disk's file is none
+pub returns-in_err-devices-clause-stopped : goal.returns-in_err-devices-clause-stopped
+returns-in_err-devices-clause-stopped g c =
+    let command = run86_read c.args.command.now in
+    let old = g.H.Host.state c.args.host.now in
+    let mid = g.H.Host.state c.read_text.new.host in
+    let new = g.H.Host.state c.read_supplies.new.host in
+    let first = c.in_ok-text.ensures in
+    let second = c.in_ok-supplies.ensures in
+    let s = c.in_ok-supplies.supplies in
+    let given = given_of s.input.items s.disk.items s.ports.items in
+    let image = c.in_ok-image.image in
+    judged c.from_residual-in_err-devices.result (λ h. h ≡ By c.in_err-devices.field-0.0) (Halts (LoadStops command old new)) c.from_residual-in_err-devices.ensures.1
+    (λ h is. subst (Halts (LoadStops command old new)) (sym is)
+    (no_disk first.read.bytes given image first.read.file (supply_before old mid new first.only first.counted command.run given second.read)
+    (faults_before old mid new first.only first.counted second.counted)
+    (record {
+      lines = c.in_ok-lines.lines.items;
+      reads = subst (LinesGive first.read.bytes) c.in_ok-lines.was first.read.gives;
+      assembled = subst (λ l. IsImage l image) c.as_slice.ensures.value c.in_ok-image.ensures.answer;
+    })
+    c.in_err-devices.ensures.stopped))
 
 pub returns-in_err-fill-clause-stopped : goal.returns-in_err-fill-clause-stopped
 returns-in_err-fill-clause-stopped g c =
@@ -75,7 +101,8 @@ returns-clause-loaded g c =
     let new = g.H.Host.state c.read_supplies.new.host in
     let first = c.in_ok-text.ensures in
     let second = c.in_ok-supplies.ensures in
-    let supply = supply_of c.in_ok-supplies.supplies.input.items c.in_ok-supplies.supplies.ports.items in
+    let s = c.in_ok-supplies.supplies in
+    let given = given_of s.input.items s.disk.items s.ports.items in
     let image = c.in_ok-image.image in
     record {
       text = first.read.bytes;
@@ -86,5 +113,7 @@ returns-clause-loaded g c =
         assembled = subst (λ l. IsImage l image) c.as_slice.ensures.value c.in_ok-image.ensures.answer;
       };
       reader = subst HasReader c.code.ensures (decoded c.code.result.now, c.decode_at.ensures.reader);
-      supplied = supply_before old mid new first.only first.counted (run86_read c.args.command.now).run supply second.read;
+      given = given;
+      supplied = supply_before old mid new first.only first.counted (run86_read c.args.command.now).run given second.read;
+      devices = c.in_ok-devices.ensures.devices;
     }

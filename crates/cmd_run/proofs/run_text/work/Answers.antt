@@ -1,12 +1,14 @@
-use Rattle.std.proofs.Common.{◌≡◌, sym, subst}
+use Rattle.std.proofs.Common.{◌≡◌, ◌∙◌, sym, subst}
+use Rattle.std.specs.Prelude.{option_copied}
 use Rattle.cmd_words.specs.ReadCommands.{run86_read}
 use Rattle.cmd_reports.specs.declared.stop.Stop.TheVariants.{OutOfMemory}
 use Rattle.cmd_run.specs.declared.halt.Halt.TheVariants.{By}
 use Rattle.cmd_run.specs.Ends.{halt_of_talk}
-use Rattle.cmd_run.specs.Runs86.{HasRun, IsHalted, ran, no_line}
-use Rattle.bdos_ports.specs.Supply.{supply_of}
-use Rattle.cmd_run.proofs.Loading.{judged}
-use Rattle.cmd_run.proofs.Working.{unloaded_halts, has_run, cut_halts, ended_is}
+use Rattle.cmd_run.specs.Keeping.{kept_name, Keeps, KeepStops}
+use Rattle.cmd_run.specs.Lasts.{came_of}
+use Rattle.cmd_run.specs.Runs86.{IsHalted, no_line, unkept}
+use Rattle.cmd_inputs.proofs.Told.{judged}
+use Rattle.cmd_run.proofs.Working.{unloaded_halts, has_run, cut_halts, come, lose}
 use Rattle.cmd_run.proofs.run_text.work.Goals as goal
 
 pub returns-in_err-loaded-clause-halted : goal.returns-in_err-loaded-clause-halted
@@ -27,43 +29,52 @@ returns-in_err-end-clause-halted g c =
     let e = c.in_err-end.ensures in
     judged c.from_residual-in_err-end.result (λ h. h ≡ halt_of_talk c.in_err-end.field-0.0) (IsHalted command old new) c.from_residual-in_err-end.ensures.1
     (λ h is. subst (IsHalted command old new) (sym is)
-    (cut_halts command old mid new l.loaded.image (supply_of l.loaded.supplies.input.items l.loaded.supplies.ports.items) l.ensures.loaded l.ensures.only l.ensures.counted e.only c.in_err-end.field-0.0 e.cut))
+    (cut_halts command old mid new l.loaded.image l.loaded.devices l.ensures.loaded l.ensures.only l.ensures.counted e.only c.in_err-end.field-0.0 e.cut))
 
-pub returns-in_err-steps-clause-halted : goal.returns-in_err-steps-clause-halted
-returns-in_err-steps-clause-halted g c =
+pub returns-in_err-last-clause-halted : goal.returns-in_err-last-clause-halted
+returns-in_err-last-clause-halted g c =
     let command = run86_read c.args.command.now in
     let old = g.H.Host.state c.args.host.now in
     let mid = g.H.Host.state c.load.new.host in
     let new = g.H.Host.state c.run.new.host in
     let l = c.in_ok-loaded in
     let e = c.in_ok-end.ensures in
-    judged c.from_residual-in_err-steps.result (λ h. h ≡ By c.in_err-steps.field-0.0) (IsHalted command old new) c.from_residual-in_err-steps.ensures.1
+    judged c.from_residual-in_err-last.result (λ h. h ≡ By OutOfMemory) (IsHalted command old new) c.from_residual-in_err-last.ensures.1
     (λ h is. subst (IsHalted command old new) (sym is)
-    (ran c.in_ok-end.end (has_run command old mid new l.loaded.image (supply_of l.loaded.supplies.input.items l.loaded.supplies.ports.items) l.ensures.loaded l.ensures.only l.ensures.counted e.only c.in_ok-end.end e.run e.counted) (sym c.in_err-steps.ensures)))
+    (no_line c.in_ok-end.end (has_run command old mid new l.loaded.image l.loaded.devices l.ensures.loaded l.ensures.only l.ensures.counted e.only c.in_ok-end.end (c.run.new.devices, e.run) e.counted)))
 
-pub returns-in_err-ended_line-clause-halted : goal.returns-in_err-ended_line-clause-halted
-returns-in_err-ended_line-clause-halted g c =
+-- the disk was not written
+pub returns-in_err-keep_disk-clause-halted : goal.returns-in_err-keep_disk-clause-halted
+returns-in_err-keep_disk-clause-halted g c =
     let command = run86_read c.args.command.now in
     let old = g.H.Host.state c.args.host.now in
     let mid = g.H.Host.state c.load.new.host in
     let new = g.H.Host.state c.run.new.host in
     let l = c.in_ok-loaded in
     let e = c.in_ok-end.ensures in
-    judged c.from_residual-in_err-ended_line.result (λ h. h ≡ By OutOfMemory) (IsHalted command old new) c.from_residual-in_err-ended_line.ensures.1
-    (λ h is. subst (IsHalted command old new) (sym is)
-    (no_line c.in_ok-steps.steps (subst (HasRun command old new) (ended_is command.run.steps 0 c.in_ok-end.end c.in_ok-steps.steps (sym c.in_ok-steps.ensures))
-    (has_run command old mid new l.loaded.image (supply_of l.loaded.supplies.input.items l.loaded.supplies.ports.items) l.ensures.loaded l.ensures.only l.ensures.counted e.only c.in_ok-end.end e.run e.counted))))
+    let o = c.in_ok-end.end in
+    let left = c.run.new.devices in
+    let kept = g.H.Host.state c.keep_disk.new.host in
+    let stop = c.in_err-keep_disk.field-0.0 in
+    let stops : KeepStops (kept_name command.run.out_disk o) left.system.disk new kept stop =
+    subst (λ d. KeepStops (kept_name command.run.out_disk o) d new kept stop) c.disk.ensures
+    (subst (λ n. KeepStops n c.disk.result.now new kept stop) c.kept_name.ensures c.in_err-keep_disk.ensures.stopped) in
+    judged c.from_residual-in_err-keep_disk.result (λ h. h ≡ By stop) (IsHalted command old kept) c.from_residual-in_err-keep_disk.ensures.1
+    (λ h is. subst (IsHalted command old kept) (sym is)
+    (unkept (lose command old mid new l.loaded.image l.loaded.devices l.ensures.loaded l.ensures.only l.ensures.counted e.only o kept stop (left, e.run) e.counted stops)))
 
-pub returns-clause-ended : goal.returns-clause-ended
-returns-clause-ended g c =
+pub returns-clause-came : goal.returns-clause-came
+returns-clause-came g c =
     let command = run86_read c.args.command.now in
     let old = g.H.Host.state c.args.host.now in
     let mid = g.H.Host.state c.load.new.host in
     let new = g.H.Host.state c.run.new.host in
     let l = c.in_ok-loaded in
-    let e = c.in_ok-end.ensures in (
-      c.in_ok-steps.steps,
-      subst (HasRun command old new) (ended_is command.run.steps 0 c.in_ok-end.end c.in_ok-steps.steps (sym c.in_ok-steps.ensures))
-          (has_run command old mid new l.loaded.image (supply_of l.loaded.supplies.input.items l.loaded.supplies.ports.items) l.ensures.loaded l.ensures.only l.ensures.counted e.only c.in_ok-end.end e.run e.counted),
-      c.in_ok-ended_line.ensures,
-    )
+    let e = c.in_ok-end.ensures in
+    let o = c.in_ok-end.end in
+    let left = c.run.new.devices in
+    let kept = g.H.Host.state c.keep_disk.new.host in
+    let keeps : Keeps (kept_name command.run.out_disk o) left.system.disk new kept =
+    subst (λ d. Keeps (kept_name command.run.out_disk o) d new kept) c.disk.ensures
+    (subst (λ n. Keeps n c.disk.result.now new kept) c.kept_name.ensures c.in_ok-keep_disk.ensures.kept) in
+    come command old mid new l.loaded.image l.loaded.devices l.ensures.loaded l.ensures.only l.ensures.counted e.only o (came_of c.in_ok-last.last) kept (left, e.run) e.counted (c.in_ok-last.ensures.came ∙ c.steps_of.ensures) keeps
