@@ -5,27 +5,40 @@ use Rattle.asm86_lines.specs.Written.{text_of}
 use Rattle.asm80_program.specs.Program.{Program, IsProgram}
 use Rattle.templates.specs.Plain.{plain}
 use Rattle.asm86_text.specs.Stream.{TextGives}
-use Rattle.cmd_words.specs.Words.{Translate, Run80, Run86, Translates, Runs80, Runs86, IsCommand, IsNoCommand}
+use Rattle.cmd_words.specs.Words.{Translate, Flags, Run80, Run86, Translates, ListsFlags, Runs80, Runs86, IsCommand, IsNoCommand}
 use Rattle.cmd_words.proofs.Commands.{one_command}
 use Rattle.cmd_reports.specs.Said.{IsRefusedWords}
-use Rattle.xlt_core.specs.First.{IsFirst}
 use Rattle.cmd_translate.specs.Translates as translation
+use Rattle.cmd_flags.specs.Listing as listing
+use Rattle.cmd_run.specs.Keeping.{DiskAlone}
 use Rattle.cmd_run.specs.Runs80 as source
 use Rattle.cmd_run.specs.Completes80 as source_completes
 use Rattle.cmd_run.specs.Runs86 as text
 use Rattle.cmd_run.specs.Completes86 as text_completes
 use Rattle.xlt_app.specs.Top.{Headline, IsStatus, Outcomes}
-use Rattle.xlt_app.proofs.Statuses.{of_translation, of_run80, of_run86}
+use Rattle.xlt_app.proofs.Statuses.{of_translation, of_listing, of_run80, of_run86}
 
 -- commands of two kinds are never one, and one kind holds its command
 same_translation : (c d : Translate) → Translates c ≡ Translates d → c ≡ d
 same_translation c d e = cc
+
+same_listing : (c d : Flags) → ListsFlags c ≡ ListsFlags d → c ≡ d
+same_listing c d e = cc
 
 same_run80 : (c d : Run80) → Runs80 c ≡ Runs80 d → c ≡ d
 same_run80 c d e = cc
 
 same_run86 : (c d : Run86) → Runs86 c ≡ Runs86 d → c ≡ d
 same_run86 c d e = cc
+
+no_listing : (c : Translate) (d : Flags) → Translates c ≡ ListsFlags d → ⊥
+no_listing c d e = absurd cc
+
+no_listing80 : (c : Flags) (d : Run80) → ListsFlags c ≡ Runs80 d → ⊥
+no_listing80 c d e = absurd cc
+
+no_listing86 : (c : Flags) (d : Run86) → ListsFlags c ≡ Runs86 d → ⊥
+no_listing86 c d e = absurd cc
 
 no_translation80 : (c : Translate) (d : Run80) → Translates c ≡ Runs80 d → ⊥
 no_translation80 c d e = absurd cc
@@ -36,9 +49,9 @@ no_translation86 c d e = absurd cc
 no_run : (c : Run80) (d : Run86) → Runs80 c ≡ Runs86 d → ⊥
 no_run c d e = absurd cc
 
--- the plain text of a program that is translated reads back
+-- the plain text of a program reads back
 abbrev ReadsBack : Type 0
-ReadsBack = (p : Program) → IsProgram p → IsFirst p → TextGives (text_of (plain p)) (Ok (plain p))
+ReadsBack = (p : Program) → IsProgram p → TextGives (text_of (plain p)) (Ok (plain p))
 
 headline_by : (c : Translate) (old new : HostState) → ReadsBack → (status : ℕ) → translation.Gives c old new status → status ≡ 0 → Headline c old new
 headline_by c old new back _ (translation.translated p a w s l f) e = record {
@@ -49,11 +62,12 @@ headline_by c old new back _ (translation.translated p a w s l f) e = record {
   given = a.file.0;
   is_source = a.source;
   written = w.text;
-  has_image = record { lines = plain p; reads = back p a.source.program.program.lawful a.first; assembled = s.assembled };
+  has_image = record { lines = plain p; reads = back p a.source.program.program.lawful; assembled = s.assembled };
   reader = s.reader;
   same = s.same;
 }
 headline_by c old new back _ (translation.refused line rule r l) e = absurd (omega (arith, e))
+headline_by c old new back _ (translation.too_large size x l) e = absurd (omega (arith, e))
 headline_by c old new back _ (translation.unread r l) e = absurd (omega (arith, e))
 headline_by c old new back _ (translation.unwritten p a w s) e = absurd (omega (arith, e))
 headline_by c old new back _ (translation.unsaid p a w f s) e = absurd (omega (arith, e))
@@ -73,15 +87,39 @@ module _ (words : List (List ℕ)) (old new : HostState) (status : ℕ) where
         words_refused = λ e. absurd (of.other e);
         translated = λ d g. subst (λ d. translation.Gives d old new status) (one d g) gives;
         translation_completes = λ d g. subst (λ d. translation.Completes d old new status) (one d g) completes;
+        listed = λ d g. absurd (no_listing c d (one_command words (Translates c) (ListsFlags d) h g));
+        listing_completes = λ d g. absurd (no_listing c d (one_command words (Translates c) (ListsFlags d) h g));
+        listing_changes_no_file = λ d g. absurd (no_listing c d (one_command words (Translates c) (ListsFlags d) h g));
         ran80 = λ d g. absurd (no_translation80 c d (one_command words (Translates c) (Runs80 d) h g));
         run80_completes = λ d g. absurd (no_translation80 c d (one_command words (Translates c) (Runs80 d) h g));
-        run80_changes_no_file = λ d g. absurd (no_translation80 c d (one_command words (Translates c) (Runs80 d) h g));
+        run80_changes_its_disk_alone = λ d g. absurd (no_translation80 c d (one_command words (Translates c) (Runs80 d) h g));
         ran86 = λ d g. absurd (no_translation86 c d (one_command words (Translates c) (Runs86 d) h g));
         run86_completes = λ d g. absurd (no_translation86 c d (one_command words (Translates c) (Runs86 d) h g));
-        run86_changes_no_file = λ d g. absurd (no_translation86 c d (one_command words (Translates c) (Runs86 d) h g));
+        run86_changes_its_disk_alone = λ d g. absurd (no_translation86 c d (one_command words (Translates c) (Runs86 d) h g));
       }
 
-  pub by_run80 : (c : Run80) → IsCommand words (Runs80 c) → source.Gives c old new status → source_completes.Completes c old new status → SameFiles old new → Outcomes words old new status
+  pub by_listing : (c : Flags) → IsCommand words (ListsFlags c) → listing.Gives c old new status → listing.Completes c old new status → SameFiles old new → Outcomes words old new status
+  by_listing c h gives completes files =
+      let of = of_listing c old new status gives in
+      let one : (d : Flags) → IsCommand words (ListsFlags d) → c ≡ d = λ d g. same_listing c d (one_command words (ListsFlags c) (ListsFlags d) h g) in
+      record {
+        number = of.number;
+        no_command = λ none. absurd (none (ListsFlags c) h);
+        words_refused = λ e. absurd (of.other e);
+        translated = λ d g. absurd (no_listing d c (one_command words (Translates d) (ListsFlags c) g h));
+        translation_completes = λ d g. absurd (no_listing d c (one_command words (Translates d) (ListsFlags c) g h));
+        listed = λ d g. subst (λ d. listing.Gives d old new status) (one d g) gives;
+        listing_completes = λ d g. subst (λ d. listing.Completes d old new status) (one d g) completes;
+        listing_changes_no_file = λ d g. files;
+        ran80 = λ d g. absurd (no_listing80 c d (one_command words (ListsFlags c) (Runs80 d) h g));
+        run80_completes = λ d g. absurd (no_listing80 c d (one_command words (ListsFlags c) (Runs80 d) h g));
+        run80_changes_its_disk_alone = λ d g. absurd (no_listing80 c d (one_command words (ListsFlags c) (Runs80 d) h g));
+        ran86 = λ d g. absurd (no_listing86 c d (one_command words (ListsFlags c) (Runs86 d) h g));
+        run86_completes = λ d g. absurd (no_listing86 c d (one_command words (ListsFlags c) (Runs86 d) h g));
+        run86_changes_its_disk_alone = λ d g. absurd (no_listing86 c d (one_command words (ListsFlags c) (Runs86 d) h g));
+      }
+
+  pub by_run80 : (c : Run80) → IsCommand words (Runs80 c) → source.Gives c old new status → source_completes.Completes c old new status → DiskAlone c.run.out_disk old new → Outcomes words old new status
   by_run80 c h gives completes files =
       let of = of_run80 c old new status gives in
       let one : (d : Run80) → IsCommand words (Runs80 d) → c ≡ d = λ d g. same_run80 c d (one_command words (Runs80 c) (Runs80 d) h g) in
@@ -91,15 +129,18 @@ module _ (words : List (List ℕ)) (old new : HostState) (status : ℕ) where
         words_refused = λ e. absurd (of.other e);
         translated = λ d g. absurd (no_translation80 d c (one_command words (Translates d) (Runs80 c) g h));
         translation_completes = λ d g. absurd (no_translation80 d c (one_command words (Translates d) (Runs80 c) g h));
+        listed = λ d g. absurd (no_listing80 d c (one_command words (ListsFlags d) (Runs80 c) g h));
+        listing_completes = λ d g. absurd (no_listing80 d c (one_command words (ListsFlags d) (Runs80 c) g h));
+        listing_changes_no_file = λ d g. absurd (no_listing80 d c (one_command words (ListsFlags d) (Runs80 c) g h));
         ran80 = λ d g. subst (λ d. source.Gives d old new status) (one d g) gives;
         run80_completes = λ d g. subst (λ d. source_completes.Completes d old new status) (one d g) completes;
-        run80_changes_no_file = λ d g. files;
+        run80_changes_its_disk_alone = λ d g. subst (λ (d : Run80). DiskAlone d.run.out_disk old new) (one d g) files;
         ran86 = λ d g. absurd (no_run c d (one_command words (Runs80 c) (Runs86 d) h g));
         run86_completes = λ d g. absurd (no_run c d (one_command words (Runs80 c) (Runs86 d) h g));
-        run86_changes_no_file = λ d g. files;
+        run86_changes_its_disk_alone = λ d g. absurd (no_run c d (one_command words (Runs80 c) (Runs86 d) h g));
       }
 
-  pub by_run86 : (c : Run86) → IsCommand words (Runs86 c) → text.Gives c old new status → text_completes.Completes c old new status → SameFiles old new → Outcomes words old new status
+  pub by_run86 : (c : Run86) → IsCommand words (Runs86 c) → text.Gives c old new status → text_completes.Completes c old new status → DiskAlone c.run.out_disk old new → Outcomes words old new status
   by_run86 c h gives completes files =
       let of = of_run86 c old new status gives in
       let one : (d : Run86) → IsCommand words (Runs86 d) → c ≡ d = λ d g. same_run86 c d (one_command words (Runs86 c) (Runs86 d) h g) in
@@ -109,12 +150,15 @@ module _ (words : List (List ℕ)) (old new : HostState) (status : ℕ) where
         words_refused = λ e. absurd (of.other e);
         translated = λ d g. absurd (no_translation86 d c (one_command words (Translates d) (Runs86 c) g h));
         translation_completes = λ d g. absurd (no_translation86 d c (one_command words (Translates d) (Runs86 c) g h));
+        listed = λ d g. absurd (no_listing86 d c (one_command words (ListsFlags d) (Runs86 c) g h));
+        listing_completes = λ d g. absurd (no_listing86 d c (one_command words (ListsFlags d) (Runs86 c) g h));
+        listing_changes_no_file = λ d g. absurd (no_listing86 d c (one_command words (ListsFlags d) (Runs86 c) g h));
         ran80 = λ d g. absurd (no_run d c (one_command words (Runs80 d) (Runs86 c) g h));
         run80_completes = λ d g. absurd (no_run d c (one_command words (Runs80 d) (Runs86 c) g h));
-        run80_changes_no_file = λ d g. files;
+        run80_changes_its_disk_alone = λ d g. absurd (no_run d c (one_command words (Runs80 d) (Runs86 c) g h));
         ran86 = λ d g. subst (λ d. text.Gives d old new status) (one d g) gives;
         run86_completes = λ d g. subst (λ d. text_completes.Completes d old new status) (one d g) completes;
-        run86_changes_no_file = λ d g. files;
+        run86_changes_its_disk_alone = λ d g. subst (λ (d : Run86). DiskAlone d.run.out_disk old new) (one d g) files;
       }
 
   pub by_no_command : IsNoCommand words → IsRefusedWords old new status → Outcomes words old new status
@@ -124,12 +168,15 @@ module _ (words : List (List ℕ)) (old new : HostState) (status : ℕ) where
     words_refused = λ e. none;
     translated = λ c h. absurd (none (Translates c) h);
     translation_completes = λ c h. absurd (none (Translates c) h);
+    listed = λ c h. absurd (none (ListsFlags c) h);
+    listing_completes = λ c h. absurd (none (ListsFlags c) h);
+    listing_changes_no_file = λ c h. absurd (none (ListsFlags c) h);
     ran80 = λ c h. absurd (none (Runs80 c) h);
     run80_completes = λ c h. absurd (none (Runs80 c) h);
-    run80_changes_no_file = λ c h. absurd (none (Runs80 c) h);
+    run80_changes_its_disk_alone = λ c h. absurd (none (Runs80 c) h);
     ran86 = λ c h. absurd (none (Runs86 c) h);
     run86_completes = λ c h. absurd (none (Runs86 c) h);
-    run86_changes_no_file = λ c h. absurd (none (Runs86 c) h);
+    run86_changes_its_disk_alone = λ c h. absurd (none (Runs86 c) h);
   }
 
   -- the headline, where a translation answers 0

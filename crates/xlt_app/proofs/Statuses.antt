@@ -1,15 +1,19 @@
 -- Each command answers one of the program's statuses, and 2 never.
 use Rattle.std.proofs.Common.{◌≡◌, ℕ, List, refl, sym, subst, arith}
+use Rattle.std.specs.Prelude.{Result, Ok, Err}
 use Rattle.host.specs.declared.HostFault.{HostFault}
 use Rattle.host.specs.declared.HostFault.TheVariants.{Failed, Memory}
 use Rattle.host.specs.Host.{HostState}
-use Rattle.cmd_words.specs.Words.{Translate, Run80, Run86}
+use Rattle.cmd_words.specs.Words.{Translate, Flags, Run80, Run86}
 use Rattle.cmd_reports.specs.declared.stop.Stop.{Stop}
-use Rattle.cmd_reports.specs.declared.stop.Stop.TheVariants.{SourceLine, SourceProgram, ReadFailed, WriteFailed, OutOfMemory, LeftProfile, StepLimit, InputEnded, TextLine, ShortJump, NoInstruction, StackSegment, OddCall, NoDrive, CodeTooLarge, FileTooLong}
+use Rattle.cmd_reports.specs.declared.stop.Stop.TheVariants.{SourceLine, SourceProgram, ReadFailed, WriteFailed, OutOfMemory, LeftProfile, StepLimit, InputEnded, TextLine, ShortJump, NoInstruction, StackSegment, OddCall, BadDisk, NoDrive, CodeTooLarge, FileTooLong}
 use Rattle.cmd_reports.specs.Lines.{status_of, ended_line}
 use Rattle.cmd_reports.specs.Said.{IsDone, whole, failed, no_memory, Closes, said, unsaid}
+use Rattle.std.specs.List.{concat}
 use Rattle.cmd_run.specs.Ends.{unsaid_status}
+use Rattle.cmd_run.specs.Lasts.{EndsBy}
 use Rattle.cmd_translate.specs.Translates as translation
+use Rattle.cmd_flags.specs.Listing as listing
 use Rattle.cmd_run.specs.Runs80 as source
 use Rattle.cmd_run.specs.Runs86 as text
 use Rattle.xlt_app.specs.Top.{IsStatus}
@@ -72,6 +76,7 @@ of_stop (ShortJump line) = of_10
 of_stop (NoInstruction offset) = of_11
 of_stop (StackSegment offset) = of_11
 of_stop (OddCall offset function) = of_11
+of_stop (BadDisk place) = of_12
 of_stop (NoDrive function) = of_12
 of_stop (CodeTooLarge size) = of_13
 of_stop (FileTooLong name) = of_14
@@ -94,6 +99,7 @@ of_unsaid Memory = of_5
 pub of_translation : (c : Translate) (old new : HostState) (status : ℕ) → translation.Gives c old new status → IsOfCommand status
 of_translation c old new _ (translation.translated p a w s l f) = of_0
 of_translation c old new _ (translation.refused line rule r l) = of_1
+of_translation c old new _ (translation.too_large size x l) = of_13
 of_translation c old new _ (translation.unread r l) = of_3
 of_translation c old new _ (translation.unwritten p a w s) = of_4
 of_translation c old new _ (translation.unsaid p a w f s) = of_4
@@ -102,12 +108,20 @@ of_translation c old new _ (translation.no_memory_to_write p a w s) = of_5
 of_translation c old new _ (translation.no_memory_to_say p a w f s) = of_5
 of_translation c old new _ (translation.too_long l s) = of_14
 
+pub of_listing : (c : Flags) (old new : HostState) (status : ℕ) → listing.Gives c old new status → IsOfCommand status
+of_listing c old new status (listing.reported mid lines h d) = of_done (concat lines) mid new status d
+of_listing c old new status (listing.stopped mid stop s k) = of_closes stop mid new status k
+
+of_ending : (came : Result ℕ Stop) (old new : HostState) (status : ℕ) → EndsBy came old new status → IsOfCommand status
+of_ending (Ok steps) old new status e = of_done (ended_line steps) old new status e
+of_ending (Err stop) old new status e = of_closes stop old new status e
+
 pub of_run80 : (c : Run80) (old new : HostState) (status : ℕ) → source.Gives c old new status → IsOfCommand status
-of_run80 c old new status (source.ended p steps mid r d) = of_done (ended_line steps) mid new status d
+of_run80 c old new status (source.ran kept came h e) = of_ending came kept new status e
 of_run80 c old new status (source.unsaid fault e k) = subst IsOfCommand (sym e) (of_unsaid fault)
 of_run80 c old new status (source.stopped mid stop s k) = of_closes stop mid new status k
 
 pub of_run86 : (c : Run86) (old new : HostState) (status : ℕ) → text.Gives c old new status → IsOfCommand status
-of_run86 c old new status (text.ended steps mid r d) = of_done (ended_line steps) mid new status d
+of_run86 c old new status (text.ran kept came h e) = of_ending came kept new status e
 of_run86 c old new status (text.unsaid fault e k) = subst IsOfCommand (sym e) (of_unsaid fault)
 of_run86 c old new status (text.stopped mid stop s k) = of_closes stop mid new status k

@@ -5,16 +5,18 @@ use Rattle.host.specs.Host.{HostState, IsFile, SameFiles, Rewrites}
 use Rattle.asm86_lines.specs.Image.{Image}
 use Rattle.asm80_program.specs.Program.{Program}
 use Rattle.asm80_source.specs.Source.{IsSource}
-use Rattle.cmd_words.specs.Words.{Translate, Run80, Run86, Translates, Runs80, Runs86, IsCommand, IsNoCommand}
+use Rattle.cmd_words.specs.Words.{Translate, Flags, Run80, Run86, Translates, ListsFlags, Runs80, Runs86, IsCommand, IsNoCommand}
 use Rattle.cmd_reports.specs.Said.{IsRefusedWords}
 use Rattle.cmd_inputs.specs.Texts.{HasImage}
 use Rattle.cmd_translate.specs.Translates as translation
+use Rattle.cmd_flags.specs.Listing as listing
+use Rattle.cmd_run.specs.Keeping.{DiskAlone}
 use Rattle.cmd_run.specs.Runs80 as source
 use Rattle.cmd_run.specs.Completes80 as source_completes
 use Rattle.cmd_run.specs.Runs86 as text
 use Rattle.cmd_run.specs.Completes86 as text_completes
 use Rattle.i86.specs.Decode.{HasReader}
-use Rattle.xlt_core.specs.Same.{Same}
+use Rattle.sym_same.specs.Same.{Same}
 
 -- the headline: the source's file, where the host tells it, is the source of a program; the output's file holds a text with an
 -- image, whose code is read in one way; and the image makes the same system calls as the program, in the same order, and ends
@@ -46,9 +48,12 @@ pub record Outcomes (words : List (List ℕ)) (old new : HostState) (status : �
   pub words_refused : status ≡ 2 → IsNoCommand words
   pub translated : (c : Translate) → IsCommand words (Translates c) → translation.Gives c old new status
   pub translation_completes : (c : Translate) → IsCommand words (Translates c) → translation.Completes c old new status
+  pub listed : (c : Flags) → IsCommand words (ListsFlags c) → listing.Gives c old new status
+  pub listing_completes : (c : Flags) → IsCommand words (ListsFlags c) → listing.Completes c old new status
+  pub listing_changes_no_file : (c : Flags) → IsCommand words (ListsFlags c) → SameFiles old new
   pub ran80 : (c : Run80) → IsCommand words (Runs80 c) → source.Gives c old new status
   pub run80_completes : (c : Run80) → IsCommand words (Runs80 c) → source_completes.Completes c old new status
-  pub run80_changes_no_file : (c : Run80) → IsCommand words (Runs80 c) → SameFiles old new
+  pub run80_changes_its_disk_alone : (c : Run80) → IsCommand words (Runs80 c) → DiskAlone c.run.out_disk old new
   pub ran86 : (c : Run86) → IsCommand words (Runs86 c) → text.Gives c old new status
   pub run86_completes : (c : Run86) → IsCommand words (Runs86 c) → text_completes.Completes c old new status
-  pub run86_changes_no_file : (c : Run86) → IsCommand words (Runs86 c) → SameFiles old new
+  pub run86_changes_its_disk_alone : (c : Run86) → IsCommand words (Runs86 c) → DiskAlone c.run.out_disk old new

@@ -7,13 +7,14 @@ ghost use Rattle.cmd_words.specs.Words.{Translate, Translates, IsCommand};
 ghost use Rattle.xlt_app.specs.Top.{Headline, Outcomes};
 
 pub use cmd_files::{write_bytes, write_out};
+use cmd_flags::flags;
 use cmd_reports::words_refused;
 use cmd_run::{run80, run86};
 use cmd_translate::translate;
 use cmd_words::{Command, read_words};
 use host::Host;
 use std::alloc::Global;
-use xlt_core::first_is_same;
+use xlt_core::plain_is_same;
 
 /// What the program does with the words after its name: it answers the status that the process ends with. The files of the
 /// command are those of the host, and what is said goes to it.
@@ -22,12 +23,13 @@ pub fn xlt<H: Host>(alloc: Global, words: Vec<String>, host: &mut H) -> u8
         → result ≡ 0 → Headline c (H.state host.old) (H.state host.new) }
     ensures outcomes { Outcomes (map string_bytes words.items) (H.state host.old) (H.state host.new) result }
 {
-    first_is_same();
+    plain_is_same();
     let Some(command) = read_words(words.as_slice()) else {
         return words_refused(host);
     };
     match command {
         Command::Translate(command) => translate(alloc, host, &command),
+        Command::Flags(command) => flags(alloc, host, &command),
         Command::Run80(command) => run80(alloc, host, &command),
         Command::Run86(command) => run86(alloc, host, &command),
     }
