@@ -7,6 +7,8 @@ use asm80_program::{Placed, Program80};
 use asm86_image::image;
 use asm86_lines::{Jump, Label, Line86, Stmt86};
 use bdos_emulation::{RunEnd, TalkFault, Why, run_80, run_86};
+use bdos_ports::Devices;
+use bdos_small::Disk;
 use cells::{Cond, Place, Rule};
 use dialogue::Page;
 use host::{HostFault, MemHost};
@@ -61,11 +63,11 @@ fn number_as_code(alloc: Global) -> Result<Program80, AllocError> {
     Program80::new(alloc, instrs.to_vec(alloc)?, Vec::new(alloc), 0xF000)
 }
 
-/// Opens the file that the start page's block names.
-fn opens_file(alloc: Global) -> Result<Program80, AllocError> {
+/// Calls a function of the system with a word in DE.
+fn calls(alloc: Global, function: u8, word: u16) -> Result<Program80, AllocError> {
     let instrs = [
-        placed!(0x100, Instr80::Lxi(Pair::D, Word::Num(0x5C))),
-        placed!(0x103, Instr80::Mvi(Src::Reg(Reg::C), 15)),
+        placed!(0x100, Instr80::Lxi(Pair::D, Word::Num(word))),
+        placed!(0x103, Instr80::Mvi(Src::Reg(Reg::C), function)),
         placed!(0x105, CALL_5),
         placed!(0x108, JMP_0),
     ];
@@ -117,7 +119,8 @@ fn comes_to(
     host.fail_at(fails)?;
     let input = Vec::from_slice(alloc, input.as_bytes())?;
     let ports = Vec::from_slice(alloc, ports)?;
-    let came = run_80(alloc, program, &page, input, ports, limit, &mut host);
+    let mut devices = Devices::new(Disk::empty(alloc), input, ports);
+    let came = run_80(alloc, program, &page, &mut devices, limit, &mut host);
     Ok(came == end && host.said() == said.as_bytes())
 }
 
@@ -127,7 +130,8 @@ fn programs_say_their_events(rt: HostRuntime) -> Result<(), Fail> {
     let letter = one_letter(alloc)?;
     let byte = one_byte(alloc)?;
     let number = number_as_code(alloc)?;
-    let file = opens_file(alloc)?;
+    let file = calls(alloc, 15, 0x5C)?;
+    let drive = calls(alloc, 14, 1)?;
     let left = RunEnd::Stopped(Why::Left(Place::At(0x103), Rule::P1));
     let unsaid = Err(TalkFault::Unsaid(HostFault::Failed));
     let none: &[u8] = &[];
@@ -135,7 +139,7 @@ fn programs_say_their_events(rt: HostRuntime) -> Result<(), Fail> {
     let two: &[u8] = &[1, 2];
     let adjusted: &[u8] = &[0x99];
     let nothing = ("", none);
-    let opened = "0f 005c 00202020202020202020202000\n";
+    let opened = "0f 005c 00202020202020202020202000\nend\n";
     let echo = echoes(alloc)?;
     let keeps = keeps_all_but_a(alloc)?;
     for (row, (program, given, limit, fails, end, said)) in [
@@ -154,7 +158,8 @@ fn programs_say_their_events(rt: HostRuntime) -> Result<(), Fail> {
         (&byte, nothing, 10, 0, Ok(RunEnd::InputEnded), "01\n"),
         (&byte, ("A", none), 10, 0, Ok(RunEnd::Ended(3)), "01\nend\n"),
         (&number, nothing, 10, 0, Ok(left), ""),
-        (&file, nothing, 10, 0, Ok(RunEnd::NoDrive(15)), opened),
+        (&file, nothing, 10, 0, Ok(RunEnd::Ended(4)), opened),
+        (&drive, nothing, 10, 0, Ok(RunEnd::NoDrive(14)), "0e 01\n"),
         (&echo, nothing, 10, 0, Ok(RunEnd::InputEnded), "in 07\n"),
         (
             &echo,
@@ -278,14 +283,14 @@ fn text_comes_to(
     let mut host = MemHost::new(alloc);
     let input = Vec::new(alloc);
     let ports = Vec::from_slice(alloc, ports)?;
+    let mut devices = Devices::new(Disk::empty(alloc), input, ports);
     let came = run_86(
         alloc,
         &image,
         &page,
         fill.as_slice(),
         choice,
-        input,
-        ports,
+        &mut devices,
         limit,
         &mut host,
     );

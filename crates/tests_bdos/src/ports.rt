@@ -1,8 +1,9 @@
-// The answers to events: ports that give their bytes in order, beside a console that keeps its input.
+// The answers to events: ports that give their bytes in order, beside a BDOS that keeps its input.
 ghost use Rattle.dialogue.specs.Lawful.{IsLawfulEvent};
 
 use crate::memory::request;
 use bdos_ports::{Devices, EventAnswer};
+use bdos_small::Disk;
 use dialogue::Event;
 use std::alloc::{AllocError, Global};
 
@@ -33,7 +34,7 @@ fn ports_give_their_bytes_in_order(rt: HostRuntime) -> Result<(), AllocError> {
     let alloc = rt.alloc();
     let input = Vec::from_slice(alloc, b"A")?;
     let ports = Vec::from_slice(alloc, &[0x12, 0xFF])?;
-    let mut devices = Devices::new(input, ports);
+    let mut devices = Devices::new(Disk::empty(alloc), input, ports);
     assert!(rt; answer(alloc, &mut devices, &Event::In(7))? == Some(0x12));
     assert!(rt; answer(alloc, &mut devices, &Event::Out(7, 0x99))? == Some(0));
     assert!(rt; console_answer(alloc, &mut devices, 1)? == Some(0x41));
@@ -48,7 +49,8 @@ fn ports_give_their_bytes_in_order(rt: HostRuntime) -> Result<(), AllocError> {
 #[test]
 fn events_without_a_reply(rt: HostRuntime) -> Result<(), AllocError> {
     let alloc = rt.alloc();
-    let mut devices = Devices::new(Vec::from_slice(alloc, b"A")?, Vec::new(alloc));
+    let input = Vec::from_slice(alloc, b"A")?;
+    let mut devices = Devices::new(Disk::empty(alloc), input, Vec::new(alloc));
     let ended = devices.answer(alloc, &Event::In(7))?;
     assert!(rt; matches!(&ended, EventAnswer::InputEnded));
     if let Some(request) = request(alloc, 15, 0, 5)? {

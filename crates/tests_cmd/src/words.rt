@@ -102,6 +102,20 @@ const OPTIONS_WITH_VALUES: [Row; 22] = [
     ),
 ];
 
+const LISTINGS: [Row; 11] = [
+    (&["flags", "A"], "flags A top f000"),
+    (&["flags", "A", "--top=8000"], "flags A top 8000"),
+    (&["flags", "--top", "fF00", "A"], "flags A top ff00"),
+    (&["flags", "--", "--top"], "flags --top top f000"),
+    (&["flags"], "none"),
+    (&["flags", "A", "B"], "none"),
+    (&["flags", "A", PLAIN], "none"),
+    (&["flags", "A", "--top", "1234"], "none"),
+    (&["flags", "A", "--top=8000", "--top=8000"], "none"),
+    (&["flags", "A", "--steps=1"], "none"),
+    (&["Flags", "A"], "none"),
+];
+
 const RUN_OPTIONS: [Row; 26] = [
     (
         &["run80", "A"],
@@ -205,6 +219,9 @@ fn told(alloc: Global, words: &[&str]) -> Result<String, AllocError> {
                 command.input, command.output, command.top
             )
         }
+        Some(Command::Flags(command)) => {
+            format!(in alloc; "flags {} top {:x}", command.source, command.top)
+        }
         Some(Command::Run80(command)) => {
             let run = run_text(alloc, &command.run)?;
             format!(in alloc; "{} top {:x} {run}", command.source, command.top)
@@ -228,5 +245,6 @@ fn expect_rows(rt: &impl Abort, alloc: Global, rows: &[Row]) -> Result<(), Fail>
 fn words_are_read(rt: HostRuntime) -> Result<(), Fail> {
     expect_rows(&rt, rt.alloc(), &NAMES_AND_FLAGS)?;
     expect_rows(&rt, rt.alloc(), &OPTIONS_WITH_VALUES)?;
+    expect_rows(&rt, rt.alloc(), &LISTINGS)?;
     expect_rows(&rt, rt.alloc(), &RUN_OPTIONS)
 }

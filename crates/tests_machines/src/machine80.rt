@@ -92,6 +92,22 @@ fn returns(alloc: Global) -> Result<Program80, AllocError> {
     )
 }
 
+// Reads and sends a byte, then writes a record, each after the DMA address was set to 7CH.
+fn writes_a_record(alloc: Global) -> Result<Program80, AllocError> {
+    let instrs = placed! {
+        0x100 Instr80::Mvi(Src::Reg(Reg::C), 26);
+        0x102 Instr80::Lxi(Pair::D, Word::Num(0x7C));
+        0x105 Instr80::Call(Goal::Bdos);
+        0x108 Instr80::In(7);
+        0x10A Instr80::Out(8);
+        0x10C Instr80::Mvi(Src::Reg(Reg::C), 21);
+        0x10E Instr80::Lxi(Pair::D, Word::Num(0x5C));
+        0x111 Instr80::Call(Goal::Bdos);
+        0x114 Instr80::Rst0;
+    };
+    program_of(alloc, &instrs, &[])
+}
+
 // The instruction alone, so that none follows it.
 fn alone(alloc: Global, instr: Instr80) -> Result<Program80, AllocError>
     requires { IsProgram (program_of (record { at = 0x100; line = 1; instr = instr } ∷ []) [] 0xF000) }
@@ -294,5 +310,66 @@ fn ports_take_replies_that_fit(rt: HostRuntime) -> Result<(), Fail> {
     assert!(rt; refuses(&mut cpu, &program, &write));
     assert!(rt; cpu.reply(&reply(alloc, 0)));
     assert!(rt; cpu.step(&program) == Ended && cpu.place() == At(0x104));
+    Ok(())
+}
+
+// What the next step asks, which is answered.
+fn event_of_step(
+    alloc: Global,
+    cpu: &mut Cpu80,
+    program: &Program80,
+    answer: u16,
+) -> Result<Event, Fail>
+    requires { IsMachineOf program.now cpu.old }
+    ensures { IfOk result (λ _. IsMachineOf program.now cpu.new) }
+{
+    if cpu.step(program) != Asked {
+        return Err("it asks")?;
+    }
+    let event = cpu.asked(alloc)?.ok_or("an event")?;
+    if !cpu.reply(&reply(alloc, answer)) {
+        return Err("the reply fits")?;
+    }
+    Ok(event)
+}
+
+// What the DMA address and memory are behind an IN and an OUT is seen by the call that writes a record: it reads the file
+// control block at 5CH and 128 bytes from 7CH. Registers and flags are cases of `cases_cmd`.
+#[test]
+fn ports_leave_the_dma_address_and_memory(rt: HostRuntime) -> Result<(), Fail> {
+    let alloc = rt.alloc();
+    let program = writes_a_record(alloc)?;
+    let page = Page::of_tail(b"RECORD.TXT TAIL").ok_or("a page")?;
+    let mut cpu = Cpu80::new(alloc, &program, &page)?;
+    assert!(rt; cpu.step(&program) == Ran && cpu.step(&program) == Ran);
+    assert!(rt;
+        matches!(
+            &event_of_step(alloc, &mut cpu, &program, 0)?,
+            Event::Call(_)
+        )
+    );
+    assert!(rt;
+        matches!(
+            &event_of_step(alloc, &mut cpu, &program, 0x41)?,
+            Event::In(7)
+        )
+    );
+    assert!(rt;
+        matches!(
+            &event_of_step(alloc, &mut cpu, &program, 0)?,
+            Event::Out(8, 0x41)
+        )
+    );
+    assert!(rt; cpu.step(&program) == Ran && cpu.step(&program) == Ran);
+    let Event::Call(request) = event_of_step(alloc, &mut cpu, &program, 0)? else {
+        return Err("a call")?;
+    };
+    assert_eq!(rt; request.shape.function, 21);
+    let [block, record] = request.blocks.as_slice() else {
+        return Err("two blocks")?;
+    };
+    assert!(rt; block.at == 0x5C && record.at == 0x7C);
+    assert!(rt; block.bytes.as_slice() == &page.bytes()[..33]);
+    assert!(rt; record.bytes.as_slice() == &page.bytes()[0x20..0xA0]);
     Ok(())
 }

@@ -8,7 +8,7 @@ use asm86_lines::{Line86, Stmt86};
 use cpu86::Step86::{Asked, Ended, NoInstruction, OddCall, Ran, StackSegment};
 use cpu86::{Cpu86, Start86, Step86};
 use dialogue::{ArgWord, Block, Blocks, Bytes, Event, Page, Reply};
-use i86::{Instr86, Reg8, StackReg};
+use i86::{Instr86, Reg8, Reg16, StackReg};
 use std::alloc::{AllocError, Global};
 use std::process::Abort;
 use std::test::Fail;
@@ -68,6 +68,20 @@ const CALLS: [Line86; 7] = lines! {
 const ECHOES: [Line86; 3] = lines! {
     2 Instr86::InAl(7);
     3 Instr86::OutAl(8);
+};
+
+/// Reads and sends a byte, then writes a record, each after the DMA address was set to 7CH.
+const WRITES_A_RECORD: [Line86; 11] = lines! {
+    2 Instr86::MovAxDs;
+    3 Instr86::MovSsAx;
+    4 Instr86::MovNum8(Reg8::Cl, 26);
+    5 Instr86::MovNum16(Reg16::Dx, 0x7C);
+    6 Instr86::Int224;
+    7 Instr86::InAl(7);
+    8 Instr86::OutAl(8);
+    9 Instr86::MovNum8(Reg8::Cl, 21);
+    10 Instr86::MovNum16(Reg16::Dx, 0x5C);
+    11 Instr86::Int224;
 };
 
 fn machine(alloc: Global, rt: &impl Abort, text: &[Line86]) -> Result<Cpu86, AllocError>
@@ -175,5 +189,46 @@ fn ports_take_replies_that_fit(rt: HostRuntime) -> Result<(), Fail> {
     assert_eq!(rt; cpu.ip(), 4);
     assert!(rt; takes(alloc, &mut cpu, 0));
     assert_steps(&rt, &mut cpu, &[NoInstruction(4)]);
+    Ok(())
+}
+
+// The next event, which is answered, where whatever is left open is all ones.
+fn event_after(alloc: Global, cpu: &mut Cpu86, answer: u16) -> Result<Event, Fail> {
+    for _ in 0..5 {
+        if cpu.step(u128::MAX) == Asked {
+            let event = cpu.asked(alloc)?.ok_or("it asks")?;
+            let reply = Reply {
+                answer,
+                writes: Blocks::from_vec(Vec::new(alloc)),
+            };
+            if !cpu.reply(&reply, u128::MAX) {
+                return Err("the reply fits")?;
+            }
+            return Ok(event);
+        }
+    }
+    Err("nothing is asked")?
+}
+
+// What the DMA address and memory are behind an IN and an OUT is seen by the call that writes a record: it reads the file
+// control block at 5CH and 128 bytes from 7CH. Registers and flags are cases of `cases_cmd`.
+#[test]
+fn ports_leave_the_dma_address_and_memory(rt: HostRuntime) -> Result<(), Fail> {
+    let alloc = rt.alloc();
+    let mut cpu = machine(alloc, &rt, &WRITES_A_RECORD)?;
+    assert!(rt; matches!(&event_after(alloc, &mut cpu, 0)?, Event::Call(_)));
+    assert!(rt; matches!(&event_after(alloc, &mut cpu, 0x41)?, Event::In(7)));
+    assert!(rt; matches!(&event_after(alloc, &mut cpu, 0)?, Event::Out(8, 0x41)));
+    let Event::Call(request) = event_after(alloc, &mut cpu, 0)? else {
+        return Err("a call")?;
+    };
+    assert_eq!(rt; request.shape.function, 21);
+    let [block, record] = request.blocks.as_slice() else {
+        return Err("two blocks")?;
+    };
+    let page = Page::of_tail(b"").ok_or("a page")?;
+    assert!(rt; block.at == 0x5C && record.at == 0x7C);
+    assert!(rt; block.bytes.as_slice() == &page.bytes()[..33]);
+    assert!(rt; record.bytes.as_slice() == &page.bytes()[0x20..0xA0]);
     Ok(())
 }
