@@ -1,7 +1,9 @@
-// The words of the commands, and files in and out in pieces, over public calls. What each command does is tried by the cases of
+// The words of the commands, files in and out in pieces, and a disk that is copied on, over public calls. What each command does is tried by the cases of
 // `cases_cmd`.
 #![tactic(auto)]
 
+#[cfg(test)]
+mod disks;
 #[cfg(test)]
 mod files;
 #[cfg(test)]

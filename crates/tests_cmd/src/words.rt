@@ -189,7 +189,7 @@ const RUN_OPTIONS: [Row; 26] = [
     (&["run80", "A", TAIL_127], "none"),
 ];
 
-fn list_of(alloc: Global, words: &[&str]) -> Result<Vec<String>, AllocError> {
+pub(crate) fn list_of(alloc: Global, words: &[&str]) -> Result<Vec<String>, AllocError> {
     let mut list = Vec::new(alloc);
     for word in words {
         list.push(String::from_str(alloc, word)?)?;
