@@ -259,12 +259,6 @@ module _ (m : MadeTermsHaveSorts) where
       held_sorted s (record (s.held) { d = s.held.h; e = s.held.l; h = s.held.d; l = s.held.e }) h
       (hl_sorted (record (s.held) { d = s.held.h; e = s.held.l }) s.held.d s.held.e first h.held.d h.held.e)
 
-  xthl_sorted : (s : Symbolic80) → AreSorted80 s → AreSorted80 (xthl s)
-  xthl_sorted s h =
-      with_pair_sorted (store16 (load16 s s.sp) s.sp (pair_term s PairH)) PairH (next_word s)
-      (store16_sorted (load16 s s.sp) s.sp (pair_term s PairH) (load16_sorted s s.sp h h.sp) h.sp (pair_sorted s PairH h))
-      (tt, refl)
-
   alu_sorted : (s : Symbolic80) (op : Op) (from : Src) → AreSorted80 s → AreSorted80 (alu_by s op from)
   alu_sorted s op from h = by_test (gives_zero op from)
     where
@@ -323,6 +317,12 @@ module _ (m : MadeTermsHaveSorts) where
       sp_sorted (popped (load16 s s.sp) pair (next_word s)) (sum16 s.sp (Num 2))
       (popped_sorted (load16 s s.sp) pair (next_word s) (load16_sorted s s.sp h h.sp) (tt, refl))
       (m.sum16 s.sp (Num 2) h.sp (word_number 2 (lit< tt)))
+
+  xthl_sorted : (s : Symbolic80) → AreSorted80 s → AreSorted80 (xthl s)
+  xthl_sorted s h =
+      let t = record (load16 s s.sp) { sp = sum16 s.sp (Num 2) } in
+      let r : AreSorted80 (record (load16 s s.sp) { sp = sum16 s.sp (Num 2) }) = sp_sorted (load16 s s.sp) (sum16 s.sp (Num 2)) (load16_sorted s s.sp h h.sp) (m.sum16 s.sp (Num 2) h.sp (word_number 2 (lit< tt))) in
+      with_pair_sorted (push t (pair_term s PairH)) PairH (next_word s) (push_sorted t (pair_term s PairH) r (pair_sorted s PairH h)) (tt, refl)
 
   -- the table
   pub effect_sorted : (s : Symbolic80) (i : Instr80) → IsCoded i → AreSorted80 s → AreSorted80 (effect80 s i)

@@ -125,9 +125,6 @@ lhld s address = with_pair (load16 s address) PairH (next_word s)
 abbrev pub xchg : Symbolic80 → Symbolic80
 xchg s = with_held s (record (s.held) { d = s.held.h; e = s.held.l; h = s.held.d; l = s.held.e })
 
-abbrev pub xthl : Symbolic80 → Symbolic80
-xthl s = with_pair (store16 (load16 s s.sp) s.sp (pair_term s PairH)) PairH (next_word s)
-
 -- arithmetic
 
 -- CMP subtracts
@@ -214,6 +211,12 @@ abbrev pub pop : Symbolic80 → StackPair → Symbolic80
 pop s pair =
     let t = popped (load16 s s.sp) pair (next_word s) in
     record t { sp = sum16 s.sp (Num 2) }
+
+-- the word at SP is popped and HL is pushed: SP is what it was, as a sum of it
+abbrev pub xthl : Symbolic80 → Symbolic80
+xthl s =
+    let t = record (load16 s s.sp) { sp = sum16 s.sp (Num 2) } in
+    with_pair (push t (pair_term s PairH)) PairH (next_word s)
 
 -- the table; what ends a block has no effect beside its exit
 abbrev pub effect80 : Symbolic80 → Instr80 → Symbolic80

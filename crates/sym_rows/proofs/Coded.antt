@@ -9,7 +9,7 @@ use Rattle.i80.specs.declared.Instr80.TheVariants.{Mov, Mvi, Lxi, Lda, Sta, Lhld
 use Rattle.asm80_program.specs.Program.{IsCoded}
 use Rattle.asm86_lines.specs.declared.line.Stmt86.{Stmt86}
 use Rattle.asm86_lines.specs.declared.line.Stmt86.TheVariants.{Run, MovOffset}
-use Rattle.templates.specs.Template.{template}
+use Rattle.templates_plain.specs.Template.{template}
 use Rattle.sym_blocks.specs.Symbolic86.{Symbolic86}
 use Rattle.sym_blocks.specs.Sorts.{AreSorted86, StatementsAreCoded, StepsKeepSorts}
 use Rattle.sym_rows.specs.Rows.{all_passed, RowsKeepSorts}
@@ -67,4 +67,5 @@ pub rows_keep : StepsKeepSorts → RowsKeepSorts
 rows_keep k = record {
   coded = template_coded;
   sorted = λ i at save s t h x y. (k.effect80 s i h x, passed_sorted k (template i at save) t (template_coded i at save h) y);
+  passed = passed_sorted k;
 }

@@ -8,7 +8,7 @@ use Rattle.i80.specs.declared.Reg.TheVariants.{A as RegA, B as RegB, C as RegC, 
 use Rattle.i80.specs.declared.Pair.{Pair}
 use Rattle.i80.specs.declared.Pair.TheVariants.{B as PairB, D as PairD, H as PairH, Sp as PairSp}
 use Rattle.i80.specs.Columns.{part_of_reg, pair, five_flags}
-use Rattle.templates.specs.Template.{reg_of, pair_of}
+use Rattle.templates_plain.specs.Template.{reg_of, pair_of}
 use Rattle.sym_terms.specs.Term.{Term, Loaded8, Loaded16}
 use Rattle.sym_terms.proofs.Equal.{first_true, second_true, both_true}
 use Rattle.sym_blocks.specs.Outcome.{Action, Load8, Load16, Store8, Store16, Held, part_of, with_flags_of, with_count_flags_of}

@@ -9,7 +9,7 @@ use Rattle.i80.specs.declared.Pair.TheVariants.{H as PairH}
 use Rattle.i80.specs.declared.Instr80.{Instr80}
 use Rattle.i80.specs.Columns.{part_of_reg, pair, uses80, defs80}
 use Rattle.i86.specs.declared.Reg16.TheVariants.{Bx}
-use Rattle.templates.specs.Template.{template}
+use Rattle.templates_plain.specs.Template.{template}
 use Rattle.sym_blocks.specs.Block80.{Symbolic80, pair_term, effect80}
 use Rattle.sym_blocks.specs.Symbolic86.{Symbolic86, reg16_term}
 use Rattle.sym_blocks.specs.Sorts.{AreSorted80, AreSorted86}

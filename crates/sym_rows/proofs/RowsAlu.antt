@@ -13,7 +13,7 @@ use Rattle.i80.specs.declared.Instr80.TheVariants.{Alu as AluWith, AluI, Inr, Dc
 use Rattle.i80.specs.Columns.{part_of_reg, gives_zero, result_in_a, five_flags, read, written, carry_in as carry_used}
 use Rattle.i86.specs.declared.Count.{Count}
 use Rattle.i86.specs.declared.Count.TheVariants.{Inc, Dec}
-use Rattle.templates.specs.Template.{reg_of, operand_of, op_of as op86}
+use Rattle.templates_plain.specs.Template.{reg_of, operand_of, op_of as op86}
 use Rattle.sym_terms.specs.Term.{Term}
 use Rattle.sym_terms.specs.Making.{alu, flag, turn}
 use Rattle.sym_blocks.specs.Outcome.{Held}

@@ -18,7 +18,7 @@ use Rattle.sym_blocks.specs.Sorts.{AreSorted80, AreSorted86}
 use Rattle.sym_blocks.specs.Agree.{agrees, same_known}
 use Rattle.sym_rows.specs.Meeting.{Meets, same, WordsMeet, no_word, one_word, halves, Among, Agree}
 use Rattle.sym_rows.proofs.Terms.{or_second, meets_agree}
-use Rattle.sym_rows.proofs.Words.{words_agree, sums_meet, number_words_meet, back_again}
+use Rattle.sym_rows.proofs.Words.{words_agree, sums_meet, number_words_meet}
 use Rattle.sym_rows.proofs.Moves.{Adding, PartsMeet, old, agree_none, agree_pair, pair_meets, agree_sp, agree_beside, agree_load16, agree_store16, next_words_meet}
 use Rattle.sym_rows.proofs.Row.{Given, Row, address}
 
@@ -49,12 +49,6 @@ psw_written x y k k' e m P c = same (ap (λ n. bit (Low (Loaded16 n)) P) e) refl
 psw_written x y k k' e m Cy c = same (ap (λ n. bit (Low (Loaded16 n)) Cy) e) refl
 psw_written x y k k' e m q c = m q (old c refl)
 
--- words that meet are one where the 8080's is not open
-one_if_closed : (s t : Term) → WordsMeet s t → is_open s ≡ false → t ≡ s
-one_if_closed s t (no_word e) o = absurd (let f : true ≡ false = sym (ap is_open e) ∙ o in cc)
-one_if_closed s t (one_word e k) o = e
-one_if_closed s t (halves h l e o' mh ml) o = absurd (let f : true ≡ false = sym o' ∙ o in cc)
-
 module _ (before : Parts) (s : Symbolic80) (t : Symbolic86) (x : AreSorted80 s) (y : AreSorted86 t) (a : Agree (Among before) s t) (at : ℕ) (save : Bool) where
   lowered : WordsMeet (sum16 s.sp (Num 0xFFFE)) (sum16 t.sp (Num 0xFFFE))
   lowered = sums_meet _ _ _ _ a.sp (number_words_meet 0xFFFE)
@@ -81,16 +75,10 @@ module _ (before : Parts) (s : Symbolic80) (t : Symbolic86) (x : AreSorted80 s) 
       let b = agree_load16 s t _ _ (words_agree _ _ a.sp) a in
       record { parts = psw_written s.held t.held s.trace.loads t.trace.loads a.loads a.parts; sp = raised; actions = b.actions; loads = b.loads }
 
-  -- the 8086 pops and pushes, and its SP is what it was
-  pub row_xthl : is_open s.sp ≡ false → Given before Xthl → Row before s t Xthl at save
-  row_xthl o k =
+  pub row_xthl : Given before Xthl → Row before s t Xthl at save
+  row_xthl k =
+      let back : WordsMeet (sum16 (sum16 s.sp (Num 2)) (Num 0xFFFE)) (sum16 (sum16 t.sp (Num 2)) (Num 0xFFFE)) = sums_meet _ _ _ _ raised (number_words_meet 0xFFFE) in
       agree_pair PairH _ _ _ _ (next_words_meet s t a)
       (agree_beside _ _ t.ah (next_word86 t)
-      (agree_sp _ _ _ _ stays
-      (agree_store16 _ _ _ _ _ _ (words_agree _ _ stays) (address before s t x y a (k H refl) (k L refl)) (agree_load16 s t _ _ (words_agree _ _ a.sp) a))))
-    where
-      e : t.sp ≡ s.sp
-      e = one_if_closed s.sp t.sp a.sp o
-
-      stays : WordsMeet s.sp (sum16 (sum16 t.sp (Num 2)) (Num 0xFFFE))
-      stays = subst (λ z. WordsMeet s.sp z) (sym (back_again t.sp y.sp (ap is_open e ∙ o))) a.sp
+      (agree_sp _ _ _ _ back
+      (agree_store16 _ _ _ _ _ _ (words_agree _ _ back) (address before s t x y a (k H refl) (k L refl)) (agree_load16 s t _ _ (words_agree _ _ a.sp) a))))

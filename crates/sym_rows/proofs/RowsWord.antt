@@ -12,7 +12,7 @@ use Rattle.i86.specs.declared.Count.{Count}
 use Rattle.i86.specs.declared.Count.TheVariants.{Inc, Dec}
 use Rattle.i86.specs.declared.Instr86.TheVariants.{Count16}
 use Rattle.asm86_lines.specs.declared.line.Stmt86.TheVariants.{Run}
-use Rattle.templates.specs.Template.{pair_of, saved, template}
+use Rattle.templates_plain.specs.Template.{pair_of, saved, template}
 use Rattle.sym_terms.specs.Term.{Num, Unknown}
 use Rattle.sym_terms.specs.Making.{sum16, carry_of}
 use Rattle.sym_blocks.specs.Block80.{Symbolic80, pair_term, add_to_pair, dad, effect80, flag_byte}

@@ -5,14 +5,13 @@ use Rattle.cells.specs.declared.Part.{Part}
 use Rattle.cells.specs.declared.Part.TheVariants.{S, Z, Ac, P}
 use Rattle.cells.specs.Parts.{Parts, nothing, has, these}
 use Rattle.i80.specs.declared.Instr80.{Instr80}
-use Rattle.i80.specs.declared.Instr80.TheVariants.{Inx, Dcx, Dad, Xthl}
+use Rattle.i80.specs.declared.Instr80.TheVariants.{Inx, Dcx, Dad}
 use Rattle.i80.specs.Columns.{is_well_formed, ends80, uses80, defs80}
 use Rattle.i86.specs.declared.Instr86.TheVariants.{Sahf}
 use Rattle.asm80_program.specs.Program.{IsCoded}
 use Rattle.asm86_lines.specs.declared.line.Stmt86.{Stmt86}
 use Rattle.asm86_lines.specs.declared.line.Stmt86.TheVariants.{Run, MovOffset}
-use Rattle.templates.specs.Template.{template}
-use Rattle.sym_terms.specs.Term.{is_open}
+use Rattle.templates_plain.specs.Template.{template}
 use Rattle.sym_blocks.specs.Block80.{Symbolic80, effect80}
 use Rattle.sym_blocks.specs.Symbolic86.{Symbolic86, with_reg16, offset_term, effect86}
 use Rattle.sym_blocks.specs.Sorts.{AreSorted80, AreSorted86, StatementsAreCoded}
@@ -38,11 +37,6 @@ loses (Dcx pair) false = unsaved
 loses (Dad pair) false = unsaved
 loses i save = nothing
 
--- XTHL stores where it has loaded, which SP must say
-abbrev pub KnowsSp : Instr80 → Symbolic80 → Type 0
-KnowsSp Xthl s = is_open s.sp ≡ false
-KnowsSp i s = Unit {0}
-
 -- what is agreed on behind an instruction: what was before or what it defines, but for what its template loses
 pub record Behind (before : Parts) (i : Instr80) (save : Bool) (q : Part) : Type 0 where
   pub known : Among before q ⊎ Among (defs80 i) q
@@ -55,16 +49,17 @@ RowsAgree =
     is_well_formed i ≡ true →
     AreSorted80 s →
     AreSorted86 t →
-    KnowsSp i s →
     ((q : Part) → Among (uses80 i) q → Among before q) →
     ((q : Part) → Among after q → Behind before i save q) →
     Agree (Among before) s t →
     Agree (Among after) (effect80 s i) (all_passed t (template i at save))
 
--- the numbers of a template are in their ranges, and the terms behind it made and of their sorts
+-- the numbers of a template are in their ranges, and the terms behind it made and of their sorts, as they are behind any statements
+-- whose numbers are in their ranges
 pub record RowsKeepSorts : Type 0 where
   pub coded : (i : Instr80) (at : ℕ) (save : Bool) → IsCoded i → StatementsAreCoded (template i at save)
   pub sorted : (i : Instr80) (at : ℕ) (save : Bool) (s : Symbolic80) (t : Symbolic86) → IsCoded i → AreSorted80 s → AreSorted86 t → AreSorted80 (effect80 s i) × AreSorted86 (all_passed t (template i at save))
+  pub passed : (xs : List Stmt86) (t : Symbolic86) → StatementsAreCoded xs → AreSorted86 t → AreSorted86 (all_passed t xs)
 
 -- A SAHF that a saving INX, DCX or DAD follows at once, and the LAHF that it begins with, may both go: AH already holds what LAHF would
 -- put there, as far as SAHF looks at it. Where statements end by a SAHF that goes, the states agree behind that SAHF all the same.

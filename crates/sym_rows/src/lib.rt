@@ -12,7 +12,7 @@ pub fn rows_agree()
 {}
 
 /// A law: the numbers of an instruction's template are in their ranges, and behind both the terms are made and of their sorts, as they
-/// were before.
+/// were before; and so they are behind any statements whose numbers are in their ranges.
 pub fn rows_keep_sorts()
     ensures { RowsKeepSorts }
 {

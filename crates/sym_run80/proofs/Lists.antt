@@ -184,10 +184,10 @@ exchange_by m = refl
 pub exchange_is : (m : Machine) → as80 (micros m ((Byte T (OfByte D)) ∷ (Byte U (OfByte E)) ∷ (Byte D (OfByte H)) ∷ (Byte E (OfByte L)) ∷ (Byte H (OfByte T)) ∷ (Byte L (OfByte U)) ∷ [])) ≡ effect80 (as80 m) Xchg
 exchange_is m = exchange_by m
 
-exchange_top_by : (m : Machine) → as80 (micros m ((Word V (OfWide Sp)) ∷ (Word W (OfWide Hl)) ∷ (Word X LoadedWord) ∷ (LoadWord V) ∷ (StoreWord V W) ∷ (Put Hl X) ∷ [])) ≡ effect80 (as80 m) Xthl
+exchange_top_by : (m : Machine) → as80 (micros m ((Word V (OfWide Sp)) ∷ (Word X LoadedWord) ∷ (LoadWord V) ∷ (Word W (NumberWord 2)) ∷ (Sum V V W) ∷ (Word W (NumberWord 0xFFFE)) ∷ (Sum V V W) ∷ (Put Sp V) ∷ (Word W (OfWide Hl)) ∷ (StoreWord V W) ∷ (Put Hl X) ∷ [])) ≡ effect80 (as80 m) Xthl
 exchange_top_by m = refl
 
-pub exchange_top_is : (m : Machine) → as80 (micros m ((Word V (OfWide Sp)) ∷ (Word W (OfWide Hl)) ∷ (Word X LoadedWord) ∷ (LoadWord V) ∷ (StoreWord V W) ∷ (Put Hl X) ∷ [])) ≡ effect80 (as80 m) Xthl
+pub exchange_top_is : (m : Machine) → as80 (micros m ((Word V (OfWide Sp)) ∷ (Word X LoadedWord) ∷ (LoadWord V) ∷ (Word W (NumberWord 2)) ∷ (Sum V V W) ∷ (Word W (NumberWord 0xFFFE)) ∷ (Sum V V W) ∷ (Put Sp V) ∷ (Word W (OfWide Hl)) ∷ (StoreWord V W) ∷ (Put Hl X) ∷ [])) ≡ effect80 (as80 m) Xthl
 exchange_top_is m = exchange_top_by m
 
 hl_to_sp_by : (m : Machine) → as80 (micros m ((Word W (OfWide Hl)) ∷ (Put Sp W) ∷ [])) ≡ effect80 (as80 m) Sphl

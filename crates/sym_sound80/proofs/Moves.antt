@@ -17,7 +17,7 @@ use Rattle.i80.specs.declared.Word.TheVariants.{Code as CodeAt}
 use Rattle.base_arithmetic.specs.Operations.{flags_in}
 use Rattle.asm80_program.specs.Program.{Program}
 use Rattle.cpu80_steps.specs.State.{State80, reg80, with_a as with_a80, with_num, wrap}
-use Rattle.cpu80_steps.specs.Memory.{read_at, write_at, Halves, read_word, write_word}
+use Rattle.cpu80_steps.specs.Memory.{put, read_at, write_at, Halves, read_word, write_word}
 use Rattle.cpu80_steps.specs.Effect.{source as source80, into as into80, lxi as lxi80, lda as lda80, lhld as lhld80, xchg as xchg80, xthl as xthl80, push as push80, push_pair, popped as popped80, pop_pair}
 use Rattle.sym_terms.specs.Term.{Term, Num, Code, is_word}
 use Rattle.sym_terms.specs.Making.{high, low, join, sum16}
@@ -152,17 +152,6 @@ module _ (keep : MadeTermsKeepValues) (sorts : MadeTermsHaveSorts) (p : Program)
       let w = write_word_is p s t n s.regs.h s.regs.l lt e in
       subst (λ (u : State80). Denotes p s0 loads (store16 x at (pair_term x PairH)) u) w.3 (stores_word p s0 loads x s at (pair_term x PairH) n s.regs.h s.regs.l d w.0 v (pair_value keep p s0 loads x s PairH d h) w.1 w.2 (d.is_state.regs H) (d.is_state.regs L))
 
-  pub exchanges_top : (loads : List Load80) (x : Symbolic80) (s t : State80) → Denotes p s0 loads x s → HeldIsSorted x.held → xthl80 p s ≡ Ok t → Denoted p s0 (xthl x) t
-  exchanges_top loads x s t d h e =
-      let a = then_is (read_word p s s.sp) _ t e in
-      let w = a.0 in
-      let b = then_is (write_word p s s.sp s.regs.h s.regs.l) _ t a.2 in
-      let l = word_is_loaded loads x s x.sp s.sp w d d.is_state.sp d.sp a.1 in
-      let more = loads ++ LoadedWord w.high w.low ∷ [] in
-      let loaded = l.0 in
-      let stored = stores_pair more (load16 x x.sp) s b.0 x.sp s.sp loaded h d.is_state.sp loaded.sp b.1 in
-      record { loads = more; denotes = subst (λ (u : State80). Denotes p s0 more (xthl x) u) (ok_is _ t b.2) (sets_hl keep p s0 more (store16 (load16 x x.sp) x.sp (pair_term x PairH)) b.0 (next_word x) w.high w.low stored (tt, refl) (word_loaded p s0 loads x s w.high w.low d) l.1 l.2) }
-
   -- SP and a number
   pub sp_moves : (loads : List Load80) (x : Symbolic80) (s : State80) (k : ℕ) → Denotes p s0 loads x s → IsMadeAs is_word x.sp → k < 0x10000 → Val80 (env80 s0 loads) (sum16 x.sp (Num k)) (word_of (wrap (s.sp + k)))
   sp_moves loads x s k d m lt = (keep.on_8080 (env80 s0 loads)).sum16 x.sp (Num k) _ m (word_sorted k lt) (s.sp, k, d.is_state.sp, lt, d.sp, word_number (env80 s0 loads) k lt, refl, refl)
@@ -178,6 +167,29 @@ module _ (keep : MadeTermsKeepValues) (sorts : MadeTermsHaveSorts) (p : Program)
       let r = write_word_is p s a.0 n high low (wrapped (s.sp + 0xFFFE)) a.1 in
       let stored = subst (λ (u : State80). Denotes p s0 loads (store16 x (sum16 x.sp (Num 0xFFFE)) w) u) r.3 (stores_word p s0 loads x s (sum16 x.sp (Num 0xFFFE)) w n high low d r.0 moved v r.1 r.2 ih il) in
       record { loads = loads; denotes = subst (λ (u : State80). Denotes p s0 loads (push x w) u) (ok_is _ t a.2) (sets_sp p s0 loads (store16 x (sum16 x.sp (Num 0xFFFE)) w) a.0 (sum16 x.sp (Num 0xFFFE)) n stored (wrapped (s.sp + 0xFFFE)) moved) }
+
+  -- SP that was raised and lowered by 2 is what it was
+  back : (n : ℕ) → n < 0x10000 → wrap (wrap (n + 2) + 0xFFFE) ≡ n
+  back n lt = omega (arith, lt)
+
+  pub exchanges_top : (loads : List Load80) (x : Symbolic80) (s t : State80) → Denotes p s0 loads x s → AreSorted80 x → xthl80 p s ≡ Ok t → Denoted p s0 (xthl x) t
+  exchanges_top loads x s t d o e =
+      let a = then_is (read_word p s s.sp) _ t e in
+      let w = a.0 in
+      let b = then_is (write_word p s s.sp s.regs.h s.regs.l) _ t a.2 in
+      let l = word_is_loaded loads x s x.sp s.sp w d d.is_state.sp d.sp a.1 in
+      let more = loads ++ LoadedWord w.high w.low ∷ [] in
+      let y = load16 x x.sp in
+      let up = sum16 x.sp (Num 2) in
+      let at = sum16 (sum16 x.sp (Num 2)) (Num 0xFFFE) in
+      let raised = sets_sp p s0 more (load16 x x.sp) s (sum16 x.sp (Num 2)) (wrap (s.sp + 2)) l.0 (wrapped (s.sp + 2)) (sp_moves more (load16 x x.sp) s 2 l.0 o.sp (omega arith)) in
+      let lowered = sp_moves more (record (load16 x x.sp) { sp = sum16 x.sp (Num 2) }) (record s { sp = wrap (s.sp + 2) }) 0xFFFE raised (sorts.sum16 x.sp (Num 2) o.sp (word_sorted 2 (omega arith))) (omega arith) in
+      let v = subst (λ (n : ℕ). Val80 (env80 s0 more) at (word_of n)) (back s.sp d.is_state.sp) lowered in
+      let r = write_word_is p s b.0 s.sp s.regs.h s.regs.l d.is_state.sp b.1 in
+      let stored = stores_word p s0 more y s at (pair_term x PairH) s.sp s.regs.h s.regs.l l.0 r.0 v (pair_value keep p s0 more y s PairH l.0 o.held) r.1 r.2 (d.is_state.regs H) (d.is_state.regs L) in
+      let after = record s { mem = put (put s.mem s.sp s.regs.l) (s.sp + 1) s.regs.h } in
+      let kept = subst (λ (u : State80). Denotes p s0 more (push (record (load16 x x.sp) { sp = sum16 x.sp (Num 2) }) (pair_term x PairH)) u) r.3 (sets_sp p s0 more (store16 y at (pair_term x PairH)) after at s.sp stored d.is_state.sp v) in
+      record { loads = more; denotes = subst (λ (u : State80). Denotes p s0 more (xthl x) u) (ok_is _ t b.2) (sets_hl keep p s0 more (push (record (load16 x x.sp) { sp = sum16 x.sp (Num 2) }) (pair_term x PairH)) b.0 (next_word x) w.high w.low kept (tt, refl) (word_loaded p s0 loads x s w.high w.low d) l.1 l.2) }
 
   -- the byte of the flags
   psw_value : (loads : List Load80) (x : Symbolic80) (s : State80) → Denotes p s0 loads x s → HeldIsSorted x.held → Val80 (env80 s0 loads) (join x.held.a (flag_byte x.held)) (Word s.regs.a (PswCell s.flags))

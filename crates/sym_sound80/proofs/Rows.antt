@@ -119,7 +119,7 @@ module _ (keep : MadeTermsKeepValues) (sorts : MadeTermsHaveSorts) (p : Program)
   row loads x s t (Stax PairH) d o c w l e = absurd (cc)
   row loads x s t (Stax Sp) d o c w l e = absurd (cc)
   row loads x s t Xchg d o c w l e = done loads _ _ t (exchanges p s0 loads x s d) e
-  row loads x s t Xthl d o c w l e = exchanges_top keep sorts p s0 loads x s t d o.held e
+  row loads x s t Xthl d o c w l e = exchanges_top keep sorts p s0 loads x s t d o e
   row loads x s t Sphl d o c w l e =
       let a = then_is (address s.regs.h s.regs.l) _ t e in
       let n = pair_address keep p s0 loads x s a.0 d o.held a.1 in

@@ -9,5 +9,5 @@ pub returns : goal.returns
 returns c =
     let old = c.args.terms.now in
     let r = c.args.run.now in
-    goes_on_as old c.perform.new.terms r c.perform.new.run 5 24 2 2 _ _ c.perform.result (lit≤ tt) (lit≤ tt) c.perform.ensures
+    goes_on_as old c.perform.new.terms r c.perform.new.run 13 24 2 2 _ _ c.perform.result (lit≤ tt) (lit≤ tt) c.perform.ensures
     (λ m e. ap as80 e ∙ exchange_top_is (machine_of old r))
