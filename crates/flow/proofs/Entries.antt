@@ -19,11 +19,11 @@ target_named (Call g) t h = h
 target_named (Cif c g) t h = h
 target_named i t h = absurd (cc)
 
-among_cons : (o : Option ℕ) (list : List ℕ) (a : ℕ) → is_among list a ≡ true → is_among (cons_option o list) a ≡ true
+pub among_cons : (o : Option ℕ) (list : List ℕ) (a : ℕ) → is_among list a ≡ true → is_among (cons_option o list) a ≡ true
 among_cons None list a h = h
 among_cons (Some b) list a h = or_right (b == a) (is_among list a) h
 
-among_some : (o : Option ℕ) (list : List ℕ) (a : ℕ) → o ≡ Some a → is_among (cons_option o list) a ≡ true
+pub among_some : (o : Option ℕ) (list : List ℕ) (a : ℕ) → o ≡ Some a → is_among (cons_option o list) a ≡ true
 among_some None list a e = absurd (cc)
 among_some (Some b) list a e = or_left (b == a) (is_among list a) (eq-eqb b a (let s : b ≡ a = cc in s))
 

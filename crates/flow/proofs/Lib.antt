@@ -18,3 +18,4 @@ pub mod Marks
 pub mod Passes
 pub mod Lookup
 pub mod Saved
+pub mod AllNeeds

@@ -5,10 +5,11 @@ ghost use Rattle.asm80_program.specs.Program.{IsProgram, is_start};
 ghost use Rattle.flow.specs.declared.node.Node.TheVariants.{Start, Return};
 ghost use Rattle.flow.specs.Blocks.{leaders, block_at};
 ghost use Rattle.flow.specs.Graph.{edge_count};
-ghost use Rattle.flow.specs.Solving.{AreNeeds};
+ghost use Rattle.flow.specs.Solving.{AreNeeds, HasNeeds};
 
 use crate::begin::{numbers, vertices_of};
 use crate::cut::{Cut, cut_of};
+use crate::laws::needs_are_closed;
 use crate::node::Node;
 use crate::search::{Vertex, run};
 use crate::sources::Sources;
@@ -120,6 +121,15 @@ impl Graph {
         ensures { AreNeeds self.now.program Return result }
     {
         self.vertices[self.program.starts().len()].need
+    }
+
+    /// A law of a program whose needs are found: what is needed at each address and at a return is a set of parts.
+    pub fn needs_are_sets(&self)
+        requires { IsTrue self.now.is_solved }
+        ensures { HasNeeds self.now.program }
+    {
+        let _vertices = &self.vertices;
+        needs_are_closed();
     }
 
     /// The addresses at which blocks begin, ascending.

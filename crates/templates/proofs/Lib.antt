@@ -1,1 +1,5 @@
-mod Numbering
+mod Needed
+mod Trims
+mod Laid
+mod Joined
+mod Reaching

@@ -1,14 +1,13 @@
-// The 8086 statements that stand for each 8080 instruction, and the whole text of a program.
+// The 8086 statements that stand for each 8080 instruction, and the whole texts of a program.
 #![tactic(auto)]
 
-mod frame;
-mod operands;
-mod plain;
-mod rows;
-mod sequence;
-mod text;
+mod blocks;
+mod laws;
+mod lean;
+mod places;
+mod rules;
+mod written;
 
-pub use frame::{prologue, runtime};
-pub use plain::plain_text;
-pub use rows::template;
-pub use sequence::Sequence;
+pub use laws::lean_texts_are_one;
+pub use lean::lean_text;
+pub use templates_plain::{Sequence, plain_text, prologue, runtime, template};

@@ -1,0 +1,69 @@
+-- What is needed at each place is a set of parts.
+use Rattle.std.proofs.Common.{◌≡◌, ◌⊎◌, inl, inr, ℕ, Bool, true, false, List, length, Option, Some, None, refl, subst, arith}
+use Rattle.std.specs.Prelude.{is_some, IsTrue, ◌==◌}
+use Rattle.std.specs.List.{Contains}
+use Rattle.std.proofs.lemmas.Bool.{eqb-true}
+use Rattle.cells.specs.declared.Part.{Part}
+use Rattle.cells.specs.declared.Part.TheVariants.{A, B, C, D, E, H, L, S, Z, Ac, P, Cy}
+use Rattle.cells.specs.Parts.{Parts, nothing, has}
+use Rattle.i80.specs.declared.Instr80.{Instr80}
+use Rattle.i80.specs.Columns.{uses80}
+use Rattle.asm80_program.specs.declared.program.Placed.{Placed}
+use Rattle.asm80_program.specs.Program.{Program, placed_in, instr_of_placed, instr_at, is_start, starts}
+use Rattle.flow.specs.declared.node.Node.{Node}
+use Rattle.flow.specs.declared.node.Node.TheVariants.{Start, Return}
+use Rattle.flow.specs.declared.search.Vertex.{Vertex}
+use Rattle.flow.specs.Graph.{IsEdge, edges_at}
+use Rattle.flow.specs.Need.{Need, NeedsAreClosed, parts_of, uses_at, defines_at}
+use Rattle.flow.specs.Search.{vertex, AreOf, IsPassedOn, IsQueue}
+use Rattle.flow.specs.Solving.{AreNeeds, HasNeeds}
+use Rattle.flow.specs.Wiring.{IsWired}
+use Rattle.flow.proofs.Complete.{are_needs}
+use Rattle.flow.proofs.Numbers.{number_of_return}
+use Rattle.flow.proofs.Wires.{start_number}
+
+nothing_has : (x : Part) → has nothing x ≡ false
+nothing_has A = refl
+nothing_has B = refl
+nothing_has C = refl
+nothing_has D = refl
+nothing_has E = refl
+nothing_has H = refl
+nothing_has L = refl
+nothing_has S = refl
+nothing_has Z = refl
+nothing_has Ac = refl
+nothing_has P = refl
+nothing_has Cy = refl
+
+no_instr : (o : Option Placed) → is_some o ≡ false → instr_of_placed o ≡ None
+no_instr None h = refl
+no_instr (Some x) h = absurd (cc)
+
+no_need : (p : Program) (a : ℕ) (x : Part) → instr_at p a ≡ None → (has (uses_at p (Start a)) x ≡ true) ⊎ ((r : Node) × IsEdge p (Start a) r × (has (defines_at p (Start a)) x ≡ false) × Need p r x) → ⊥
+no_need p a x e (inl u) =
+    let here : has nothing x ≡ true = subst (λ (o : Option Instr80). has (parts_of uses80 o) x ≡ true) e u in
+    let none = nothing_has x in
+    cc
+no_need p a x e (inr s) =
+    let edge = subst (λ (o : Option Instr80). Contains (edges_at p a o) s.0) e s.1 in
+    absurd (omega (arith, edge.1))
+
+-- nothing is needed where no instruction starts
+none_needed : (p : Program) (a : ℕ) → NeedsAreClosed p → is_start p a ≡ false → AreNeeds p (Start a) nothing
+none_needed p a closed h = λ x.
+    let no : (has nothing x ≡ true) → Need p (Start a) x = λ e. let none = nothing_has x in absurd (cc) in
+    (no, λ n. absurd (no_need p a x (no_instr (placed_in p.instrs a) h) (closed.only (Start a) x n)))
+
+pub all_needs : (p : Program) (ss : List (List ℕ)) (vs : List Vertex) (work : List ℕ) (capacity : ℕ) → NeedsAreClosed p → IsWired p ss → AreOf p vs → IsPassedOn ss vs → IsQueue vs work capacity → IsTrue (length work == 0) → HasNeeds p
+all_needs p ss vs work capacity closed w a passed queue solved = (
+  record { at = λ q. (each q (is_start p q) refl).0; returned = (vertex vs (length (starts p))).need },
+  record { at = λ q. (each q (is_start p q) refl).1; returned = are_needs p ss vs work capacity (length (starts p)) Return w a passed queue empty (number_of_return p) },
+)
+  where
+    empty : length work ≡ 0
+    empty = eqb-true (length work) 0 solved
+
+    each : (q : ℕ) (x : Bool) → is_start p q ≡ x → (k : Parts) × AreNeeds p (Start q) k
+    each q true e = let n = start_number p q e in ((vertex vs n.0).need, are_needs p ss vs work capacity n.0 (Start q) w a passed queue empty n.1)
+    each q false e = (nothing, none_needed p q closed e)
