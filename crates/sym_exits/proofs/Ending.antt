@@ -19,7 +19,7 @@ use Rattle.asm86_lines.specs.declared.line.Label.TheVariants.{At, Skip, Sys as S
 use Rattle.asm86_lines.specs.declared.line.Stmt86.{Stmt86}
 use Rattle.asm86_lines.specs.declared.line.Stmt86.TheVariants.{Mark, Run, Jcc as JccTo, Jmp as JmpTo, Call as CallStmt}
 use Rattle.dialogue.specs.Tried.{try_then}
-use Rattle.templates.specs.Template.{template, label_of, unless}
+use Rattle.templates_plain.specs.Template.{template, label_of, unless}
 use Rattle.sym_blocks.specs.declared.reason.Reason.{Reason}
 use Rattle.sym_blocks.specs.declared.reason.Reason.TheVariants.{Form}
 use Rattle.sym_terms.specs.Term.{Term}
@@ -126,7 +126,7 @@ pub ending : (p : Program) (w : Surroundings) (before : Parts) (i : Instr80) (at
 ending p w before i at room save rest s t e g b skip k a = end p w before at room save rest s t g b a i e skip k
 
 -- what goes on falls to the address after the block
-exit_falls : (p : Program) (a : ℕ) (s : Symbolic80) (i : Instr80) → ends80 i ≡ false → exit80 p a s i ≡ One (goto p a)
+pub exit_falls : (p : Program) (a : ℕ) (s : Symbolic80) (i : Instr80) → ends80 i ≡ false → exit80 p a s i ≡ One (goto p a)
 exit_falls p a s Pchl e = absurd (cc)
 exit_falls p a s (Jmp goal) e = absurd (cc)
 exit_falls p a s (Jif c goal) e = absurd (cc)

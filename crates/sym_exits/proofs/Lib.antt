@@ -1,4 +1,4 @@
 mod Passing
 mod Templates
 mod Ways
-mod Ending
+pub mod Ending

@@ -8,7 +8,7 @@ use Rattle.i80.specs.declared.Instr80.{Instr80}
 use Rattle.i80.specs.declared.Instr80.TheVariants.{Mov, Mvi, Lxi, Ldax, Stax, Xthl, Inx, Dcx, Dad, Push, Pop, Pchl, Jmp, Jif, Call, Cif, Ret, Rif, Rst0, In, Out}
 use Rattle.i80.specs.Columns.{ends80, is_well_formed}
 use Rattle.asm86_lines.specs.declared.line.Stmt86.{Stmt86}
-use Rattle.templates.specs.Template.{template}
+use Rattle.templates_plain.specs.Template.{template}
 use Rattle.sym_blocks.specs.Symbolic86.{Symbolic86}
 use Rattle.sym_blocks.specs.Walk86.{Surroundings, met, walk_from, walk_some}
 use Rattle.sym_exits.specs.Exits.{AreStraight}

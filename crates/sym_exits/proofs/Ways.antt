@@ -17,7 +17,7 @@ use Rattle.asm80_program.specs.Program.{Program, is_start}
 use Rattle.asm86_lines.specs.declared.line.Label.TheVariants.{At}
 use Rattle.asm86_lines.specs.declared.line.Stmt86.{Stmt86}
 use Rattle.asm86_lines.specs.Layout.{same_label}
-use Rattle.templates.specs.Template.{label_of, unless}
+use Rattle.templates_plain.specs.Template.{label_of, unless}
 use Rattle.sym_terms.specs.Term.{same_place, same_bool}
 use Rattle.sym_terms.specs.Making.{high, low}
 use Rattle.sym_terms.proofs.Equal.{both_true}

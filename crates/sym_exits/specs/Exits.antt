@@ -17,7 +17,7 @@ use Rattle.asm86_lines.specs.declared.line.Label.{Label}
 use Rattle.asm86_lines.specs.declared.line.Label.TheVariants.{At, Skip}
 use Rattle.asm86_lines.specs.declared.line.Stmt86.{Stmt86}
 use Rattle.asm86_lines.specs.declared.line.Stmt86.TheVariants.{Mark, Run, MovOffset, Jcc as JccTo}
-use Rattle.templates.specs.Template.{template, label_of}
+use Rattle.templates_plain.specs.Template.{template, label_of}
 use Rattle.sym_blocks.specs.declared.reason.Reason.{Reason}
 use Rattle.sym_blocks.specs.Outcome.{Way, Exit, Held, Outcome}
 use Rattle.sym_blocks.specs.Block80.{Symbolic80, flag_term, wanted, exit80}

@@ -1,5 +1,5 @@
--- Small programs, computed: their plain texts match each instruction alone, and where a text of several instructions need not match.
-use Rattle.std.proofs.Common.{◌≡◌, ℕ, [], ◌∷◌, Some, None, refl}
+-- Small programs, computed: their plain texts match each instruction alone, and a block of several.
+use Rattle.std.proofs.Common.{◌≡◌, ℕ, [], ◌∷◌, None, refl}
 use Rattle.cells.specs.declared.Cond.TheVariants.{Nz, Pe}
 use Rattle.cells.specs.Parts.{everything}
 use Rattle.i80.specs.declared.Reg.TheVariants.{A as RegA, B as RegB, H as RegH}
@@ -10,8 +10,7 @@ use Rattle.i80.specs.declared.Instr80.{Instr80}
 use Rattle.i80.specs.declared.Instr80.TheVariants.{Mov, Xthl, Sphl, Alu, Daa, Jmp, Call, Jif, Rif, In, Out}
 use Rattle.asm80_program.specs.declared.program.Placed.{Placed}
 use Rattle.asm80_program.specs.Program.{Program, program_of}
-use Rattle.templates.specs.Plain.{plain_statements}
-use Rattle.sym_blocks.specs.declared.reason.Reason.TheVariants.{Actions}
+use Rattle.templates_plain.specs.Plain.{plain_statements}
 use Rattle.sym_blocks.specs.BlockMatch.{Keeps, block_reason}
 
 abbrev line : ℕ → ℕ → Instr80 → Placed
@@ -45,9 +44,8 @@ last_matches : block_reason ends (plain_statements ends) all_kept 0x10B 1 ≡ No
 unfolding ends
 last_matches = refl
 
--- ORA B / DAA / MOV H,A / SPHL / XTHL: AC is unknown behind ORA, so A behind DAA and the high half of SP behind SPHL. XTHL leaves that
--- SP as it is; the 8086, which pops and pushes, sums it to an unknown word. So as one block it does not match, and of XTHL the law of
--- rows asks that nothing open stands in SP.
+-- ORA B / DAA / MOV H,A / SPHL / XTHL: AC is unknown behind ORA, so A behind DAA and the high half of SP behind SPHL. The sums of that
+-- SP are unknown words on both sides: XTHL of the 8080 sums it too, as a POP and a PUSH do.
 half_known : Program
 half_known = program_of (line 0x100 2 (Alu Ora (InReg RegB)) ∷ (line 0x101 3 Daa ∷ (line 0x102 4 (Mov (InReg RegH) (InReg RegA)) ∷ (line 0x103 5 Sphl ∷ (line 0x104 6 Xthl ∷ (line 0x105 7 (Jmp ToBoot) ∷ [])))))) [] 0xF000
 
@@ -55,6 +53,6 @@ xthl_alone_matches : block_reason half_known (plain_statements half_known) all_k
 unfolding half_known
 xthl_alone_matches = refl
 
-xthl_in_a_block_does_not : block_reason half_known (plain_statements half_known) all_kept 0x100 5 ≡ Some Actions
+xthl_in_a_block_matches : block_reason half_known (plain_statements half_known) all_kept 0x100 5 ≡ None
 unfolding half_known
-xthl_in_a_block_does_not = refl
+xthl_in_a_block_matches = refl

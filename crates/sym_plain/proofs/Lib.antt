@@ -1,7 +1,5 @@
 pub mod Laid
-mod Standing
-mod Reasons
-mod Matching
+pub mod Standing
+pub mod Reasons
+pub mod Matching
 mod Examples
-mod Coded
-mod Parts

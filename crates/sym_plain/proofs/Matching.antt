@@ -3,7 +3,7 @@ use Rattle.std.proofs.Common.{◌≡◌, ℕ, ◌+◌, ◌-◌, List, [], ◌∷
 use Rattle.cells.specs.declared.Part.{Part}
 use Rattle.cells.specs.Parts.{Parts, has, everything}
 use Rattle.i80.specs.declared.Instr80.{Instr80}
-use Rattle.i80.specs.declared.Instr80.TheVariants.{Xthl, Inx, Dcx, Dad, Pchl, Jmp, Jif, Call, Cif, Ret, Rif, Rst0, In, Out}
+use Rattle.i80.specs.declared.Instr80.TheVariants.{Inx, Dcx, Dad, Pchl, Jmp, Jif, Call, Cif, Ret, Rif, Rst0, In, Out}
 use Rattle.i80.specs.Columns.{is_well_formed, ends80}
 use Rattle.asm86_lines.specs.declared.line.Label.{Label}
 use Rattle.asm86_lines.specs.declared.line.Label.TheVariants.{At, Skip, User, Sys, End}
@@ -11,8 +11,8 @@ use Rattle.asm86_lines.specs.declared.line.Stmt86.{Stmt86}
 use Rattle.asm86_lines.specs.declared.line.Stmt86.TheVariants.{Dseg, Mark}
 use Rattle.asm80_program.specs.declared.program.Placed.{Placed}
 use Rattle.asm80_program.specs.Program.{Program, IsProgram, placed_in, is_start, instr_of_placed}
-use Rattle.templates.specs.Template.{template}
-use Rattle.templates.specs.Plain.{call_code, end_code, data_from, ending, body, plain_statements}
+use Rattle.templates_plain.specs.Template.{template}
+use Rattle.templates_plain.specs.Plain.{call_code, end_code, data_from, ending, body, plain_statements}
 use Rattle.sym_blocks.specs.Outcome.{Way, Outcome}
 use Rattle.sym_blocks.specs.Block80.{Symbolic80, start80, effect80, exit80, outcome80, outcome_from, instrs_from, before_more}
 use Rattle.sym_blocks.specs.Symbolic86.{Symbolic86, start86}
@@ -20,8 +20,8 @@ use Rattle.sym_blocks.specs.Walk86.{Surroundings, surroundings, behind, way_to, 
 use Rattle.sym_blocks.specs.Sorts.{StepsKeepSorts}
 use Rattle.sym_blocks.specs.BlockMatch.{Keeps, walked_reason, block_reason}
 use Rattle.sym_rows.specs.Meeting.{Among, Agree}
-use Rattle.sym_rows.specs.Rows.{all_passed, loses, KnowsSp, RowsAgree}
-use Rattle.sym_rows.proofs.Moves.{has_nothing}
+use Rattle.sym_rows.specs.Rows.{all_passed, loses, RowsAgree}
+use Rattle.sym_rows.proofs.Moves.{has_nothing, agree_on}
 use Rattle.sym_exits.specs.Exits.{room_for, StatementsArePassed, TemplatesAreWalked, EndsBehind, SkipsTo, Ends, ExitsAgree}
 use Rattle.sym_plain.specs.Plain.{PlainBlocksMatch}
 use Rattle.sym_plain.proofs.Laid.{started, found_at, laid_good}
@@ -30,18 +30,14 @@ use Rattle.sym_plain.proofs.Reasons.{in_everything, no_reason, starts_agree}
 
 -- one instruction
 
-knows_sp : (i : Instr80) → KnowsSp i start80
-knows_sp Xthl = refl
-knows_sp i = tt
-
-nothing_lost : (i : Instr80) (q : Part) → has (loses i true) q ≡ false
+pub nothing_lost : (i : Instr80) (q : Part) → has (loses i true) q ≡ false
 nothing_lost (Inx p) q = has_nothing q
 nothing_lost (Dcx p) q = has_nothing q
 nothing_lost (Dad p) q = has_nothing q
 nothing_lost i q = has_nothing q
 
 -- what ends a block has no effect beside its exit
-end_keeps : (s : Symbolic80) (i : Instr80) → ends80 i ≡ true → effect80 s i ≡ s
+pub end_keeps : (s : Symbolic80) (i : Instr80) → ends80 i ≡ true → effect80 s i ≡ s
 end_keeps s Pchl e = refl
 end_keeps s (Jmp g) e = refl
 end_keeps s (Jif c g) e = refl
@@ -55,7 +51,7 @@ end_keeps s (Out n) e = refl
 end_keeps s i e = absurd (let f : false ≡ true = e in cc)
 
 -- of so many statements as there is room for
-room_is : (xs : List Stmt86) (room : ℕ) → room_for xs room ≡ length xs + room
+pub room_is : (xs : List Stmt86) (room : ℕ) → room_for xs room ≡ length xs + room
 room_is [] room = omega arith
 room_is (x ∷ xs) room = let e = room_is xs room in omega (arith, e)
 
@@ -92,7 +88,7 @@ module _ (sorts : StepsKeepSorts) (rows : RowsAgree) (passed : StatementsArePass
 
       behind_it : Agree (Among everything) (effect80 start80 i) (all_passed (start86 keep) xs)
       behind_it =
-          rows everything everything i at true start80 (start86 keep) e good sorts.start80 (sorts.start86 keep) (knows_sp i) (λ q c. in_everything q)
+          rows everything everything i at true start80 (start86 keep) e good sorts.start80 (sorts.start86 keep) (λ q c. in_everything q)
           (λ q c. record { known = inl c; stays = nothing_lost i q }) a
 
       end : Ends (walk_from w (10 - length xs) (met w rest) (all_passed (start86 keep) xs)) (all_passed (start86 keep) xs) false (exit80 p w.after (effect80 start80 i) i)
@@ -125,7 +121,7 @@ module _ (sorts : StepsKeepSorts) (rows : RowsAgree) (passed : StatementsArePass
       ap (λ is. walked_reason keeps (outcome_from p x.at is start80) (walk_behind (surroundings p (plain_statements p) x.at is) 10 t (behind (plain_statements p) (At x.at)))) alone
       ∙ ap (λ o. walked_reason keeps outcome (walk_behind w 10 t o)) s.at
       ∙ ap (walked_reason keeps outcome) (walks.some x.instr x.at true w 10 s.rest t form ∙ y.ends.is)
-      ∙ no_reason keeps (effect80 start80 x.instr) y.last (exit80 p w.after (effect80 start80 x.instr) x.instr) y.ends.exit86 y.agree y.ends.agrees
+      ∙ no_reason everything keeps (effect80 start80 x.instr) y.last false (exit80 p w.after (effect80 start80 x.instr) x.instr) y.ends.exit86 y.agree y.ends.agrees (λ q c. in_everything q) (λ q. refl)
     where
       w : Surroundings
       w = surroundings p (plain_statements p) x.at (x.instr ∷ [])
@@ -149,7 +145,7 @@ module _ (sorts : StepsKeepSorts) (rows : RowsAgree) (passed : StatementsArePass
       b = record { label = s.label; more = s.more; way = s.way; begins = s.begins; stops = not_passed p (plain_statements p) x.at x.instr s.label s.way s.leads; leads = s.leads; next = s.next }
 
       y : Walked p w x.instr x.at s.rest t
-      y = walked p w x.instr x.at s.rest (keeps.at x.at) form refl b (skips p x.instr x.at s.rest s.skip) (starts_agree (keeps.at x.at) all)
+      y = walked p w x.instr x.at s.rest (keeps.at x.at) form refl b (skips p x.instr x.at s.rest s.skip) (agree_on _ _ (λ q c. all q) (starts_agree (keeps.at x.at)))
 
   pub matches : PlainBlocksMatch
   matches p keeps good all a e =

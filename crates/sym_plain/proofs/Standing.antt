@@ -10,7 +10,7 @@ use Rattle.i80.specs.declared.StackPair.TheVariants.{B as StackB, D as StackD, H
 use Rattle.i80.specs.declared.Word.TheVariants.{Num, Code}
 use Rattle.i80.specs.declared.Goal.TheVariants.{At as ToInstr, Boot as ToBoot, Bdos as ToBdos}
 use Rattle.i80.specs.declared.Instr80.{Instr80}
-use Rattle.i80.specs.declared.Instr80.TheVariants.{Mov, Mvi, Lxi, Jif, Call, Cif, Rif, Push, Pop}
+use Rattle.i80.specs.declared.Instr80.TheVariants.{Mov, Mvi, Lxi, Inx, Dcx, Dad, Jif, Call, Cif, Rif, Push, Pop}
 use Rattle.i80.specs.Columns.{length80}
 use Rattle.asm86_lines.specs.declared.line.Label.{Label}
 use Rattle.asm86_lines.specs.declared.line.Label.TheVariants.{At as Line, Skip, Sys}
@@ -19,18 +19,18 @@ use Rattle.asm86_lines.specs.declared.line.Stmt86.TheVariants.{Mark}
 use Rattle.asm86_lines.specs.Layout.{same_label, marks}
 use Rattle.asm80_program.specs.declared.program.Placed.{Placed}
 use Rattle.asm80_program.specs.Program.{placed_in, AreLaid}
-use Rattle.templates.specs.Template.{template}
-use Rattle.templates.specs.Plain.{body}
+use Rattle.templates_plain.specs.Template.{template}
+use Rattle.templates_plain.specs.Plain.{body}
 use Rattle.sym_blocks.specs.Outcome.{Way, Goto, SysReturn}
 use Rattle.sym_blocks.specs.Walk86.{behind, way_to}
 use Rattle.sym_plain.proofs.Laid.{length80-some, started, found_at, laid_above}
 
 -- labels
 
-same_number : (a : ℕ) → (a == a) ≡ true
+pub same_number : (a : ℕ) → (a == a) ≡ true
 same_number a = eq-eqb a a refl
 
-other_number : (a b : ℕ) → a ≢ b → (a == b) ≡ false
+pub other_number : (a b : ℕ) → a ≢ b → (a == b) ≡ false
 other_number a b ne = by_test (a == b) refl
   where
     by_test : (t : Bool) → (a == b) ≡ t → t ≡ false
@@ -38,7 +38,7 @@ other_number a b ne = by_test (a == b) refl
     by_test false e = refl
 
 -- a label is looked for past statements that are not that label
-behind_past : (l : Label) (xs ys : List Stmt86) → list_any (λ x. marks l x) xs ≡ false → behind (xs ++ ys) l ≡ behind ys l
+pub behind_past : (l : Label) (xs ys : List Stmt86) → list_any (λ x. marks l x) xs ≡ false → behind (xs ++ ys) l ≡ behind ys l
 behind_past l [] ys h = refl
 behind_past l (x ∷ xs) ys h = by_mark (marks l x) refl h (behind_past l xs ys)
   where
@@ -50,31 +50,37 @@ behind_past l (x ∷ xs) ys h = by_mark (marks l x) refl h (behind_past l xs ys)
 skip_only : (l : Label) (at : ℕ) → same_label (Skip at) l ≡ false → (same_label (Skip at) l || false) ≡ false
 skip_only l at e = ap (λ b. b || false) e
 
-template_marks : (l : Label) (at : ℕ) → same_label (Skip at) l ≡ false → (i : Instr80) → list_any (λ x. marks l x) (template i at true) ≡ false
-template_marks l at e (Mov (Reg r) from) = refl
-template_marks l at e (Mov Mem (Reg r)) = refl
-template_marks l at e (Mov Mem Mem) = refl
-template_marks l at e (Mvi (Reg r) n) = refl
-template_marks l at e (Mvi Mem n) = refl
-template_marks l at e (Lxi p (Num w)) = refl
-template_marks l at e (Lxi p (Code a)) = refl
-template_marks l at e (Push StackB) = refl
-template_marks l at e (Push StackD) = refl
-template_marks l at e (Push StackH) = refl
-template_marks l at e (Push Psw) = refl
-template_marks l at e (Pop StackB) = refl
-template_marks l at e (Pop StackD) = refl
-template_marks l at e (Pop StackH) = refl
-template_marks l at e (Pop Psw) = refl
-template_marks l at e (Jif c g) = skip_only l at e
-template_marks l at e (Call (ToInstr a)) = refl
-template_marks l at e (Call ToBoot) = refl
-template_marks l at e (Call ToBdos) = refl
-template_marks l at e (Cif c (ToInstr a)) = skip_only l at e
-template_marks l at e (Cif c ToBoot) = skip_only l at e
-template_marks l at e (Cif c ToBdos) = skip_only l at e
-template_marks l at e (Rif c) = skip_only l at e
-template_marks l at e i = refl
+pub template_marks : (l : Label) (at : ℕ) (save : Bool) → same_label (Skip at) l ≡ false → (i : Instr80) → list_any (λ x. marks l x) (template i at save) ≡ false
+template_marks l at true e (Inx p) = refl
+template_marks l at false e (Inx p) = refl
+template_marks l at true e (Dcx p) = refl
+template_marks l at false e (Dcx p) = refl
+template_marks l at true e (Dad p) = refl
+template_marks l at false e (Dad p) = refl
+template_marks l at save e (Mov (Reg r) from) = refl
+template_marks l at save e (Mov Mem (Reg r)) = refl
+template_marks l at save e (Mov Mem Mem) = refl
+template_marks l at save e (Mvi (Reg r) n) = refl
+template_marks l at save e (Mvi Mem n) = refl
+template_marks l at save e (Lxi p (Num w)) = refl
+template_marks l at save e (Lxi p (Code a)) = refl
+template_marks l at save e (Push StackB) = refl
+template_marks l at save e (Push StackD) = refl
+template_marks l at save e (Push StackH) = refl
+template_marks l at save e (Push Psw) = refl
+template_marks l at save e (Pop StackB) = refl
+template_marks l at save e (Pop StackD) = refl
+template_marks l at save e (Pop StackH) = refl
+template_marks l at save e (Pop Psw) = refl
+template_marks l at save e (Jif c g) = skip_only l at e
+template_marks l at save e (Call (ToInstr a)) = refl
+template_marks l at save e (Call ToBoot) = refl
+template_marks l at save e (Call ToBdos) = refl
+template_marks l at save e (Cif c (ToInstr a)) = skip_only l at e
+template_marks l at save e (Cif c ToBoot) = skip_only l at e
+template_marks l at save e (Cif c ToBdos) = skip_only l at e
+template_marks l at save e (Rif c) = skip_only l at e
+template_marks l at save e i = refl
 
 -- what stands behind the label past a condition stands behind its template
 abbrev pub SkipIs : (Label → Option (List Stmt86)) → Instr80 → ℕ → List Stmt86 → Type 0
@@ -83,16 +89,16 @@ SkipIs find (Cif c g) at rest = find (Skip at) ≡ Some rest
 SkipIs find (Rif c) at rest = find (Skip at) ≡ Some rest
 SkipIs find i at rest = Unit {0}
 
-skip_here : (i : Instr80) (at : ℕ) (rest : List Stmt86) → SkipIs (behind (template i at true ++ rest)) i at rest
-skip_here (Jif c g) at rest = ap (λ b. cond b (Some rest) (behind rest (Skip at))) (same_number at)
-skip_here (Cif c (ToInstr a)) at rest = ap (λ b. cond b (Some rest) (behind rest (Skip at))) (same_number at)
-skip_here (Cif c ToBoot) at rest = ap (λ b. cond b (Some rest) (behind rest (Skip at))) (same_number at)
-skip_here (Cif c ToBdos) at rest = ap (λ b. cond b (Some rest) (behind rest (Skip at))) (same_number at)
-skip_here (Rif c) at rest = ap (λ b. cond b (Some rest) (behind rest (Skip at))) (same_number at)
-skip_here i at rest = tt
+pub skip_here : (i : Instr80) (at : ℕ) (save : Bool) (rest : List Stmt86) → SkipIs (behind (template i at save ++ rest)) i at rest
+skip_here (Jif c g) at save rest = ap (λ b. cond b (Some rest) (behind rest (Skip at))) (same_number at)
+skip_here (Cif c (ToInstr a)) at save rest = ap (λ b. cond b (Some rest) (behind rest (Skip at))) (same_number at)
+skip_here (Cif c ToBoot) at save rest = ap (λ b. cond b (Some rest) (behind rest (Skip at))) (same_number at)
+skip_here (Cif c ToBdos) at save rest = ap (λ b. cond b (Some rest) (behind rest (Skip at))) (same_number at)
+skip_here (Rif c) at save rest = ap (λ b. cond b (Some rest) (behind rest (Skip at))) (same_number at)
+skip_here i at save rest = tt
 
 -- and wherever the label is looked for likewise
-skip_as : (f g : Label → Option (List Stmt86)) (i : Instr80) (at : ℕ) (rest : List Stmt86) → g (Skip at) ≡ f (Skip at) → SkipIs f i at rest → SkipIs g i at rest
+pub skip_as : (f g : Label → Option (List Stmt86)) (i : Instr80) (at : ℕ) (rest : List Stmt86) → g (Skip at) ≡ f (Skip at) → SkipIs f i at rest → SkipIs g i at rest
 skip_as f g (Jif c goal) at rest e h = e ∙ h
 skip_as f g (Cif c goal) at rest e h = e ∙ h
 skip_as f g (Rif c) at rest e h = e ∙ h
@@ -112,7 +118,7 @@ pub record Stands (text : List Stmt86) (xs : List Placed) (x : Placed) : Type 0 
   pub next : is_some (placed_in xs (x.at + length80 x.instr)) ≡ true → label ≡ Line (x.at + length80 x.instr)
 
 -- behind the first instruction of a list
-pub first_label : List Placed → Label
+abbrev pub first_label : List Placed → Label
 first_label [] = Sys
 first_label (x ∷ xs) = Line x.at
 
@@ -121,18 +127,16 @@ first_more [] tail = tail
 first_more (x ∷ xs) tail = (template x.instr x.at true ++ body xs) ++ Mark Sys ∷ tail
 
 pub begins_so : (xs : List Placed) (tail : List Stmt86) → body xs ++ Mark Sys ∷ tail ≡ Mark (first_label xs) ∷ first_more xs tail
-unfolding first_label first_more
+unfolding first_more
 begins_so [] tail = refl
 begins_so (x ∷ xs) tail = refl
 
-first_way : (xs : List Placed) → (way : Way) × (way_to (first_label xs) ≡ Some way)
-unfolding first_label
+pub first_way : (xs : List Placed) → (way : Way) × (way_to (first_label xs) ≡ Some way)
 first_way [] = (SysReturn, refl)
 first_way (x ∷ xs) = (Goto (AtPlace x.at), refl)
 
 -- the lowest place, where an instruction starts there
 pub first_is : (xs : List Placed) (from limit : ℕ) → AreLaid from limit xs → is_some (placed_in xs from) ≡ true → first_label xs ≡ Line from
-unfolding first_label
 first_is [] from limit laid e = absurd (cc)
 first_is (z ∷ zs) from limit laid e = by_test (z.at == from) refl e
   where
@@ -150,9 +154,9 @@ past_first : (l : Label) (x : Placed) (xs : List Placed) (tail : List Stmt86) �
 past_first l x xs tail e f =
     ap (λ t. cond t (Some ((template x.instr x.at true ++ body xs) ++ tail)) (behind ((template x.instr x.at true ++ body xs) ++ tail) l)) e
     ∙ ap (λ ys. behind ys l) (append_assoc (template x.instr x.at true) (body xs) tail)
-    ∙ behind_past l (template x.instr x.at true) (body xs ++ tail) (template_marks l x.at f x.instr)
+    ∙ behind_past l (template x.instr x.at true) (body xs ++ tail) (template_marks l x.at true f x.instr)
 
-not_here : (y : Placed) (ys : List Placed) (a : ℕ) → y.at ≢ a → placed_in (y ∷ ys) a ≡ placed_in ys a
+pub not_here : (y : Placed) (ys : List Placed) (a : ℕ) → y.at ≢ a → placed_in (y ∷ ys) a ≡ placed_in ys a
 not_here y ys a ne = ap (λ t. cond t (Some y) (placed_in ys a)) (other_number y.at a ne)
 
 here : (y : Placed) (ys : List Placed) (from limit : ℕ) (tail : List Stmt86) → AreLaid from limit (y ∷ ys) → Stands (body (y ∷ ys) ++ Mark Sys ∷ tail) (y ∷ ys) y
@@ -163,7 +167,7 @@ here y ys from limit tail laid =
       more = first_more ys tail;
       way = (first_way ys).0;
       at = ap (λ t. cond t (Some ((template y.instr y.at true ++ body ys) ++ Mark Sys ∷ tail)) (behind ((template y.instr y.at true ++ body ys) ++ Mark Sys ∷ tail) (Line y.at))) (same_number y.at) ∙ ap Some split;
-      skip = skip_as (behind (template y.instr y.at true ++ (body ys ++ Mark Sys ∷ tail))) (behind (body (y ∷ ys) ++ Mark Sys ∷ tail)) y.instr y.at (body ys ++ Mark Sys ∷ tail) (ap (λ zs. behind zs (Skip y.at)) split) (skip_here y.instr y.at (body ys ++ Mark Sys ∷ tail));
+      skip = skip_as (behind (template y.instr y.at true ++ (body ys ++ Mark Sys ∷ tail))) (behind (body (y ∷ ys) ++ Mark Sys ∷ tail)) y.instr y.at (body ys ++ Mark Sys ∷ tail) (ap (λ zs. behind zs (Skip y.at)) split) (skip_here y.instr y.at true (body ys ++ Mark Sys ∷ tail));
       begins = begins_so ys tail;
       leads = (first_way ys).1;
       next = λ e. first_is ys (y.at + length80 y.instr) limit laid.3 (sym (ap is_some (not_here y ys (y.at + length80 y.instr) ne)) ∙ e);

@@ -23,7 +23,7 @@ use Rattle.cpu86_steps.specs.Step.{step86, machine86}
 use Rattle.sym_terms.specs.Term.{Term, High, Low, Loaded16, same_bool}
 use Rattle.sym_terms.specs.Values86.{Env86, Load86, LoadedByte, LoadedWord, Number, Val86, start86}
 use Rattle.sym_blocks.specs.Outcome.{Action, Load8, Load16, Store8, Store16, Way, Goto, ByTerms, Call, Sys, SysReturn, Boot, Leave, In, Out, Exit, One, Two, Held, Outcome}
-use Rattle.templates.specs.Template.{reg_of}
+use Rattle.templates_plain.specs.Template.{reg_of}
 use Rattle.sym_blocks.specs.Block80.{reg_term, IsBlock}
 use Rattle.sym_blocks.specs.Walk86.{walk86}
 use Rattle.sym_blocks.specs.Sorts.{StatementsAreCoded}

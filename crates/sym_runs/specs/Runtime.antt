@@ -11,7 +11,7 @@ use Rattle.asm86_lines.specs.Image.{Assembles, image_of, statements}
 use Rattle.cpu86_steps.specs.State.{State86, wrap, word_at}
 use Rattle.cpu86_steps.specs.Call.{call_system}
 use Rattle.cpu86_steps.specs.Step.{step86, machine86}
-use Rattle.templates.specs.Plain.{runtime}
+use Rattle.templates_plain.specs.Plain.{runtime}
 use Rattle.sym_runs.specs.Steps.{RunsOn}
 use Rattle.sym_runs.specs.States.{IsState86}
 use Rattle.sym_runs.specs.Runs86.{offsets_of}

@@ -15,7 +15,7 @@ use Rattle.cpu80_steps.specs.Start.{run80}
 use Rattle.dialogue.specs.declared.request.ArgWord.TheVariants.{Byte}
 use Rattle.dialogue.specs.declared.request.Request.{Request}
 use Rattle.asm86_lines.specs.Layout.{code_of}
-use Rattle.templates.specs.Plain.{plain_statements}
+use Rattle.templates_plain.specs.Plain.{plain_statements}
 
 -- the request that writes a byte to the console
 abbrev letter : ℕ → Request

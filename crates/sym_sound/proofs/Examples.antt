@@ -18,7 +18,7 @@ use Rattle.i80.specs.declared.Reg.TheVariants.{A as RegA}
 use Rattle.asm80_program.specs.Program.{Program, program_of}
 use Rattle.cpu80_steps.specs.State.{State80, junk_regs}
 use Rattle.cpu80_steps.specs.Step.{machine80}
-use Rattle.templates.specs.Plain.{plain_statements}
+use Rattle.templates_plain.specs.Plain.{plain_statements}
 use Rattle.sym_terms.specs.Term.{Num, StartSp}
 use Rattle.sym_blocks.specs.declared.reason.Reason.{Reason}
 use Rattle.sym_blocks.specs.Outcome.{Goto, One, held_at_start}

@@ -19,7 +19,7 @@ use Rattle.cpu86_steps.specs.State.{State86, wrap}
 use Rattle.cpu86_steps.specs.Effect.{distance, jump_by, effect}
 use Rattle.cpu86_steps.specs.Call.{call_system}
 use Rattle.cpu86_steps.specs.Step.{step86}
-use Rattle.templates.specs.Plain.{runtime, call_code, end_code}
+use Rattle.templates_plain.specs.Plain.{runtime, call_code, end_code}
 use Rattle.sym_runs.specs.Runtime.{HasRuntime, answers_moved, CallsSystem, EndsAfter, RuntimesRun86}
 use Rattle.sym_sound86.proofs.Words.{eq_false}
 use Rattle.sym_sound86.proofs.Positions.{Position, position_next, offsets_are, label_here, ends_within}

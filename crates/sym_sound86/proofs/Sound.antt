@@ -16,7 +16,7 @@ use Rattle.asm86_lines.specs.declared.line.Line86.{Line86}
 use Rattle.asm86_lines.specs.Image.{Assembles, image_of, statements}
 use Rattle.asm80_program.specs.Program.{Program}
 use Rattle.cpu86_steps.specs.State.{State86, reg8}
-use Rattle.templates.specs.Template.{reg_of}
+use Rattle.templates_plain.specs.Template.{reg_of}
 use Rattle.sym_terms.specs.Term.{Start, Unknown}
 use Rattle.sym_terms.specs.Values86.{Env86, Number, Val86, start86 as started}
 use Rattle.sym_terms.specs.Laws.{MadeTermsKeepValues, MadeTermsHaveSorts}

@@ -9,7 +9,7 @@ use Rattle.asm86_lines.specs.declared.line.Stmt86.TheVariants.{Cseg, Db, Dw, Mar
 use Rattle.asm86_lines.specs.declared.line.Line86.{Line86}
 use Rattle.asm86_lines.specs.Image.{image_of, statements}
 use Rattle.asm80_program.specs.Program.{Program, cell_at}
-use Rattle.templates.specs.Plain.{prologue}
+use Rattle.templates_plain.specs.Plain.{prologue}
 use Rattle.sym_blocks.specs.declared.reason.Reason.{Reason}
 use Rattle.sym_blocks.specs.declared.reason.Reason.TheVariants.{Opening, Runtime, DataPart}
 use Rattle.sym_blocks.specs.BlockMatch.{Keeps, block_reason}

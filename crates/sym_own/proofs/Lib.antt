@@ -1,0 +1,13 @@
+mod Runs
+mod Leaving
+mod Marks
+mod Standing
+mod Needing
+mod Knowing
+mod Written
+mod Steps
+mod Walking
+mod Matching
+mod Styles
+mod Whole
+mod Examples
