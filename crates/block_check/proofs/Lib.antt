@@ -1,2 +1,2 @@
 mod Found
-mod Needed
+pub mod Needed

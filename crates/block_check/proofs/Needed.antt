@@ -1,6 +1,6 @@
 -- The needs of a program are one set at each place, and its blocks are blocks to run.
 use Rattle.std.proofs.Common.{◌≡◌, ◌∙◌, ◌↔◌, ℕ, zero, suc, ◌+◌, Bool, true, false, length, Option, Some, None, refl, sym, ap, subst, arith, ◌⊎◌, inl, inr}
-use Rattle.std.specs.Prelude.{is_some}
+use Rattle.std.specs.Prelude.{is_some, cond}
 use Rattle.cells.specs.declared.Part.{Part}
 use Rattle.cells.specs.declared.Part.TheVariants.{A, B, C, D, E, H, L, S, Z, Ac, P, Cy}
 use Rattle.cells.specs.Parts.{Parts, nothing, has}
@@ -14,9 +14,11 @@ use Rattle.asm80_program.specs.Program.{Program, placed_in, instr_of_placed, ins
 use Rattle.flow.specs.declared.node.Node.{Node}
 use Rattle.flow.specs.declared.node.Node.TheVariants.{Start}
 use Rattle.flow.specs.Blocks.{block_at, IsLeader, IsStraight, BlocksCut}
-use Rattle.flow.specs.Solving.{AreNeeds}
+use Rattle.flow.specs.Blocks.{IsBlock as IsBlockOf}
+use Rattle.flow.specs.Solving.{AreNeeds, Needs, AreAllNeeds}
 use Rattle.sym_blocks.specs.Block80.{IsBlock, OnlyLastEnds, instrs_from}
-use Rattle.block_check.specs.Kept.{AreKept}
+use Rattle.sym_texts.specs.Needed.{needed_by}
+use Rattle.block_check.specs.Kept.{AreKept, KeepsNeeds}
 
 bit_same : (a b : Bool) (X : Type 0) → (a ≡ true) ↔ X → (b ≡ true) ↔ X → a ≡ b
 bit_same true true X f g = refl
@@ -88,18 +90,21 @@ straight_ends p a (suc (suc n)) h =
     let rest = straight_ends p (a + length80 h.0) (suc n) h.3 in
     rw (h.1, h.3.1) (h.2 (omega arith), rw (h.3.1) at rest)
 
+-- a block of the cut is one to be run
+pub may_run : (p : Program) (a n : ℕ) → BlocksCut p → IsBlockOf p a n → IsBlock p a n
+may_run p a n cut h =
+    let size = cut.sizes a n h in
+    let straight = cut.straight a n h in
+    record { some = size.0; few = size.1; whole = straight_whole p a n straight; ends = straight_ends p a n straight }
+
 -- a leader's block
 pub leader_block : (p : Program) (a : ℕ) → BlocksCut p → IsLeader p a → (n : ℕ) × (block_at p a ≡ Some n) × IsBlock p a n
-leader_block p a cut h =
-    let b = cut.has_block a h in
-    let size = cut.sizes a b.0 b.1 in
-    let straight = cut.straight a b.0 b.1 in (
-      b.0,
-      cut.found a b.0 b.1,
-      record {
-        some = size.0;
-        few = size.1;
-        whole = straight_whole p a b.0 straight;
-        ends = straight_ends p a b.0 straight;
-      },
-    )
+leader_block p a cut h = let b = cut.has_block a h in (b.0, cut.found a b.0 b.1, may_run p a b.0 cut b.1)
+
+-- what is needed at blocks is kept by needs
+pub needed_keeps : (p : Program) (n : Needs) → AreAllNeeds p n → KeepsNeeds p (needed_by p n)
+needed_keeps p n h = record { at = λ a. kept_where (block_at p a) a; returned = h.returned }
+  where
+    kept_where : (o : Option ℕ) (a : ℕ) → AreKept p a o (cond (is_some o) (n.at a) nothing)
+    kept_where None a = refl
+    kept_where (Some count) a = h.at a

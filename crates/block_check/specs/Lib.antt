@@ -1,2 +1,3 @@
 pub mod Kept
 pub mod Comparing
+pub mod Runs

@@ -3,11 +3,13 @@
 ghost use Rattle.std.specs.Prelude.{◌≡◌, true, ℕ, Some, IsTrue};
 ghost use Rattle.asm80_program.specs.Program.{is_start};
 ghost use Rattle.flow.specs.Blocks.{IsLeader, block_at};
+ghost use Rattle.flow.specs.Solving.{Needs, AreAllNeeds};
+ghost use Rattle.sym_texts.specs.Needed.{needed_by};
 ghost use Rattle.sym_texts.specs.Ones.{all_kept};
 ghost use Rattle.sym_blocks.specs.Block80.{IsBlock, block80};
 ghost use Rattle.sym_blocks.specs.Walk86.{walk86};
 ghost use Rattle.sym_blocks.specs.BlockMatch.{Keeps, block_reason};
-ghost use Rattle.block_check.specs.Kept.{KeepsAre, KeepsNeeds, AreFound};
+ghost use Rattle.block_check.specs.Kept.{KeepsAre, AreFound};
 ghost use Rattle.block_check.specs.Comparing.{HoldsOutcomes, AfterShown, verdict_of};
 
 use crate::kept::{Kept, kept_behind, kept_by_exit, kept_from};
@@ -88,8 +90,10 @@ pub fn check(
     requires solved { IsTrue graph.now.is_solved }
     requires program { graph.now.program ≡ program.now }
     requires leader { IsLeader program.now leader }
-    ensures verdict { (k : Keeps) (count : ℕ) → KeepsNeeds program.now k → block_at program.now leader ≡ Some count → result ≡ verdict_of (block_reason program.now text.now k leader count) }
-    ensures outcomes { (k : Keeps) (count : ℕ) → KeepsNeeds program.now k → block_at program.now leader ≡ Some count → AfterShown result (HoldsOutcomes work.new (block80 program.now leader count) (walk86 program.now text.now (k.at leader) leader count)) }
+    ensures verdict { (n : Needs) (count : ℕ) → AreAllNeeds program.now n → block_at program.now leader ≡ Some count
+        → result ≡ verdict_of (block_reason program.now text.now (needed_by program.now n) leader count) }
+    ensures outcomes { (n : Needs) (count : ℕ) → AreAllNeeds program.now n → block_at program.now leader ≡ Some count
+        → AfterShown result (HoldsOutcomes work.new (block80 program.now leader count) (walk86 program.now text.now ((needed_by program.now n).at leader) leader count)) }
 {
     blocks_cut_the_program();
     let _top = program.top();

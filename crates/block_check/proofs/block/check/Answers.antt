@@ -4,9 +4,10 @@ use Rattle.flow.specs.Blocks.{block_at}
 use Rattle.sym_blocks.specs.Block80.{IsBlock, block80}
 use Rattle.sym_blocks.specs.Walk86.{walk86}
 use Rattle.sym_blocks.specs.BlockMatch.{block_reason}
+use Rattle.sym_texts.specs.Needed.{needed_by}
 use Rattle.block_check.specs.Kept.{KeepsNeeds}
 use Rattle.block_check.specs.Comparing.{HoldsOutcomes, AfterShown, verdict_of}
-use Rattle.block_check.proofs.Needed.{leader_block}
+use Rattle.block_check.proofs.Needed.{leader_block, needed_keeps}
 use Rattle.block_check.proofs.block.check.Goals as goal
 
 pub check_kept-requires-clause-block : goal.check_kept-requires-clause-block
@@ -29,19 +30,21 @@ unreachable-requires c =
     cc
 
 pub returns-clause-verdict : goal.returns-clause-verdict
-returns-clause-verdict c = λ k count needs e.
+returns-clause-verdict c = λ n count needs e.
+    let k = needed_by c.args.program.now n in
     let p = c.args.program.now in
     let at : block_at c.args.graph.now.program c.args.leader ≡ block_at p c.args.leader = ap (λ (q : Program). block_at q c.args.leader) c.requires.program in
     let here = c.in-Some.ensures in
     let same : c.in-Some.count ≡ count = cc in
     subst (λ n. c.check_kept.result ≡ verdict_of (block_reason p c.args.text.now k c.args.leader n)) same
-    (c.check_kept.ensures.verdict k (subst (λ q. KeepsNeeds q k) (sym c.requires.program) needs))
+    (c.check_kept.ensures.verdict k (subst (λ q. KeepsNeeds q k) (sym c.requires.program) (needed_keeps p n needs)))
 
 pub returns-clause-outcomes : goal.returns-clause-outcomes
-returns-clause-outcomes c = λ k count needs e.
+returns-clause-outcomes c = λ n count needs e.
+    let k = needed_by c.args.program.now n in
     let p = c.args.program.now in
     let at : block_at c.args.graph.now.program c.args.leader ≡ block_at p c.args.leader = ap (λ (q : Program). block_at q c.args.leader) c.requires.program in
     let here = c.in-Some.ensures in
     let same : c.in-Some.count ≡ count = cc in
     subst (λ n. AfterShown c.check_kept.result (HoldsOutcomes c.check_kept.new.work (block80 p c.args.leader n) (walk86 p c.args.text.now (k.at c.args.leader) c.args.leader n))) same
-    (c.check_kept.ensures.outcomes k (subst (λ q. KeepsNeeds q k) (sym c.requires.program) needs))
+    (c.check_kept.ensures.outcomes k (subst (λ q. KeepsNeeds q k) (sym c.requires.program) (needed_keeps p n needs)))

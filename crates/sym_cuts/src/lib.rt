@@ -1,0 +1,22 @@
+// Laws: the blocks of a program are a cut of it, and what is needed where control may return is needed at a return.
+#![tactic(auto)]
+
+ghost use Rattle.sym_cuts.specs.Cuts.{BlocksAreCuts, NeedsReturn};
+
+use block_check::blocks_may_run;
+use flow::{blocks_cut_the_program, needs_are_closed};
+
+/// A law: control comes to a program's blocks at their first instructions alone.
+pub fn blocks_are_cuts()
+    ensures { BlocksAreCuts }
+{
+    blocks_cut_the_program();
+    blocks_may_run();
+}
+
+/// A law: what is needed at a block whose leader is taken is needed at a return.
+pub fn needs_return()
+    ensures { NeedsReturn }
+{
+    needs_are_closed();
+}

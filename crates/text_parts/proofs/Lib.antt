@@ -1,0 +1,4 @@
+mod Frames
+mod Cells
+mod Same
+mod Numbers

@@ -1,0 +1,10 @@
+// Whether a text does what its program does: its opening, the runtime, the data, and each block.
+#![tactic(auto)]
+
+mod finding;
+mod laws;
+mod validation;
+
+pub use finding::Finding;
+pub use laws::findings_are_one;
+pub use validation::validate_in;
