@@ -1,1 +1,3 @@
+mod Styles
 mod Matching
+mod Shown

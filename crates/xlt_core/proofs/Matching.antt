@@ -12,8 +12,7 @@ use Rattle.asm86_lines.specs.Image.{Assembles, statements}
 use Rattle.asm80_program.specs.declared.program.Placed.{Placed}
 use Rattle.asm80_program.specs.Program.{Program, IsProgram, NameStarts, placed_in, instr_of_placed, instr_at, is_start, named_by}
 use Rattle.asm80_program.specs.Taken.{takes}
-use Rattle.templates.specs.Plain.{plain, plain_statements}
-use Rattle.plain_texts.specs.Fits.{CodeFits}
+use Rattle.templates_plain.specs.Plain.{plain, plain_statements}
 use Rattle.sym_blocks.specs.declared.reason.Reason.{Reason}
 use Rattle.sym_blocks.specs.Block80.{IsBlock}
 use Rattle.sym_blocks.specs.BlockMatch.{Keeps, block_reason}
@@ -24,17 +23,9 @@ use Rattle.sym_linking.specs.Cuts.{IsCut}
 use Rattle.sym_texts.specs.Matches.{HasOpening, DataStands, DataAreCoded, or_next, blocks_reason}
 use Rattle.sym_same.specs.Laws.{IsMatch}
 use Rattle.sym_plain.specs.Plain.{OnesAreBlocks, PlainBlocksMatch}
-use Rattle.plain_texts.proofs.Statements.{statements-numbered}
+use Rattle.own_texts.proofs.Statements.{statements-numbered}
+use Rattle.xlt_core.proofs.Styles.{TextStands}
 use Rattle.sym_texts.specs.Ones.{ones, all_kept}
-
--- what is known of plain texts
-pub record TextLaw : Type 0 where
-  pub assembles : (p : Program) → IsProgram p → CodeFits p → Assembles (plain p)
-  pub coded : (p : Program) → IsProgram p → StatementsAreCoded (statements (plain p))
-  pub data_coded : (p : Program) → IsProgram p → DataAreCoded (statements (plain p))
-  pub opening : (p : Program) → IsProgram p → HasOpening p (statements (plain p))
-  pub runtime : (p : Program) → IsProgram p → HasRuntime (statements (plain p))
-  pub data_stand : (p : Program) → IsProgram p → DataStands p (plain p)
 
 -- the blocks of one instruction are the instructions
 
@@ -113,18 +104,18 @@ none_of p text keeps (x ∷ xs) each =
     ap (λ o. or_next x.at o (blocks_reason p text keeps (ones_of xs))) (each x.at (inl (refl, refl)))
     ∙ none_of p text keeps xs (λ a has. each a (inr has))
 
-pub plain_matches : TextLaw → OnesAreBlocks → PlainBlocksMatch → (p : Program) → IsProgram p → CodeFits p → IsMatch p (plain p) (ones p) (all_kept p)
-plain_matches text blocks match p is fits = record {
+pub plain_matches : OnesAreBlocks → PlainBlocksMatch → (p : Program) → IsProgram p → TextStands p (plain p) → IsMatch p (plain p) (ones p) (all_kept p)
+plain_matches blocks match p is t = record {
   program = is;
-  assembles = text.assembles p is fits;
-  coded = text.coded p is;
-  data_coded = text.data_coded p is;
+  assembles = t.assembles;
+  coded = t.own.coded;
+  data_coded = t.own.data_coded;
   is_cut = ones_cut blocks p is;
   returns = λ a q start taken kept. has_everything q;
   matches = record {
-    opening = text.opening p is;
-    runtime = text.runtime p is;
-    cells = text.data_stand p is;
+    opening = t.own.opening;
+    runtime = t.own.runtime;
+    cells = t.own.data_stand;
     blocks = none_of p (statements (plain p)) (all_kept p) p.instrs
         (λ a has. subst (λ xs. block_reason p xs (all_kept p) a 1 ≡ None) (sym (statements-numbered 1 (plain_statements p)))
         (match p (all_kept p) is (kept_at_start p) a (starts_in p.instrs a 1 has).0));

@@ -1,1 +1,2 @@
 pub mod Translation
+pub mod Validation

@@ -1,13 +1,12 @@
 // The text of a program.
 ghost use Rattle.std.specs.Prelude.{◌≡◌, ◌<◌, ◌≤◌, ◌^◌, IfOk, IfErr, vec_len};
-ghost use Rattle.asm86_lines.specs.Image.{statements};
-ghost use Rattle.asm86_lines.specs.Layout.{sizes_of};
-ghost use Rattle.xlt_core.specs.Translation.{text_by, HasNoText};
+ghost use Rattle.xlt_core.specs.Translation.{IsText, CodeFits, HasNoText};
 
 use asm80_program::Program80;
 use asm86_lines::{Line86, code_size};
+use flow::Graph;
 use std::alloc::{AllocError, Global};
-use templates::plain_text;
+use templates::{lean_text, plain_text};
 use thiserror::Error;
 
 /// How a program is written.
@@ -15,6 +14,8 @@ use thiserror::Error;
 pub enum Mode {
     /// Each instruction by its template with a save of the flags, without an analysis.
     Plain,
+    /// Only what is needed is saved: flags where an instruction behind needs them, the system called at once, jumps short.
+    Lean,
 }
 
 /// Why a program has no text.
@@ -42,19 +43,20 @@ const MOST_CODE: usize = 0xFFFF;
 
 // The lines of a mode, whatever the size of their code.
 fn lines_by(alloc: Global, program: &Program80, mode: Mode) -> Result<Vec<Line86>, AllocError>
-    ensures value { IfOk result (λ lines. lines.items ≡ text_by mode program.now) }
+    ensures value { IfOk result (λ lines. IsText mode program.now lines.items) }
     ensures few { IfOk result (λ lines. vec_len lines < 2 ^ 20) }
 {
     match mode {
         Mode::Plain => plain_text(alloc, program),
+        Mode::Lean => lean_text(alloc, program, &Graph::solved(alloc, program)?),
     }
 }
 
-/// The text of a program, which means the same as the program (`plain_is_same`). Its lines are numbered from 1, and it has fewer than
+/// The text of a program, which means the same as the program (`own_texts_are_same`). Its lines are numbered from 1, and it has fewer than
 /// 2^20.
 pub fn translate(alloc: Global, program: &Program80, mode: Mode) -> Result<Vec<Line86>, CoreFault>
-    ensures value { IfOk result (λ lines. lines.items ≡ text_by mode program.now) }
-    ensures fits { IfOk result (λ lines. sizes_of (statements (text_by mode program.now)) < 0x10000) }
+    ensures value { IfOk result (λ lines. IsText mode program.now lines.items) }
+    ensures fits { IfOk result (λ lines. CodeFits lines.items) }
     ensures few { IfOk result (λ lines. vec_len lines < 2 ^ 20) }
     ensures none { IfErr result (HasNoText mode program.now) }
 {
