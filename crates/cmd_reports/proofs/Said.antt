@@ -7,7 +7,7 @@ use Rattle.host.specs.declared.HostFault.TheVariants.{Failed, Memory}
 use Rattle.host.specs.Host.{HostState, Says, OnlySays, SameFaults, WriteFailed}
 use Rattle.cmd_files.specs.Transfer.{CutsLine}
 use Rattle.cmd_reports.specs.declared.stop.Stop.{Stop}
-use Rattle.cmd_reports.specs.declared.stop.Stop.TheVariants.{SourceLine, SourceProgram, ReadFailed, WriteFailed as Unwritten, OutOfMemory, LeftProfile, StepLimit, InputEnded, TextLine, ShortJump, NoInstruction, StackSegment, OddCall, BadDisk, NoDrive, CodeTooLarge, FileTooLong}
+use Rattle.cmd_reports.specs.declared.stop.Stop.TheVariants.{SourceLine, SourceProgram, ReadFailed, WriteFailed as Unwritten, OutOfMemory, LeftProfile, StepLimit, NotShown, InputEnded, TextLine, ShortJump, NoInstruction, StackSegment, OddCall, BadDisk, NoDrive, CodeTooLarge, FileTooLong}
 use Rattle.cmd_reports.specs.Lines.{status_of, line_of}
 use Rattle.cmd_reports.specs.Said.{SaysLast, IsDone, whole, failed, no_memory, said_status, Closes, said}
 
@@ -55,6 +55,7 @@ line_some Unwritten = omega arith
 line_some OutOfMemory = omega arith
 line_some (LeftProfile line rule) = omega arith
 line_some (StepLimit steps) = omega arith
+line_some (NotShown at reason) = omega arith
 line_some InputEnded = omega arith
 line_some (TextLine line rule) = omega arith
 line_some (ShortJump line) = omega arith

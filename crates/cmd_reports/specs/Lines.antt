@@ -3,6 +3,8 @@
 use Rattle.std.specs.Prelude.{ℕ, ◌/◌, ◌%◌, codes, Bool, true, false, List, [], ◌∷◌, ◌++◌}
 use Rattle.std.specs.Fmt.{decimal}
 use Rattle.hex.specs.Hex.{encode_lower}
+use Rattle.cells.specs.declared.Part.{Part}
+use Rattle.cells.specs.declared.Part.TheVariants.{A, B, C, D, E, H, L, S, Z, Ac, P, Cy}
 use Rattle.cells.specs.declared.Rule.{Rule}
 use Rattle.cells.specs.declared.Rule.TheVariants as profile
 use Rattle.asm80_tokens.specs.declared.fault.LineRule.{LineRule}
@@ -11,8 +13,10 @@ use Rattle.asm80_source.specs.declared.rule.AsmRule.{AsmRule}
 use Rattle.asm80_source.specs.declared.rule.AsmRule.TheVariants.{V1, V2, V3, V4, V5, V6, V7, S1, S2, S3, S4, S5, S6, S7}
 use Rattle.asm86_lines.specs.declared.line.TextRule.{TextRule}
 use Rattle.asm86_lines.specs.declared.line.TextRule.TheVariants.{M1, M2, M3, M4, M5, M6}
+use Rattle.sym_blocks.specs.declared.reason.Reason.{Reason}
+use Rattle.sym_blocks.specs.declared.reason.Reason.TheVariants.{Opening, Runtime, DataPart, Missing, Length, Form, Actions, Exits, Kept, KeptSp}
 use Rattle.cmd_reports.specs.declared.stop.Stop.{Stop}
-use Rattle.cmd_reports.specs.declared.stop.Stop.TheVariants.{SourceLine, SourceProgram, ReadFailed, WriteFailed, OutOfMemory, LeftProfile, StepLimit, InputEnded, TextLine, ShortJump, NoInstruction, StackSegment, OddCall, BadDisk, NoDrive, CodeTooLarge, FileTooLong}
+use Rattle.cmd_reports.specs.declared.stop.Stop.TheVariants.{SourceLine, SourceProgram, ReadFailed, WriteFailed, OutOfMemory, LeftProfile, StepLimit, NotShown, InputEnded, TextLine, ShortJump, NoInstruction, StackSegment, OddCall, BadDisk, NoDrive, CodeTooLarge, FileTooLong}
 
 -- ---- rules by name
 
@@ -64,6 +68,35 @@ profile_rule profile.P10 = codes "P10"
 profile_rule profile.P11 = codes "P11"
 profile_rule profile.P12 = codes "P12"
 
+-- ---- reasons by name
+
+-- a part that is kept and does not agree
+abbrev pub kept_name : Part → List ℕ
+kept_name A = codes "kept a"
+kept_name B = codes "kept b"
+kept_name C = codes "kept c"
+kept_name D = codes "kept d"
+kept_name E = codes "kept e"
+kept_name H = codes "kept h"
+kept_name L = codes "kept l"
+kept_name S = codes "kept s"
+kept_name Z = codes "kept z"
+kept_name Ac = codes "kept ac"
+kept_name P = codes "kept p"
+kept_name Cy = codes "kept cy"
+
+abbrev pub reason_name : Reason → List ℕ
+reason_name Opening = codes "opening"
+reason_name Runtime = codes "runtime"
+reason_name DataPart = codes "data"
+reason_name Missing = codes "missing"
+reason_name Length = codes "length"
+reason_name Form = codes "form"
+reason_name Actions = codes "actions"
+reason_name Exits = codes "exits"
+reason_name (Kept part) = kept_name part
+reason_name KeptSp = codes "kept sp"
+
 -- ---- lines
 
 -- a byte in two digits, a word in four
@@ -89,6 +122,10 @@ count_line text number what = text ++ (decimal number ++ (what ++ codes "\n"))
 abbrev pub stopped_line : ℕ → List ℕ → List ℕ
 stopped_line offset why = codes "machine stopped at " ++ (word_digits offset ++ (codes ": " ++ (why ++ codes "\n")))
 
+-- the address of the first block that is not shown, and the reason
+abbrev pub not_shown_line : ℕ → List ℕ → List ℕ
+not_shown_line at reason = codes "not shown: block " ++ (word_digits at ++ (codes ", " ++ (reason ++ codes "\n")))
+
 abbrev pub odd_call : ℕ → List ℕ
 odd_call function = codes "call " ++ byte_digits function
 
@@ -111,6 +148,7 @@ status_of WriteFailed = 4
 status_of OutOfMemory = 5
 status_of (LeftProfile line rule) = 6
 status_of (StepLimit steps) = 7
+status_of (NotShown at reason) = 8
 status_of InputEnded = 9
 status_of (TextLine line rule) = 10
 status_of (ShortJump line) = 10
@@ -131,6 +169,7 @@ is_fixed WriteFailed = true
 is_fixed OutOfMemory = true
 is_fixed (LeftProfile line rule) = false
 is_fixed (StepLimit steps) = false
+is_fixed (NotShown at reason) = false
 is_fixed InputEnded = true
 is_fixed (TextLine line rule) = false
 is_fixed (ShortJump line) = false
@@ -150,6 +189,7 @@ line_of WriteFailed = codes "write failed\n"
 line_of OutOfMemory = memory_line
 line_of (LeftProfile line rule) = rule_line (codes "left the profile at line ") line (profile_rule rule)
 line_of (StepLimit steps) = count_line (codes "step limit: ") steps (codes " instructions")
+line_of (NotShown at reason) = not_shown_line at (reason_name reason)
 line_of InputEnded = codes "input ended\n"
 line_of (TextLine line rule) = rule_line (codes "text line ") line (text_rule rule)
 line_of (ShortJump line) = rule_line (codes "text line ") line (codes "short")
@@ -167,6 +207,10 @@ line_of (FileTooLong name) = named_line (codes "file too long: ") name.now
 abbrev pub translated_line : ℕ → ℕ → ℕ → List ℕ
 translated_line instructions cells code =
     codes "translated: " ++ (decimal instructions ++ (codes " instructions, " ++ (decimal cells ++ (codes " data bytes, " ++ (decimal code ++ codes " code bytes\n")))))
+
+-- how many blocks a program has whose text is shown
+abbrev pub shown_line : ℕ → List ℕ
+shown_line blocks = count_line (codes "shown: ") blocks (codes " blocks")
 
 -- how many of the INX, DCX and DAD have flags to be saved
 abbrev pub saves_line : ℕ → ℕ → List ℕ

@@ -1,7 +1,7 @@
 // The lines of status 0.
 ghost use Rattle.std.specs.Prelude.{◌≡◌, IfOk};
 ghost use Rattle.std.specs.String.{string_bytes};
-ghost use Rattle.cmd_reports.specs.Lines.{translated_line, saves_line, ended_line};
+ghost use Rattle.cmd_reports.specs.Lines.{translated_line, shown_line, saves_line, ended_line};
 
 use crate::stop::count_line;
 use std::alloc::{AllocError, Global};
@@ -18,6 +18,13 @@ pub fn translated_line(
     format!(in alloc;
         "translated: {instructions} instructions, {cells} data bytes, {code} code bytes\n"
     )
+}
+
+/// The line of a text that is shown: how many blocks its program has.
+pub fn shown_line(alloc: Global, blocks: u32) -> Result<String, AllocError>
+    ensures { IfOk result (λ line. string_bytes line ≡ shown_line blocks) }
+{
+    count_line(alloc, "shown: ", blocks, " blocks")
 }
 
 /// The line of a list of saves: how many INX, DCX and DAD have flags to be saved, and how many there are.

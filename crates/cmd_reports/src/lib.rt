@@ -2,10 +2,11 @@
 #![tactic(auto)]
 
 mod done;
+mod reasons;
 mod rules;
 mod say;
 mod stop;
 
-pub use done::{ended_line, saves_line, translated_line};
+pub use done::{ended_line, saves_line, shown_line, translated_line};
 pub use say::{say_done, say_made, say_report, say_stop, words_refused};
 pub use stop::{Stop, word_digits};

@@ -1,14 +1,16 @@
 // The ends of a command's work that are not status 0, and their lines.
 ghost use Rattle.std.specs.Prelude.{◌≡◌, ◌++◌, codes, false, IfOk, MatchOption};
 ghost use Rattle.std.specs.String.{string_bytes};
-ghost use Rattle.cmd_reports.specs.Lines.{status_of, is_fixed, line_of, named_line, rule_line, count_line, stopped_line, drive_line, odd_call, word_digits, byte_digits};
+ghost use Rattle.cmd_reports.specs.Lines.{status_of, is_fixed, line_of, named_line, rule_line, count_line, stopped_line, not_shown_line, drive_line, odd_call, word_digits, byte_digits};
 
+use crate::reasons::reason_name;
 use crate::rules::{asm_rule, line_rule, profile_rule, text_rule};
 use asm80_source::AsmRule;
 use asm80_tokens::LineRule;
 use asm86_lines::TextRule;
 use cells::Rule;
 use std::alloc::{AllocError, Global};
+use sym_blocks::Reason;
 
 /// Why a command's work did not come to status 0. Lines are counted from 1, and 0 is no line.
 #[derive(Clone, Copy)]
@@ -26,6 +28,8 @@ pub enum Stop<'a> {
     LeftProfile(u32, Rule),
     /// As many instructions ran as may.
     StepLimit(u32),
+    /// The block at this address is not shown, or, at 0, what is looked at before the blocks, for this reason.
+    NotShown(u16, Reason),
     /// A call wants input, and none is left.
     InputEnded,
     /// The text breaks a rule.
@@ -70,6 +74,7 @@ impl<'a> Stop<'a> {
             Stop::OutOfMemory => 5,
             Stop::LeftProfile(_, _) => 6,
             Stop::StepLimit(_) => 7,
+            Stop::NotShown(_, _) => 8,
             Stop::InputEnded => 9,
             Stop::TextLine(_, _) | Stop::ShortJump(_) => 10,
             Stop::NoInstruction(_) | Stop::StackSegment(_) | Stop::OddCall(_, _) => 11,
@@ -109,6 +114,7 @@ impl<'a> Stop<'a> {
                 rule_line(alloc, "left the profile at line ", line, profile_rule(rule))
             }
             Stop::StepLimit(steps) => count_line(alloc, "step limit: ", steps, " instructions"),
+            Stop::NotShown(at, reason) => not_shown_line(alloc, at, reason_name(reason)),
             Stop::InputEnded => String::from_str(alloc, "input ended\n"),
             Stop::TextLine(line, rule) => rule_line(alloc, "text line ", line, text_rule(rule)),
             Stop::ShortJump(line) => rule_line(alloc, "text line ", line, "short"),
@@ -156,6 +162,22 @@ fn byte_digits(alloc: Global, byte: u8) -> Result<String, AllocError>
     ensures { IfOk result (λ digits. string_bytes digits ≡ byte_digits byte) }
 {
     hex::encode(alloc, &[byte])
+}
+
+// The block that is not shown, and why.
+fn not_shown_line(alloc: Global, at: u16, reason: &str) -> Result<String, AllocError>
+    ensures { IfOk result (λ line. string_bytes line ≡ not_shown_line at reason.now) }
+{
+    let digits = word_digits(alloc, at)?;
+    not_shown_at(alloc, digits.as_str(), reason)
+}
+
+// The same by the digits of its address.
+fn not_shown_at(alloc: Global, digits: &str, reason: &str) -> Result<String, AllocError>
+    ensures { IfOk result (λ line. string_bytes line
+        ≡ codes "not shown: block " ++ (digits.now ++ (codes ", " ++ (reason.now ++ codes "\n")))) }
+{
+    format!(in alloc; "not shown: block {digits}, {reason}\n")
 }
 
 // Where a machine stopped, and why.

@@ -9,10 +9,10 @@ use Rattle.asm86_lines.specs.Image.{Assembles, image_of}
 use Rattle.cmd_files.specs.Transfer.{CutsLine}
 use Rattle.asm80_program.specs.Program.{Program, IsProgram}
 use Rattle.asm80_source.specs.Source.{IsSource, SourceRule, IsNoSource, OfLine, OfProgram}
-use Rattle.asm86_lines.specs.Layout.{sizes_of}
-use Rattle.templates.specs.Plain.{plain, plain_statements}
+use Rattle.asm86_lines.specs.declared.line.Line86.{Line86}
 use Rattle.cmd_words.specs.Words.{Translate}
-use Rattle.plain_texts.specs.Fits.{CodeFits}
+use Rattle.xlt_core.specs.declared.translation.Mode.{Mode}
+use Rattle.xlt_core.specs.Translation.{IsText, code_of, CodeFits, IsTooLarge}
 use Rattle.i86.specs.Decode.{HasReader}
 use Rattle.sym_same.specs.Same.{Same}
 use Rattle.cmd_reports.specs.declared.stop.Stop.{Stop}
@@ -21,14 +21,18 @@ use Rattle.cmd_reports.specs.Lines.{named_line, memory_line}
 use Rattle.cmd_reports.specs.Said.{SaysLine, SaysLast, IsDone, whole, failed, no_memory, Closes, said, unsaid}
 use Rattle.cmd_inputs.specs.Files.{ReadStops, failed as read_failed, too_long as file_too_long, no_memory as no_memory_to_read, NoneFailed, IsTold, input_limit}
 use Rattle.cmd_inputs.specs.Sources.{stop_of_rule, refusal_line}
-use Rattle.cmd_translate.specs.Translates.{line_of_program, size_line, IsTooLarge, Accepts, Refuses, Exceeds, Writes, WritesPart, HasSame, SaysOfWrite, EndsWith, Gives, translated, refused, unread, unwritten, unsaid as line_unsaid, no_memory as no_room, no_memory_to_write, no_memory_to_say, too_large, too_long, Decides}
+use Rattle.cmd_translate.specs.Translates.{mode_of, line_of_text, size_line, Accepts, Refuses, Exceeds, Writes, WritesPart, HasSame, SaysOfWrite, EndsWith, Gives, translated, refused, unread, unwritten, unsaid as line_unsaid, no_memory as no_room, no_memory_to_write, no_memory_to_say, too_large, too_long, Decides}
 use Rattle.cmd_translate.specs.Work.{Works, FailsToWrite, StopsBy, unread as stop_unread, refused as stop_refused, too_large as stop_too_large, no_memory as stop_no_memory, unwritten as stop_unwritten, stop_of_write}
 
--- the law of plain texts
-pub record PlainLaw : Type 0 where
-  pub assembles : (p : Program) → IsProgram p → CodeFits p → Assembles (plain p)
-  pub reader : (p : Program) → IsProgram p → CodeFits p → HasReader (image_of (plain p)).code
-  pub same : (p : Program) → IsProgram p → CodeFits p → Same p (image_of (plain p))
+-- the law of texts
+pub record TextLaw : Type 0 where
+  pub assembles : (mode : Mode) (p : Program) (lines : List Line86) → IsProgram p → IsText mode p lines → CodeFits lines → Assembles lines
+  pub reader : (mode : Mode) (p : Program) (lines : List Line86) → IsProgram p → IsText mode p lines → CodeFits lines → HasReader (image_of lines).code
+  pub same : (mode : Mode) (p : Program) (lines : List Line86) → IsProgram p → IsText mode p lines → CodeFits lines → Same p (image_of lines)
+
+-- a program has one text in a mode
+abbrev pub OneText : Type 0
+OneText = (mode : Mode) (p : Program) (xs ys : List Line86) → IsText mode p xs → IsText mode p ys → xs ≡ ys
 
 -- the law of sources
 pub record SourceLaw : Type 0 where
@@ -37,8 +41,11 @@ pub record SourceLaw : Type 0 where
   pub apart : (bytes : List ℕ) (top n : ℕ) (p : Program) (r : SourceRule) → IsSource bytes top p → IsNoSource bytes top n r → ⊥
 
 -- code that fits is not too large
-not_both : (p : Program) (size : ℕ) → CodeFits p → IsTooLarge p size → ⊥
-not_both p size fits large = let is = large.1 in let more = large.0 in omega (arith, is, more, fits)
+not_both : OneText → (mode : Mode) (p : Program) (lines : List Line86) (size : ℕ) → IsText mode p lines → CodeFits lines → IsTooLarge mode p size → ⊥
+not_both one mode p lines size text fits large =
+    let is : size ≡ code_of lines = large.is ∙ ap code_of (one mode p large.lines lines large.text text) in
+    let more = large.large in
+    omega (arith, is, more, fits)
 
 -- a count that rose before stays risen where it does not fall
 risen_on : (a b c : ℕ) → HasRisen a b → b ≤ c → HasRisen a c
@@ -55,21 +62,21 @@ module _ (c : Translate) (old mid new : HostState) where
   others_on : OnlySays mid new → OnlyFileChanged old mid c.output → OnlyFileChanged old new c.output
   others_on only others = λ other ne. only.files other ∙ others other ne
 
-  writes_on : (p : Program) → OnlySays mid new → Writes c old mid p → Writes c old new p
-  writes_on p only w = record { text = only.files c.output ∙ w.text; others = others_on only w.others }
+  writes_on : (lines : List Line86) → OnlySays mid new → Writes c old mid lines → Writes c old new lines
+  writes_on lines only w = record { text = only.files c.output ∙ w.text; others = others_on only w.others }
 
-  part_on : (p : Program) → OnlySays mid new → WritesPart c old mid p → WritesPart c old new p
-  part_on p only w = record {
+  part_on : (lines : List Line86) → OnlySays mid new → WritesPart c old mid lines → WritesPart c old new lines
+  part_on lines only w = record {
     text = ⊎_elim (λ s. inl (only.files c.output ∙ s)) (λ k. inr (k.0, k.1, only.files c.output ∙ k.2)) w.text;
     others = others_on only w.others;
   }
 
   -- a line was cut off, and nothing was said before
-  cut_on : (p : Program) (line : List ℕ) → line ≡ line_of_program p → SameSaid old mid → CutsLine line mid new → CutsLine (line_of_program p) old new
-  cut_on p line is q k = record {
+  cut_on : (line text : List ℕ) → line ≡ text → SameSaid old mid → CutsLine line mid new → CutsLine text old new
+  cut_on line text is q k = record {
     count = k.count;
     short = subst (λ l. k.count < length l) is k.short;
-    said = said_on (take k.count (line_of_program p)) q (subst (λ l. Says mid new (take k.count l)) is k.said);
+    said = said_on (take k.count text) q (subst (λ l. Says mid new (take k.count l)) is k.said);
   }
 
   line_on : (line : List ℕ) → OnlyReads old mid → SaysLine mid new line → SaysLine old new line
@@ -79,25 +86,25 @@ module _ (c : Translate) (old mid new : HostState) where
     whole = ⊎_elim (λ all. inl all) (λ r. inr (risen_behind old.write_faults mid.write_faults new.write_faults only.writes r)) s.whole;
   }
 
-  has_same : PlainLaw → (p : Program) → Accepts c old p → HasSame c old new p
-  has_same law p a = record {
-    image = image_of (plain p);
-    assembled = record { assembles = law.assembles p a.source.program.program.lawful a.fits; is = refl };
-    reader = law.reader p a.source.program.program.lawful a.fits;
-    same = law.same p a.source.program.program.lawful a.fits;
+  has_same : TextLaw → (p : Program) (lines : List Line86) → Accepts c old p lines → HasSame c old new p lines
+  has_same law p lines a = record {
+    image = image_of lines;
+    assembled = record { assembles = law.assembles (mode_of c.plain) p lines a.source.program.program.lawful a.text a.fits; is = refl };
+    reader = law.reader (mode_of c.plain) p lines a.source.program.program.lawful a.text a.fits;
+    same = law.same (mode_of c.plain) p lines a.source.program.program.lawful a.text a.fits;
   }
 
   -- the text was written
-  pub worked : PlainLaw → (line : List ℕ) → Works c old mid line → (status : ℕ) → IsDone line mid new status → Gives c old new status
+  pub worked : TextLaw → (line : List ℕ) → Works c old mid line → (status : ℕ) → IsDone line mid new status → Gives c old new status
   worked law line w _ (whole only s faults) =
-      translated w.program w.accepts (writes_on w.program only w.writes) (has_same law w.program w.accepts) (said_on (line_of_program w.program) w.quiet (subst (Says mid new) w.line s))
+      translated w.program w.lines w.accepts (writes_on w.lines only w.writes) (has_same law w.program w.lines w.accepts) (said_on (line_of_text w.program w.lines) w.quiet (subst (Says mid new) w.line s))
       (record { reads = faults.reads ∙ w.faults.reads; writes = faults.writes ∙ w.faults.writes })
   worked law line w _ (failed s) =
-      line_unsaid w.program w.accepts (writes_on w.program s.only w.writes) (risen_behind old.write_faults mid.write_faults new.write_faults w.faults.writes s.failed)
-      (cut_on w.program line w.line w.quiet s.cut)
+      line_unsaid w.program w.lines w.accepts (writes_on w.lines s.only w.writes) (risen_behind old.write_faults mid.write_faults new.write_faults w.faults.writes s.failed)
+      (cut_on line (line_of_text w.program w.lines) w.line w.quiet s.cut)
   worked law line w _ (no_memory s) =
-      no_memory_to_say w.program w.accepts (writes_on w.program s.only w.writes) (risen_behind old.write_faults mid.write_faults new.write_faults w.faults.writes s.failed)
-      (cut_on w.program line w.line w.quiet s.cut)
+      no_memory_to_say w.program w.lines w.accepts (writes_on w.lines s.only w.writes) (risen_behind old.write_faults mid.write_faults new.write_faults w.faults.writes s.failed)
+      (cut_on line (line_of_text w.program w.lines) w.line w.quiet s.cut)
 
   -- a line says what came of a write
   of_write : (line : List ℕ) → FailsToWrite c old mid → SaysLast line mid new → SaysOfWrite c old new line
@@ -116,7 +123,7 @@ module _ (c : Translate) (old mid new : HostState) where
   memory_end _ (stop_refused line rule r e only same) l = quiet_end only l
   memory_end _ (stop_too_large size x e only same) l = quiet_end only l
   memory_end _ (stop_no_memory only) l = quiet_end only l
-  memory_end _ (stop_unwritten fault w e) l = no_memory_to_write w.program w.accepts (part_on w.program l.only w.part) (of_write memory_line w l)
+  memory_end _ (stop_unwritten fault w e) l = no_memory_to_write w.program w.lines w.accepts (part_on w.lines l.only w.part) (of_write memory_line w l)
 
   unread_end : (stop : Stop) → ReadStops c.input input_limit old mid stop → OnlyReads old mid → (status : ℕ) → Closes stop mid new status → Gives c old new status
   unread_end stop s only status (unsaid n e l) = subst (Gives c old new) (sym e) (quiet_end only l)
@@ -145,9 +152,9 @@ module _ (c : Translate) (old mid new : HostState) where
   unwritten_end Failed w status (unsaid n e l) = let fixed : true ≡ false = n in absurd cc
   unwritten_end Memory w status (unsaid n e l) = let fixed : true ≡ false = n in absurd cc
   unwritten_end Failed w status (said e l) =
-      subst (Gives c old new) (sym e) (unwritten w.program w.accepts (part_on w.program l.only w.part) (of_write (codes "write failed\n") w l))
+      subst (Gives c old new) (sym e) (unwritten w.program w.lines w.accepts (part_on w.lines l.only w.part) (of_write (codes "write failed\n") w l))
   unwritten_end Memory w status (said e l) =
-      subst (Gives c old new) (sym e) (no_memory_to_write w.program w.accepts (part_on w.program l.only w.part) (of_write memory_line w l))
+      subst (Gives c old new) (sym e) (no_memory_to_write w.program w.lines w.accepts (part_on w.lines l.only w.part) (of_write memory_line w l))
 
   -- the work ended early
   pub stopped : (stop : Stop) → StopsBy c old mid stop → (status : ℕ) → Closes stop mid new status → Gives c old new status
@@ -158,13 +165,13 @@ module _ (c : Translate) (old mid new : HostState) where
   stopped _ (stop_no_memory only) status (unsaid n e l) = subst (Gives c old new) (sym e) (quiet_end only l)
   stopped stop (stop_unwritten fault w e) status closes = unwritten_end fault w status (subst (λ s. Closes s mid new status) e closes)
 
-module _ (law : SourceLaw) (c : Translate) (old new : HostState) (none : NoneFailed old new) (bytes : List ℕ) (told : IsTold old c.input input_limit bytes) where
+module _ (law : SourceLaw) (one : OneText) (c : Translate) (old new : HostState) (none : NoneFailed old new) (bytes : List ℕ) (told : IsTold old c.input input_limit bytes) where
   -- the source's bytes are those that the host tells
   same_bytes : (others : List ℕ) → IsFile (old.file c.input) others → others ≡ bytes
   same_bytes others f = sym (subst (λ t. IsFile t others) told.0 f)
 
-  source_told : (p : Program) (a : Accepts c old p) → IsSource bytes c.top p
-  source_told p a = subst (λ b. IsSource b c.top p) (same_bytes a.bytes a.file.0) a.source
+  source_told : (p : Program) (lines : List Line86) (a : Accepts c old p lines) → IsSource bytes c.top p
+  source_told p lines a = subst (λ b. IsSource b c.top p) (same_bytes a.bytes a.file.0) a.source
 
   refusal_told : (line : ℕ) (rule : SourceRule) (r : Refuses c old line rule) → IsNoSource bytes c.top line rule
   refusal_told line rule r = subst (λ b. IsNoSource b c.top line rule) (same_bytes r.bytes r.file.0) r.refused
@@ -180,15 +187,15 @@ module _ (law : SourceLaw) (c : Translate) (old new : HostState) (none : NoneFai
   whole_line line e = let s = line_on c old e.mid new line e.reads e.says.line in ⊎_elim (λ all. subst (Says old new) (take_all s.count line all) s.said) (λ r. absurd (none.writes r)) s.whole
 
   pub decides : (status : ℕ) → (status ≡ 5 → ⊥) → Gives c old new status → Decides c old new bytes status
-  decides _ ne (translated p a w h s f) = record {
+  decides _ ne (translated p lines a w h s f) = record {
     three = inl refl;
-    accepted = (λ e. (p, source_told p a, a.fits), λ x. refl);
-    refused = λ line rule r. absurd (law.apart bytes c.top line p rule (source_told p a) r);
-    too_large = λ q size t large. absurd (not_both q size (subst CodeFits (one_program p q (source_told p a) t) a.fits) large);
+    accepted = (λ e. (p, lines, source_told p lines a, a.text, a.fits), λ x. refl);
+    refused = λ line rule r. absurd (law.apart bytes c.top line p rule (source_told p lines a) r);
+    too_large = λ q size t large. absurd (not_both one (mode_of c.plain) q lines size (subst (λ z. IsText (mode_of c.plain) z lines) (one_program p q (source_told p lines a) t) a.text) a.fits large);
   }
   decides _ ne (refused line rule r ends) = record {
     three = inr (inl refl);
-    accepted = (λ e. absurd (omega arith), λ x. absurd (law.apart bytes c.top line x.0 rule x.1 (refusal_told line rule r)));
+    accepted = (λ e. absurd (omega arith), λ x. absurd (law.apart bytes c.top line x.0 rule x.2 (refusal_told line rule r)));
     refused = λ other kind s.
         let e = law.refusal bytes c.top line other rule kind (refusal_told line rule r) s in
         (refl, subst (λ k. Says old new (refusal_line other k)) e.1 (subst (λ n. Says old new (refusal_line n rule)) e.0 (whole_line (refusal_line line rule) ends)));
@@ -196,17 +203,18 @@ module _ (law : SourceLaw) (c : Translate) (old new : HostState) (none : NoneFai
   }
   decides _ ne (too_large size x ends) = record {
     three = inr (inr refl);
-    accepted = (λ e. absurd (omega arith), λ y. absurd (not_both x.program size (subst CodeFits (one_program y.0 x.program y.1 (large_told size x)) y.2) x.large));
+    accepted = (λ e. absurd (omega arith), λ y. absurd (not_both one (mode_of c.plain) x.program y.1 size (subst (λ z. IsText (mode_of c.plain) z y.1) (one_program y.0 x.program y.2 (large_told size x)) y.3) y.4 x.large));
     refused = λ line rule r. absurd (law.apart bytes c.top line x.program rule (large_told size x) r);
     too_large = λ q other t large.
         let same = one_program x.program q (large_told size x) t in
-        let sizes : size ≡ other = x.large.1 ∙ ap (λ (z : Program). sizes_of (plain_statements z)) same ∙ sym large.1 in
+        let texts : x.large.lines ≡ large.lines = one (mode_of c.plain) q x.large.lines large.lines (subst (λ z. IsText (mode_of c.plain) z x.large.lines) same x.large.text) large.text in
+        let sizes : size ≡ other = x.large.is ∙ ap code_of texts ∙ sym large.is in
         (refl, subst (λ n. Says old new (size_line n)) sizes (whole_line (size_line size) ends));
   }
   decides _ ne (unread f ends) = absurd (⊎_elim none.reads (λ m. let there : Missing ≡ Holds bytes = sym m ∙ told.0 in cc) f)
-  decides _ ne (unwritten p a w s) = absurd (none.writes (risen_on old.write_faults s.mid.write_faults new.write_faults s.failed s.only.writes))
-  decides _ ne (line_unsaid p a w f s) = absurd (none.writes f)
+  decides _ ne (unwritten p lines a w s) = absurd (none.writes (risen_on old.write_faults s.mid.write_faults new.write_faults s.failed s.only.writes))
+  decides _ ne (line_unsaid p lines a w f s) = absurd (none.writes f)
   decides _ ne (no_room ends) = absurd (ne refl)
-  decides _ ne (no_memory_to_write p a w s) = absurd (ne refl)
-  decides _ ne (no_memory_to_say p a w f s) = absurd (ne refl)
+  decides _ ne (no_memory_to_write p lines a w s) = absurd (ne refl)
+  decides _ ne (no_memory_to_say p lines a w f s) = absurd (ne refl)
   decides _ ne (too_long longer ends) = let e = ap length (same_bytes longer.0 longer.1) in let more = longer.2 in absurd (omega (arith, e, more, told.1))

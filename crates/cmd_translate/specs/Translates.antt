@@ -1,16 +1,17 @@
 -- What `translate` gives, by its status: the causes, the files, what is said, and after status 0 the headline.
-use Rattle.std.specs.Prelude.{◌≡◌, ◌≢◌, ◌≤◌, ℕ, ◌⊎◌, ◌↔◌, List, codes, length}
+use Rattle.std.specs.Prelude.{◌≡◌, ◌≢◌, ℕ, ◌⊎◌, ◌↔◌, Bool, true, false, List, codes, length}
 use Rattle.host.specs.Host.{HostState, OnlyFileChanged, Says, Rewrites, SameFaults, OnlyReads, OnlySays, ReadFailed, WriteFailed}
-use Rattle.asm86_lines.specs.Layout.{sizes_of}
+use Rattle.asm86_lines.specs.declared.line.Line86.{Line86}
 use Rattle.asm86_lines.specs.Image.{Image, IsImage}
 use Rattle.asm86_lines.specs.Written.{text_of}
 use Rattle.asm80_program.specs.Program.{Program}
 use Rattle.asm80_source.specs.Source.{IsSource, SourceRule, IsNoSource}
-use Rattle.templates.specs.Plain.{plain, plain_statements}
 use Rattle.cmd_files.specs.Transfer.{IsLonger, IsBeforeOrPart, CutsLine}
 use Rattle.cmd_words.specs.Words.{Translate}
 use Rattle.i86.specs.Decode.{HasReader}
-use Rattle.plain_texts.specs.Fits.{CodeFits}
+use Rattle.xlt_core.specs.declared.translation.Mode.{Mode}
+use Rattle.xlt_core.specs.declared.translation.Mode.TheVariants.{Plain, Lean}
+use Rattle.xlt_core.specs.Translation.{IsText, code_of, CodeFits, IsTooLarge}
 use Rattle.sym_same.specs.Same.{Same}
 use Rattle.cmd_reports.specs.declared.stop.Stop.TheVariants.{CodeTooLarge}
 use Rattle.cmd_reports.specs.Lines.{line_of, named_line, memory_line, translated_line}
@@ -18,25 +19,27 @@ use Rattle.cmd_reports.specs.Said.{SaysLine, SaysLast}
 use Rattle.cmd_inputs.specs.Files.{IsWhole, NoneFailed, IsTold, input_limit}
 use Rattle.cmd_inputs.specs.Sources.{refusal_line}
 
--- the line of status 0: the program's instructions and data cells, and the bytes of its plain text's code
-abbrev pub line_of_program : Program → List ℕ
-line_of_program p = translated_line (length p.instrs) (length p.cells) (sizes_of (plain_statements p))
+-- the mode that the words ask for
+abbrev pub mode_of : Bool → Mode
+mode_of true = Plain
+mode_of false = Lean
+
+-- the line of status 0: the program's instructions and data cells, and the bytes of its text's code
+abbrev pub line_of_text : Program → List Line86 → List ℕ
+line_of_text p lines = translated_line (length p.instrs) (length p.cells) (code_of lines)
 
 -- the line of status 13: so many bytes are too many
 abbrev pub size_line : ℕ → List ℕ
 size_line size = line_of (CodeTooLarge size)
 
--- the code of a program's plain text has so many bytes, more than 65,535
-abbrev pub IsTooLarge : Program → ℕ → Type 0
-IsTooLarge p size = (0x10000 ≤ size) × (size ≡ sizes_of (plain_statements p))
-
 module _ (c : Translate) (old : HostState) where
-  -- the source's file has this program, whose code fits
-  pub record Accepts (p : Program) : Type 0 where
+  -- the source's file has this program, and these lines are its text in the mode that is asked for, whose code fits
+  pub record Accepts (p : Program) (lines : List Line86) : Type 0 where
     pub bytes : List ℕ
     pub file : IsWhole old c.input input_limit bytes
     pub source : IsSource bytes c.top p
-    pub fits : CodeFits p
+    pub text : IsText (mode_of c.plain) p lines
+    pub fits : CodeFits lines
 
   -- the source's file is refused at a line for a rule
   pub record Refuses (line : ℕ) (rule : SourceRule) : Type 0 where
@@ -50,24 +53,24 @@ module _ (c : Translate) (old : HostState) where
     pub bytes : List ℕ
     pub file : IsWhole old c.input input_limit bytes
     pub source : IsSource bytes c.top program
-    pub large : IsTooLarge program size
+    pub large : IsTooLarge (mode_of c.plain) program size
 
   module _ (new : HostState) where
-    -- the plain text of a program took the output's place, and no other file has changed
-    pub record Writes (p : Program) : Type 0 where
-      pub text : Rewrites old new c.output (text_of (plain p))
+    -- the text of lines took the output's place, and no other file has changed
+    pub record Writes (lines : List Line86) : Type 0 where
+      pub text : Rewrites old new c.output (text_of lines)
       pub others : OnlyFileChanged old new c.output
 
     -- the output is as before, or first bytes of that text, but not all, took its place, and no other file has changed
-    pub record WritesPart (p : Program) : Type 0 where
-      pub text : IsBeforeOrPart old new c.output (text_of (plain p))
+    pub record WritesPart (lines : List Line86) : Type 0 where
+      pub text : IsBeforeOrPart old new c.output (text_of lines)
       pub others : OnlyFileChanged old new c.output
 
     -- the headline: the text that was written has an image, whose code is read in one way, and source and image make the same
     -- system calls
-    pub record HasSame (p : Program) : Type 0 where
+    pub record HasSame (p : Program) (lines : List Line86) : Type 0 where
       pub image : Image
-      pub assembled : IsImage (plain p) image
+      pub assembled : IsImage lines image
       pub reader : HasReader image.code
       pub same : Same p image
 
@@ -88,18 +91,18 @@ module _ (c : Translate) (old : HostState) where
     -- each way to a status
     pub data Gives : ℕ → Type 0 where
       -- the text is written, and its line said, and no call failed
-      translated : (p : Program) → Accepts p → Writes p → HasSame p → Says old new (line_of_program p) → SameFaults old new → Gives 0
+      translated : (p : Program) (lines : List Line86) → Accepts p lines → Writes lines → HasSame p lines → Says old new (line_of_text p lines) → SameFaults old new → Gives 0
       -- the source is refused
       refused : (line : ℕ) (rule : SourceRule) → Refuses line rule → EndsWith (refusal_line line rule) → Gives 1
       -- the source's file was not read
       unread : ReadFailed old new c.input → EndsWith (named_line (codes "read failed: ") c.input) → Gives 3
       -- the text was not written, or its line not said
-      unwritten : (p : Program) → Accepts p → WritesPart p → SaysOfWrite (codes "write failed\n") → Gives 4
-      unsaid : (p : Program) → Accepts p → Writes p → WriteFailed old new → CutsLine (line_of_program p) old new → Gives 4
+      unwritten : (p : Program) (lines : List Line86) → Accepts p lines → WritesPart lines → SaysOfWrite (codes "write failed\n") → Gives 4
+      unsaid : (p : Program) (lines : List Line86) → Accepts p lines → Writes lines → WriteFailed old new → CutsLine (line_of_text p lines) old new → Gives 4
       -- memory ran out: before the text is written, while the host writes it, or while the host says its line
       no_memory : EndsWith memory_line → Gives 5
-      no_memory_to_write : (p : Program) → Accepts p → WritesPart p → SaysOfWrite memory_line → Gives 5
-      no_memory_to_say : (p : Program) → Accepts p → Writes p → WriteFailed old new → CutsLine (line_of_program p) old new → Gives 5
+      no_memory_to_write : (p : Program) (lines : List Line86) → Accepts p lines → WritesPart lines → SaysOfWrite memory_line → Gives 5
+      no_memory_to_say : (p : Program) (lines : List Line86) → Accepts p lines → Writes lines → WriteFailed old new → CutsLine (line_of_text p lines) old new → Gives 5
       -- the code is too large
       too_large : (size : ℕ) → Exceeds size → EndsWith (size_line size) → Gives 13
       -- the source's file is longer than its limit
@@ -109,9 +112,9 @@ module _ (c : Translate) (old : HostState) where
     -- where the code does not; and else 1 with the line and the rule at which it is refused
     pub record Decides (bytes : List ℕ) (status : ℕ) : Type 0 where
       pub three : (status ≡ 0) ⊎ ((status ≡ 1) ⊎ (status ≡ 13))
-      pub accepted : (status ≡ 0) ↔ ((p : Program) × IsSource bytes c.top p × CodeFits p)
+      pub accepted : (status ≡ 0) ↔ ((p : Program) × (lines : List Line86) × IsSource bytes c.top p × IsText (mode_of c.plain) p lines × CodeFits lines)
       pub refused : (line : ℕ) (rule : SourceRule) → IsNoSource bytes c.top line rule → (status ≡ 1) × Says old new (refusal_line line rule)
-      pub too_large : (p : Program) (size : ℕ) → IsSource bytes c.top p → IsTooLarge p size → (status ≡ 13) × Says old new (size_line size)
+      pub too_large : (p : Program) (size : ℕ) → IsSource bytes c.top p → IsTooLarge (mode_of c.plain) p size → (status ≡ 13) × Says old new (size_line size)
 
     -- so it is where no call failed and the host tells a source within its limit
     abbrev pub Completes : ℕ → Type 0

@@ -4,6 +4,7 @@ use Rattle.host.specs.declared.HostFault.{HostFault}
 use Rattle.host.specs.declared.HostFault.TheVariants.{Failed, Memory}
 use Rattle.host.specs.Host.{HostState, SameSaid, SameFaults, OnlyReads}
 use Rattle.host.specs.Host.{WriteFailed as WriteFails}
+use Rattle.asm86_lines.specs.declared.line.Line86.{Line86}
 use Rattle.asm80_program.specs.Program.{Program}
 use Rattle.asm80_source.specs.Source.{SourceRule}
 use Rattle.cmd_files.specs.Transfer.{IsBeforeOrPart}
@@ -12,32 +13,36 @@ use Rattle.cmd_reports.specs.declared.stop.Stop.{Stop}
 use Rattle.cmd_reports.specs.declared.stop.Stop.TheVariants.{WriteFailed, OutOfMemory, CodeTooLarge}
 use Rattle.cmd_inputs.specs.Files.{ReadStops, input_limit}
 use Rattle.cmd_inputs.specs.Sources.{stop_of_rule}
-use Rattle.cmd_translate.specs.Translates.{line_of_program, IsTooLarge, Accepts, Refuses, Exceeds, Writes, WritesPart}
+use Rattle.xlt_core.specs.declared.translation.Mode.{Mode}
+use Rattle.xlt_core.specs.Translation.{IsTooLarge}
+use Rattle.cmd_translate.specs.Translates.{line_of_text, Accepts, Refuses, Exceeds, Writes, WritesPart}
 
--- a program has no text: its code is too large, or memory ran out
-pub data TextStops (p : Program) : Stop → Type 0 where
-  is_large : {size : ℕ} → IsTooLarge p size → TextStops p (CodeTooLarge size)
-  no_room : TextStops p OutOfMemory
+-- a program has no text in a mode: its code is too large, or memory ran out
+pub data TextStops (mode : Mode) (p : Program) : Stop → Type 0 where
+  is_large : {size : ℕ} → IsTooLarge mode p size → TextStops mode p (CodeTooLarge size)
+  no_room : TextStops mode p OutOfMemory
 
 abbrev pub stop_of_write : HostFault → Stop
 stop_of_write Failed = WriteFailed
 stop_of_write Memory = OutOfMemory
 
--- the source was read and the plain text of its program written; the line says how much it was
+-- the source was read and the text of its program written; the line says how much it was
 pub record Works (c : Translate) (old new : HostState) (text : List ℕ) : Type 0 where
   pub program : Program
-  pub accepts : Accepts c old program
-  pub writes : Writes c old new program
+  pub lines : List Line86
+  pub accepts : Accepts c old program lines
+  pub writes : Writes c old new lines
   pub quiet : SameSaid old new
   pub faults : SameFaults old new
-  pub line : text ≡ line_of_program program
+  pub line : text ≡ line_of_text program lines
 
 module _ (c : Translate) (old new : HostState) where
   -- a write of the text failed
   pub record FailsToWrite : Type 0 where
     pub program : Program
-    pub accepts : Accepts c old program
-    pub part : WritesPart c old new program
+    pub lines : List Line86
+    pub accepts : Accepts c old program lines
+    pub part : WritesPart c old new lines
     pub quiet : SameSaid old new
     pub failed : WriteFails old new
 

@@ -1,4 +1,4 @@
-// The work of the command that translates: a source in, the plain text of its program out, and what is said of it.
+// The work of the command that translates: a source in, the text of its program out, and what is said of it.
 #![tactic(auto)]
 
 mod translation;

@@ -9,7 +9,7 @@ use Rattle.std.proofs.lemmas.Option.{none-some, same_Some}
 use Rattle.std.proofs.lemmas.Slice.Eq.{bytes_eq-Decides}
 use Rattle.std.proofs.Math.Seq.{drop-cons}
 use Rattle.cmd_words.specs.declared.table.CommandName.{CommandName}
-use Rattle.cmd_words.specs.declared.table.CommandName.TheVariants.{Translate, Flags, Run80, Run86}
+use Rattle.cmd_words.specs.declared.table.CommandName.TheVariants.{Translate, Check, Flags, Run80, Run86}
 use Rattle.cmd_words.specs.declared.table.OptionName.{OptionName}
 use Rattle.cmd_words.specs.declared.table.OptionName.TheVariants.{Top, Choice, Input, Disk, Ports, OutDisk, Tail, Steps, Plain}
 use Rattle.cmd_words.specs.Table.{Word, option_word, options_of, flags_of, named_among}
@@ -56,6 +56,7 @@ no_flag Translate Ports p e = refl
 no_flag Translate OutDisk p e = refl
 no_flag Translate Tail p e = refl
 no_flag Translate Steps p e = refl
+no_flag Check o p e = refl
 no_flag Flags o p e = refl
 no_flag Run80 o p e = refl
 no_flag Run86 o p e = refl
@@ -121,6 +122,7 @@ rule_of_form c w ws rest item e = let P : First → Type 0 = BeginsAs c (w ∷ w
 -- the mark begins no item
 pub no_item_at_mark : (c : CommandName) (ws : List Word) → first_item c mark ws ≡ None
 no_item_at_mark Translate ws = refl
+no_item_at_mark Check ws = refl
 no_item_at_mark Flags ws = refl
 no_item_at_mark Run80 ws = refl
 no_item_at_mark Run86 ws = refl

@@ -3,14 +3,18 @@ use Rattle.std.specs.Prelude.{option_copied}
 use Rattle.cmd_words.specs.declared.command.Command.{Command as ReadCommand}
 use Rattle.cmd_words.specs.declared.command.Command.TheVariants as read
 use Rattle.cmd_words.specs.declared.command.Translate.{Translate as ReadTranslate}
+use Rattle.cmd_words.specs.declared.command.Check.{Check as ReadCheck}
 use Rattle.cmd_words.specs.declared.command.Flags.{Flags as ReadFlags}
 use Rattle.cmd_words.specs.declared.command.Run80.{Run80 as ReadRun80}
 use Rattle.cmd_words.specs.declared.command.Run86.{Run86 as ReadRun86}
 use Rattle.cmd_words.specs.declared.command.RunOptions.{RunOptions as ReadRunOptions}
-use Rattle.cmd_words.specs.Words.{Translate, Flags, RunOptions, Run80, Run86, Command, Translates, ListsFlags, Runs80, Runs86}
+use Rattle.cmd_words.specs.Words.{Translate, Check, Flags, RunOptions, Run80, Run86, Command, Translates, Checks, ListsFlags, Runs80, Runs86}
 
 abbrev pub translate_read : ReadTranslate → Translate
-translate_read c = record { input = c.input.now; output = c.output.now; top = c.top }
+translate_read c = record { input = c.input.now; output = c.output.now; plain = c.plain; top = c.top }
+
+abbrev pub check_read : ReadCheck → Check
+check_read c = record { source = c.source.now; text = c.text.now; top = c.top }
 
 abbrev pub flags_read : ReadFlags → Flags
 flags_read c = record { source = c.source.now; top = c.top }
@@ -26,6 +30,7 @@ run86_read c = record { text = c.text.now; choice = c.choice; run = run_options_
 
 abbrev pub command_read : ReadCommand → Command
 command_read (read.Translate c) = Translates (translate_read c)
+command_read (read.Check c) = Checks (check_read c)
 command_read (read.Flags c) = ListsFlags (flags_read c)
 command_read (read.Run80 c) = Runs80 (run80_read c)
 command_read (read.Run86 c) = Runs86 (run86_read c)

@@ -2,7 +2,7 @@
 use Rattle.std.specs.Prelude.{ℕ, List, [], ◌∷◌, codes, Option, find}
 use Rattle.std.specs.Str.{bytes_eq}
 use Rattle.cmd_words.specs.declared.table.CommandName.{CommandName}
-use Rattle.cmd_words.specs.declared.table.CommandName.TheVariants.{Translate, Flags, Run80, Run86}
+use Rattle.cmd_words.specs.declared.table.CommandName.TheVariants.{Translate, Check, Flags, Run80, Run86}
 use Rattle.cmd_words.specs.declared.table.OptionName.{OptionName}
 use Rattle.cmd_words.specs.declared.table.OptionName.TheVariants.{Top, Choice, Input, Disk, Ports, OutDisk, Tail, Steps, Plain}
 
@@ -11,10 +11,11 @@ abbrev pub Word : Type 0
 Word = List ℕ
 
 abbrev pub commands : List CommandName
-commands = Translate ∷ (Flags ∷ (Run80 ∷ (Run86 ∷ [])))
+commands = Translate ∷ (Check ∷ (Flags ∷ (Run80 ∷ (Run86 ∷ []))))
 
 abbrev pub command_word : CommandName → Word
 command_word Translate = codes "translate"
+command_word Check = codes "check"
 command_word Flags = codes "flags"
 command_word Run80 = codes "run80"
 command_word Run86 = codes "run86"
@@ -33,6 +34,7 @@ option_word Plain = codes "--plain"
 -- the options with a value that a command takes
 abbrev pub options_of : CommandName → List OptionName
 options_of Translate = Top ∷ []
+options_of Check = Top ∷ []
 options_of Flags = Top ∷ []
 options_of Run80 = Top ∷ (Input ∷ (Disk ∷ (Ports ∷ (OutDisk ∷ (Tail ∷ (Steps ∷ []))))))
 options_of Run86 = Choice ∷ (Input ∷ (Disk ∷ (Ports ∷ (OutDisk ∷ (Tail ∷ (Steps ∷ []))))))
@@ -40,6 +42,7 @@ options_of Run86 = Choice ∷ (Input ∷ (Disk ∷ (Ports ∷ (OutDisk ∷ (Tail
 -- the options without a value, its flags
 abbrev pub flags_of : CommandName → List OptionName
 flags_of Translate = Plain ∷ []
+flags_of Check = []
 flags_of Flags = []
 flags_of Run80 = []
 flags_of Run86 = []

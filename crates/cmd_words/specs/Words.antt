@@ -1,5 +1,5 @@
 -- The commands with their values, and the words that are a command.
-use Rattle.std.specs.Prelude.{◌≡◌, ℕ, List, [], ◌∷◌, codes, Option, Some, None, option_map, option_and_then}
+use Rattle.std.specs.Prelude.{◌≡◌, ℕ, Bool, true, false, List, [], ◌∷◌, codes, Option, Some, None, option_map, option_and_then}
 use Rattle.dialogue.specs.StartPage.{page_of_tail}
 use Rattle.cmd_words.specs.declared.table.CommandName.{CommandName}
 use Rattle.cmd_words.specs.declared.table.CommandName.TheVariants as named
@@ -7,10 +7,17 @@ use Rattle.cmd_words.specs.Table.{Word, command_named}
 use Rattle.cmd_words.specs.Values.{top_value, choice_value, steps_value, file_name}
 use Rattle.cmd_words.specs.Given.{Occurrence, Absent, Once, Repeated, Names, NoName, OneName, TwoNames, MoreNames, Gathered, AreSorted}
 
--- `translate IN OUT --plain [--top H]`
+-- `translate IN OUT [--plain] [--top H]`
 pub record Translate : Type 0 where
   pub input : Word
   pub output : Word
+  pub plain : Bool
+  pub top : ℕ
+
+-- `check IN TEXT [--top H]`
+pub record Check : Type 0 where
+  pub source : Word
+  pub text : Word
   pub top : ℕ
 
 -- `flags IN [--top H]`
@@ -42,6 +49,7 @@ pub record Run86 : Type 0 where
 
 pub data Command : Type 0 where
   Translates : (command : Translate) → Command
+  Checks : (command : Check) → Command
   ListsFlags : (command : Flags) → Command
   Runs80 : (command : Run80) → Command
   Runs86 : (command : Run86) → Command
@@ -74,11 +82,11 @@ input_file Absent = Some None
 input_file (Once text) = option_map Some (file_name text)
 input_file Repeated = None
 
--- a flag that must stand, once
-abbrev pub once : Occurrence → Option Word
-once Absent = None
-once (Once text) = Some text
-once Repeated = None
+-- a flag that stands once, or nowhere
+abbrev pub flag_of : Occurrence → Option Bool
+flag_of Absent = Some false
+flag_of (Once text) = Some true
+flag_of Repeated = None
 
 -- exactly one file, or two
 abbrev pub one_file : Names → Option Word
@@ -98,10 +106,16 @@ two_files MoreNames = None
 
 abbrev pub translate_of : Gathered → Option Translate
 translate_of g = do
-  plain ← once g.plain
+  plain ← flag_of g.plain
   files ← two_files g.names
   top ← top_of g
-  Some (record { input = files.0; output = files.1; top = top })
+  Some (record { input = files.0; output = files.1; plain = plain; top = top })
+
+abbrev pub check_of : Gathered → Option Check
+check_of g = do
+  files ← two_files g.names
+  top ← top_of g
+  Some (record { source = files.0; text = files.1; top = top })
 
 abbrev pub flags_command_of : Gathered → Option Flags
 flags_command_of g = do
@@ -136,6 +150,7 @@ run86_of g = do
 -- the command that its name and what stands behind it make
 abbrev pub command_of : CommandName → Gathered → Option Command
 command_of named.Translate g = option_map Translates (translate_of g)
+command_of named.Check g = option_map Checks (check_of g)
 command_of named.Flags g = option_map ListsFlags (flags_command_of g)
 command_of named.Run80 g = option_map Runs80 (run80_of g)
 command_of named.Run86 g = option_map Runs86 (run86_of g)

@@ -3,8 +3,8 @@
 ghost use Rattle.std.specs.Prelude.{◌≡◌, ℕ, List, map, option_copied, option_map, MatchOption};
 ghost use Rattle.std.specs.String.{string_bytes};
 ghost use Rattle.cmd_words.specs.Read.{files_of, input_of, names_read, occurrence_of};
-ghost use Rattle.cmd_words.specs.ReadCommands.{command_read, flags_read, run80_read, run86_read, run_options_read, translate_read};
-ghost use Rattle.cmd_words.specs.Words.{choice_of, command_of, flags_command_of, input_file, once, one_file, page_of, run80_of, run86_of, run_options_of, steps_of, text_or, top_of, translate_of, two_files, Command as CommandValue, IsCommand, IsNoCommand};
+ghost use Rattle.cmd_words.specs.ReadCommands.{check_read, command_read, flags_read, run80_read, run86_read, run_options_read, translate_read};
+ghost use Rattle.cmd_words.specs.Words.{check_of, choice_of, command_of, flags_command_of, flag_of, input_file, one_file, page_of, run80_of, run86_of, run_options_of, steps_of, text_or, top_of, translate_of, two_files, Command as CommandValue, IsCommand, IsNoCommand};
 
 use crate::given::{Given, Names, Occurrence};
 use crate::items::first_word;
@@ -16,16 +16,27 @@ use dialogue::Page;
 #[derive(Drop)]
 pub enum Command<'a> {
     Translate(Translate<'a>),
+    Check(Check<'a>),
     Flags(Flags<'a>),
     Run80(Run80<'a>),
     Run86(Run86<'a>),
 }
 
-/// `translate IN OUT --plain [--top H]`: a source's file, the file for its text, and the top of the program area.
+/// `translate IN OUT [--plain] [--top H]`: a source's file, the file for its text, whether it is to be the plain one, and the top of
+/// the program area.
 #[derive(Clone, Copy)]
 pub struct Translate<'a> {
     pub input: &'a str,
     pub output: &'a str,
+    pub plain: bool,
+    pub top: u16,
+}
+
+/// `check IN TEXT [--top H]`: a source's file, the file of a text, and the top of the program area.
+#[derive(Clone, Copy)]
+pub struct Check<'a> {
+    pub source: &'a str,
+    pub text: &'a str,
     pub top: u16,
 }
 
@@ -107,13 +118,14 @@ impl<'a> Occurrence<'a> {
         }
     }
 
-    // The text of a flag that must stand, once.
-    fn once(self) -> Option<&'a str>
-        ensures { option_copied result ≡ once (occurrence_of self.entry) }
+    // Whether a flag stands, which it may once.
+    fn flag(self) -> Option<bool>
+        ensures { result ≡ flag_of (occurrence_of self.entry) }
     {
         match self {
-            Occurrence::Once(text) => Some(text),
-            Occurrence::Absent | Occurrence::Repeated => None,
+            Occurrence::Absent => Some(false),
+            Occurrence::Once(_) => Some(true),
+            Occurrence::Repeated => None,
         }
     }
 }
@@ -165,10 +177,23 @@ impl<'a> Given<'a> {
     fn translate(&self) -> Option<Translate<'a>>
         ensures { option_map translate_read result ≡ translate_of self.now }
     {
-        self.plain.once()?;
+        let plain = self.plain.flag()?;
         let (input, output) = self.names.two_files()?;
         let top = self.top()?;
-        Some(Translate { input, output, top })
+        Some(Translate {
+            input,
+            output,
+            plain,
+            top,
+        })
+    }
+
+    fn check(&self) -> Option<Check<'a>>
+        ensures { option_map check_read result ≡ check_of self.now }
+    {
+        let (source, text) = self.names.two_files()?;
+        let top = self.top()?;
+        Some(Check { source, text, top })
     }
 
     fn flags(&self) -> Option<Flags<'a>>
@@ -203,6 +228,7 @@ impl<'a> Given<'a> {
     {
         match name {
             CommandName::Translate => Some(Command::Translate(self.translate()?)),
+            CommandName::Check => Some(Command::Check(self.check()?)),
             CommandName::Flags => Some(Command::Flags(self.flags()?)),
             CommandName::Run80 => Some(Command::Run80(self.run80()?)),
             CommandName::Run86 => Some(Command::Run86(self.run86()?)),

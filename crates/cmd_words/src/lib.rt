@@ -8,5 +8,5 @@ mod table;
 mod values;
 
 pub use command::{
-    Command, Flags, Run80, Run86, RunOptions, Translate, read_words, words_are_one_command,
+    Check, Command, Flags, Run80, Run86, RunOptions, Translate, read_words, words_are_one_command,
 };

@@ -7,6 +7,7 @@ ghost use Rattle.cmd_words.specs.Table.{command_named, command_word, commands, f
 #[derive(Clone, Copy)]
 pub enum CommandName {
     Translate,
+    Check,
     Flags,
     Run80,
     Run86,
@@ -26,8 +27,9 @@ pub enum OptionName {
     Plain,
 }
 
-const COMMANDS: [CommandName; 4] = [
+const COMMANDS: [CommandName; 5] = [
     CommandName::Translate,
+    CommandName::Check,
     CommandName::Flags,
     CommandName::Run80,
     CommandName::Run86,
@@ -49,6 +51,7 @@ impl CommandName {
     {
         match self {
             CommandName::Translate => "translate",
+            CommandName::Check => "check",
             CommandName::Flags => "flags",
             CommandName::Run80 => "run80",
             CommandName::Run86 => "run86",
@@ -76,7 +79,7 @@ impl CommandName {
         use OptionName::*;
 
         match self {
-            CommandName::Translate | CommandName::Flags => &[Top],
+            CommandName::Translate | CommandName::Check | CommandName::Flags => &[Top],
             CommandName::Run80 => &[Top, Input, Disk, Ports, OutDisk, Tail, Steps],
             CommandName::Run86 => &[Choice, Input, Disk, Ports, OutDisk, Tail, Steps],
         }
@@ -88,7 +91,8 @@ impl CommandName {
     {
         match self {
             CommandName::Translate => &[OptionName::Plain],
-            CommandName::Flags | CommandName::Run80 | CommandName::Run86 => &[],
+            CommandName::Check | CommandName::Flags | CommandName::Run80 | CommandName::Run86 =>
+                &[],
         }
     }
 }

@@ -13,7 +13,7 @@ gives-in-Ok g c =
     let mid = g.H.Host.state c.work.new.host in
     let new = g.H.Host.state c.say_done.new.host in
     worked (translate_read c.args.command.now) (g.H.Host.state c.args.host.now) mid new
-    (record { assembles = c.plain_is_same.ensures.assembles; reader = c.plain_is_same.ensures.reader; same = c.plain_is_same.ensures.same })
+    (record { assembles = c.own_texts_are_same.ensures.assembles; reader = c.own_texts_are_same.ensures.reader; same = c.own_texts_are_same.ensures.same })
     (string_bytes c.in-Ok.line) c.in-Ok.ensures.worked c.say_done.result
     (subst (λ l. IsDone l mid new c.say_done.result) c.as_str.ensures.value c.say_done.ensures)
 
@@ -27,7 +27,7 @@ returns-in-Ok-clause-gives g c = gives-in-Ok g c
 
 pub returns-in-Ok-clause-completes : goal.returns-in-Ok-clause-completes
 returns-in-Ok-clause-completes g c = λ none bytes told memory.
-    decides (record { program = c.source_has_one_outcome.ensures.program; refusal = c.source_has_one_outcome.ensures.refusal; apart = c.source_has_one_outcome.ensures.apart })
+    decides (record { program = c.source_has_one_outcome.ensures.program; refusal = c.source_has_one_outcome.ensures.refusal; apart = c.source_has_one_outcome.ensures.apart }) c.own_texts_are_same.ensures.one
     (translate_read c.args.command.now) (g.H.Host.state c.args.host.now) (g.H.Host.state c.say_done.new.host)
     none bytes told c.say_done.result memory (gives-in-Ok g c)
 
@@ -36,6 +36,6 @@ returns-in-Err-clause-gives g c = gives-in-Err g c
 
 pub returns-in-Err-clause-completes : goal.returns-in-Err-clause-completes
 returns-in-Err-clause-completes g c = λ none bytes told memory.
-    decides (record { program = c.source_has_one_outcome.ensures.program; refusal = c.source_has_one_outcome.ensures.refusal; apart = c.source_has_one_outcome.ensures.apart })
+    decides (record { program = c.source_has_one_outcome.ensures.program; refusal = c.source_has_one_outcome.ensures.refusal; apart = c.source_has_one_outcome.ensures.apart }) c.own_texts_are_same.ensures.one
     (translate_read c.args.command.now) (g.H.Host.state c.args.host.now) (g.H.Host.state c.say_stop.new.host)
     none bytes told c.say_stop.result memory (gives-in-Err g c)

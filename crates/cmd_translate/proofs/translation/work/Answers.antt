@@ -3,7 +3,8 @@ use Rattle.asm86_lines.specs.Written.{text_of}
 use Rattle.asm80_source.specs.Source.{IsSource}
 use Rattle.cmd_words.specs.ReadCommands.{translate_read}
 use Rattle.cmd_inputs.specs.Sources.{SourceGives}
-use Rattle.cmd_translate.specs.Work.{StopsBy, unread}
+use Rattle.xlt_core.specs.Translation.{IsText}
+use Rattle.cmd_translate.specs.Work.{TextStops, StopsBy, unread}
 use Rattle.cmd_inputs.proofs.Told.{judged}
 use Rattle.cmd_translate.proofs.Working.{source_stop, text_stop, write_stop, works}
 use Rattle.cmd_translate.proofs.translation.work.Goals as goal
@@ -39,7 +40,7 @@ returns-in_err-text-clause-stopped g c =
     judged c.from_residual-in_err-text.result (λ s. s ≡ c.in_err-text.field-0.0) (StopsBy command old new) c.from_residual-in_err-text.ensures.1
     (λ s is. subst (StopsBy command old new) (sym is)
     (text_stop command old new new bytes file.read.file file.only file.counted c.in_ok-program.program (subst (SourceGives bytes command.top) c.in_ok-program.was file.read.gives)
-    c.in_err-text.field-0.0 c.in_err-text.ensures.stopped))
+    c.in_err-text.field-0.0 (subst (λ m. TextStops m c.in_ok-program.program c.in_err-text.field-0.0) c.mode_of.ensures c.in_err-text.ensures.stopped)))
 
 pub returns-in_err-write_text-clause-stopped : goal.returns-in_err-write_text-clause-stopped
 returns-in_err-write_text-clause-stopped g c =
@@ -54,8 +55,8 @@ returns-in_err-write_text-clause-stopped g c =
     let write = c.in_err-write_text in
     judged c.from_residual-in_err-write_text.result (λ s. s ≡ write.field-0.0) (StopsBy command old new) c.from_residual-in_err-write_text.ensures.1
     (λ s is. subst (StopsBy command old new) (sym is)
-    (write_stop command old mid new bytes file.read.file file.only file.counted p source c.in_ok-text.ensures.fits
-    (text_of c.as_slice.result.now) (ap text_of (c.as_slice.ensures.value ∙ c.in_ok-text.ensures.lines)) write.ensures.only write.field-0.0 write.ensures.stopped))
+    (write_stop command old mid new bytes file.read.file file.only file.counted p c.in_ok-text.text.lines.items source (subst (λ m. IsText m p c.in_ok-text.text.lines.items) c.mode_of.ensures c.in_ok-text.ensures.text) c.in_ok-text.ensures.fits
+    (text_of c.as_slice.result.now) (ap text_of c.as_slice.ensures.value) write.ensures.only write.field-0.0 write.ensures.stopped))
 
 pub returns-clause-worked : goal.returns-clause-worked
 returns-clause-worked g c =
@@ -68,5 +69,5 @@ returns-clause-worked g c =
     let p = c.in_ok-program.program in
     let source : IsSource bytes command.top p = subst (SourceGives bytes command.top) c.in_ok-program.was file.read.gives in
     let write = c.in_ok-write_text in
-    works command old mid new bytes file.read.file file.only file.counted p source c.in_ok-text.ensures.fits
-    (text_of c.as_slice.result.now) (ap text_of (c.as_slice.ensures.value ∙ c.in_ok-text.ensures.lines)) write.ensures.only write.ensures.written write.ensures.counted _ c.in_ok-text.ensures.line
+    works command old mid new bytes file.read.file file.only file.counted p c.in_ok-text.text.lines.items source (subst (λ m. IsText m p c.in_ok-text.text.lines.items) c.mode_of.ensures c.in_ok-text.ensures.text) c.in_ok-text.ensures.fits
+    (text_of c.as_slice.result.now) (ap text_of c.as_slice.ensures.value) write.ensures.only write.ensures.written write.ensures.counted _ c.in_ok-text.ensures.line
