@@ -4,8 +4,8 @@ use Rattle.std.specs.Prelude.{◌≡◌, ℕ, true, List, [], ◌∷◌, Option,
 use Rattle.dialogue.specs.declared.request.Event.{Event}
 use Rattle.dialogue.specs.declared.request.Event.TheVariants.{Call, In, Out, End}
 use Rattle.dialogue.specs.Fits.{fits_event}
-use Rattle.bdos_console.specs.declared.answers.Answer.{Answer}
-use Rattle.bdos_console.specs.declared.answers.Answer.TheVariants.{Reply as Replies, InputEnded as HasEnded, NoDrive as HasNoDrive}
+use Rattle.bdos_small.specs.declared.console.Answer.{Answer}
+use Rattle.bdos_small.specs.declared.console.Answer.TheVariants.{Reply as Replies, InputEnded as HasEnded, NoDrive as HasNoDrive}
 use Rattle.bdos_small.specs.Small.{Small, Answered, small_answer}
 use Rattle.bdos_ports.specs.declared.devices.EventAnswer.{EventAnswer}
 use Rattle.bdos_ports.specs.declared.devices.EventAnswer.TheVariants.{Reply, InputEnded, NoDrive}

@@ -3,7 +3,7 @@ ghost use Rattle.std.specs.Prelude.{◌≡◌, ℕ, List, IfOk, OnErr, Some};
 ghost use Rattle.dialogue.specs.Lawful.{IsLawful, IsLawfulEvent};
 ghost use Rattle.dialogue.specs.declared.request.Event.TheVariants as Event;
 ghost use Rattle.dialogue.specs.declared.request.Request.{Request};
-ghost use Rattle.bdos_console.specs.Console.{FitsRequest};
+ghost use Rattle.bdos_small.specs.Console.{FitsRequest};
 ghost use Rattle.bdos_small.specs.Small.{Small, ChangesByReply};
 ghost use Rattle.bdos_ports.specs.Supply.{supply_of};
 ghost use Rattle.bdos_ports.specs.Events.{of_system, port_reply, FitsEvent, TakesByReply};

@@ -14,7 +14,7 @@ use Rattle.dialogue.specs.Table.{Row, row_of}
 use Rattle.dialogue.specs.Shape.{address_of, ranges}
 use Rattle.dialogue.specs.Fits.{kind_by, answer_fits, fills, fits_row, fits, writes_fit, line_fits}
 use Rattle.dialogue.specs.Lawful.{AreRangesOf, first_byte, IsLawful}
-use Rattle.bdos_console.specs.Console.{place_in}
+use Rattle.bdos_small.specs.Console.{place_in}
 use Rattle.bdos_small.specs.Calls.{telling, writing, writing_both}
 use Rattle.bdos_small.proofs.Lawful.{has_cells, cells_of, range_len}
 

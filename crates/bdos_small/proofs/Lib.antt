@@ -1,3 +1,5 @@
+pub mod Lines
+pub mod ConsoleReplies
 pub mod Lawful
 pub mod Fitting
 pub mod FileFits

@@ -4,7 +4,7 @@ use Rattle.std.specs.List.{list_any}
 use Rattle.dialogue.specs.declared.blocks.Block.{Block}
 use Rattle.dialogue.specs.declared.request.Reply.{Reply}
 use Rattle.dialogue.specs.declared.request.Request.{Request}
-use Rattle.bdos_console.specs.Console.{place_in}
+use Rattle.bdos_small.specs.Console.{place_in}
 
 -- the bytes of the k-th block that a call reads
 abbrev pub bytes_in : Option Block → List ℕ

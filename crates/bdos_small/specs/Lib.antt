@@ -1,3 +1,4 @@
+pub mod Console
 pub mod Fcb
 pub mod Calls
 pub mod Files

@@ -3,9 +3,9 @@
 use Rattle.std.specs.Prelude.{◌≡◌, ℕ, ◌==◌, nat_le, cond, List, Option}
 use Rattle.dialogue.specs.declared.request.Request.{Request}
 use Rattle.dialogue.specs.declared.request.Reply.{Reply as ReplyTo}
-use Rattle.bdos_console.specs.declared.answers.Answer.{Answer}
-use Rattle.bdos_console.specs.declared.answers.Answer.TheVariants.{Reply, InputEnded, NoDrive}
-use Rattle.bdos_console.specs.Console.{Answered as ByConsole, console_answer}
+use Rattle.bdos_small.specs.declared.console.Answer.{Answer}
+use Rattle.bdos_small.specs.declared.console.Answer.TheVariants.{Reply, InputEnded, NoDrive}
+use Rattle.bdos_small.specs.Console.{Answered as ByConsole, console_answer}
 use Rattle.bdos_disk.specs.Stored.{Stored}
 use Rattle.bdos_small.specs.Fcb.{drive_in}
 use Rattle.bdos_small.specs.Calls.{fcb_of, takes_fcb}

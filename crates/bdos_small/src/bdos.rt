@@ -2,9 +2,10 @@
 ghost use Rattle.std.specs.Prelude.{◌≡◌, true, IfOk, OnErr, None};
 ghost use Rattle.dialogue.specs.Fits.{fits};
 ghost use Rattle.dialogue.specs.Lawful.{IsLawful};
-ghost use Rattle.bdos_console.specs.Console.{FitsRequest};
+ghost use Rattle.bdos_small.specs.Console.{FitsRequest};
 ghost use Rattle.bdos_small.specs.Calls.{takes_fcb};
 
+use crate::console::{Answer, Console};
 use crate::directory::{
     Search, close_file, delete_file, make_file, open_file, rename_file, search_first, search_next,
 };
@@ -13,7 +14,6 @@ use crate::records::{
     file_size, read_random, read_sequential, set_random_record, write_random, write_sequential,
 };
 use crate::replies::block_at;
-use bdos_console::{Answer, Console};
 use bdos_disk::Disk;
 use dialogue::{Reply, Request};
 use std::alloc::{AllocError, Global};

@@ -2,11 +2,13 @@
 #![tactic(auto)]
 
 mod bdos;
+mod console;
 mod directory;
 mod fcb;
+mod line;
 mod records;
 mod replies;
 
 pub use bdos::Bdos;
-pub use bdos_console::Answer;
 pub use bdos_disk::{Disk, DiskFault};
+pub use console::Answer;

@@ -1,6 +1,6 @@
 // What a call brings, and replies that write.
 ghost use Rattle.std.specs.Prelude.{◌≡◌, IfOk, [], ◌∷◌};
-ghost use Rattle.bdos_console.specs.Console.{place_in};
+ghost use Rattle.bdos_small.specs.Console.{place_in};
 ghost use Rattle.bdos_small.specs.Calls.{block_at, first_place, second_place, telling, writing, writing_both};
 
 use dialogue::{Block, Blocks, Bytes, Range, Reply, Request};

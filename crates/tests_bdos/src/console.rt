@@ -1,6 +1,6 @@
 // Calls one after the other, with the answers that the manual gives.
 use crate::memory::request;
-use bdos_console::{Answer, Console};
+use bdos_small::{Answer, Bdos, Disk};
 use std::alloc::{AllocError, Global};
 
 /// What is answered: an answer with no writes, a line that is written at 201H, or none of them.
@@ -29,18 +29,13 @@ fn is_told(answer: &Answer, told: &Told) -> bool {
     }
 }
 
-/// Whether the console answers a call so.
-fn answers(
-    alloc: Global,
-    console: &mut Console,
-    call: Call,
-    told: &Told,
-) -> Result<bool, AllocError> {
+/// Whether the BDOS answers a call so.
+fn answers(alloc: Global, bdos: &mut Bdos, call: Call, told: &Told) -> Result<bool, AllocError> {
     let (function, e, fill) = call;
     let Some(request) = request(alloc, function, e, fill)? else {
         return Ok(false);
     };
-    let answer = console.answer(alloc, &request)?;
+    let answer = bdos.answer(alloc, &request)?;
     Ok(is_told(&answer, told))
 }
 
@@ -69,30 +64,30 @@ static CALLS: [(&str, Call, Told); 20] = [
 ];
 
 #[test]
-fn a_console_takes_its_input_in_order(rt: HostRuntime) -> Result<(), AllocError> {
+fn the_console_takes_its_input_in_order(rt: HostRuntime) -> Result<(), AllocError> {
     let alloc = rt.alloc();
     let input = Vec::from_slice(alloc, b"ACB\r\nxyz\npqr\n\n\rs\r")?;
-    let mut console = Console::new(input);
+    let mut bdos = Bdos::new(Disk::empty(alloc), input);
     for (name, call, told) in &CALLS {
-        assert!(rt; answers(alloc, &mut console, *call, told)?, "{name}");
+        assert!(rt; answers(alloc, &mut bdos, *call, told)?, "{name}");
     }
     Ok(())
 }
 
 #[test]
-fn files_need_a_drive(rt: HostRuntime) -> Result<(), AllocError> {
+fn there_is_no_drive_but_a(rt: HostRuntime) -> Result<(), AllocError> {
     let alloc = rt.alloc();
-    let mut console = Console::new(Vec::new(alloc));
-    for function in [15, 16, 17, 18, 19, 20, 21, 22, 23, 33, 34, 35, 36] {
+    let mut bdos = Bdos::new(Disk::empty(alloc), Vec::new(alloc));
+    for function in [15, 16, 17, 19, 20, 21, 22, 23, 33, 34, 35] {
         assert!(rt;
-            answers(alloc, &mut console, (function, 0, 5), &Told::NoDrive)?,
+            answers(alloc, &mut bdos, (function, 0, 5), &Told::NoDrive)?,
             "function {function}"
         );
     }
-    assert!(rt; answers(alloc, &mut console, (14, 1, 5), &Told::NoDrive)?);
+    assert!(rt; answers(alloc, &mut bdos, (14, 1, 5), &Told::NoDrive)?);
     for function in [13, 14, 26] {
         assert!(rt;
-            answers(alloc, &mut console, (function, 0, 5), &Told::Answer(0))?,
+            answers(alloc, &mut bdos, (function, 0, 5), &Told::Answer(0))?,
             "function {function}"
         );
     }

@@ -1,4 +1,4 @@
-// The calls of the BDOS, over public calls: their table, the answers of a console and of ports, and programs of both machines over it.
+// The calls of the BDOS, over public calls: their table, the answers of the console and of ports, and programs of both machines over it.
 #![tactic(auto)]
 
 #[cfg(test)]

@@ -1,6 +1,6 @@
 // A line of input.
 ghost use Rattle.std.specs.Prelude.{◌≡◌, ◌<◌, ◌≤◌, drop, length, IfOk};
-ghost use Rattle.bdos_console.specs.Console.{line_read, line_left};
+ghost use Rattle.bdos_small.specs.Console.{line_read, line_left};
 
 use std::alloc::{AllocError, Global};
 

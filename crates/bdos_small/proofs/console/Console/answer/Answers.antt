@@ -1,5 +1,5 @@
-use Rattle.bdos_console.proofs.Replies.{byte_fits, direct_fits, status_fits, version_fits}
-use Rattle.bdos_console.proofs.answers.Console.answer.Goals as goal
+use Rattle.bdos_small.proofs.ConsoleReplies.{byte_fits, direct_fits, status_fits, version_fits}
+use Rattle.bdos_small.proofs.console.Console.answer.Goals as goal
 
 pub returns-in-1-clause-fits : goal.returns-in-1-clause-fits
 returns-in-1-clause-fits c = byte_fits c.args.request.now c.read_byte.result c.in-1.is c.read_byte.ensures.byte

@@ -15,9 +15,9 @@ use Rattle.dialogue.specs.Table.{Row, row_of}
 use Rattle.dialogue.specs.Shape.{address_of, ranges}
 use Rattle.dialogue.specs.Fits.{kind_by, answer_fits, fits_row, fits, writes_fit, line_fits}
 use Rattle.dialogue.specs.Lawful.{AreRangesOf, first_byte, IsLawful}
-use Rattle.bdos_console.specs.Console.{Answered, place_in, line_read, line_left, read_console_line, status_of, told, FitsRequest, IsByte, IsDirect}
-use Rattle.bdos_console.specs.declared.answers.Answer.{Answer}
-use Rattle.bdos_console.specs.declared.answers.Answer.TheVariants.{Reply as Replies, InputEnded, NoDrive}
+use Rattle.bdos_small.specs.Console.{Answered, place_in, line_read, line_left, read_console_line, status_of, told, FitsRequest, IsByte, IsDirect}
+use Rattle.bdos_small.specs.declared.console.Answer.{Answer}
+use Rattle.bdos_small.specs.declared.console.Answer.TheVariants.{Reply as Replies, InputEnded, NoDrive}
 
 -- a reply that writes nothing, to a function of a row
 told_fits : (q : Request) (n k : ℕ) (row : Row) → q.shape.function ≡ k → row_of k ≡ Some row → (k == 10) ≡ false → answer_fits (kind_by row.answer q.shape.arg) n ≡ true → FitsRequest q (told n)

@@ -6,7 +6,7 @@ use Rattle.std.proofs.Math.Seq.{take-nil}
 use Rattle.std.proofs.lemmas.Bool.{le-leb}
 use Rattle.std.proofs.Math.Dec.{leb-suc-suc, leb-suc-zero}
 use Rattle.std.specs.List.{filter, position_or_len, after_first}
-use Rattle.bdos_console.specs.Console.{is_lf, is_kept, first_line, after_kept, line_read, line_left}
+use Rattle.bdos_small.specs.Console.{is_lf, is_kept, first_line, after_kept, line_read, line_left}
 
 -- a LF in front
 line-lf : (b : ℕ) (bs : List ℕ) → is_lf b ≡ true → first_line (b ∷ bs) ≡ []

@@ -1,5 +1,5 @@
--- The answers of a system that has a console and no disk (CP/M 2.2 Operating System Manual, section 5.3, "BDOS functions"):
--- input is a list of bytes that is taken from its front, output goes nowhere, and drive A is selected.
+-- The answers of the console, and of the functions that need no disk (CP/M 2.2 Operating System Manual, section 5.3, "BDOS
+-- functions"): input is a list of bytes that is taken from its front, output goes nowhere, and drive A is selected.
 use Rattle.std.specs.Prelude.{◌≡◌, ℕ, zero, suc, ◌+◌, ◌<◌, ◌==◌, nat_le, not, Bool, true, cond, List, [], ◌∷◌, length, take, Option, Some, None}
 use Rattle.std.specs.List.{filter, before_first, after_first}
 use Rattle.dialogue.specs.declared.request.ArgWord.{ArgWord}
@@ -10,8 +10,8 @@ use Rattle.dialogue.specs.Shape.{address_of}
 use Rattle.dialogue.specs.declared.table.AnswerRule.TheVariants.{ByteWhere}
 use Rattle.dialogue.specs.Fits.{kind_by, answer_fits, fits}
 use Rattle.dialogue.specs.Lawful.{first_byte}
-use Rattle.bdos_console.specs.declared.answers.Answer.{Answer}
-use Rattle.bdos_console.specs.declared.answers.Answer.TheVariants.{Reply, InputEnded, NoDrive}
+use Rattle.bdos_small.specs.declared.console.Answer.{Answer}
+use Rattle.bdos_small.specs.declared.console.Answer.TheVariants.{Reply, InputEnded, NoDrive}
 
 -- what is answered, and the input that is left
 pub record Answered : Type 0 where

@@ -2,9 +2,9 @@ use Rattle.std.proofs.Common.{◌≡◌, ◌≢◌, ◌+◌, [], List, ℕ, drop
 use Rattle.std.proofs.lemmas.Grind.{common_steps}
 use Rattle.std.proofs.lemmas.List.{drop-drop}
 use Rattle.dialogue.specs.Lawful.{first_byte}
-use Rattle.bdos_console.specs.Console.{line_read, line_left}
-use Rattle.bdos_console.proofs.Replies.{line_answer, line_answer_fits}
-use Rattle.bdos_console.proofs.answers.Console.read_line.Goals as goal
+use Rattle.bdos_small.specs.Console.{line_read, line_left}
+use Rattle.bdos_small.proofs.ConsoleReplies.{line_answer, line_answer_fits}
+use Rattle.bdos_small.proofs.console.Console.read_line.Goals as goal
 
 pub returns-clause-answer : goal.returns-clause-answer
 returns-clause-answer c =

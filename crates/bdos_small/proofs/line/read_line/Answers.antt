@@ -1,10 +1,10 @@
 use Rattle.std.proofs.Common.{◌≡◌, ◌≢◌, ◌+◌, length, get_or, ◌==◌, false, subst, sym, arith}
 use Rattle.std.proofs.lemmas.Bool.{ne_eqb, eq-eqb, not_from_false, not_from_true}
 use Rattle.std.proofs.lemmas.Grind.{common_steps}
-use Rattle.bdos_console.specs.Console.{is_lf}
-use Rattle.bdos_console.proofs.Lines.{Stands, stands_skipped, stands_kept}
-use Rattle.bdos_console.proofs.line.read_line.Goals.{then-byte-ne-CARRIAGE_RETURN+in_ok-push, else-byte-ne-CARRIAGE_RETURN}
-use Rattle.bdos_console.proofs.line.read_line.Goals as goal
+use Rattle.bdos_small.specs.Console.{is_lf}
+use Rattle.bdos_small.proofs.Lines.{Stands, stands_skipped, stands_kept}
+use Rattle.bdos_small.proofs.line.read_line.Goals.{then-byte-ne-CARRIAGE_RETURN+in_ok-push, else-byte-ne-CARRIAGE_RETURN}
+use Rattle.bdos_small.proofs.line.read_line.Goals as goal
 
 -- one more byte, kept or not
 pub loop-used-preserved : goal.loop-used-preserved

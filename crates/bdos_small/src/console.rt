@@ -2,10 +2,12 @@
 ghost use Rattle.std.specs.Prelude.{◌≡◌, ◌≢◌, ◌+◌, ◌<◌, [], ◌∷◌, length, IfOk, OnErr, MatchOption};
 ghost use Rattle.dialogue.specs.Shape.{address_of};
 ghost use Rattle.dialogue.specs.Lawful.{first_byte, IsLawful};
-ghost use Rattle.bdos_console.specs.Console.{disk_selected, place_in};
+ghost use Rattle.bdos_small.specs.Calls.{writing};
+ghost use Rattle.bdos_small.specs.Console.{disk_selected};
 
 use crate::line::{Line, read_line};
-use dialogue::{ArgWord, Block, Blocks, Bytes, Range, Reply, Request};
+use crate::replies::{telling, writing};
+use dialogue::{ArgWord, Reply, Request};
 use std::alloc::{AllocError, Global};
 use std::marker::Model;
 
@@ -15,7 +17,7 @@ const VERSION: u16 = 0x22;
 /// The argument of function 6 that asks for a byte.
 const DIRECT_INPUT: u8 = 0xFF;
 
-/// What the console answers a call: a reply; that it has no input left for it; or that the call needs a drive that is not
+/// What a call is answered: a reply; that it has no input left for it; or that the call needs a drive that is not
 /// there.
 #[derive(Drop)]
 pub enum Answer {
@@ -24,7 +26,7 @@ pub enum Answer {
     NoDrive,
 }
 
-/// A console, seen as the input that is left.
+/// The console, seen as the input that is left.
 #[derive(Drop)]
 pub struct Console {
     input: Vec<u8>,
@@ -42,9 +44,9 @@ impl Model for Console {
 }
 
 impl Console {
-    ghost use Rattle.bdos_console.specs.Console.{Answered, console_answer, read_byte, read_direct, direct_console, read_console_line, status_of, FitsRequest, IsByte, IsDirect, TakesByReply};
+    ghost use Rattle.bdos_small.specs.Console.{Answered, console_answer, read_byte, read_direct, direct_console, read_console_line, status_of, FitsRequest, IsByte, IsDirect, TakesByReply};
 
-    /// A console with this input.
+    /// The console with this input.
     pub fn new(input: Vec<u8>) -> Console
         ensures { result ≡ input.items }
     {
@@ -142,7 +144,7 @@ impl Console {
             return Ok(Answer::InputEnded);
         }
         let Line { bytes, used } = read_line(alloc, self.left(), room_of(request))?;
-        let reply = written(alloc, place_in(request.shape.writes), bytes.as_slice())?;
+        let reply = written(alloc, request, bytes.as_slice())?;
         self.taken += used;
         Ok(Answer::Reply(reply))
     }
@@ -152,10 +154,7 @@ impl Console {
 fn told(alloc: Global, answer: u16) -> Answer
     ensures { result ≡ Answer.Reply (record { answer = answer; writes = [] }) }
 {
-    Answer::Reply(Reply {
-        answer,
-        writes: Blocks::from_vec(Vec::new(alloc)),
-    })
+    Answer::Reply(telling(alloc, answer))
 }
 
 // Function 14: drive A is 0, and there is no other.
@@ -178,32 +177,13 @@ fn room_of(request: &Request) -> u8
     }
 }
 
-// Where the first range begins that a call may write.
-fn place_in(places: [Option<Range>; 2]) -> u16
-    ensures { result ≡ place_in places }
-{
-    let [first, _] = places;
-    match first {
-        None => 0,
-        Some(range) => range.at,
-    }
-}
-
-// The reply that writes a line, its length first.
-fn written(alloc: Global, at: u16, line: &[u8]) -> Result<Reply, AllocError>
+// The reply that writes a line where the range begins that the call may write, its length first.
+fn written(alloc: Global, request: &Request, line: &[u8]) -> Result<Reply, AllocError>
     requires { length line.now < 256 }
-    ensures { IfOk result (λ y. y ≡ record { answer = 0; writes = record { at = at; bytes = length line.now ∷ line.now } ∷ [] }) }
+    ensures { IfOk result (λ y. y ≡ writing request.now 0 (length line.now ∷ line.now)) }
 {
     let mut bytes = Vec::new(alloc);
     bytes.push(line.len() as u8)?;
     bytes.extend_from_slice(line)?;
-    let mut writes = Vec::new(alloc);
-    writes.push(Block {
-        at,
-        bytes: Bytes::from_vec(bytes),
-    })?;
-    Ok(Reply {
-        answer: 0,
-        writes: Blocks::from_vec(writes),
-    })
+    writing(alloc, request, bytes.as_slice())
 }
