@@ -2,10 +2,14 @@
 #![tactic(auto)]
 
 mod memory;
+#[cfg(test)]
+mod ports;
 mod processor;
 mod replies;
 mod runs;
 mod start;
 
+pub use cpu80_follows::plain_follows;
+pub use cpu80_plain::{Plain80, StepPlain};
 pub use processor::{Cpu80, Step80};
 pub use runs::calls_give_runs;

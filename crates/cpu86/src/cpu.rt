@@ -7,6 +7,9 @@ ghost use Rattle.cpu86_effects.specs.System.{IsAsked};
 ghost use Rattle.cpu86.specs.declared.cpu.Pending.TheVariants.{Answer};
 ghost use Rattle.std.proofs.Props.{props};
 
+#[cfg(test)]
+mod ports;
+
 use crate::start::Start86;
 use asm86_image::Image86;
 use cpu86_effects::flags::Flags;

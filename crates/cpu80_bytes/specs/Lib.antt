@@ -1,0 +1,7 @@
+pub mod State
+pub mod Flags
+pub mod Effect
+pub mod Call
+pub mod Step
+pub mod Start
+pub mod Follows

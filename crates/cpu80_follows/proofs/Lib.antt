@@ -1,0 +1,10 @@
+mod Stands
+mod Moves
+mod Sums
+mod Rows
+mod Within
+mod Calls
+mod Steps
+mod Running
+mod Starting
+mod Following

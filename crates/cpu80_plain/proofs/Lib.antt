@@ -1,0 +1,4 @@
+mod Writes
+mod Asking
+mod Starts
+mod Called

@@ -1,0 +1,10 @@
+use Rattle.std.proofs.Common.{ap, ◌∙◌}
+use Rattle.cpu80_bytes.specs.Call.{put_bytes}
+use Rattle.cpu80_plain.specs.State.{mem_of}
+use Rattle.cpu80_plain.proofs.Writes.{put_blocks_more}
+use Rattle.cpu80_plain.proofs.memory.Memory.set_blocks.Goals as goal
+
+pub loop-block-preserved : goal.loop-block-preserved
+loop-block-preserved c =
+    put_blocks_more (mem_of c.loop-block.self) (mem_of c.set_bytes.new.self) c.args.blocks.now c.loop-block.block-index c.block-item.result c.loop-block-test.true c.block-item.is (c.set_bytes.ensures ∙ ap (put_bytes (mem_of c.loop-block.self) c.block-item.result.at) c.as_slice.ensures)
+    ∙ c.loop-block.invariant

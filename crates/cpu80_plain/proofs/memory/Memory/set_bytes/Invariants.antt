@@ -1,0 +1,7 @@
+use Rattle.std.proofs.Common.{◌≡◌, drop}
+use Rattle.cpu80_plain.specs.State.{mem_of}
+use Rattle.cpu80_bytes.specs.Call.{put_bytes}
+use Rattle.cpu80_plain.proofs.memory.Memory.set_bytes.Given as goal
+
+abbrev pub invariant-loop-byte : goal.invariant-loop-byte
+invariant-loop-byte l = put_bytes (mem_of l.self) l.place (drop l.byte-index l.bytes) ≡ put_bytes (mem_of l.fn.self) l.at l.bytes

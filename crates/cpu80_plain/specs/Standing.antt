@@ -1,0 +1,53 @@
+-- How a machine stands between its calls.
+use Rattle.std.specs.Prelude.{◌≡◌, ℕ, Option, Some, None}
+use Rattle.dialogue.specs.declared.request.Event.{Event}
+use Rattle.dialogue.specs.declared.request.Event.TheVariants.{Call, In, Out, End}
+use Rattle.cells.specs.declared.Place.TheVariants.{At}
+use Rattle.i80.specs.declared.Instr80.{Instr80}
+use Rattle.i80.specs.declared.Instr80.TheVariants.{Jmp, Jif}
+use Rattle.dialogue.specs.Shape.{request_of}
+use Rattle.cpu80_bytes.specs.State.{ByteState}
+use Rattle.cpu80_bytes.specs.Call.{Return, seen_by, popped_return}
+use Rattle.cpu80_plain.specs.State.{state_of}
+use Rattle.cpu80_plain.specs.Back.{back_of}
+use Rattle.cpu80_plain.specs.declared.plain.Pending.{Pending}
+use Rattle.cpu80_plain.specs.declared.plain.Pending.TheVariants.{Nothing, Answer, Byte, Taking, Ending}
+use Rattle.cpu80_plain.specs.declared.plain.Plain80.{Plain80}
+
+-- the state, and what the machine has said last if that is still open: what it asks while it asks, and the end once the program
+-- has ended
+pub record Standing : Type 0 where
+  pub state : ByteState
+  pub said : Option Event
+
+abbrev pub said_by : Pending → (ℕ → ℕ) → Option Event
+said_by Nothing mem = None
+said_by (Answer shape back) mem = Some (Call (request_of shape (seen_by mem)))
+said_by (Byte port back) mem = Some (In port)
+said_by (Taking port byte back) mem = Some (Out port byte)
+said_by Ending mem = Some End
+
+abbrev pub standing : Plain80 → Standing
+standing c = record { state = state_of c.processor; said = said_by c.pending (state_of c.processor).mem }
+
+-- the event that waits for its reply: the end waits for none
+abbrev pub waits_in : Option Event → Option Event
+waits_in None = None
+waits_in (Some (Call q)) = Some (Call q)
+waits_in (Some (In port)) = Some (In port)
+waits_in (Some (Out port byte)) = Some (Out port byte)
+waits_in (Some End) = None
+
+-- where the machine asks, it keeps the return that is expected, and the state `t` is still the state `s`
+abbrev pub Keeps : Option Return → ByteState → ByteState → Pending → Type 0
+Keeps expected s t Nothing = Unit {0}
+Keeps expected s t (Answer shape back) = (expected ≡ Some (back_of back)) × (t ≡ s)
+Keeps expected s t (Byte port back) = (expected ≡ Some (back_of back)) × (t ≡ s)
+Keeps expected s t (Taking port byte back) = (expected ≡ Some (back_of back)) × (t ≡ s)
+Keeps expected s t Ending = Unit {0}
+
+-- where an instruction goes on if it asks; `next` is the address after it
+abbrev pub goes_on_at : ByteState → ℕ → Instr80 → Option Return
+goes_on_at u next (Jmp t) = Some (popped_return u)
+goes_on_at u next (Jif c t) = Some (popped_return u)
+goes_on_at u next i = Some (record { place = At next; sp = u.sp })
