@@ -1,18 +1,19 @@
 -- Each command answers one of the program's statuses, and 2 never.
-use Rattle.std.proofs.Common.{◌≡◌, ℕ, List, refl, sym, subst, arith}
+use Rattle.std.proofs.Common.{◌≡◌, ℕ, List, refl, sym, ◌∙◌, subst, arith}
 use Rattle.std.specs.Prelude.{Result, Ok, Err}
 use Rattle.host.specs.declared.HostFault.{HostFault}
 use Rattle.host.specs.declared.HostFault.TheVariants.{Failed, Memory}
 use Rattle.host.specs.Host.{HostState}
-use Rattle.cmd_words.specs.Words.{Translate, Flags, Run80, Run86}
+use Rattle.cmd_words.specs.Words.{Translate, Check, Flags, Run80, Run86}
 use Rattle.cmd_reports.specs.declared.stop.Stop.{Stop}
-use Rattle.cmd_reports.specs.declared.stop.Stop.TheVariants.{SourceLine, SourceProgram, ReadFailed, WriteFailed, OutOfMemory, LeftProfile, StepLimit, InputEnded, TextLine, ShortJump, NoInstruction, StackSegment, OddCall, BadDisk, NoDrive, CodeTooLarge, FileTooLong}
+use Rattle.cmd_reports.specs.declared.stop.Stop.TheVariants.{SourceLine, SourceProgram, ReadFailed, WriteFailed, OutOfMemory, LeftProfile, StepLimit, NotShown, InputEnded, TextLine, ShortJump, NoInstruction, StackSegment, OddCall, BadDisk, NoDrive, CodeTooLarge, FileTooLong}
 use Rattle.cmd_reports.specs.Lines.{status_of, ended_line}
 use Rattle.cmd_reports.specs.Said.{IsDone, whole, failed, no_memory, Closes, said, unsaid}
 use Rattle.std.specs.List.{concat}
 use Rattle.cmd_run.specs.Ends.{unsaid_status}
 use Rattle.cmd_run.specs.Lasts.{EndsBy}
 use Rattle.cmd_translate.specs.Translates as translation
+use Rattle.cmd_check.specs.Checks as checking
 use Rattle.cmd_flags.specs.Listing as listing
 use Rattle.cmd_run.specs.Runs80 as source
 use Rattle.cmd_run.specs.Runs86 as text
@@ -44,23 +45,26 @@ of_6 = record { number = (6, omega arith, refl); other = λ e. absurd (omega ari
 of_7 : IsOfCommand 7
 of_7 = record { number = (7, omega arith, refl); other = λ e. absurd (omega arith) }
 
+of_8 : IsOfCommand 8
+of_8 = record { number = (8, omega arith, refl); other = λ e. absurd (omega arith) }
+
 of_9 : IsOfCommand 9
-of_9 = record { number = (8, omega arith, refl); other = λ e. absurd (omega arith) }
+of_9 = record { number = (9, omega arith, refl); other = λ e. absurd (omega arith) }
 
 of_10 : IsOfCommand 10
-of_10 = record { number = (9, omega arith, refl); other = λ e. absurd (omega arith) }
+of_10 = record { number = (10, omega arith, refl); other = λ e. absurd (omega arith) }
 
 of_11 : IsOfCommand 11
-of_11 = record { number = (10, omega arith, refl); other = λ e. absurd (omega arith) }
+of_11 = record { number = (11, omega arith, refl); other = λ e. absurd (omega arith) }
 
 of_12 : IsOfCommand 12
-of_12 = record { number = (11, omega arith, refl); other = λ e. absurd (omega arith) }
+of_12 = record { number = (12, omega arith, refl); other = λ e. absurd (omega arith) }
 
 of_13 : IsOfCommand 13
-of_13 = record { number = (12, omega arith, refl); other = λ e. absurd (omega arith) }
+of_13 = record { number = (13, omega arith, refl); other = λ e. absurd (omega arith) }
 
 of_14 : IsOfCommand 14
-of_14 = record { number = (13, omega arith, refl); other = λ e. absurd (omega arith) }
+of_14 = record { number = (14, omega arith, refl); other = λ e. absurd (omega arith) }
 
 of_stop : (stop : Stop) → IsOfCommand (status_of stop)
 of_stop (SourceLine line rule) = of_1
@@ -70,6 +74,7 @@ of_stop WriteFailed = of_4
 of_stop OutOfMemory = of_5
 of_stop (LeftProfile line rule) = of_6
 of_stop (StepLimit steps) = of_7
+of_stop (NotShown at reason) = of_8
 of_stop InputEnded = of_9
 of_stop (TextLine line rule) = of_10
 of_stop (ShortJump line) = of_10
@@ -85,6 +90,31 @@ of_closes : (stop : Stop) (old new : HostState) (status : ℕ) → Closes stop o
 of_closes stop old new status (said e s) = subst IsOfCommand (sym e) (of_stop stop)
 of_closes stop old new status (unsaid n e s) = subst IsOfCommand (sym e) of_5
 
+-- no stop is status 0
+stop_not_0 : (stop : Stop) → status_of stop ≡ 0 → ⊥
+stop_not_0 (SourceLine line rule) e = absurd (omega arith)
+stop_not_0 (SourceProgram line rule) e = absurd (omega arith)
+stop_not_0 (ReadFailed name) e = absurd (omega arith)
+stop_not_0 WriteFailed e = absurd (omega arith)
+stop_not_0 OutOfMemory e = absurd (omega arith)
+stop_not_0 (LeftProfile line rule) e = absurd (omega arith)
+stop_not_0 (StepLimit steps) e = absurd (omega arith)
+stop_not_0 (NotShown at reason) e = absurd (omega arith)
+stop_not_0 InputEnded e = absurd (omega arith)
+stop_not_0 (TextLine line rule) e = absurd (omega arith)
+stop_not_0 (ShortJump line) e = absurd (omega arith)
+stop_not_0 (NoInstruction offset) e = absurd (omega arith)
+stop_not_0 (StackSegment offset) e = absurd (omega arith)
+stop_not_0 (OddCall offset function) e = absurd (omega arith)
+stop_not_0 (BadDisk place) e = absurd (omega arith)
+stop_not_0 (NoDrive function) e = absurd (omega arith)
+stop_not_0 (CodeTooLarge size) e = absurd (omega arith)
+stop_not_0 (FileTooLong name) e = absurd (omega arith)
+
+pub never_0 : (stop : Stop) (old new : HostState) (status : ℕ) → Closes stop old new status → status ≡ 0 → ⊥
+never_0 stop old new status (said e s) z = stop_not_0 stop (sym e ∙ z)
+never_0 stop old new status (unsaid n e s) z = omega (arith, e, z)
+
 of_done : (line : List ℕ) (old new : HostState) (status : ℕ) → IsDone line old new status → IsOfCommand status
 of_done line old new _ (whole o s f) = of_0
 of_done line old new _ (failed s) = of_4
@@ -97,16 +127,20 @@ of_unsaid Memory = of_5
 -- ---- the commands
 
 pub of_translation : (c : Translate) (old new : HostState) (status : ℕ) → translation.Gives c old new status → IsOfCommand status
-of_translation c old new _ (translation.translated p a w s l f) = of_0
+of_translation c old new _ (translation.translated p lines a w s l f) = of_0
 of_translation c old new _ (translation.refused line rule r l) = of_1
 of_translation c old new _ (translation.too_large size x l) = of_13
 of_translation c old new _ (translation.unread r l) = of_3
-of_translation c old new _ (translation.unwritten p a w s) = of_4
-of_translation c old new _ (translation.unsaid p a w f s) = of_4
+of_translation c old new _ (translation.unwritten p lines a w s) = of_4
+of_translation c old new _ (translation.unsaid p lines a w f s) = of_4
 of_translation c old new _ (translation.no_memory l) = of_5
-of_translation c old new _ (translation.no_memory_to_write p a w s) = of_5
-of_translation c old new _ (translation.no_memory_to_say p a w f s) = of_5
+of_translation c old new _ (translation.no_memory_to_write p lines a w s) = of_5
+of_translation c old new _ (translation.no_memory_to_say p lines a w f s) = of_5
 of_translation c old new _ (translation.too_long l s) = of_14
+
+pub of_checking : (c : Check) (old new : HostState) (status : ℕ) → checking.Gives c old new status → IsOfCommand status
+of_checking c old new status (checking.shown mid line h d) = of_done line mid new status d
+of_checking c old new status (checking.stopped mid stop s k) = of_closes stop mid new status k
 
 pub of_listing : (c : Flags) (old new : HostState) (status : ℕ) → listing.Gives c old new status → IsOfCommand status
 of_listing c old new status (listing.reported mid lines h d) = of_done (concat lines) mid new status d

@@ -1,11 +1,11 @@
 use Rattle.std.proofs.Common.{map, subst}
 use Rattle.std.specs.String.{string_bytes}
 use Rattle.cmd_words.specs.declared.command.Command.TheVariants as read
-use Rattle.cmd_words.specs.ReadCommands.{command_read, translate_read, flags_read, run80_read, run86_read}
+use Rattle.cmd_words.specs.ReadCommands.{command_read, translate_read, check_read, flags_read, run80_read, run86_read}
 use Rattle.cmd_words.specs.Words.{IsCommand, IsNoCommand}
 use Rattle.xlt_app.specs.Top.{Outcomes}
-use Rattle.xlt_app.proofs.Outcomes.{by_translation, by_listing, by_run80, by_run86, by_no_command, has_headline}
-use Rattle.xlt_app.proofs.Tops.{translation_has_top, listing_has_top, run80_has_top}
+use Rattle.xlt_app.proofs.Outcomes.{by_translation, by_checking, by_listing, by_run80, by_run86, by_no_command, has_headline, has_checked}
+use Rattle.xlt_app.proofs.Tops.{translation_has_top, check_has_top, listing_has_top, run80_has_top}
 use Rattle.xlt_app.proofs.xlt.Given.{Over}
 use Rattle.xlt_app.proofs.xlt.Goals as goal
 
@@ -15,7 +15,10 @@ refused g c =
     (subst (λ w. IsNoCommand (map string_bytes w)) c.as_slice.ensures.value c.in_default.ensures) c.words_refused.ensures
 
 pub returns-in_default-clause-headline : goal.returns-in_default-clause-headline
-returns-in_default-clause-headline g c = has_headline (map string_bytes c.args.words.items) (g.H.Host.state c.args.host.now) (g.H.Host.state c.words_refused.new.host) c.words_refused.result c.plain_is_same.ensures.reads_back (refused g c)
+returns-in_default-clause-headline g c = has_headline (map string_bytes c.args.words.items) (g.H.Host.state c.args.host.now) (g.H.Host.state c.words_refused.new.host) c.words_refused.result c.own_texts_are_same.ensures.reads_back (refused g c)
+
+pub returns-in_default-clause-checked_headline : goal.returns-in_default-clause-checked_headline
+returns-in_default-clause-checked_headline g c = has_checked (map string_bytes c.args.words.items) (g.H.Host.state c.args.host.now) (g.H.Host.state c.words_refused.new.host) c.words_refused.result (refused g c)
 
 pub returns-in_default-clause-outcomes : goal.returns-in_default-clause-outcomes
 returns-in_default-clause-outcomes g c = refused g c
@@ -34,10 +37,35 @@ by_translate g c =
     c.translate.ensures.gives c.translate.ensures.completes
 
 pub returns-in-Translate-clause-headline : goal.returns-in-Translate-clause-headline
-returns-in-Translate-clause-headline g c = has_headline (map string_bytes c.args.words.items) (g.H.Host.state c.args.host.now) (g.H.Host.state c.translate.new.host) c.translate.result c.plain_is_same.ensures.reads_back (by_translate g c)
+returns-in-Translate-clause-headline g c = has_headline (map string_bytes c.args.words.items) (g.H.Host.state c.args.host.now) (g.H.Host.state c.translate.new.host) c.translate.result c.own_texts_are_same.ensures.reads_back (by_translate g c)
+
+pub returns-in-Translate-clause-checked_headline : goal.returns-in-Translate-clause-checked_headline
+returns-in-Translate-clause-checked_headline g c = has_checked (map string_bytes c.args.words.items) (g.H.Host.state c.args.host.now) (g.H.Host.state c.translate.new.host) c.translate.result (by_translate g c)
 
 pub returns-in-Translate-clause-outcomes : goal.returns-in-Translate-clause-outcomes
 returns-in-Translate-clause-outcomes g c = by_translate g c
+
+pub check-requires : goal.check-requires
+check-requires g c =
+    let words = map string_bytes c.as_slice.result.now in
+    check_has_top words (check_read c.in-Check.command) (subst (λ k. IsCommand words (command_read k)) c.in-Check.is c.in-Some.ensures)
+
+by_check : (g : Over) (c : goal.After-drop-words-in-Check g) → Outcomes (map string_bytes c.args.words.items) (g.H.Host.state c.args.host.now) (g.H.Host.state c.check.new.host) c.check.result
+by_check g c =
+    by_checking (map string_bytes c.args.words.items) (g.H.Host.state c.args.host.now) (g.H.Host.state c.check.new.host) c.check.result
+    (check_read c.in-Check.command)
+    (subst (λ w. IsCommand (map string_bytes w) (command_read (read.Check c.in-Check.command))) c.as_slice.ensures.value
+    (subst (λ k. IsCommand (map string_bytes c.as_slice.result.now) (command_read k)) c.in-Check.is c.in-Some.ensures))
+    c.check.ensures.gives c.check.ensures.completes c.check.ensures.files
+
+pub returns-in-Check-clause-headline : goal.returns-in-Check-clause-headline
+returns-in-Check-clause-headline g c = has_headline (map string_bytes c.args.words.items) (g.H.Host.state c.args.host.now) (g.H.Host.state c.check.new.host) c.check.result c.own_texts_are_same.ensures.reads_back (by_check g c)
+
+pub returns-in-Check-clause-checked_headline : goal.returns-in-Check-clause-checked_headline
+returns-in-Check-clause-checked_headline g c = has_checked (map string_bytes c.args.words.items) (g.H.Host.state c.args.host.now) (g.H.Host.state c.check.new.host) c.check.result (by_check g c)
+
+pub returns-in-Check-clause-outcomes : goal.returns-in-Check-clause-outcomes
+returns-in-Check-clause-outcomes g c = by_check g c
 
 pub flags-requires : goal.flags-requires
 flags-requires g c =
@@ -53,7 +81,10 @@ by_flags g c =
     c.flags.ensures.gives c.flags.ensures.completes c.flags.ensures.files
 
 pub returns-in-Flags-clause-headline : goal.returns-in-Flags-clause-headline
-returns-in-Flags-clause-headline g c = has_headline (map string_bytes c.args.words.items) (g.H.Host.state c.args.host.now) (g.H.Host.state c.flags.new.host) c.flags.result c.plain_is_same.ensures.reads_back (by_flags g c)
+returns-in-Flags-clause-headline g c = has_headline (map string_bytes c.args.words.items) (g.H.Host.state c.args.host.now) (g.H.Host.state c.flags.new.host) c.flags.result c.own_texts_are_same.ensures.reads_back (by_flags g c)
+
+pub returns-in-Flags-clause-checked_headline : goal.returns-in-Flags-clause-checked_headline
+returns-in-Flags-clause-checked_headline g c = has_checked (map string_bytes c.args.words.items) (g.H.Host.state c.args.host.now) (g.H.Host.state c.flags.new.host) c.flags.result (by_flags g c)
 
 pub returns-in-Flags-clause-outcomes : goal.returns-in-Flags-clause-outcomes
 returns-in-Flags-clause-outcomes g c = by_flags g c
@@ -72,7 +103,10 @@ by_80 g c =
     c.run80.ensures.gives c.run80.ensures.completes c.run80.ensures.files
 
 pub returns-in-Run80-clause-headline : goal.returns-in-Run80-clause-headline
-returns-in-Run80-clause-headline g c = has_headline (map string_bytes c.args.words.items) (g.H.Host.state c.args.host.now) (g.H.Host.state c.run80.new.host) c.run80.result c.plain_is_same.ensures.reads_back (by_80 g c)
+returns-in-Run80-clause-headline g c = has_headline (map string_bytes c.args.words.items) (g.H.Host.state c.args.host.now) (g.H.Host.state c.run80.new.host) c.run80.result c.own_texts_are_same.ensures.reads_back (by_80 g c)
+
+pub returns-in-Run80-clause-checked_headline : goal.returns-in-Run80-clause-checked_headline
+returns-in-Run80-clause-checked_headline g c = has_checked (map string_bytes c.args.words.items) (g.H.Host.state c.args.host.now) (g.H.Host.state c.run80.new.host) c.run80.result (by_80 g c)
 
 pub returns-in-Run80-clause-outcomes : goal.returns-in-Run80-clause-outcomes
 returns-in-Run80-clause-outcomes g c = by_80 g c
@@ -86,7 +120,10 @@ by_86 g c =
     c.run86.ensures.gives c.run86.ensures.completes c.run86.ensures.files
 
 pub returns-clause-headline : goal.returns-clause-headline
-returns-clause-headline g c = has_headline (map string_bytes c.args.words.items) (g.H.Host.state c.args.host.now) (g.H.Host.state c.run86.new.host) c.run86.result c.plain_is_same.ensures.reads_back (by_86 g c)
+returns-clause-headline g c = has_headline (map string_bytes c.args.words.items) (g.H.Host.state c.args.host.now) (g.H.Host.state c.run86.new.host) c.run86.result c.own_texts_are_same.ensures.reads_back (by_86 g c)
+
+pub returns-clause-checked_headline : goal.returns-clause-checked_headline
+returns-clause-checked_headline g c = has_checked (map string_bytes c.args.words.items) (g.H.Host.state c.args.host.now) (g.H.Host.state c.run86.new.host) c.run86.result (by_86 g c)
 
 pub returns-clause-outcomes : goal.returns-clause-outcomes
 returns-clause-outcomes g c = by_86 g c
