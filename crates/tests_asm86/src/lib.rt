@@ -1,4 +1,4 @@
-// The tests of ASM-86 texts, and of the texts of programs: lines by their statements, what a reader tells when, templates and
+// The tests of ASM-86 texts, and of the texts of programs: lines by their statements, what a reader tells when, and
 // plain texts. What lines and texts are read as, and their images, are the cases of `cases_asm86`.
 #![tactic(auto)]
 

@@ -1,55 +1,10 @@
-// The bytes of some templates, the plain text of a small program, and the data of another.
+// The plain text of a small program, and the data of another.
 use asm80_program::{Placed, Program80};
 use asm86::{Stmt86, code_size, write_line};
 use cells::{Cell, Place};
-use i80::{Goal, Instr80, Pair, Reg, Src, StackPair};
-use std::alloc::Global;
+use i80::{Goal, Instr80, Reg, Src};
 use std::test::Fail;
-use templates::{Sequence, plain_text, template};
-
-// The bytes of a list of instructions.
-fn bytes_of(alloc: Global, sequence: Sequence) -> Result<Vec<u8>, Fail> {
-    let mut bytes = Vec::new(alloc);
-    for statement in sequence.as_slice() {
-        match statement {
-            Stmt86::Run(i) => bytes.extend_from_slice(i86::encode(*i).bytes())?,
-            _ => {}
-        }
-    }
-    Ok(bytes)
-}
-
-#[test]
-fn templates_of_dad_psw_and_ports(rt: HostRuntime) -> Result<(), Fail> {
-    let table: [(Instr80, bool, &[u8]); 8] = [
-        (
-            Instr80::Dad(Pair::D),
-            true,
-            &[0x9F, 0x03, 0xDA, 0xD1, 0xDE, 0x9E, 0xD1, 0xD6],
-        ),
-        (Instr80::Dad(Pair::D), false, &[0x03, 0xDA]),
-        (
-            Instr80::Push(StackPair::Psw),
-            true,
-            &[0x9F, 0x86, 0xC4, 0x50, 0x86, 0xC4],
-        ),
-        (
-            Instr80::Pop(StackPair::Psw),
-            true,
-            &[0x58, 0x86, 0xC4, 0x9E],
-        ),
-        (Instr80::In(0x10), true, &[0xE4, 0x10]),
-        (Instr80::In(0xFF), false, &[0xE4, 0xFF]),
-        (Instr80::Out(0x11), true, &[0xE6, 0x11]),
-        (Instr80::Out(0x00), false, &[0xE6, 0x00]),
-    ];
-    for (i, save, code) in table {
-        assert!(rt; i80::well_formed(i));
-        let bytes = bytes_of(rt.alloc(), template(i, 0x100, save))?;
-        assert_eq!(rt; bytes.as_slice(), code);
-    }
-    Ok(())
-}
+use templates::plain_text;
 
 const ONE_LETTER: [&str; 30] = [
     "\tCSEG\r\n",

@@ -19,25 +19,31 @@ const CHOICE_32: &str = "--choice=fFFFffffFFFFffffFFFFffffFFFFffff";
 const NAMES_AND_FLAGS: [Row; 22] = [
     (&[], "none"),
     (&["translate", "A", PLAIN], "none"),
-    (&["translate", "A", "B"], "none"),
-    (&["translate", "A", "B", PLAIN], "A B top f000"),
-    (&["translate", PLAIN, "A", "B"], "A B top f000"),
-    (&["translate", "A", PLAIN, "B"], "A B top f000"),
+    (&["translate", "A", "B"], "A B lean top f000"),
+    (&["translate", "A", "B", PLAIN], "A B plain top f000"),
+    (&["translate", PLAIN, "A", "B"], "A B plain top f000"),
+    (&["translate", "A", PLAIN, "B"], "A B plain top f000"),
     (&["translate", "A", "B", "C", PLAIN], "none"),
     (&["Translate", "A", "B", PLAIN], "none"),
     (&["trans", "A", "B", PLAIN], "none"),
     (&["translate", "A", "B", "--plai"], "none"),
     (&["translate", "A", "B", PLAIN, PLAIN], "none"),
     (&["translate", "A", "B", "--plain="], "none"),
-    (&["translate", "A", "B", "--plain", "--"], "A B top f000"),
-    (&["translate", PLAIN, "--", "-x", "--"], "-x -- top f000"),
+    (
+        &["translate", "A", "B", "--plain", "--"],
+        "A B plain top f000",
+    ),
+    (
+        &["translate", PLAIN, "--", "-x", "--"],
+        "-x -- plain top f000",
+    ),
     (
         &["translate", PLAIN, "A", "--", "--top=8000"],
-        "A --top=8000 top f000",
+        "A --top=8000 plain top f000",
     ),
     (&["translate", "A", "B", "--", PLAIN], "none"),
-    (&["translate", "A", "--", PLAIN], "none"),
-    (&["translate", "-", "-", PLAIN], "- - top f000"),
+    (&["translate", "A", "--", PLAIN], "A --plain lean top f000"),
+    (&["translate", "-", "-", PLAIN], "- - plain top f000"),
     (&["translate", "-x", "B", PLAIN], "none"),
     (&["translate", "", "B", PLAIN], "none"),
     (&["translate", PLAIN, "--", "A", ""], "none"),
@@ -48,19 +54,19 @@ const OPTIONS_WITH_VALUES: [Row; 22] = [
     (&["translate", "A", "B", PLAIN, "--top", "1234"], "none"),
     (
         &["translate", "A", "B", "--top=8000", PLAIN],
-        "A B top 8000",
+        "A B plain top 8000",
     ),
     (
         &["translate", "--top", "c000", "A", PLAIN, "B"],
-        "A B top c000",
+        "A B plain top c000",
     ),
     (
         &["translate", "A", "--top=C000", "B", PLAIN],
-        "A B top c000",
+        "A B plain top c000",
     ),
     (
         &["translate", "A", "B", PLAIN, "--top", "4000"],
-        "A B top 4000",
+        "A B plain top 4000",
     ),
     (
         &["translate", "A", "B", PLAIN, "--top", "--", "8000"],
@@ -68,11 +74,11 @@ const OPTIONS_WITH_VALUES: [Row; 22] = [
     ),
     (
         &["translate", "A", "B", PLAIN, "--top", "1000"],
-        "A B top 1000",
+        "A B plain top 1000",
     ),
     (
         &["translate", "A", "B", PLAIN, "--top", "fF00"],
-        "A B top ff00",
+        "A B plain top ff00",
     ),
     (&["translate", "A", "B", PLAIN, "--top", "0F00"], "none"),
     (&["translate", "A", "B", PLAIN, "--top", "FF01"], "none"),
@@ -102,7 +108,12 @@ const OPTIONS_WITH_VALUES: [Row; 22] = [
     ),
 ];
 
-const LISTINGS: [Row; 11] = [
+const LISTINGS: [Row; 16] = [
+    (&["check", "A", "B"], "check A B top f000"),
+    (&["check", "B", "--top=8000", "A"], "check B A top 8000"),
+    (&["check", "A"], "none"),
+    (&["check", "A", "B", "C"], "none"),
+    (&["check", "A", "B", PLAIN], "none"),
     (&["flags", "A"], "flags A top f000"),
     (&["flags", "A", "--top=8000"], "flags A top 8000"),
     (&["flags", "--top", "fF00", "A"], "flags A top ff00"),
@@ -214,9 +225,16 @@ fn told(alloc: Global, words: &[&str]) -> Result<String, AllocError> {
     match read_words(list.as_slice()) {
         None => String::from_str(alloc, "none"),
         Some(Command::Translate(command)) => {
+            let mode = if command.plain { "plain" } else { "lean" };
             format!(in alloc;
-                "{} {} top {:x}",
+                "{} {} {mode} top {:x}",
                 command.input, command.output, command.top
+            )
+        }
+        Some(Command::Check(command)) => {
+            format!(in alloc;
+                "check {} {} top {:x}",
+                command.source, command.text, command.top
             )
         }
         Some(Command::Flags(command)) => {

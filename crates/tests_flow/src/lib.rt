@@ -1,10 +1,12 @@
-// Tests of needs, blocks and saves, over their public calls.
+// Tests of needs, blocks, saves and lean texts, over their public calls.
 #![tactic(auto)]
 
 #[cfg(test)]
 mod blocks;
 #[cfg(test)]
 mod edges;
+#[cfg(test)]
+mod lean;
 #[cfg(test)]
 mod saves;
 #[cfg(test)]

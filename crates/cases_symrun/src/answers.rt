@@ -1,0 +1,147 @@
+// What a case is answered.
+ghost use Rattle.cases_symrun.specs.Given.{BothAreGiven};
+
+use crate::agreeing::{number_held, number_stored, outcomes_agree};
+use crate::running::run_both;
+use crate::shown::{exit_text, reason_text};
+use crate::sources::{plain_index, program_of, text_index};
+use anyhow::bail;
+use asm80_program::Program80;
+use cells::{Keep, Part};
+use std::alloc::{AllocError, Global};
+use sym_run::{Index86, Work};
+
+/// The answer of a case: `walk N PROGRAM | TEXT`, `plain N PROGRAM` or `alone PROGRAM`.
+pub fn answer(alloc: Global, case: &str) -> anyhow::Result<String> {
+    let (kind, rest) = case.split_once(' ').unwrap_or((case, ""));
+    let (count, counted) = rest.split_once(' ').unwrap_or(("", rest));
+    match kind {
+        "alone" => alone(alloc, rest),
+        "plain" => plain(alloc, count.parse::<u32>()?, counted),
+        "walk" => walk(alloc, count.parse::<u32>()?, counted),
+        _ => bail!("no such case: {case}"),
+    }
+}
+
+// The exit of the text's walk from 0100H, or its reason.
+fn walk(alloc: Global, count: u32, case: &str) -> anyhow::Result<String> {
+    let (source, text) = case.split_once(" | ").unwrap_or((case, ""));
+    let program = program_of(alloc, source)?;
+    let index = text_index(alloc, text)?;
+    let mut work = Work::new(alloc)?;
+    walked(alloc, &mut work, &program, &index, count)
+}
+
+fn walked(
+    alloc: Global,
+    work: &mut Work,
+    program: &Program80,
+    index: &Index86,
+    count: u32,
+) -> anyhow::Result<String> {
+    match run_both(work, program, index, 0x100, count, Keep::all()) {
+        Some(Ok(())) => Ok(walk_text(alloc, work)?),
+        Some(Err(reason)) => Ok(String::from_str(alloc, reason_text(reason))?),
+        None => bail!("no block, or no room"),
+    }
+}
+
+// The second exit, whether its call is a direct one, and whether the outcomes agree.
+fn walk_text(alloc: Global, work: &Work) -> Result<String, AllocError>
+    requires { BothAreGiven work.now }
+{
+    let direct = direct_text(work);
+    let agrees = agrees_text(work);
+    let exit = exit_text(alloc, work.second())?;
+    format!(in alloc; "{exit}{direct}{agrees}")
+}
+
+fn direct_text(work: &Work) -> &'static str {
+    if work.second().direct() {
+        " directly"
+    } else {
+        ""
+    }
+}
+
+fn agrees_text(work: &Work) -> &'static str
+    requires { BothAreGiven work.now }
+{
+    if outcomes_agree(work) { ", agrees" } else { "" }
+}
+
+// Both exits of the block at 0100H with the plain text, what C and E hold as numbers, and what its stores of numbers are.
+fn plain(alloc: Global, count: u32, source: &str) -> anyhow::Result<String> {
+    let program = program_of(alloc, source)?;
+    let index = plain_index(alloc, &program)?;
+    let mut work = Work::new(alloc)?;
+    match run_both(&mut work, &program, &index, 0x100, count, Keep::all()) {
+        Some(Ok(())) => Ok(plain_text(alloc, &work)?),
+        _ => bail!("no outcomes"),
+    }
+}
+
+fn plain_text(alloc: Global, work: &Work) -> Result<String, AllocError>
+    requires { BothAreGiven work.now }
+{
+    let first = exit_text(alloc, work.first())?;
+    let second = exit_text(alloc, work.second())?;
+    let mut text = format!(in alloc; "{first}, {second}")?;
+    push_held(&mut text, number_held(work, Part::C))?;
+    push_held(&mut text, number_held(work, Part::E))?;
+    push_stores(&mut text, work)?;
+    text.push_str(agrees_text(work))?;
+    Ok(text)
+}
+
+fn push_held(text: &mut String, number: Option<u16>) -> Result<(), AllocError> {
+    match number {
+        Some(n) => write!(text, ", {n:02x}"),
+        None => Ok(()),
+    }
+}
+
+fn push_stores(text: &mut String, work: &Work) -> Result<(), AllocError>
+    requires { BothAreGiven work.now }
+{
+    for k in 0..work.first().actions().len() {
+        push_store(text, number_stored(work, k))?;
+    }
+    Ok(())
+}
+
+fn push_store(text: &mut String, numbers: Option<(u16, u16)>) -> Result<(), AllocError> {
+    match numbers {
+        Some((a, n)) => write!(text, ", {a:04x} {n:02x}"),
+        None => Ok(()),
+    }
+}
+
+// How many instructions, each alone, agree with their plain templates.
+fn alone(alloc: Global, source: &str) -> anyhow::Result<String> {
+    let program = program_of(alloc, source)?;
+    let index = plain_index(alloc, &program)?;
+    let mut work = Work::new(alloc)?;
+    match agreeing(&mut work, &program, &index) {
+        Some(count) => Ok(format!(in alloc; "{count} agree")?),
+        None => bail!("no outcomes"),
+    }
+}
+
+// None where an instruction has no outcomes.
+fn agreeing(work: &mut Work, program: &Program80, index: &Index86) -> Option<u32> {
+    let mut count = 0_u32;
+    for placed in program.instrs() {
+        if agrees_at(work, program, index, placed.at)? {
+            count = u32::saturating_add(count, 1);
+        }
+    }
+    Some(count)
+}
+
+fn agrees_at(work: &mut Work, program: &Program80, index: &Index86, at: u16) -> Option<bool> {
+    match run_both(work, program, index, at, 1, Keep::all()) {
+        Some(Ok(())) => Some(outcomes_agree(work)),
+        _ => None,
+    }
+}

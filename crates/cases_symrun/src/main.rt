@@ -1,0 +1,29 @@
+// Answers each case of the standard input: what a block and the text at its label come to.
+#![tactic(auto)]
+
+mod agreeing;
+mod answers;
+mod blocks;
+mod running;
+mod shown;
+mod sources;
+
+use answers::answer;
+use std::alloc::Global;
+
+// Empty lines and those that begin with `#` are no cases, and stand between the answers as they are.
+fn told(alloc: Global, line: &str) -> anyhow::Result<String> {
+    if line.is_empty() || line.starts_with('#') {
+        return Ok(String::from_str(alloc, line)?);
+    }
+    let answer = answer(alloc, line)?;
+    Ok(format!(in alloc; "{line} => {answer}")?)
+}
+
+fn main(rt: HostRuntime) -> anyhow::Result<()> {
+    for line in rt.lines(rt.alloc()) {
+        let line = line?;
+        rt.println(told(rt.alloc(), line.as_str())?)?;
+    }
+    Ok(())
+}

@@ -1,0 +1,56 @@
+// Programs and texts of cases.
+use asm80_program::Program80;
+use asm80_text::Lines;
+use asm80_values::assemble;
+use asm86::{Line86, Text86};
+use std::alloc::{AllocError, Global};
+use sym_run::Index86;
+use templates::plain_text;
+
+// The bytes of lines, which ` / ` stands between; `N*` in front of one stands for N of it.
+fn lines_of(alloc: Global, case: &str, first: &str) -> anyhow::Result<String> {
+    let mut text = String::from_str(alloc, first)?;
+    for line in case.split(" / ") {
+        let (count, line) = line.split_once('*').unwrap_or(("1", line));
+        push_times(&mut text, count.parse::<u32>()?, line)?;
+    }
+    Ok(text)
+}
+
+fn push_times(text: &mut String, count: u32, line: &str) -> Result<(), AllocError> {
+    for _ in 0..count {
+        text.push_str(line)?;
+        text.push_str("\n")?;
+    }
+    Ok(())
+}
+
+/// The program of a case, from 0100H on.
+pub fn program_of(alloc: Global, case: &str) -> anyhow::Result<Program80> {
+    let source = lines_of(alloc, case, "ORG 100H\n")?;
+    let mut reader = Lines::new(alloc)?;
+    reader.feed(source.as_bytes())?;
+    let statements = reader.finish()?;
+    Ok(assemble(alloc, &statements, 0xF000)?)
+}
+
+// The statements of a case behind CSEG.
+fn text_of(alloc: Global, case: &str) -> anyhow::Result<Vec<Line86>> {
+    let text = lines_of(alloc, case, "CSEG\n")?;
+    let mut reader = Text86::new(alloc)?;
+    reader.feed(text.as_bytes())?;
+    reader.feed(b"END\n")?;
+    Ok(reader.finish()?)
+}
+
+/// The statements of a case by their labels.
+pub fn text_index(alloc: Global, case: &str) -> anyhow::Result<Index86> {
+    let lines = text_of(alloc, case)?;
+    Ok(Index86::of(alloc, &lines)?)
+}
+
+/// The statements of a program's plain text by their labels.
+pub fn plain_index(alloc: Global, program: &Program80) -> anyhow::Result<Index86> {
+    let lines = plain_text(alloc, program)?;
+    Ok(Index86::of(alloc, &lines)?)
+}
