@@ -8,12 +8,12 @@ program="$here/crates/xlt_main/out/xlt_main"
 folder=$(mktemp -d)
 trap 'rm -rf "$folder"' EXIT
 
-# A source of so many lines, in loops of ten lines: moves, sums of words between the flags that are set and used, and a jump back.
+# A source of so many lines, in loops of ten lines: moves, a sum of words, flags that are set and used, and a jump back.
 source_of() {
   awk -v lines="$1" 'BEGIN {
     print "\tORG 100H"
     for (k = 0; 10 * k + 12 <= lines; k++) {
-      printf "L%d:\tMOV A,M\n\tINX H\n\tADD B\n\tDCX D\n\tORA C\n; the counter\n\tMOV C,A\n\tXRA A\n\tINR B\n\tJNZ L%d\n", k, k
+      printf "L%d:\tMOV A,M\n\tINX H\n\tADD B\n; the sum, and what it is joined with\n\tORA C\n; the counter\n\tMOV C,A\n\tXRA A\n\tINR B\n\tJNZ L%d\n", k, k
     }
     for (k = 10 * k + 3; k <= lines; k++) print "\tNOP"
     print "\tJMP 0"
