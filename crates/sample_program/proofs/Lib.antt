@@ -1,0 +1,11 @@
+mod Labels
+mod Spots
+mod Faultless
+mod Chain
+mod Starts
+mod FineLines
+mod Accepted
+mod TextSizes
+mod Counting
+mod Fitting
+mod InRange
