@@ -1,5 +1,5 @@
 // Runs over a small BDOS and ports.
-ghost use Rattle.std.specs.Prelude.{◌≡◌, ◌∷◌, [], ℕ, length, Option, IfOk, IfErr, OnOk};
+ghost use Rattle.std.specs.Prelude.{◌≡◌, ◌≤◌, ◌∷◌, [], ℕ, length, Option, IfOk, IfErr, OnOk};
 ghost use Rattle.i86.specs.declared.Instr86.{Instr86};
 ghost use Rattle.i86.specs.Code.{Reads};
 ghost use Rattle.host.specs.Host.{SameFaults, OnlySays};
@@ -13,31 +13,35 @@ use crate::tagged::Tagged80;
 use asm80_program::Program80;
 use asm86_image::Image86;
 use bdos_ports::Devices;
-use bdos_talk::{RunEnd, TalkFault, converse};
+use bdos_talk::{Conversation, TalkFault, converse};
 use cpu86::Start86;
 use dialogue::Page;
 use host::Host;
 use std::alloc::Global;
 
-/// Runs an 8080 program over devices for up to `limit` instructions, and says each event of its dialogue.
+/// Runs an 8080 program over devices for up to `limit` instructions, and says each event of its dialogue, in a line that begins with
+/// the prefix.
 pub fn run_80<H: Host>(
     alloc: Global,
     program: &Program80,
     page: &Page,
     devices: &mut Devices,
-    limit: u32,
+    limit: u64,
     host: &mut H,
-) -> Result<RunEnd, TalkFault>
-    ensures run { IfOk result (λ o. SaysRun (course80 program.now page.now) devices.old limit o devices.new (H.state host.old) (H.state host.new)) }
-    ensures cut { IfErr result (IsCutOff (course80 program.now page.now) devices.old limit (H.state host.old) (H.state host.new)) }
+    prefix: &[u8],
+) -> Result<Conversation, TalkFault>
+    ensures run { IfOk result (λ o. SaysRun (course80 program.now page.now) devices.old limit prefix.now o devices.new (H.state host.old) (H.state host.new)) }
+    ensures cut { IfErr result (IsCutOff (course80 program.now page.now) devices.old limit prefix.now (H.state host.old) (H.state host.new)) }
     ensures only { OnlySays (H.state host.old) (H.state host.new) }
+    ensures within { IfOk result (λ o. o.steps ≤ limit) }
     ensures counted { OnOk result (SameFaults (H.state host.old) (H.state host.new)) }
 {
     let mut machine = Tagged80::new(alloc, program, page)?;
-    converse(alloc, &mut machine, devices, host, limit)
+    converse(alloc, &mut machine, devices, host, prefix, limit)
 }
 
-/// Runs the image of an 8086 program over devices for up to `limit` instructions, and says each event of its dialogue. The fill is
+/// Runs the image of an 8086 program over devices for up to `limit` instructions, and says each event of its dialogue, in a line that
+/// begins with the prefix. The fill is
 /// memory before the page and the image are put into it; the choice gives what registers and flags hold at the start, and each
 /// undefined result.
 pub fn run_86<H: Host>(
@@ -47,18 +51,20 @@ pub fn run_86<H: Host>(
     fill: &[u8],
     choice: u128,
     devices: &mut Devices,
-    limit: u32,
+    limit: u64,
     host: &mut H,
-) -> Result<RunEnd, TalkFault>
+    prefix: &[u8],
+) -> Result<Conversation, TalkFault>
     requires { length fill.now ≡ 0x10000 }
-    ensures run { IfOk result (λ o. (fetch : ℕ → Option Instr86) → Reads image.now.code fetch → SaysRun (course86 fetch image.now page.now fill.now (start_by choice) (choice ∷ [])) devices.old limit o devices.new (H.state host.old) (H.state host.new)) }
-    ensures cut { IfErr result (λ fault. (fetch : ℕ → Option Instr86) → Reads image.now.code fetch → IsCutOff (course86 fetch image.now page.now fill.now (start_by choice) (choice ∷ [])) devices.old limit (H.state host.old) (H.state host.new) fault) }
+    ensures run { IfOk result (λ o. (fetch : ℕ → Option Instr86) → Reads image.now.code fetch → SaysRun (course86 fetch image.now page.now fill.now (start_by choice) (choice ∷ [])) devices.old limit prefix.now o devices.new (H.state host.old) (H.state host.new)) }
+    ensures cut { IfErr result (λ fault. (fetch : ℕ → Option Instr86) → Reads image.now.code fetch → IsCutOff (course86 fetch image.now page.now fill.now (start_by choice) (choice ∷ [])) devices.old limit prefix.now (H.state host.old) (H.state host.new) fault) }
     ensures only { OnlySays (H.state host.old) (H.state host.new) }
+    ensures within { IfOk result (λ o. o.steps ≤ limit) }
     ensures counted { OnOk result (SameFaults (H.state host.old) (H.state host.new)) }
 {
     let start = start_by(choice);
     let mut machine = Plain86::new(alloc, image, start, page, fill, choice)?;
-    converse(alloc, &mut machine, devices, host, limit)
+    converse(alloc, &mut machine, devices, host, prefix, limit)
 }
 
 // The registers, segments and flags at the start.

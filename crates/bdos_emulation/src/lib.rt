@@ -2,10 +2,12 @@
 #![tactic(auto)]
 
 mod commands;
+mod laws;
 mod plain;
 mod tagged;
 
-pub use bdos_talk::{RunEnd, TalkFault, Why};
+pub use bdos_talk::{Conversation, RunEnd, TalkFault, Why};
 pub use commands::{run_80, run_86};
+pub use laws::runs_are_one;
 pub use plain::Plain86;
 pub use tagged::Tagged80;

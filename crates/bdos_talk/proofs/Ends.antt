@@ -1,23 +1,28 @@
 -- Turns put together to a run over devices.
 use Rattle.std.proofs.Common.{◌≡◌, ℕ, suc, ◌+◌, ◌-◌, ◌≤◌, List, [], ◌∷◌, ◌++◌, refl, sym, ap, ◌∙◌, subst, arith, append_assoc}
+use Rattle.std.specs.Prelude.{All}
 use Rattle.std.proofs.lemmas.List.{append-nil}
-use Rattle.base_runs.specs.Run.{Going}
+use Rattle.std.proofs.lemmas.List.Elements.{All-nil, All-append}
+use Rattle.base_runs.specs.Run.{Going, Stopped, IsNotStopped}
 use Rattle.host.specs.Host.{HostState, HasRisen, said_more, SameFaults}
 use Rattle.dialogue.specs.declared.request.Event.{Event}
 use Rattle.bdos_ports.specs.Supply.{Supply}
+use Rattle.bdos_talk.specs.declared.emulator.Why.{Why}
 use Rattle.bdos_talk.specs.declared.fault.TalkFault.{TalkFault}
 use Rattle.bdos_talk.specs.declared.fault.TalkFault.TheVariants.{Unsaid, Memory}
+use Rattle.bdos_talk.specs.declared.running.Conversation.{Conversation}
 use Rattle.bdos_talk.specs.declared.running.RunEnd.{RunEnd}
 use Rattle.bdos_talk.specs.declared.running.RunEnd.TheVariants.{Ended, Stopped as HasStopped, StepLimit, InputEnded, NoDrive}
 use Rattle.bdos_talk.specs.Lines.{event_lines}
-use Rattle.bdos_talk.specs.Talk.{Seen, replies_to, refusal, left_after, IsAt, HasOneRun, IsCause, IsOutcome, SaysRun, HasFirst, SaysFirst, SaysCut, IsCutOff}
+use Rattle.bdos_talk.specs.Replies.{IsReply}
+use Rattle.bdos_talk.specs.Talk.{Seen, replies_to, refusal, left_after, IsAt, HasOneRun, Ran, RunsNoMore, at_limit, is_over, waits, stops, IsCause, IsOutcome, SaysRun, HasFirst, SaysFirst, SaysCut, IsCutOff}
 use Rattle.bdos_talk.specs.Turns.{Course, nothing, standing, Begins}
-use Rattle.bdos_talk.specs.Advance.{Advance, IsEnd, Rest, Grows, SaysTurn, CutsTurn, IsTurnCutOff}
+use Rattle.bdos_talk.specs.Advance.{Advance, IsEnd, steps_by, Rest, Grows, SaysTurn, CutsTurn, IsTurnCutOff}
 use Rattle.bdos_talk.proofs.Said.{event_lines-append, says_nothing, says_then}
-use Rattle.bdos_talk.proofs.Exact.{outcome_one, first_at_limit}
+use Rattle.bdos_talk.proofs.Exact.{going_before, outcome_one, first_at_limit}
 
-pub advance_none : (c : Course) (supply : Supply) (h : HostState) → Advance 0 c c supply supply h h
-advance_none c supply h = record {
+pub advance_none : (prefix : List ℕ) (c : Course) (supply : Supply) (h : HostState) → Advance prefix 0 c c supply supply h h
+advance_none prefix c supply h = record {
   events = [];
   taken = [];
   next = λ t. t;
@@ -26,11 +31,12 @@ advance_none c supply h = record {
   replies = λ es. refl;
   refuses = λ es. refl;
   leaves = λ es. refl;
+  lawful = All-nil IsReply;
   says = says_nothing h;
 }
 
-pub advance_then : (j : ℕ) (a b c : Course) (i l r : Supply) (f g h : HostState) → Advance j a b i l f g → Advance 1 b c l r g h → Advance (j + 1) a c i r f h
-advance_then j a b c i l r f g h x y = record {
+pub advance_then : (prefix : List ℕ) (j : ℕ) (a b c : Course) (i l r : Supply) (f g h : HostState) → Advance prefix j a b i l f g → Advance prefix 1 b c l r g h → Advance prefix (j + 1) a c i r f h
+advance_then prefix j a b c i l r f g h x y = record {
   events = x.events ++ y.events;
   taken = x.taken ++ y.taken;
   next = λ t. y.next (x.next t);
@@ -48,10 +54,11 @@ advance_then j a b c i l r f g h x y = record {
       ∙ sym (append_assoc x.taken y.taken (replies_to r es));
   refuses = λ es. ap (refusal i) (append_assoc x.events y.events es) ∙ x.refuses (y.events ++ es) ∙ y.refuses es;
   leaves = λ es. ap (left_after i) (append_assoc x.events y.events es) ∙ x.leaves (y.events ++ es) ∙ y.leaves es;
-  says = says_then f g h (event_lines x.events) (event_lines y.events) x.says y.says ∙ ap (said_more f.said) (sym (event_lines-append x.events y.events));
+  lawful = All-append IsReply x.taken y.taken x.lawful y.lawful;
+  says = says_then f g h (event_lines prefix x.events) (event_lines prefix y.events) x.says y.says ∙ ap (said_more f.said) (sym (event_lines-append prefix x.events y.events));
 }
 
-module _ (c b : Course) (one : HasOneRun (c nothing)) (supply left : Supply) (old mid new : HostState) (j : ℕ) (x : Advance j c b supply left old mid) where
+module _ (prefix : List ℕ) (c b : Course) (one : HasOneRun (c nothing)) (supply left : Supply) (old mid new : HostState) (j : ℕ) (x : Advance prefix j c b supply left old mid) where
   -- where it goes on
   pub reached : Begins b → IsAt (c nothing) supply j (standing Going x.events)
   reached begins =
@@ -64,61 +71,118 @@ module _ (c b : Course) (one : HasOneRun (c nothing)) (supply left : Supply) (ol
       ∙ begins (x.next nothing) []
       ∙ ap (standing Going) (x.dialogue nothing))
 
-  pub says_limit : Begins b → SaysRun (c nothing) supply j StepLimit left old mid
-  says_limit begins = record {
-    run = standing Going x.events;
-    outcome = record { at = reached begins; cause = refl };
-    only = outcome_one (c nothing) one supply j StepLimit (standing Going x.events) (record { at = reached begins; cause = refl });
-    says = x.says;
-    leaves = sym (ap (left_after supply) (sym (append-nil x.events)) ∙ x.leaves []);
-  }
+  -- which has said all of this, and goes on at each turn before
+  went_on : Begins b → (i : ℕ) (v : Seen) → i ≤ j → IsAt (c nothing) supply i v → v.status ≡ Going
+  went_on begins i v le at = going_before (c nothing) one supply i j v (standing Going x.events) le at (reached begins) refl
+
+  replied : All IsReply (replies_to supply x.events)
+  replied =
+      let ys : replies_to supply x.events ≡ x.taken ++ [] = ap (replies_to supply) (sym (append-nil x.events)) ∙ x.replies [] in
+      subst (All IsReply) (sym (ys ∙ append-nil x.taken)) x.lawful
+
+  module _ (begins : Begins b) where
+    all_ran : Ran (c nothing) supply j j
+    all_ran = record {
+      within = omega arith;
+      run = standing Going x.events;
+      at = reached begins;
+      not_stopped = tt;
+      went_on = λ i v lt at. went_on begins i v (omega (arith, lt)) at;
+      no_more = at_limit refl;
+      whole = λ v at. ap (λ (u : Seen). u.dialogue) (one.one supply j v (standing Going x.events) at (reached begins));
+    }
+
+    pub says_limit : SaysRun (c nothing) supply j prefix (record { end = StepLimit; steps = j }) left old mid
+    says_limit =
+        let o : Conversation = record { end = StepLimit; steps = j } in
+        let outcome : IsOutcome (c nothing) supply j o (standing Going x.events) = record { at = reached begins; cause = refl; ran = all_ran } in
+        record {
+          run = standing Going x.events;
+          outcome = outcome;
+          only = outcome_one (c nothing) one supply j o (standing Going x.events) outcome;
+          says = x.says;
+          leaves = sym (ap (left_after supply) (sym (append-nil x.events)) ∙ x.leaves []);
+          replies = replied;
+        }
 
   -- where it comes to an end
-  module _ (o : RunEnd) (count limit : ℕ) (begins : Begins b) (within : suc j ≤ limit) (is : count ≡ suc j) (last : Supply) (y : Rest o count b left last mid new) where
-    rests : (m : ℕ) → standing y.status (x.events ++ y.events) ≡ c nothing (replies_to supply (x.events ++ y.events)) (j + suc m)
-    rests m =
-        let ys : replies_to supply (x.events ++ y.events) ≡ x.taken ++ [] = x.replies y.events ∙ ap (λ zs. x.taken ++ zs) y.none in
-        sym (
-        ap (λ zs. c nothing zs (j + suc m)) ys
-        ∙ x.goes nothing [] (suc m)
-        ∙ y.goes (x.next nothing) m
-        ∙ ap (λ d. standing y.status (d ++ y.events)) (x.dialogue nothing))
+  module _ (o : RunEnd) (limit : ℕ) (begins : Begins b) (within : suc j ≤ limit) (last : Supply) (y : Rest prefix o b left last mid new) where
+    abbrev final : Seen
+    final = standing y.status (x.events ++ y.events)
 
-    rests_at : (n m : ℕ) → j + suc m ≡ n → IsAt (c nothing) supply n (standing y.status (x.events ++ y.events))
+    no_more_replies : replies_to supply (x.events ++ y.events) ≡ x.taken ++ []
+    no_more_replies = x.replies y.events ∙ ap (λ zs. x.taken ++ zs) y.none
+
+    rests : (m : ℕ) → final ≡ c nothing (replies_to supply (x.events ++ y.events)) (j + suc m)
+    rests m =
+        let is : c nothing (replies_to supply (x.events ++ y.events)) (j + suc m) ≡ final = ap (λ zs. c nothing zs (j + suc m)) no_more_replies ∙ x.goes nothing [] (suc m) ∙ y.goes (x.next nothing) m ∙ ap (λ d. standing y.status (d ++ y.events)) (x.dialogue nothing) in
+        sym is
+
+    rests_at : (n m : ℕ) → j + suc m ≡ n → IsAt (c nothing) supply n final
     rests_at n m e = rests m ∙ ap (c nothing (replies_to supply (x.events ++ y.events))) e
 
-    cause : (o : RunEnd) → IsEnd o count y.status (refusal left y.events) → IsCause (c nothing) supply limit o (standing y.status (x.events ++ y.events))
-    cause (Ended steps) e = (
-      e.0,
-      record {
-        before = j;
-        count = e.1 ∙ is;
-        within = subst (λ n. n ≤ limit) (sym (e.1 ∙ is)) within;
-        was = standing Going x.events;
-        was_at = reached begins;
-        went_on = refl;
-        at = rests_at steps 0 (let f : j + 1 ≡ suc j = omega arith in f ∙ sym (e.1 ∙ is));
-      },
-    )
-    cause (HasStopped why) e = e
+    next_at : IsAt (c nothing) supply (suc j) final
+    next_at = rests_at (suc j) 0 (let f : j + 1 ≡ suc j = omega arith in f)
+
+    last_at : IsAt (c nothing) supply limit final
+    last_at =
+        let m = limit - suc j in
+        let all : j + suc m ≡ limit = omega (arith, within) in
+        rests_at limit m all
+
+    -- the last instruction is counted
+    ran_next : IsNotStopped y.status → RunsNoMore (c nothing) supply limit (suc j) final → Ran (c nothing) supply limit (suc j)
+    ran_next not_stopped no_more = record {
+      within = within;
+      run = final;
+      at = next_at;
+      not_stopped = not_stopped;
+      went_on = λ i v lt at. went_on begins i v (omega (arith, lt)) at;
+      no_more = no_more;
+      whole = λ v at. ap (λ (u : Seen). u.dialogue) (one.one supply limit v final at last_at);
+    }
+
+    -- or it stopped the machine
+    ran_before : (why : Why) → y.status ≡ Stopped why → y.events ≡ [] → Ran (c nothing) supply limit j
+    ran_before why is none = record {
+      within = omega (arith, within);
+      run = standing Going x.events;
+      at = reached begins;
+      not_stopped = tt;
+      went_on = λ i v lt at. went_on begins i v (omega (arith, lt)) at;
+      no_more = stops (record { why = why; last = final; within = within; at = next_at; stopped = is });
+      whole = λ v at.
+          ap (λ (u : Seen). u.dialogue) (one.one supply limit v final at last_at)
+          ∙ ap (λ l. x.events ++ l) none
+          ∙ append-nil x.events;
+    }
+
+    ran : (o : RunEnd) → IsEnd o y.status y.events (refusal left y.events) → Ran (c nothing) supply limit (steps_by o j)
+    ran Ended e = ran_next (subst IsNotStopped (sym e) tt) (is_over e)
+    ran (HasStopped why) e = ran_before why e.0 e.1
+    ran StepLimit e = absurd e
+    ran InputEnded e = ran_next (subst IsNotStopped (sym e.0) tt) (waits e.0)
+    ran (NoDrive function) e = ran_next (subst IsNotStopped (sym e.0) tt) (waits e.0)
+
+    cause : (o : RunEnd) → IsEnd o y.status y.events (refusal left y.events) → IsCause (c nothing) supply limit o final
+    cause Ended e = e
+    cause (HasStopped why) e = e.0
     cause StepLimit e = absurd e
     cause InputEnded e = (e.0, x.refuses y.events ∙ e.1)
     cause (NoDrive function) e = (e.0, x.refuses y.events ∙ e.1)
 
-    outcome : IsOutcome (c nothing) supply limit o (standing y.status (x.events ++ y.events))
-    outcome =
-        let m = limit - suc j in
-        let all : j + suc m ≡ limit = omega arith in
-        record { at = rests_at limit m all; cause = cause o y.end }
-
-    pub says_end : SaysRun (c nothing) supply limit o last old new
-    says_end = record {
-      run = standing y.status (x.events ++ y.events);
-      outcome = outcome;
-      only = outcome_one (c nothing) one supply limit o (standing y.status (x.events ++ y.events)) outcome;
-      says = says_then old mid new (event_lines x.events) (event_lines y.events) x.says y.says ∙ ap (said_more old.said) (sym (event_lines-append x.events y.events));
-      leaves = sym (x.leaves y.events ∙ y.leaves);
-    }
+    pub says_end : SaysRun (c nothing) supply limit prefix (record { end = o; steps = steps_by o j }) last old new
+    says_end =
+        let all : Conversation = record { end = o; steps = steps_by o j } in
+        let outcome : IsOutcome (c nothing) supply limit all final = record { at = last_at; cause = cause o y.end; ran = ran o y.end } in
+        record {
+          run = final;
+          outcome = outcome;
+          only = outcome_one (c nothing) one supply limit all final outcome;
+          says = says_then old mid new (event_lines prefix x.events) (event_lines prefix y.events) x.says y.says ∙ ap (said_more old.said) (sym (event_lines-append prefix x.events y.events));
+          leaves = sym (x.leaves y.events ∙ y.leaves);
+          replies = subst (All IsReply) (sym (no_more_replies ∙ append-nil x.taken)) x.lawful;
+        }
 
   -- where a fault comes: the events up to it are the run's first
   first_events : (limit : ℕ) → suc j ≤ limit → (events : List Event) → Grows b events → HasFirst (c nothing) supply limit (x.events ++ events)
@@ -130,14 +194,14 @@ module _ (c b : Course) (one : HasOneRun (c nothing)) (supply left : Supply) (ol
       let within : j + y.turns ≤ limit = omega arith in
       subst (HasFirst (c nothing) supply limit) is (first_at_limit (c nothing) one supply limit (j + y.turns) within run (ap (λ d. c nothing (replies_to supply d) (j + y.turns)) (sym is)))
 
-  says_first : (limit : ℕ) → suc j ≤ limit → SaysTurn b mid new → SaysFirst (c nothing) supply limit old new
+  says_first : (limit : ℕ) → suc j ≤ limit → SaysTurn prefix b mid new → SaysFirst (c nothing) supply limit prefix old new
   says_first limit within y = record {
     events = x.events ++ y.events;
     first = first_events limit within y.events y.grows;
-    says = says_then old mid new (event_lines x.events) (event_lines y.events) x.says y.says ∙ ap (said_more old.said) (sym (event_lines-append x.events y.events));
+    says = says_then old mid new (event_lines prefix x.events) (event_lines prefix y.events) x.says y.says ∙ ap (said_more old.said) (sym (event_lines-append prefix x.events y.events));
   }
 
-  says_cut : (limit : ℕ) → suc j ≤ limit → CutsTurn b mid new → SaysCut (c nothing) supply limit old new
+  says_cut : (limit : ℕ) → suc j ≤ limit → CutsTurn prefix b mid new → SaysCut (c nothing) supply limit prefix old new
   says_cut limit within y = record {
     events = x.events;
     next = y.event;
@@ -147,6 +211,6 @@ module _ (c b : Course) (one : HasOneRun (c nothing)) (supply left : Supply) (ol
     cut = y.cut;
   }
 
-  pub cut_off : (limit : ℕ) → suc j ≤ limit → SameFaults old mid → (fault : TalkFault) → IsTurnCutOff b mid new fault → IsCutOff (c nothing) supply limit old new fault
+  pub cut_off : (limit : ℕ) → suc j ≤ limit → SameFaults old mid → (fault : TalkFault) → IsTurnCutOff prefix b mid new fault → IsCutOff (c nothing) supply limit prefix old new fault
   cut_off limit within same (Unsaid fault) y = (says_cut limit within y.0, subst (λ n. HasRisen n new.write_faults) same.writes y.1)
   cut_off limit within same Memory y = (says_first limit within y.0, record { reads = y.1.reads ∙ same.reads; writes = y.1.writes ∙ same.writes })

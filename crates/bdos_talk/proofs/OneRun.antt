@@ -30,11 +30,24 @@ front_after e a b f = (f.0, ap (λ l. e ∷ l) f.1)
 adds_nothing : (a b : List Event) → a ≡ a ++ b → b ≡ []
 adds_nothing a b e = append_cancel_left a b [] (sym e ∙ sym (append-nil a))
 
-over_is_still : {X : Type 0} (why : X → Why) (st : Status X) → told_status why st ≡ Over → IsStill st
-over_is_still why Going e = cc
-over_is_still why Waiting e = tt
-over_is_still why Over e = tt
-over_is_still why (Stopped x) e = tt
+halted_is_still : {X : Type 0} (why : X → Why) (st : Status X) → (told_status why st ≡ Going → ⊥) → IsStill st
+halted_is_still why Going halted = absurd (halted refl)
+halted_is_still why Waiting halted = tt
+halted_is_still why Over halted = tt
+halted_is_still why (Stopped x) halted = tt
+
+-- what stands at the front of less than itself is nothing
+front_of_less : (a b : List Event) → IsFrontOf (a ++ b) a → b ≡ []
+front_of_less a [] f = refl
+front_of_less a (x ∷ xs) f =
+    let none : x ∷ (xs ++ f.0) ≡ [] = adds_nothing a (x ∷ (xs ++ f.0)) (f.1 ∙ append_assoc a (x ∷ xs) f.0) in
+    cc
+
+front_rest : (a b c : List Event) → IsFrontOf (a ++ b) (a ++ c) → IsFrontOf b c
+front_rest a b c f = (f.0, append_cancel_left a c (b ++ f.0) (f.1 ∙ append_assoc a b f.0))
+
+front_first : (x e : Event) (xs es : List Event) → IsFrontOf (x ∷ xs) (e ∷ es) → e ≡ x
+front_first x e xs es f = let same : e ∷ es ≡ x ∷ (xs ++ f.0) = f.1 in cc
 
 module _ {S X : Type 0} (m : Machine S X) (cs : List ℕ) (why : S → X → Why) where
   -- the events of a reply on, and of a turn on, by what comes after
@@ -107,6 +120,63 @@ module _ {S X : Type 0} (m : Machine S X) (cs : List ℕ) (why : S → X → Why
     answer_only : ((s : S) (t : Past) (i : Supply) (d : List Event) → Holds n s t i d → d ≡ events n s t i) → (rest : List Event) (a : Option EventAnswered) → (taken e answered t (reply_from a (λ left. replies_to left rest)) n).dialogue ≡ t.dialogue ++ rest → rest ≡ answer_events (events n) u e t a
     answer_only rec rest None h = adds_nothing t.dialogue rest h
     answer_only rec rest (Some a) h = reply_only rec a.left rest a.answer h
+
+  -- what a run that is given the replies to some events has said of these
+  abbrev IsReached : ℕ → S → Past → Supply → List Event → Type 0
+  IsReached n s t i d = IsFrontOf (t.dialogue ++ d) (course_from m cs why s t (replies_to i d) n).dialogue
+
+  abbrev Reaches : ℕ → Type 0
+  Reaches n = (s : S) (t : Past) (i : Supply) (d : List Event) → IsReached n s t i d → IsFrontOf d (events n s t i)
+
+  -- after a question
+  module _ (n : ℕ) (u : S) (e : Event) (t : Past) (rec : Reaches n) where
+    no_more : (rest b : List Event) → IsFrontOf (t.dialogue ++ rest) t.dialogue → IsFrontOf rest b
+    no_more rest b h = subst (λ d. IsFrontOf d b) (sym (front_of_less t.dialogue rest h)) (front_nothing b)
+
+    reply_reaches : (left : Supply) (rest : List Event) (a : EventAnswer) → IsFrontOf (t.dialogue ++ rest) (taken e (answered n u e t) t (reply_then a (replies_to left rest)) n).dialogue → IsFrontOf rest (reply_events (events n) u e t a left)
+    reply_reaches left rest (Replies y) h = by_fit (fits_event e y) h
+      where
+        s : S
+        s = m.replied u e y (choice_at cs t.used)
+
+        by_fit : (b : Bool) → (let v : Seen = cond b (answered n u e t y (after_ran t) (replies_to left rest) n) (standing Waiting t.dialogue) in IsFrontOf (t.dialogue ++ rest) v.dialogue) → IsFrontOf rest (cond b (events n s (after_ran t) left) [])
+        by_fit true h = rec s (after_ran t) left rest h
+        by_fit false h = no_more rest [] h
+    reply_reaches left rest InputEnded h = no_more rest [] h
+    reply_reaches left rest (NoDrive f) h = no_more rest [] h
+
+    answer_reaches : (rest : List Event) (a : Option EventAnswered) → IsFrontOf (t.dialogue ++ rest) (taken e (answered n u e t) t (reply_from a (λ left. replies_to left rest)) n).dialogue → IsFrontOf rest (answer_events (events n) u e t a)
+    answer_reaches rest None h = no_more rest [] h
+    answer_reaches rest (Some a) h = reply_reaches a.left rest a.answer h
+
+  -- and is asked first what it asks
+  asked_reaches : (n : ℕ) → Reaches n → (s u : S) (e : Event) (t : Past) (i : Supply) (d : List Event) → m.step s (choice_at cs t.used) ≡ Asks e u → IsReached (suc n) s t i d → IsFrontOf d (e ∷ answer_events (events n) u e (after_asked t e) (event_answer i e))
+  asked_reaches n rec s u e t i [] is h = front_nothing (e ∷ answer_events (events n) u e (after_asked t e) (event_answer i e))
+  asked_reaches n rec s u e t i (x ∷ xs) is h =
+      let p = after_asked t e in
+      let ys = replies_to i (x ∷ xs) in
+      let said : (course_from m cs why s t ys (suc n)).dialogue ≡ (taken e (answered n u e p) p ys n).dialogue = ap (λ (v : Seen). v.dialogue) (turn_asked m cs why s u e t ys n is) in
+      let grown = taken_grows n u e p ys in
+      let parts : (taken e (answered n u e p) p ys n).dialogue ≡ t.dialogue ++ e ∷ grown.0 = grown.1 ∙ append_assoc t.dialogue (e ∷ []) grown.0 in
+      let front : IsFrontOf (t.dialogue ++ x ∷ xs) (taken e (answered n u e p) p ys n).dialogue = subst (IsFrontOf (t.dialogue ++ x ∷ xs)) said h in
+      let first : e ≡ x = front_first x e xs grown.0 (front_rest t.dialogue (x ∷ xs) (e ∷ grown.0) (subst (IsFrontOf (t.dialogue ++ x ∷ xs)) parts front)) in
+      let behind : IsFrontOf (p.dialogue ++ xs) (taken e (answered n u e p) p ys n).dialogue = subst (λ l. IsFrontOf l (taken e (answered n u e p) p ys n).dialogue) (ap (λ z. t.dialogue ++ z ∷ xs) (sym first) ∙ sym (append_assoc t.dialogue (e ∷ []) xs)) front in
+      let asked : IsFrontOf (p.dialogue ++ xs) (taken e (answered n u e p) p (replies_to i (e ∷ xs)) n).dialogue = subst (λ z. IsFrontOf (p.dialogue ++ xs) (taken e (answered n u e p) p (replies_to i (z ∷ xs)) n).dialogue) (sym first) behind in
+      let rest = answer_events (events n) u e p (event_answer i e) in
+      subst (λ z. IsFrontOf (z ∷ xs) (e ∷ rest)) first (front_after e xs rest (answer_reaches n u e p rec xs (event_answer i e) asked))
+
+  turn_reaches : (n : ℕ) → Reaches n → (s : S) (t : Past) (i : Supply) (d : List Event) (a : Answer S X) → m.step s (choice_at cs t.used) ≡ a → IsReached (suc n) s t i d → IsFrontOf d (turn_events (events n) t i a)
+  turn_reaches n rec s t i d (Ran u) is h =
+      rec u (after_ran t) i d (subst (λ (v : Seen). IsFrontOf (t.dialogue ++ d) v.dialogue) (turn_ran m cs why s t (replies_to i d) n u is) h)
+  turn_reaches n rec s t i d (Asks e u) is h = asked_reaches n rec s u e t i d is h
+  turn_reaches n rec s t i d Ends is h =
+      front_rest t.dialogue d (End ∷ []) (subst (λ (v : Seen). IsFrontOf (t.dialogue ++ d) v.dialogue) (turn_ended m cs why s t (replies_to i d) n is) h)
+  turn_reaches n rec s t i d (Stops x) is h =
+      subst (λ l. IsFrontOf l []) (sym (front_of_less t.dialogue d (subst (λ (v : Seen). IsFrontOf (t.dialogue ++ d) v.dialogue) (turn_stopped m cs why s t (replies_to i d) n x is) h))) (front_nothing [])
+
+  events_reach : (n : ℕ) → Reaches n
+  events_reach zero s t i d h = subst (λ l. IsFrontOf l []) (sym (front_of_less t.dialogue d h)) (front_nothing [])
+  events_reach (suc n) s t i d h = turn_reaches n (events_reach n) s t i d (m.step s (choice_at cs t.used)) refl h
 
   -- what a machine has said is the dialogue of these events
   turn_holds : (n : ℕ) → ((s : S) (t : Past) (i : Supply) → Holds n s t i (events n s t i)) → (s : S) (t : Past) (i : Supply) (a : Answer S X) → m.step s (choice_at cs t.used) ≡ a → Holds (suc n) s t i (turn_events (events n) t i a)
@@ -198,9 +268,10 @@ module _ {S X : Type 0} (m : Machine S X) (cs : List ℕ) (why : S → X → Why
           let e : j + (n - j) ≡ n = omega (arith, le) in
           let front : IsFrontOf (events j s nothing i) (events n s nothing i) = subst (λ k. IsFrontOf (events j s nothing i) (events k s nothing i)) e (events_grow j (n - j) s nothing i) in
           subst (λ d. IsFrontOf d w.dialogue) (sym (said i j v x)) (subst (IsFrontOf (events j s nothing i)) (sym (said i n w y)) front);
-      over = λ ys j n le is.
+      stays = λ ys j n le halted.
           let e : j + (n - j) ≡ n = omega (arith, le) in
           let r : Run S X = record { state = s; status = Going; dialogue = []; replies = ys; used = 0 } in
-          let still : IsStill (turns m cs j r).status = over_is_still (why (turns m cs j r).state) (turns m cs j r).status is in
+          let still : IsStill (turns m cs j r).status = halted_is_still (why (turns m cs j r).state) (turns m cs j r).status halted in
           ap (seen why) (ap (λ k. turns m cs k r) (sym e) ∙ turns_add m cs j (n - j) r ∙ still_turns m cs (n - j) (turns m cs j r) still);
+      reaches = λ i n d v h at. subst (IsFrontOf d) (sym (said i n v at)) (events_reach n s nothing i d h);
     }

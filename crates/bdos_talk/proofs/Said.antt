@@ -6,15 +6,16 @@ use Rattle.dialogue.specs.declared.request.Event.{Event}
 use Rattle.host.specs.Host.{HostState, said_more, Says}
 use Rattle.host.proofs.HostLemmas.{said_more-said_more, said_more-nil}
 use Rattle.bdos_talk.specs.declared.fault.TalkFault.{TalkFault}
-use Rattle.bdos_talk.specs.Lines.{event_line, event_lines}
+use Rattle.bdos_talk.specs.Lines.{prefixed_line, event_lines}
 
-pub event_lines-append : (a b : List Event) → event_lines (a ++ b) ≡ event_lines a ++ event_lines b
-event_lines-append [] b = refl
-event_lines-append (e ∷ es) b =
-    ap (λ l. event_line e ++ l) (event_lines-append es b) ∙ sym (append_assoc (event_line e) (event_lines es) (event_lines b))
+pub event_lines-append : (prefix : List ℕ) (a b : List Event) → event_lines prefix (a ++ b) ≡ event_lines prefix a ++ event_lines prefix b
+event_lines-append prefix [] b = refl
+event_lines-append prefix (e ∷ es) b =
+    ap (λ l. prefixed_line prefix e ++ l) (event_lines-append prefix es b)
+    ∙ sym (append_assoc (prefixed_line prefix e) (event_lines prefix es) (event_lines prefix b))
 
-pub event_lines-one : (e : Event) → event_line e ≡ event_lines (e ∷ [])
-event_lines-one e = sym (append-nil (event_line e))
+pub event_lines-one : (prefix : List ℕ) (e : Event) → prefixed_line prefix e ≡ event_lines prefix (e ∷ [])
+event_lines-one prefix e = sym (append-nil (prefixed_line prefix e))
 
 pub says_nothing : (h : HostState) → Says h h []
 says_nothing h = sym (said_more-nil h.said)

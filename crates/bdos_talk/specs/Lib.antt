@@ -1,4 +1,5 @@
 pub mod Lines
+pub mod Replies
 pub mod Talk
 pub mod Turns
 pub mod Advance

@@ -45,7 +45,11 @@ event_line (In port) = in_line port
 event_line (Out port byte) = out_line port byte
 event_line End = codes "end\n"
 
--- the lines of a dialogue
-abbrev pub event_lines : List Event → List ℕ
-event_lines [] = []
-event_lines (e ∷ es) = event_line e ++ event_lines es
+-- the line behind a text that each line of a run begins with; where it is empty, the line alone
+abbrev pub prefixed_line : List ℕ → Event → List ℕ
+prefixed_line prefix e = prefix ++ event_line e
+
+-- the lines of a dialogue, behind such a text each
+abbrev pub event_lines : List ℕ → List Event → List ℕ
+event_lines prefix [] = []
+event_lines prefix (e ∷ es) = prefixed_line prefix e ++ event_lines prefix es

@@ -1,20 +1,22 @@
 -- A run over devices, a console and ports: its replies are theirs to its own events. What it comes to, and what it says meanwhile.
-use Rattle.std.specs.Prelude.{◌≡◌, ℕ, suc, ◌≤◌, List, [], ◌∷◌, ◌++◌, Option, Some, None}
+use Rattle.std.specs.Prelude.{◌≡◌, ℕ, suc, ◌<◌, ◌≤◌, List, [], ◌∷◌, ◌++◌, Option, Some, None, All}
 use Rattle.dialogue.specs.declared.request.Reply.{Reply}
 use Rattle.dialogue.specs.declared.request.Event.{Event}
 use Rattle.bdos_ports.specs.declared.devices.EventAnswer.{EventAnswer}
 use Rattle.bdos_ports.specs.declared.devices.EventAnswer.TheVariants.{Reply as Replies, InputEnded as Ends, NoDrive as Refuses}
 use Rattle.bdos_ports.specs.Supply.{Supply}
 use Rattle.bdos_ports.specs.Events.{EventAnswered, event_answer}
-use Rattle.base_runs.specs.Run.{Status, Going, Waiting, Over, Stopped, Run, IsFrontOf}
+use Rattle.base_runs.specs.Run.{Status, Going, Waiting, Over, Stopped, Run, IsNotStopped, IsFrontOf}
 use Rattle.host.specs.Host.{HostState, Says, SameFaults, WriteFailed}
 use Rattle.cmd_files.specs.Transfer.{CutsLine}
 use Rattle.bdos_talk.specs.declared.emulator.Why.{Why}
 use Rattle.bdos_talk.specs.declared.fault.TalkFault.{TalkFault}
 use Rattle.bdos_talk.specs.declared.fault.TalkFault.TheVariants.{Unsaid, Memory}
+use Rattle.bdos_talk.specs.declared.running.Conversation.{Conversation}
 use Rattle.bdos_talk.specs.declared.running.RunEnd.{RunEnd}
 use Rattle.bdos_talk.specs.declared.running.RunEnd.TheVariants.{Ended, Stopped as HasStopped, StepLimit, InputEnded, NoDrive}
-use Rattle.bdos_talk.specs.Lines.{event_line, event_lines}
+use Rattle.bdos_talk.specs.Lines.{prefixed_line, event_lines}
+use Rattle.bdos_talk.specs.Replies.{IsReply}
 
 -- a run as it is seen from outside: whether it goes on, or else why not, and its dialogue
 pub record Seen : Type 0 where
@@ -78,45 +80,55 @@ left_after supply (e ∷ es) = left_from supply (event_answer supply e) (λ left
 abbrev pub IsAt : (List Reply → ℕ → Seen) → Supply → ℕ → Seen → Type 0
 IsAt course supply n v = v ≡ course (replies_to supply v.dialogue) n
 
--- over any devices there is one run: it is one after each number of turns, its dialogues grow, and once it is over it stays
--- as it is
+-- over any devices there is one run: it is one after each number of turns, its dialogues grow, and once it does not go on it stays
+-- as it is. And where a run that is given the replies to some events says these first, the run over the devices does
 pub record HasOneRun (course : List Reply → ℕ → Seen) : Type 0 where
   pub some : (supply : Supply) (n : ℕ) → (v : Seen) × IsAt course supply n v
   pub one : (supply : Supply) (n : ℕ) (v w : Seen) → IsAt course supply n v → IsAt course supply n w → v ≡ w
   pub grows : (supply : Supply) (i n : ℕ) (v w : Seen) → i ≤ n → IsAt course supply i v → IsAt course supply n w → IsFrontOf v.dialogue w.dialogue
-  pub over : (ys : List Reply) (i n : ℕ) → i ≤ n → (course ys i).status ≡ Over → course ys n ≡ course ys i
+  pub stays : (ys : List Reply) (i n : ℕ) → i ≤ n → ((course ys i).status ≡ Going → ⊥) → course ys n ≡ course ys i
+  pub reaches : (supply : Supply) (n : ℕ) (d : List Event) (v : Seen) → IsFrontOf d (course (replies_to supply d) n).dialogue → IsAt course supply n v → IsFrontOf d v.dialogue
 
 module _ (course : List Reply → ℕ → Seen) (supply : Supply) (limit : ℕ) where
-  -- so many instructions ran, the last of them ended the program, and this is within the limit
-  pub record EndsAfter (steps : ℕ) (v : Seen) : Type 0 where
-    pub before : ℕ
-    pub count : steps ≡ suc before
+  -- the next step, within the limit, is one in which the machine stops
+  pub record StopsNext (steps : ℕ) : Type 0 where
+    pub why : Why
+    pub last : Seen
+    pub within : suc steps ≤ limit
+    pub at : IsAt course supply (suc steps) last
+    pub stopped : last.status ≡ Stopped why
+
+  -- why after so many instructions no more ran: as many ran as may, or the last of them ended the program or asked what the devices do
+  -- not answer, or the machine stops in the next step
+  pub data RunsNoMore (steps : ℕ) (v : Seen) : Type 0 where
+    at_limit : steps ≡ limit → RunsNoMore steps v
+    is_over : v.status ≡ Over → RunsNoMore steps v
+    waits : v.status ≡ Waiting → RunsNoMore steps v
+    stops : StopsNext steps → RunsNoMore steps v
+
+  -- so many instructions ran: those that ask and the one that ends are counted, the step in which a machine stops is not. In each
+  -- turn before, the run went on; and all that it says it has said by then
+  pub record Ran (steps : ℕ) : Type 0 where
     pub within : steps ≤ limit
-    pub was : Seen
-    pub was_at : IsAt course supply before was
-    pub went_on : was.status ≡ Going
-    pub at : IsAt course supply steps v
+    pub run : Seen
+    pub at : IsAt course supply steps run
+    pub not_stopped : IsNotStopped run.status
+    pub went_on : (i : ℕ) (v : Seen) → i < steps → IsAt course supply i v → v.status ≡ Going
+    pub no_more : RunsNoMore steps run
+    pub whole : (v : Seen) → IsAt course supply limit v → v.dialogue ≡ run.dialogue
 
   -- what the run over devices comes to, by how it stands at the limit
   abbrev pub IsCause : RunEnd → Seen → Type 0
-  IsCause (Ended steps) v = (v.status ≡ Over) × EndsAfter steps v
+  IsCause Ended v = v.status ≡ Over
   IsCause (HasStopped why) v = v.status ≡ Stopped why
   IsCause StepLimit v = v.status ≡ Going
   IsCause InputEnded v = (v.status ≡ Waiting) × (refusal supply v.dialogue ≡ Some InputEnded)
   IsCause (NoDrive function) v = (v.status ≡ Waiting) × (refusal supply v.dialogue ≡ Some (NoDrive function))
 
-  pub record IsOutcome (o : RunEnd) (v : Seen) : Type 0 where
+  pub record IsOutcome (c : Conversation) (v : Seen) : Type 0 where
     pub at : IsAt course supply limit v
-    pub cause : IsCause o v
-
-  -- the run comes to this and no run over these devices to anything else, its whole dialogue was said, and this is what the
-  -- devices have left
-  pub record SaysRun (o : RunEnd) (left : Supply) (old new : HostState) : Type 0 where
-    pub run : Seen
-    pub outcome : IsOutcome o run
-    pub only : (e : RunEnd) (v : Seen) → IsOutcome e v → (e ≡ o) × (v ≡ run)
-    pub says : Says old new (event_lines run.dialogue)
-    pub leaves : left ≡ left_after supply run.dialogue
+    pub cause : IsCause c.end v
+    pub ran : Ran c.steps
 
   -- these are the first events of the dialogue that the run has at the limit
   pub record HasFirst (events : List Event) : Type 0 where
@@ -125,22 +137,34 @@ module _ (course : List Reply → ℕ → Seen) (supply : Supply) (limit : ℕ) 
     pub only : (v : Seen) → IsAt course supply limit v → v ≡ run
     pub front : IsFrontOf events run.dialogue
 
-  -- the lines of some first events of the run were said
-  pub record SaysFirst (old new : HostState) : Type 0 where
-    pub events : List Event
-    pub first : HasFirst events
-    pub says : Says old new (event_lines events)
+  -- what is said, where each line begins with this text
+  module _ (prefix : List ℕ) where
+    -- the run comes to this and no run over these devices to anything else, its whole dialogue was said, and this is what the
+    -- devices have left; their replies are words and bytes
+    pub record SaysRun (c : Conversation) (left : Supply) (old new : HostState) : Type 0 where
+      pub run : Seen
+      pub outcome : IsOutcome c run
+      pub only : (e : Conversation) (v : Seen) → IsOutcome e v → (e ≡ c) × (v ≡ run)
+      pub says : Says old new (event_lines prefix run.dialogue)
+      pub leaves : left ≡ left_after supply run.dialogue
+      pub replies : All IsReply (replies_to supply run.dialogue)
 
-  -- the same, and then the line of the next event was cut off
-  pub record SaysCut (old new : HostState) : Type 0 where
-    pub events : List Event
-    pub next : Event
-    pub first : HasFirst (events ++ next ∷ [])
-    pub mid : HostState
-    pub says : Says old mid (event_lines events)
-    pub cut : CutsLine (event_line next) mid new
+    -- the lines of some first events of the run were said
+    pub record SaysFirst (old new : HostState) : Type 0 where
+      pub events : List Event
+      pub first : HasFirst events
+      pub says : Says old new (event_lines prefix events)
 
-  -- what was said up to a fault: a call of the host failed within a line; or none failed and memory ran out between two lines
-  abbrev pub IsCutOff : HostState → HostState → TalkFault → Type 0
-  IsCutOff old new (Unsaid fault) = SaysCut old new × WriteFailed old new
-  IsCutOff old new Memory = SaysFirst old new × SameFaults old new
+    -- the same, and then the line of the next event was cut off
+    pub record SaysCut (old new : HostState) : Type 0 where
+      pub events : List Event
+      pub next : Event
+      pub first : HasFirst (events ++ next ∷ [])
+      pub mid : HostState
+      pub says : Says old mid (event_lines prefix events)
+      pub cut : CutsLine (prefixed_line prefix next) mid new
+
+    -- what was said up to a fault: a call of the host failed within a line; or none failed and memory ran out between two lines
+    abbrev pub IsCutOff : HostState → HostState → TalkFault → Type 0
+    IsCutOff old new (Unsaid fault) = SaysCut old new × WriteFailed old new
+    IsCutOff old new Memory = SaysFirst old new × SameFaults old new

@@ -4,8 +4,9 @@
 mod emulator;
 mod fault;
 mod lines;
+mod replies;
 mod running;
 
 pub use emulator::{Emulator, Turn, Why};
 pub use fault::TalkFault;
-pub use running::{RunEnd, converse};
+pub use running::{Conversation, RunEnd, converse};

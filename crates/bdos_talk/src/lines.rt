@@ -1,37 +1,40 @@
 // The lines of events.
-ghost use Rattle.std.specs.Prelude.{◌≡◌, ◌<◌, ◌++◌, [], ◌∷◌, length, IfOk, IfErr, OnOk, OnErr, codes};
-ghost use Rattle.host.specs.Host.{Says, SameFaults, OnlySays, WriteFailed};
+ghost use Rattle.std.specs.Prelude.{◌≡◌, ◌<◌, ◌++◌, [], ◌∷◌, length, IfOk, IfErr, OnOk, codes};
+ghost use Rattle.host.specs.Host.{Says, SameFaults, OnlySays};
 ghost use Rattle.hex.specs.Hex.{encode_lower};
-ghost use Rattle.cmd_files.specs.Transfer.{CutsLine};
 ghost use Rattle.bdos_talk.specs.Advance.{IsLineCutOff};
-ghost use Rattle.bdos_talk.specs.Lines.{blank_then, arg_text, bytes_text, blocks_text, call_line, in_line, out_line, event_line};
+ghost use Rattle.bdos_talk.specs.Lines.{blank_then, arg_text, bytes_text, blocks_text, call_line, in_line, out_line, event_line, prefixed_line};
 
 use crate::fault::TalkFault;
 use cmd_files::say_line;
 use dialogue::{ArgWord, Block, Event, Request};
-use host::{Host, HostFault};
+use host::Host;
 use std::alloc::{AllocError, Global};
 
-/// Says an event.
-pub fn say_event<H: Host>(alloc: Global, host: &mut H, event: &Event) -> Result<(), TalkFault>
+/// Says an event, in a line that begins with a text.
+pub fn say_event<H: Host>(
+    alloc: Global,
+    host: &mut H,
+    prefix: &[u8],
+    event: &Event,
+) -> Result<(), TalkFault>
     ensures only { OnlySays (H.state host.old) (H.state host.new) }
-    ensures ok { OnOk result (Says (H.state host.old) (H.state host.new) (event_line event.now)) }
+    ensures ok { OnOk result (Says (H.state host.old) (H.state host.new) (prefixed_line prefix.now event.now)) }
     ensures counted { OnOk result (SameFaults (H.state host.old) (H.state host.new)) }
-    ensures cut { IfErr result (IsLineCutOff (event_line event.now) (H.state host.old) (H.state host.new)) }
+    ensures cut { IfErr result (IsLineCutOff (prefixed_line prefix.now event.now) (H.state host.old) (H.state host.new)) }
 {
-    let line = event_line(alloc, event)?;
+    let line = prefixed_line(alloc, prefix, event)?;
     Ok(say_line(host, line.as_slice())?)
 }
 
-/// Says that the program has ended.
-pub fn say_end<H: Host>(host: &mut H) -> Result<(), HostFault>
-    ensures only { OnlySays (H.state host.old) (H.state host.new) }
-    ensures ok { OnOk result (Says (H.state host.old) (H.state host.new) (codes "end\n")) }
-    ensures counted { OnOk result (SameFaults (H.state host.old) (H.state host.new)) }
-    ensures cut { OnErr result (CutsLine (codes "end\n") (H.state host.old) (H.state host.new)) }
-    ensures failed { OnErr result (WriteFailed (H.state host.old) (H.state host.new)) }
+// The line of an event behind a text.
+fn prefixed_line(alloc: Global, prefix: &[u8], event: &Event) -> Result<Vec<u8>, AllocError>
+    ensures { IfOk result (λ line. line.items ≡ prefixed_line prefix.now event.now) }
 {
-    say_line(host, b"end\n")
+    let mut line = Vec::from_slice(alloc, prefix)?;
+    let rest = event_line(alloc, event)?;
+    line.extend_from_slice(rest.as_slice())?;
+    Ok(line)
 }
 
 // The line of an event.

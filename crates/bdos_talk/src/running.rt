@@ -1,14 +1,15 @@
 // The loop that runs a machine over a small BDOS and ports.
-ghost use Rattle.std.specs.Prelude.{◌≡◌, None, IfOk, IfErr, OnOk};
+ghost use Rattle.std.specs.Prelude.{◌≡◌, ◌<◌, ◌≤◌, ◌+◌, None, IfOk, IfErr, OnOk};
 ghost use Rattle.dialogue.specs.Lawful.{IsLawfulEvent};
 ghost use Rattle.host.specs.Host.{SameFaults, OnlySays};
 ghost use Rattle.bdos_talk.specs.Talk.{SaysRun, IsCutOff};
 ghost use Rattle.bdos_talk.specs.Turns.{nothing};
-ghost use Rattle.bdos_talk.specs.Advance.{IsTurnDone, IsTurnCutOff, IsAnswered};
+ghost use Rattle.bdos_talk.specs.Advance.{IsTurnDone, IsTurnCutOff, IsAnswered, steps_by};
 
 use crate::emulator::{Emulator, Turn, Why};
 use crate::fault::TalkFault;
-use crate::lines::{say_end, say_event};
+use crate::lines::say_event;
+use crate::replies::reply_is_in_range;
 use bdos_ports::{Devices, EventAnswer};
 use dialogue::Event;
 use host::Host;
@@ -17,8 +18,8 @@ use std::alloc::{AllocError, Global};
 /// What a run over devices comes to.
 #[derive(Clone, Copy, PartialEq, Eq)]
 pub enum RunEnd {
-    /// The program ended; so many instructions ran, the one that ended it among them.
-    Ended(u32),
+    /// The program ended.
+    Ended,
     /// The machine stopped.
     Stopped(Why),
     /// As many instructions ran as may.
@@ -29,52 +30,79 @@ pub enum RunEnd {
     NoDrive(u8),
 }
 
-/// Runs a machine over devices for up to `limit` turns, and says each event of its dialogue as it comes.
+/// What a run over devices comes to, and how many instructions ran: those that asked and the one that ended the program are counted,
+/// and the step in which the machine stopped is not.
+#[derive(Clone, Copy, PartialEq, Eq)]
+pub struct Conversation {
+    pub end: RunEnd,
+    pub steps: u64,
+}
+
+/// Runs a machine over devices for up to `limit` turns, and says each event of its dialogue as it comes, in a line that begins with
+/// the prefix.
 pub fn converse<E: Emulator, H: Host>(
     alloc: Global,
     machine: &mut E,
     devices: &mut Devices,
     host: &mut H,
-    limit: u32,
-) -> Result<RunEnd, TalkFault>
+    prefix: &[u8],
+    limit: u64,
+) -> Result<Conversation, TalkFault>
     requires { E.runs machine.old }
-    ensures run { IfOk result (λ o. SaysRun (E.course machine.old nothing) devices.old limit o devices.new (H.state host.old) (H.state host.new)) }
-    ensures cut { IfErr result (IsCutOff (E.course machine.old nothing) devices.old limit (H.state host.old) (H.state host.new)) }
+    ensures run { IfOk result (λ c. SaysRun (E.course machine.old nothing) devices.old limit prefix.now c devices.new (H.state host.old) (H.state host.new)) }
+    ensures cut { IfErr result (IsCutOff (E.course machine.old nothing) devices.old limit prefix.now (H.state host.old) (H.state host.new)) }
     ensures only { OnlySays (H.state host.old) (H.state host.new) }
+    ensures within { IfOk result (λ c. c.steps ≤ limit) }
     ensures counted { OnOk result (SameFaults (H.state host.old) (H.state host.new)) }
 {
     for count in 0..limit {
-        if let Some(end) = turn(alloc, machine, devices, host, count + 1)? {
-            return Ok(end);
+        if let Some(end) = turn(alloc, machine, devices, host, prefix)? {
+            let steps = steps_by(end, count);
+            return Ok(Conversation { end, steps });
         }
     }
-    Ok(RunEnd::StepLimit)
+    Ok(Conversation {
+        end: RunEnd::StepLimit,
+        steps: limit,
+    })
 }
 
-// One turn, which has this number: the end of the run, if this is its last turn.
+// How many instructions ran, by how many ran before the last turn.
+fn steps_by(end: RunEnd, before: u64) -> u64
+    requires { before < 0xFFFF_FFFF_FFFF_FFFF }
+    ensures steps { result ≡ steps_by end before }
+    ensures one_more { result ≤ before + 1 }
+{
+    match end {
+        RunEnd::Stopped(_) => before,
+        RunEnd::Ended | RunEnd::StepLimit | RunEnd::InputEnded | RunEnd::NoDrive(_) => before + 1,
+    }
+}
+
+// One turn: the end of the run, if this is its last turn.
 fn turn<E: Emulator, H: Host>(
     alloc: Global,
     machine: &mut E,
     devices: &mut Devices,
     host: &mut H,
-    count: u32,
+    prefix: &[u8],
 ) -> Result<Option<RunEnd>, TalkFault>
     requires { E.runs machine.old }
-    ensures done { IfOk result (λ o. IsTurnDone count (E.course machine.old) (E.course machine.new) devices.old devices.new (H.state host.old) (H.state host.new) o) }
+    ensures done { IfOk result (λ o. IsTurnDone prefix.now (E.course machine.old) (E.course machine.new) devices.old devices.new (H.state host.old) (H.state host.new) o) }
     ensures ready { result ≡ Ok None → E.runs machine.new }
-    ensures cut { IfErr result (IsTurnCutOff (E.course machine.old) (H.state host.old) (H.state host.new)) }
+    ensures cut { IfErr result (IsTurnCutOff prefix.now (E.course machine.old) (H.state host.old) (H.state host.new)) }
     ensures only { OnlySays (H.state host.old) (H.state host.new) }
     ensures counted { OnOk result (SameFaults (H.state host.old) (H.state host.new)) }
 {
     match machine.turn(alloc)? {
         Turn::Ran => Ok(None),
         Turn::Ended => {
-            say_end(host)?;
-            Ok(Some(RunEnd::Ended(count)))
+            say_event(alloc, host, prefix, &Event::End)?;
+            Ok(Some(RunEnd::Ended))
         }
         Turn::Stopped(why) => Ok(Some(RunEnd::Stopped(why))),
         Turn::Asks(event) => {
-            say_event(alloc, host, &event)?;
+            say_event(alloc, host, prefix, &event)?;
             Ok(answer(alloc, machine, devices, &event)?)
         }
     }
@@ -94,6 +122,8 @@ fn answer<E: Emulator>(
 {
     match devices.answer(alloc, event)? {
         EventAnswer::Reply(reply) => {
+            // that its numbers are words and bytes
+            reply_is_in_range(&reply);
             machine.reply(event, &reply);
             Ok(None)
         }

@@ -219,3 +219,7 @@ saves_line saved sums = codes "saves " ++ (decimal saved ++ (codes " of " ++ (de
 -- how many instructions ran
 abbrev pub ended_line : ℕ → List ℕ
 ended_line steps = count_line (codes "ended after ") steps (codes " instructions")
+
+-- how many instructions of the 8080 ran, and how many of the 8086
+abbrev pub both_line : ℕ → ℕ → List ℕ
+both_line steps80 steps86 = codes "ended after " ++ (decimal steps80 ++ (codes " and " ++ (decimal steps86 ++ codes " instructions\n")))

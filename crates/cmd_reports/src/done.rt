@@ -1,7 +1,7 @@
 // The lines of status 0.
 ghost use Rattle.std.specs.Prelude.{◌≡◌, IfOk};
 ghost use Rattle.std.specs.String.{string_bytes};
-ghost use Rattle.cmd_reports.specs.Lines.{translated_line, shown_line, saves_line, ended_line};
+ghost use Rattle.cmd_reports.specs.Lines.{translated_line, shown_line, saves_line, ended_line, both_line};
 
 use crate::stop::count_line;
 use std::alloc::{AllocError, Global};
@@ -35,8 +35,15 @@ pub fn saves_line(alloc: Global, saved: usize, sums: usize) -> Result<String, Al
 }
 
 /// The line of a run that ended: how many instructions ran.
-pub fn ended_line(alloc: Global, steps: u32) -> Result<String, AllocError>
+pub fn ended_line(alloc: Global, steps: u64) -> Result<String, AllocError>
     ensures { IfOk result (λ line. string_bytes line ≡ ended_line steps) }
 {
-    count_line(alloc, "ended after ", steps, " instructions")
+    format!(in alloc; "ended after {steps} instructions\n")
+}
+
+/// The line of a run of both machines where the program of the 8080 ended: how many instructions of each ran.
+pub fn both_line(alloc: Global, steps80: u64, steps86: u64) -> Result<String, AllocError>
+    ensures { IfOk result (λ line. string_bytes line ≡ both_line steps80 steps86) }
+{
+    format!(in alloc; "ended after {steps80} and {steps86} instructions\n")
 }

@@ -7,6 +7,6 @@ mod rules;
 mod say;
 mod stop;
 
-pub use done::{ended_line, saves_line, shown_line, translated_line};
+pub use done::{both_line, ended_line, saves_line, shown_line, translated_line};
 pub use say::{say_done, say_made, say_report, say_stop, words_refused};
 pub use stop::{Stop, word_digits};

@@ -15,6 +15,7 @@ use Rattle.bdos_disk.specs.DiskFile.{IsBadAt}
 use Rattle.bdos_disk.specs.Reading.{IsFaultOf}
 use Rattle.bdos_ports.specs.Supply.{Supply}
 use Rattle.bdos_talk.specs.declared.emulator.Why.TheVariants.{Left, NoInstruction, StackSegment, OddCall}
+use Rattle.bdos_talk.specs.declared.running.Conversation.{Conversation}
 use Rattle.bdos_talk.specs.declared.running.RunEnd.{RunEnd}
 use Rattle.bdos_talk.specs.declared.running.RunEnd.TheVariants.{Ended, Stopped as HasStopped, StepLimit, InputEnded, NoDrive}
 use Rattle.bdos_talk.specs.Talk.{Seen, IsOutcome}
@@ -52,7 +53,7 @@ one_line_at p (At a) m n x y = let e : Some m ≡ Some n = sym x ∙ y in cc
 one_line_at p Exit m n x y = absurd x
 
 one_line : (p : Program) (o : RunEnd) (m n : ℕ) → IsLineOf p o m → IsLineOf p o n → m ≡ n
-one_line p (Ended steps) m n x y = x ∙ sym y
+one_line p Ended m n x y = x ∙ sym y
 one_line p (HasStopped (Left place rule)) m n x y = one_line_at p place m n x y
 one_line p (HasStopped (NoInstruction offset)) m n x y = x ∙ sym y
 one_line p (HasStopped (StackSegment offset)) m n x y = x ∙ sym y
@@ -63,14 +64,14 @@ one_line p (NoDrive function) m n x y = x ∙ sym y
 
 module _ (program_is : OneProgram) (refusal_is : OneRefusal) (apart : NotBoth) (disks : DiskLaw) (c : Run80) where
   -- a run is the one thing that its source and its devices come to
-  module _ (source : List ℕ) (given : Given) (supply : Supply) (program : Program) (o : RunEnd) (line : ℕ) (is : IsSource source c.top program) (has : HasDisk given supply) (v : Seen) (outcome : IsOutcome (course_of c program) supply c.run.steps o v)
-      (only : (e : RunEnd) (w : Seen) → IsOutcome (course_of c program) supply c.run.steps e w → (e ≡ o) × (w ≡ v)) (at : IsLineOf program o line) where
-    other_end : (p : Program) (e : RunEnd) (n : ℕ) → p ≡ program → ComesTo (course_of c p) supply c.run.steps e → IsLineOf p e n → steps_of c.run.steps n e ≡ steps_of c.run.steps line o
+  module _ (source : List ℕ) (given : Given) (supply : Supply) (program : Program) (o : Conversation) (line : ℕ) (is : IsSource source c.top program) (has : HasDisk given supply) (v : Seen) (outcome : IsOutcome (course_of c program) supply c.run.steps o v)
+      (only : (e : Conversation) (w : Seen) → IsOutcome (course_of c program) supply c.run.steps e w → (e ≡ o) × (w ≡ v)) (at : IsLineOf program o.end line) where
+    other_end : (p : Program) (e : Conversation) (n : ℕ) → p ≡ program → ComesTo (course_of c p) supply c.run.steps e → IsLineOf p e.end n → steps_of c.run.steps n e ≡ steps_of c.run.steps line o
     other_end p e n same run there =
         let to : ComesTo (course_of c program) supply c.run.steps e = subst (λ q. ComesTo (course_of c q) supply c.run.steps e) same run in
         let end : e ≡ o = (only e to.0 to.1).0 in
-        let here : IsLineOf program o n = subst (λ x. IsLineOf program x n) end (subst (λ q. IsLineOf q e n) same there) in
-        ap (λ x. steps_of c.run.steps n x) end ∙ ap (λ x. steps_of c.run.steps x o) (one_line program o n line here at)
+        let here : IsLineOf program o.end n = subst (λ (x : Conversation). IsLineOf program x.end n) end (subst (λ q. IsLineOf q e.end n) same there) in
+        ap (λ x. steps_of c.run.steps n x) end ∙ ap (λ x. steps_of c.run.steps x o) (one_line program o.end n line here at)
 
     other_run : (r : Result ℕ Stop) → Comes c source given r → r ≡ steps_of c.run.steps line o
     other_run _ (of_line n rule h) = absurd (apart source c.top n program (OfLine rule) is h)
@@ -79,7 +80,7 @@ module _ (program_is : OneProgram) (refusal_is : OneRefusal) (apart : NotBoth) (
     other_run r (ran p s e n other there run at_line same) =
         same ∙ other_end p e n (program_is source c.top p program other is) (subst (λ x. ComesTo (course_of c p) x c.run.steps e) (one_supply disks given s supply there has) run) at_line
 
-    only_run : (r : Result ℕ Stop) → r ≡ steps_of c.run.steps line o → IsOnly (Comes c source given) r
+    pub only_run : (r : Result ℕ Stop) → r ≡ steps_of c.run.steps line o → IsOnly (Comes c source given) r
     only_run r e = record {
       comes = ran program supply o line is has (v, outcome) at e;
       only = λ other h. other_run other h ∙ sym e;
@@ -120,20 +121,20 @@ module _ (program_is : OneProgram) (refusal_is : OneRefusal) (apart : NotBoth) (
     other_disk program k is bad _ (of_disk p j other also) = ap (λ n. Err (BadDisk n)) (one_bad given.disk j k also bad)
     other_disk program k is bad r (ran p s e n other there run at_line same) = absurd (disk_or_none disks given s k there bad)
 
-    refused : (stop : Stop) (status : ℕ) → SourceStops source c.top stop → (status ≡ 5) ⊎ (status ≡ status_of stop) → HasStatus (Comes c source given) status
+    pub refused : (stop : Stop) (status : ℕ) → SourceStops source c.top stop → (status ≡ 5) ⊎ (status ≡ status_of stop) → HasStatus (Comes c source given) status
     refused _ status (LineStops {line = m} {rule = rule} h) s =
         ⊎_elim (λ e. inl e) (λ e. inr (Err (SourceLine m rule), record { comes = of_line m rule h; only = other_line m rule h }, e)) s
     refused _ status (ProgramStops {line = m} {rule = rule} h) s =
         ⊎_elim (λ e. inl e) (λ e. inr (Err (SourceProgram m rule), record { comes = of_program m rule h; only = other_program m rule h }, e)) s
 
-    no_devices : (program : Program) (fault : DiskFault) (status : ℕ) → IsSource source c.top program → IsFaultOf given.disk fault → (status ≡ 5) ⊎ (status ≡ status_of (stop_of_disk fault)) → HasStatus (Comes c source given) status
+    pub no_devices : (program : Program) (fault : DiskFault) (status : ℕ) → IsSource source c.top program → IsFaultOf given.disk fault → (status ≡ 5) ⊎ (status ≡ status_of (stop_of_disk fault)) → HasStatus (Comes c source given) status
     no_devices program (Bad k) status is bad s =
         ⊎_elim (λ e. inl e) (λ e. inr (Err (BadDisk k), record { comes = of_disk program k is bad; only = other_disk program k is bad }, e)) s
     no_devices program Memory status is bad s = ⊎_elim (λ e. inl e) (λ e. inl e) s
 
   module _ (old new : HostState) (none : NoneFailed old new) (source : List ℕ) (given : Given) (told : IsTold old c.source input_limit source) (fed : SupplyIsTold c.run old given) where
     -- the run that was made is that of these bytes
-    by_run : (mid : HostState) (program : Program) (o : RunEnd) (line : ℕ) (r : Result ℕ Stop) → HasRun c old mid program o → IsLineOf program o line → r ≡ steps_of c.run.steps line o → IsOnly (Comes c source given) r
+    by_run : (mid : HostState) (program : Program) (o : Conversation) (line : ℕ) (r : Result ℕ Stop) → HasRun c old mid program o → IsLineOf program o.end line → r ≡ steps_of c.run.steps line o → IsOnly (Comes c source given) r
     by_run mid program o line r h at e =
         let same = told_whole old c.source input_limit source h.loads.source told h.loads.file in
         let whose = told_given old c.run given h.loads.given fed h.loads.supplied in
@@ -166,11 +167,11 @@ module _ (program_is : OneProgram) (refusal_is : OneRefusal) (apart : NotBoth) (
     halted mid _ status (no_memory cut) closes = inl (memory_status OutOfMemory mid new status refl closes)
     halted mid _ status (no_line program o h) closes = inl (memory_status OutOfMemory mid new status refl closes)
     halted mid stop status (unkept l) closes =
-        inl (memory_status stop mid new status (lost_by_memory old l.mid mid new none l.run.counted (closes_writes stop mid new status closes) (kept_name c.run.out_disk l.end) l.run.runs.0.system.disk stop l.stops) closes)
+        inl (memory_status stop mid new status (lost_by_memory old l.mid mid new none l.run.counted (closes_writes stop mid new status closes) (kept_name c.run.out_disk l.end.end) l.run.runs.0.system.disk stop l.stops) closes)
 
     by_gift : (status : ℕ) → Gives c old new status → HasStatus (Comes c source given) status
     by_gift status (GivesRun kept came h done) =
-        let after = kept_counted (kept_name c.run.out_disk h.end) h.run.runs.0.system.disk h.mid kept h.keeps in
+        let after = kept_counted (kept_name c.run.out_disk h.end.end) h.run.runs.0.system.disk h.mid kept h.keeps in
         let before = h.run.counted in
         ended kept came status (by_run h.mid h.program h.end h.line came h.run h.at h.is) (record { reads = after.reads ∙ before.reads; writes = after.writes ∙ before.writes }) done
     by_gift status (unsaid fault e cut) = absurd (not_unsaid old cut.start new none cut.counted cut.cut.1)

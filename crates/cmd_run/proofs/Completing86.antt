@@ -17,7 +17,7 @@ use Rattle.bdos_disk.specs.declared.fault.DiskFault.TheVariants.{Bad, Memory}
 use Rattle.bdos_disk.specs.DiskFile.{IsBadAt}
 use Rattle.bdos_disk.specs.Reading.{IsFaultOf}
 use Rattle.bdos_ports.specs.Supply.{Supply}
-use Rattle.bdos_talk.specs.declared.running.RunEnd.{RunEnd}
+use Rattle.bdos_talk.specs.declared.running.Conversation.{Conversation}
 use Rattle.bdos_talk.specs.Talk.{Seen, IsOutcome}
 use Rattle.cmd_reports.specs.declared.stop.Stop.{Stop}
 use Rattle.cmd_reports.specs.declared.stop.Stop.TheVariants.{BadDisk, OutOfMemory}
@@ -82,9 +82,9 @@ module _ (reading : OneReading) (image_is : OneImage) (refusal_is : OneRefusal) 
 
   module _ (disks : DiskLaw) (c : Run86) where
     -- a run is the one thing that its text and its devices come to
-    module _ (text : List ℕ) (given : Given) (supply : Supply) (image : Image) (fetch : ℕ → Option Instr86) (o : RunEnd) (is : HasImage text image) (has : HasDisk given supply) (reads : Reads image.code fetch) (to : ComesTo (course_of c image fetch) supply c.run.steps o)
-        (only : (g : ℕ → Option Instr86) → Reads image.code g → (e : RunEnd) (w : Seen) → IsOutcome (course_of c image g) supply c.run.steps e w → e ≡ o) where
-      other_end : (i : Image) (g : ℕ → Option Instr86) (e : RunEnd) → i ≡ image → Reads i.code g → ComesTo (course_of c i g) supply c.run.steps e → e ≡ o
+    module _ (text : List ℕ) (given : Given) (supply : Supply) (image : Image) (fetch : ℕ → Option Instr86) (o : Conversation) (is : HasImage text image) (has : HasDisk given supply) (reads : Reads image.code fetch) (to : ComesTo (course_of c image fetch) supply c.run.steps o)
+        (only : (g : ℕ → Option Instr86) → Reads image.code g → (e : Conversation) (w : Seen) → IsOutcome (course_of c image g) supply c.run.steps e w → e ≡ o) where
+      other_end : (i : Image) (g : ℕ → Option Instr86) (e : Conversation) → i ≡ image → Reads i.code g → ComesTo (course_of c i g) supply c.run.steps e → e ≡ o
       other_end i g e same reader run =
           let here : ComesTo (course_of c image g) supply c.run.steps e = subst (λ j. ComesTo (course_of c j g) supply c.run.steps e) same run in
           only g (subst (λ (j : Image). Reads j.code g) same reader) e here.0 here.1
@@ -127,7 +127,7 @@ module _ (reading : OneReading) (image_is : OneImage) (refusal_is : OneRefusal) 
 
     module _ (old new : HostState) (none : NoneFailed old new) (text : List ℕ) (given : Given) (told : IsTold old c.text text_limit text) (fed : SupplyIsTold c.run old given) where
       -- the run that was made is that of these bytes
-      by_run : (mid : HostState) (o : RunEnd) (r : Result ℕ Stop) → HasRun c old mid o → r ≡ steps_of c.run.steps 0 o → IsOnly (Comes c text given) r
+      by_run : (mid : HostState) (o : Conversation) (r : Result ℕ Stop) → HasRun c old mid o → r ≡ steps_of c.run.steps 0 o → IsOnly (Comes c text given) r
       by_run mid o r h e =
           let same = told_whole old c.text text_limit text h.loads.text told h.loads.file in
           let whose = told_given old c.run given h.loads.given fed h.loads.supplied in
@@ -163,11 +163,11 @@ module _ (reading : OneReading) (image_is : OneImage) (refusal_is : OneRefusal) 
       halted mid _ status (no_memory cut) closes = inl (memory_status OutOfMemory mid new status refl closes)
       halted mid _ status (no_line o h) closes = inl (memory_status OutOfMemory mid new status refl closes)
       halted mid stop status (unkept l) closes =
-          inl (memory_status stop mid new status (lost_by_memory old l.mid mid new none l.run.counted (closes_writes stop mid new status closes) (kept_name c.run.out_disk l.end) l.run.runs.0.system.disk stop l.stops) closes)
+          inl (memory_status stop mid new status (lost_by_memory old l.mid mid new none l.run.counted (closes_writes stop mid new status closes) (kept_name c.run.out_disk l.end.end) l.run.runs.0.system.disk stop l.stops) closes)
 
       by_gift : (status : ℕ) → Gives c old new status → HasStatus (Comes c text given) status
       by_gift status (GivesRun kept came h done) =
-          let after = kept_counted (kept_name c.run.out_disk h.end) h.run.runs.0.system.disk h.mid kept h.keeps in
+          let after = kept_counted (kept_name c.run.out_disk h.end.end) h.run.runs.0.system.disk h.mid kept h.keeps in
           let before = h.run.counted in
           ended kept came status (by_run h.mid h.end came h.run h.is) (record { reads = after.reads ∙ before.reads; writes = after.writes ∙ before.writes }) done
       by_gift status (unsaid fault e cut) = let reader = cut.loads.reader in absurd (not_unsaid old cut.start new none cut.counted (cut.cut reader.0 reader.1.0).1)

@@ -30,7 +30,7 @@ use Rattle.bdos_talk.specs.declared.emulator.Why.TheVariants.{Left, NoInstructio
 use Rattle.bdos_talk.specs.declared.running.RunEnd.{RunEnd}
 use Rattle.bdos_talk.specs.declared.running.RunEnd.TheVariants.{Ended, Stopped as HasStopped, StepLimit, InputEnded, NoDrive}
 use Rattle.bdos_ports.specs.Supply.{Supply}
-use Rattle.bdos_talk.specs.Talk.{Seen, told_status, replies_to, IsOutcome}
+use Rattle.bdos_talk.specs.Talk.{Seen, told_status, replies_to, IsAt, IsCause}
 use Rattle.bdos_emulation.specs.Courses.{why80, course80}
 use Rattle.cmd_run.specs.Runs80.{IsLineAt, IsLineOf}
 
@@ -208,15 +208,15 @@ module _ (p : Program) where
         subst (λ a. (line : ℕ) × IsLineAt p a line) same (line_at_place r.state.place h.place (h.stopped y e))
 
     -- an end of the run has its line
-    pub end_has_line : (supply : Supply) (limit : ℕ) (o : RunEnd) (v : Seen) → IsOutcome (course80 p page) supply limit o v → (line : ℕ) × IsLineOf p o line
-    end_has_line supply limit (Ended steps) v h = (0, refl)
-    end_has_line supply limit (HasStopped (Left q x)) v h =
+    pub end_has_line : (supply : Supply) (limit : ℕ) (o : RunEnd) (v : Seen) → IsAt (course80 p page) supply limit v → IsCause (course80 p page) supply limit o v → (line : ℕ) × IsLineOf p o line
+    end_has_line supply limit Ended v at cause = (0, refl)
+    end_has_line supply limit (HasStopped (Left q x)) v at cause =
         let ys = replies_to supply v.dialogue in
         let r = run80 p page ys limit in
-        stopped_at r r.status refl (run_stands ys limit) q x (ap (λ (w : Seen). w.status) (sym h.at) ∙ h.cause)
-    end_has_line supply limit (HasStopped (NoInstruction offset)) v h = (0, refl)
-    end_has_line supply limit (HasStopped (StackSegment offset)) v h = (0, refl)
-    end_has_line supply limit (HasStopped (OddCall offset function)) v h = (0, refl)
-    end_has_line supply limit StepLimit v h = (0, refl)
-    end_has_line supply limit InputEnded v h = (0, refl)
-    end_has_line supply limit (NoDrive function) v h = (0, refl)
+        stopped_at r r.status refl (run_stands ys limit) q x (ap (λ (w : Seen). w.status) (sym at) ∙ cause)
+    end_has_line supply limit (HasStopped (NoInstruction offset)) v at cause = (0, refl)
+    end_has_line supply limit (HasStopped (StackSegment offset)) v at cause = (0, refl)
+    end_has_line supply limit (HasStopped (OddCall offset function)) v at cause = (0, refl)
+    end_has_line supply limit StepLimit v at cause = (0, refl)
+    end_has_line supply limit InputEnded v at cause = (0, refl)
+    end_has_line supply limit (NoDrive function) v at cause = (0, refl)

@@ -8,7 +8,7 @@ use Rattle.host.specs.Host.{HostState}
 use Rattle.bdos_disk.specs.DiskFile.{IsBadAt}
 use Rattle.bdos_ports.specs.Supply.{Supply}
 use Rattle.cmd_words.specs.Words.{Run80}
-use Rattle.bdos_talk.specs.declared.running.RunEnd.{RunEnd}
+use Rattle.bdos_talk.specs.declared.running.Conversation.{Conversation}
 use Rattle.cmd_reports.specs.declared.stop.Stop.{Stop}
 use Rattle.cmd_reports.specs.declared.stop.Stop.TheVariants.{SourceLine, SourceProgram, BadDisk}
 use Rattle.cmd_inputs.specs.Files.{input_limit, NoneFailed, IsTold}
@@ -22,7 +22,7 @@ pub data Comes (c : Run80) (source : List ℕ) (given : Given) : Result ℕ Stop
   of_line : (line : ℕ) (rule : LineRule) → IsNoSource source c.top line (OfLine rule) → Comes c source given (Err (SourceLine line rule))
   of_program : (line : ℕ) (rule : AsmRule) → IsNoSource source c.top line (OfProgram rule) → Comes c source given (Err (SourceProgram line rule))
   of_disk : (program : Program) (k : ℕ) → IsSource source c.top program → IsBadAt given.disk k → Comes c source given (Err (BadDisk k))
-  ran : {r : Result ℕ Stop} (program : Program) (supply : Supply) (o : RunEnd) (line : ℕ) → IsSource source c.top program → HasDisk given supply → ComesTo (course_of c program) supply c.run.steps o → IsLineOf program o line → r ≡ steps_of c.run.steps line o → Comes c source given r
+  ran : {r : Result ℕ Stop} (program : Program) (supply : Supply) (o : Conversation) (line : ℕ) → IsSource source c.top program → HasDisk given supply → ComesTo (course_of c program) supply c.run.steps o → IsLineOf program o.end line → r ≡ steps_of c.run.steps line o → Comes c source given r
 
 -- where every file is told and within its limit, the status is that of the one thing that the command comes to
 abbrev pub Completes : Run80 → HostState → HostState → ℕ → Type 0

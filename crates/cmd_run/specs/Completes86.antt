@@ -7,7 +7,7 @@ use Rattle.host.specs.Host.{HostState}
 use Rattle.bdos_disk.specs.DiskFile.{IsBadAt}
 use Rattle.bdos_ports.specs.Supply.{Supply}
 use Rattle.cmd_words.specs.Words.{Run86}
-use Rattle.bdos_talk.specs.declared.running.RunEnd.{RunEnd}
+use Rattle.bdos_talk.specs.declared.running.Conversation.{Conversation}
 use Rattle.asm86_image.specs.declared.fault.ImageFault.{ImageFault}
 use Rattle.cmd_reports.specs.declared.stop.Stop.{Stop}
 use Rattle.cmd_reports.specs.declared.stop.Stop.TheVariants.{BadDisk}
@@ -22,7 +22,7 @@ use Rattle.cmd_run.specs.Runs86.{course_of}
 pub data Comes (c : Run86) (text : List ℕ) (given : Given) : Result ℕ Stop → Type 0 where
   refused : {r : Result ℕ Stop} (fault : ImageFault) → IsNoImage text fault → r ≡ Err (stop_of_image fault) → Comes c text given r
   of_disk : (image : Image) (k : ℕ) → HasImage text image → IsBadAt given.disk k → Comes c text given (Err (BadDisk k))
-  ran : {r : Result ℕ Stop} (image : Image) (fetch : ℕ → Option Instr86) (supply : Supply) (o : RunEnd) → HasImage text image → Reads image.code fetch → HasDisk given supply → ComesTo (course_of c image fetch) supply c.run.steps o → r ≡ steps_of c.run.steps 0 o → Comes c text given r
+  ran : {r : Result ℕ Stop} (image : Image) (fetch : ℕ → Option Instr86) (supply : Supply) (o : Conversation) → HasImage text image → Reads image.code fetch → HasDisk given supply → ComesTo (course_of c image fetch) supply c.run.steps o → r ≡ steps_of c.run.steps 0 o → Comes c text given r
 
 -- where every file is told and within its limit, the status is that of the one thing that the command comes to
 abbrev pub Completes : Run86 → HostState → HostState → ℕ → Type 0

@@ -6,6 +6,7 @@ use Rattle.bdos_talk.specs.declared.emulator.Why.{Why}
 use Rattle.bdos_talk.specs.declared.emulator.Why.TheVariants.{Left, NoInstruction as None86, StackSegment as Segment86, OddCall as Odd86}
 use Rattle.bdos_talk.specs.declared.fault.TalkFault.{TalkFault}
 use Rattle.bdos_talk.specs.declared.fault.TalkFault.TheVariants.{Unsaid as Untold, Memory as NoMemory}
+use Rattle.bdos_talk.specs.declared.running.Conversation.{Conversation}
 use Rattle.bdos_talk.specs.declared.running.RunEnd.{RunEnd}
 use Rattle.bdos_talk.specs.declared.running.RunEnd.TheVariants.{Ended, Stopped, StepLimit as Limit, InputEnded as NoInput, NoDrive as Drive}
 use Rattle.cmd_reports.specs.declared.stop.Stop.{Stop}
@@ -21,12 +22,15 @@ stop_of_why line (Segment86 offset) = StackSegment offset
 stop_of_why line (Odd86 offset function) = OddCall offset function
 
 -- how many instructions ran, where the last of them ended the program
-abbrev pub steps_of : ℕ → ℕ → RunEnd → Result ℕ Stop
-steps_of limit line (Ended steps) = Ok steps
-steps_of limit line (Stopped why) = Err (stop_of_why line why)
-steps_of limit line Limit = Err (StepLimit limit)
-steps_of limit line NoInput = Err InputEnded
-steps_of limit line (Drive function) = Err (NoDrive function)
+abbrev pub steps_by : ℕ → ℕ → ℕ → RunEnd → Result ℕ Stop
+steps_by limit line steps Ended = Ok steps
+steps_by limit line steps (Stopped why) = Err (stop_of_why line why)
+steps_by limit line steps Limit = Err (StepLimit limit)
+steps_by limit line steps NoInput = Err InputEnded
+steps_by limit line steps (Drive function) = Err (NoDrive function)
+
+abbrev pub steps_of : ℕ → ℕ → Conversation → Result ℕ Stop
+steps_of limit line c = steps_by limit line c.steps c.end
 
 -- after a line of the run that was not said nothing more is said
 abbrev pub halt_of_talk : TalkFault → Halt

@@ -20,7 +20,7 @@ is_kept_by (StackSegment offset) = false
 is_kept_by (OddCall offset function) = false
 
 abbrev pub is_kept : RunEnd → Bool
-is_kept (Ended steps) = true
+is_kept Ended = true
 is_kept (Stopped why) = is_kept_by why
 is_kept StepLimit = true
 is_kept InputEnded = true

@@ -2,13 +2,13 @@
 use Rattle.std.specs.Prelude.{◌≡◌, ℕ, ◌⊎◌, List, Result, Ok, Err}
 use Rattle.dialogue.specs.declared.request.Reply.{Reply}
 use Rattle.bdos_ports.specs.Supply.{Supply}
-use Rattle.bdos_talk.specs.declared.running.RunEnd.{RunEnd}
+use Rattle.bdos_talk.specs.declared.running.Conversation.{Conversation}
 use Rattle.bdos_talk.specs.Talk.{Seen, IsOutcome}
 use Rattle.cmd_reports.specs.declared.stop.Stop.{Stop}
 use Rattle.cmd_reports.specs.Lines.{status_of}
 
 -- a run over devices comes to this
-abbrev pub ComesTo : (List Reply → ℕ → Seen) → Supply → ℕ → RunEnd → Type 0
+abbrev pub ComesTo : (List Reply → ℕ → Seen) → Supply → ℕ → Conversation → Type 0
 ComesTo course supply limit o = (run : Seen) × IsOutcome course supply limit o run
 
 -- the status of a run that ended after so many instructions, or of a stop

@@ -1,5 +1,5 @@
 -- What `run80` comes to: the run of a source's program on the tagged 8080.
-use Rattle.std.specs.Prelude.{◌≡◌, ℕ, List, Some, Result}
+use Rattle.std.specs.Prelude.{◌≡◌, ℕ, List, [], Some, Result}
 use Rattle.cells.specs.declared.Place.{Place}
 use Rattle.cells.specs.declared.Place.TheVariants.{At, Exit}
 use Rattle.dialogue.specs.declared.request.Reply.{Reply}
@@ -7,11 +7,12 @@ use Rattle.host.specs.declared.HostFault.{HostFault}
 use Rattle.host.specs.Host.{HostState, SameFaults, OnlyReads, OnlySays}
 use Rattle.asm80_program.specs.Program.{Program, line_at}
 use Rattle.asm80_source.specs.Source.{IsSource}
-use Rattle.cmd_words.specs.Words.{Run80}
+use Rattle.cmd_words.specs.Words.{RunOptions, Run80}
 use Rattle.bdos_ports.specs.Supply.{Supply}
 use Rattle.bdos_talk.specs.declared.emulator.Why.TheVariants.{Left, NoInstruction, StackSegment, OddCall}
 use Rattle.bdos_talk.specs.declared.fault.TalkFault.{TalkFault}
 use Rattle.bdos_talk.specs.declared.fault.TalkFault.TheVariants.{Unsaid as Untold, Memory as NoMemory}
+use Rattle.bdos_talk.specs.declared.running.Conversation.{Conversation}
 use Rattle.bdos_talk.specs.declared.running.RunEnd.{RunEnd}
 use Rattle.bdos_talk.specs.declared.running.RunEnd.TheVariants.{Ended, Stopped, StepLimit, InputEnded, NoDrive}
 use Rattle.bdos_talk.specs.Talk.{Seen, SaysRun, IsCutOff}
@@ -35,7 +36,7 @@ IsLineAt p Exit line = ⊥
 
 -- the line of the instruction at which a run left the profile, where the machine still stands; any other end has none
 abbrev pub IsLineOf : Program → RunEnd → ℕ → Type 0
-IsLineOf p (Ended steps) line = line ≡ 0
+IsLineOf p Ended line = line ≡ 0
 IsLineOf p (Stopped (Left place rule)) line = IsLineAt p place line
 IsLineOf p (Stopped (NoInstruction offset)) line = line ≡ 0
 IsLineOf p (Stopped (StackSegment offset)) line = line ≡ 0
@@ -44,19 +45,30 @@ IsLineOf p StepLimit line = line ≡ 0
 IsLineOf p InputEnded line = line ≡ 0
 IsLineOf p (NoDrive function) line = line ≡ 0
 
+-- the words of a source's name, a top and the options
+abbrev pub words_of : List ℕ → ℕ → RunOptions → Run80
+words_of source top run = record { source = source; top = top; run = run }
+
 -- how the run goes, by the replies that it is given and the number of turns
 abbrev pub course_of : Run80 → Program → List Reply → ℕ → Seen
 course_of c program = course80 program c.run.page
 
 -- the run comes to this end and says its dialogue, or is cut off by a fault
-abbrev pub RunsTo : Run80 → Program → Supply → RunEnd → HostState → HostState → Type 0
-RunsTo c program supply o old new = (left : Supply) × SaysRun (course_of c program) supply c.run.steps o left old new
+abbrev pub RunsTo : Run80 → Program → Supply → Conversation → HostState → HostState → Type 0
+RunsTo c program supply o old new = (left : Supply) × SaysRun (course_of c program) supply c.run.steps [] o left old new
 
 abbrev pub IsCut : Run80 → Program → Supply → HostState → HostState → TalkFault → Type 0
-IsCut c program supply old new = IsCutOff (course_of c program) supply c.run.steps old new
+IsCut c program supply old new = IsCutOff (course_of c program) supply c.run.steps [] old new
 
 module _ (c : Run80) (old : HostState) where
-  -- the source's file is the source of a program, and this is what the devices have
+  -- the source's file is the source of a program, and these are the bytes of the devices' files
+  pub record Names (program : Program) (given : Given) : Type 0 where
+    pub source : List ℕ
+    pub file : IsWhole old c.source input_limit source
+    pub assembled : IsSource source c.top program
+    pub supplied : IsSupplied c.run old given
+
+  -- the same, and this is what the devices have
   pub record Loads (program : Program) (supply : Supply) : Type 0 where
     pub source : List ℕ
     pub file : IsWhole old c.source input_limit source
@@ -75,7 +87,7 @@ module _ (c : Run80) (old : HostState) where
 
   module _ (new : HostState) where
     -- the files were read, and then the run came to this end and said its dialogue
-    pub record HasRun (program : Program) (o : RunEnd) : Type 0 where
+    pub record HasRun (program : Program) (o : Conversation) : Type 0 where
       pub supply : Supply
       pub loads : Loads program supply
       pub start : HostState
@@ -98,27 +110,27 @@ module _ (c : Run80) (old : HostState) where
   -- the run came to this, and then the disk was written, if its file is
   pub record HasCome (new : HostState) (came : Result ℕ Stop) : Type 0 where
     pub program : Program
-    pub end : RunEnd
+    pub end : Conversation
     pub line : ℕ
     pub mid : HostState
     pub run : HasRun mid program end
-    pub at : IsLineOf program end line
+    pub at : IsLineOf program end.end line
     pub is : came ≡ steps_of c.run.steps line end
-    pub keeps : Keeps (kept_name c.run.out_disk end) run.runs.0.system.disk mid new
+    pub keeps : Keeps (kept_name c.run.out_disk end.end) run.runs.0.system.disk mid new
 
   -- the run came to an end, and its disk was not written
   pub record LosesDisk (new : HostState) (stop : Stop) : Type 0 where
     pub program : Program
-    pub end : RunEnd
+    pub end : Conversation
     pub mid : HostState
     pub run : HasRun mid program end
-    pub stops : KeepStops (kept_name c.run.out_disk end) run.runs.0.system.disk mid new stop
+    pub stops : KeepStops (kept_name c.run.out_disk end.end) run.runs.0.system.disk mid new stop
 
   -- why the command stops before the line of its run
   pub data Stops (new : HostState) : Stop → Type 0 where
     unloaded : {stop : Stop} → OnlyReads old new → LoadStops new stop → Stops new stop
     no_memory : HasCut new NoMemory → Stops new OutOfMemory
-    no_line : (program : Program) (o : RunEnd) → HasRun new program o → Stops new OutOfMemory
+    no_line : (program : Program) (o : Conversation) → HasRun new program o → Stops new OutOfMemory
     unkept : {stop : Stop} → LosesDisk new stop → Stops new stop
 
   abbrev pub IsHalted : HostState → Halt → Type 0

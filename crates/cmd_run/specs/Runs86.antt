@@ -12,8 +12,7 @@ use Rattle.cmd_words.specs.Words.{Run86}
 use Rattle.bdos_ports.specs.Supply.{Supply}
 use Rattle.bdos_talk.specs.declared.fault.TalkFault.{TalkFault}
 use Rattle.bdos_talk.specs.declared.fault.TalkFault.TheVariants.{Unsaid as Untold, Memory as NoMemory}
-use Rattle.bdos_talk.specs.declared.running.RunEnd.{RunEnd}
-use Rattle.bdos_talk.specs.declared.running.RunEnd.TheVariants.{Ended}
+use Rattle.bdos_talk.specs.declared.running.Conversation.{Conversation}
 use Rattle.bdos_talk.specs.Talk.{Seen, SaysRun, IsCutOff}
 use Rattle.bdos_emulation.specs.Courses.{course86}
 use Rattle.bdos_emulation.specs.Starts.{start_by}
@@ -38,13 +37,13 @@ abbrev pub course_of : Run86 → Image → (ℕ → Option Instr86) → List Rep
 course_of c image fetch = course86 fetch image c.run.page (fill_by c.choice) (start_by c.choice) (c.choice ∷ [])
 
 -- the run comes to this end and says its dialogue, or is cut off by a fault, whatever reads the code
-abbrev pub RunsTo : Run86 → Image → Supply → RunEnd → HostState → HostState → Type 0
+abbrev pub RunsTo : Run86 → Image → Supply → Conversation → HostState → HostState → Type 0
 RunsTo c image supply o old new =
-    (left : Supply) × ((fetch : ℕ → Option Instr86) → Reads image.code fetch → SaysRun (course_of c image fetch) supply c.run.steps o left old new)
+    (left : Supply) × ((fetch : ℕ → Option Instr86) → Reads image.code fetch → SaysRun (course_of c image fetch) supply c.run.steps [] o left old new)
 
 abbrev pub IsCut : Run86 → Image → Supply → HostState → HostState → TalkFault → Type 0
 IsCut c image supply old new fault =
-    (fetch : ℕ → Option Instr86) → Reads image.code fetch → IsCutOff (course_of c image fetch) supply c.run.steps old new fault
+    (fetch : ℕ → Option Instr86) → Reads image.code fetch → IsCutOff (course_of c image fetch) supply c.run.steps [] old new fault
 
 module _ (c : Run86) (old : HostState) where
   -- the text's file has an image, whose code has one reader, and this is what the devices have
@@ -68,7 +67,7 @@ module _ (c : Run86) (old : HostState) where
 
   module _ (new : HostState) where
     -- the files were read, and then the run came to this end and said its dialogue
-    pub record HasRun (o : RunEnd) : Type 0 where
+    pub record HasRun (o : Conversation) : Type 0 where
       pub image : Image
       pub supply : Supply
       pub loads : Loads image supply
@@ -91,24 +90,24 @@ module _ (c : Run86) (old : HostState) where
 
   -- the run came to this, and then the disk was written, if its file is
   pub record HasCome (new : HostState) (came : Result ℕ Stop) : Type 0 where
-    pub end : RunEnd
+    pub end : Conversation
     pub mid : HostState
     pub run : HasRun mid end
     pub is : came ≡ steps_of c.run.steps 0 end
-    pub keeps : Keeps (kept_name c.run.out_disk end) run.runs.0.system.disk mid new
+    pub keeps : Keeps (kept_name c.run.out_disk end.end) run.runs.0.system.disk mid new
 
   -- the run came to an end, and its disk was not written
   pub record LosesDisk (new : HostState) (stop : Stop) : Type 0 where
-    pub end : RunEnd
+    pub end : Conversation
     pub mid : HostState
     pub run : HasRun mid end
-    pub stops : KeepStops (kept_name c.run.out_disk end) run.runs.0.system.disk mid new stop
+    pub stops : KeepStops (kept_name c.run.out_disk end.end) run.runs.0.system.disk mid new stop
 
   -- why the command stops before the line of its run
   pub data Stops (new : HostState) : Stop → Type 0 where
     unloaded : {stop : Stop} → OnlyReads old new → LoadStops new stop → Stops new stop
     no_memory : HasCut new NoMemory → Stops new OutOfMemory
-    no_line : (o : RunEnd) → HasRun new o → Stops new OutOfMemory
+    no_line : (o : Conversation) → HasRun new o → Stops new OutOfMemory
     unkept : {stop : Stop} → LosesDisk new stop → Stops new stop
 
   abbrev pub IsHalted : HostState → Halt → Type 0

@@ -2,16 +2,16 @@
 ghost use Rattle.std.specs.Prelude.{◌≡◌};
 ghost use Rattle.cmd_run.specs.Ends.{steps_of, stop_of_why};
 
-use bdos_talk::{RunEnd, Why};
+use bdos_talk::{Conversation, RunEnd, Why};
 use cmd_reports::Stop;
 
 /// How many instructions ran, where the last of them ended the program; else why not. The limit is that of the run, and the
 /// line that of the instruction at which an 8080 left the profile.
-pub fn steps_of<'a>(end: RunEnd, limit: u32, line: u32) -> Result<u32, Stop<'a>>
-    ensures { result ≡ steps_of limit line end }
+pub fn steps_of<'a>(ran: Conversation, limit: u32, line: u32) -> Result<u64, Stop<'a>>
+    ensures { result ≡ steps_of limit line ran }
 {
-    match end {
-        RunEnd::Ended(steps) => Ok(steps),
+    match ran.end {
+        RunEnd::Ended => Ok(ran.steps),
         RunEnd::Stopped(why) => Err(stop_of_why(why, line)),
         RunEnd::StepLimit => Err(Stop::StepLimit(limit)),
         RunEnd::InputEnded => Err(Stop::InputEnded),

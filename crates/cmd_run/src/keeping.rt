@@ -15,7 +15,7 @@ fn is_kept(end: RunEnd) -> bool
     ensures { result ≡ is_kept end }
 {
     match end {
-        RunEnd::Ended(_) | RunEnd::StepLimit | RunEnd::InputEnded => true,
+        RunEnd::Ended | RunEnd::StepLimit | RunEnd::InputEnded => true,
         RunEnd::Stopped(why) => matches!(why, Why::Left(_, _)),
         RunEnd::NoDrive(_) => false,
     }

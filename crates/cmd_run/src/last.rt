@@ -9,12 +9,12 @@ use std::alloc::{AllocError, Global};
 /// What is said last of a run: that it ended, after so many instructions, or why it stopped; with the line.
 #[derive(Drop)]
 pub enum Last<'a> {
-    Ended(u32, String),
+    Ended(u64, String),
     Stopped(Stop<'a>, String),
 }
 
 /// What is said last of a run that came to this. Here its memory is taken.
-pub fn last_of<'a>(alloc: Global, came: Result<u32, Stop<'a>>) -> Result<Last<'a>, AllocError>
+pub fn last_of<'a>(alloc: Global, came: Result<u64, Stop<'a>>) -> Result<Last<'a>, AllocError>
     ensures made { IfOk result IsMade }
     ensures came { IfOk result (λ last. came_of last ≡ came.entry) }
 {

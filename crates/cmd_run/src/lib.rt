@@ -9,5 +9,9 @@ mod run_source;
 mod run_text;
 mod supplies;
 
-pub use run_source::run80;
-pub use run_text::run86;
+pub use ends::steps_of;
+pub use halt::{Halt, unsaid_status};
+pub use keeping::{keep_disk, kept_name};
+pub use run_source::{Named, line_of, read_program, run80};
+pub use run_text::{fill_of, run86};
+pub use supplies::{Supplies, devices_of};

@@ -2,19 +2,20 @@
 ghost use Rattle.std.specs.Prelude.{◌≡◌, ℕ, true, IfOk, IfErr, OnOk};
 ghost use Rattle.host.specs.Host.{SameFaults, OnlyReads};
 ghost use Rattle.asm80_program.specs.Program.{is_top};
-ghost use Rattle.cmd_words.specs.ReadCommands.{run80_read};
+ghost use Rattle.cmd_words.specs.ReadCommands.{run_options_read, run80_read};
 ghost use Rattle.bdos_talk.specs.declared.running.RunEnd.TheVariants.{Stopped};
 ghost use Rattle.cmd_run.specs.Ends.{Halts};
 ghost use Rattle.cmd_run.specs.Keeping.{DiskAlone};
 ghost use Rattle.cmd_run.specs.Lasts.{IsMade, came_of};
 ghost use Rattle.cmd_run.specs.Completes80.{Completes};
-ghost use Rattle.cmd_run.specs.Runs80.{IsLineAt, IsLineOf, Loads, LoadStops, HasCome, IsHalted, Gives};
+ghost use Rattle.cmd_run.specs.Supplies.{given_of};
+ghost use Rattle.cmd_run.specs.Runs80.{words_of, IsLineAt, IsLineOf, Names, Loads, LoadStops, HasCome, IsHalted, Gives};
 
 use crate::ends::steps_of;
 use crate::halt::{Halt, unsaid_status};
 use crate::keeping::{keep_disk, kept_name};
 use crate::last::{Last, last_of, say_ending};
-use crate::supplies::{devices_of, read_supplies};
+use crate::supplies::{Supplies, devices_of, read_supplies};
 use asm80_program::Program80;
 use asm80_values::source_has_one_outcome;
 use bdos_disk::disks_read_back;
@@ -23,9 +24,16 @@ use bdos_ports::Devices;
 use cells::Place;
 use cmd_inputs::read_source;
 use cmd_reports::say_stop;
-use cmd_words::Run80;
+use cmd_words::{Run80, RunOptions};
 use host::Host;
 use std::alloc::Global;
+
+/// What the words of a source's run name: its program, and the bytes that the devices have.
+#[derive(Drop)]
+pub struct Named {
+    pub program: Program80,
+    pub supplies: Supplies,
+}
 
 // What there is before the run: the program, and the devices.
 #[derive(Drop)]
@@ -70,21 +78,22 @@ fn work<'a, H: Host>(alloc: Global, host: &mut H, command: &Run80<'a>) -> Result
     let loaded = load(alloc, host, command)?;
     let Loaded { program, devices } = loaded;
     let mut devices = devices;
-    let steps = command.run.steps;
-    let end = run_80(
+    let limit = u64::from(command.run.steps);
+    let ran = run_80(
         alloc,
         &program,
         &command.run.page,
         &mut devices,
-        steps,
+        limit,
         host,
+        b"",
     )?;
-    let line = line_of(&program, end);
-    let last = last_of(alloc, steps_of(end, steps, line))?;
+    let line = line_of(&program, ran.end);
+    let last = last_of(alloc, steps_of(ran, command.run.steps, line))?;
     keep_disk(
         alloc,
         host,
-        kept_name(command.run.out_disk, end),
+        kept_name(command.run.out_disk, ran.end),
         devices.disk(),
     )?;
     Ok(last)
@@ -99,20 +108,40 @@ fn load<'a, H: Host>(alloc: Global, host: &mut H, command: &Run80<'a>) -> Result
     ensures counted { OnOk result (SameFaults (H.state host.old) (H.state host.new)) }
     ensures stopped { IfErr result (Halts (LoadStops (run80_read command.now) (H.state host.old) (H.state host.new))) }
 {
-    let source = read_source(alloc, host, command.source, command.top)?;
-    let supplies = read_supplies(alloc, host, &command.run)?;
-    let program = source?;
+    let named = read_program(alloc, host, command.source, command.top, &command.run)?;
+    let Named { program, supplies } = named;
     let devices = devices_of(alloc, supplies)?;
     Ok(Loaded { program, devices })
 }
 
-// The line of the instruction at which a run left the profile.
-fn line_of(program: &Program80, end: RunEnd) -> u32
+/// Reads the files, that of the source as its program, for a top of the program area, a multiple of 100H from 1000H to 0FF00H. That the
+/// source is refused is told once all of them are read.
+pub fn read_program<'a, H: Host>(
+    alloc: Global,
+    host: &mut H,
+    name: &'a str,
+    top: u16,
+    run: &RunOptions<'a>,
+) -> Result<Named, Halt<'a>>
+    requires { is_top top ≡ true }
+    ensures only { OnlyReads (H.state host.old) (H.state host.new) }
+    ensures named { IfOk result (λ n. Names (words_of name.now top (run_options_read run.now)) (H.state host.old) n.program (given_of n.supplies.input.items n.supplies.disk.items n.supplies.ports.items)) }
+    ensures counted { OnOk result (SameFaults (H.state host.old) (H.state host.new)) }
+    ensures stopped { IfErr result (Halts (LoadStops (words_of name.now top (run_options_read run.now)) (H.state host.old) (H.state host.new))) }
+{
+    let source = read_source(alloc, host, name, top)?;
+    let supplies = read_supplies(alloc, host, run)?;
+    let program = source?;
+    Ok(Named { program, supplies })
+}
+
+/// The line of the instruction at which a run left the profile; 0 where it did not.
+pub fn line_of(program: &Program80, end: RunEnd) -> u32
     ensures { (line : ℕ) → IsLineOf program.now end line → result ≡ line }
 {
     match end {
         RunEnd::Stopped(why) => line_of_why(program, why),
-        RunEnd::Ended(_) | RunEnd::StepLimit | RunEnd::InputEnded | RunEnd::NoDrive(_) => 0,
+        RunEnd::Ended | RunEnd::StepLimit | RunEnd::InputEnded | RunEnd::NoDrive(_) => 0,
     }
 }
 

@@ -1,5 +1,5 @@
 // The work of `run86`: a text's image runs over devices, by a choice.
-ghost use Rattle.std.specs.Prelude.{◌≡◌, ℕ, Option, IfOk, IfErr, OnOk, length};
+ghost use Rattle.std.specs.Prelude.{◌≡◌, ℕ, [], Option, IfOk, IfErr, OnOk, length};
 ghost use Rattle.host.specs.Host.{SameFaults, OnlyReads, OnlySays};
 ghost use Rattle.cmd_words.specs.ReadCommands.{run86_read};
 ghost use Rattle.cmd_run.specs.Ends.{Halts};
@@ -19,7 +19,7 @@ use crate::supplies::{devices_of, read_supplies};
 use asm86_image::{Image86, image, images_exclude_refusals};
 use asm86_text::text_has_one_reading;
 use bdos_disk::disks_read_back;
-use bdos_emulation::{RunEnd, TalkFault, run_86};
+use bdos_emulation::{Conversation, TalkFault, run_86};
 use bdos_ports::Devices;
 use cmd_inputs::read_text;
 use cmd_reports::say_stop;
@@ -74,12 +74,12 @@ fn work<'a, H: Host>(alloc: Global, host: &mut H, command: &Run86<'a>) -> Result
         devices,
     } = loaded;
     let mut devices = devices;
-    let end = run(alloc, host, command, &image, fill.as_slice(), &mut devices)?;
-    let last = last_of(alloc, steps_of(end, command.run.steps, 0))?;
+    let ran = run(alloc, host, command, &image, fill.as_slice(), &mut devices)?;
+    let last = last_of(alloc, steps_of(ran, command.run.steps, 0))?;
     keep_disk(
         alloc,
         host,
-        kept_name(command.run.out_disk, end),
+        kept_name(command.run.out_disk, ran.end),
         devices.disk(),
     )?;
     Ok(last)
@@ -110,8 +110,8 @@ fn load<'a, H: Host>(alloc: Global, host: &mut H, command: &Run86<'a>) -> Result
     })
 }
 
-// The bytes that fill the memory.
-fn fill_of(alloc: Global, choice: u128) -> Result<Vec<u8>, AllocError>
+/// The bytes that fill the memory.
+pub fn fill_of(alloc: Global, choice: u128) -> Result<Vec<u8>, AllocError>
     ensures items { IfOk result (λ fill. fill.items ≡ fill_by choice) }
     ensures len { IfOk result (λ fill. length fill.items ≡ 0x10000) }
 {
@@ -128,16 +128,16 @@ fn run<H: Host>(
     image: &Image86,
     fill: &[u8],
     devices: &mut Devices,
-) -> Result<RunEnd, TalkFault>
+) -> Result<Conversation, TalkFault>
     requires fill { fill.now ≡ fill_by command.now.choice }
     requires fill_len { length fill.now ≡ 0x10000 }
-    ensures run { IfOk result (λ o. (fetch : ℕ → Option Instr86) → Reads image.now.code fetch → SaysRun (course_of (run86_read command.now) image.now fetch) devices.old command.now.run.steps o devices.new (H.state host.old) (H.state host.new)) }
+    ensures run { IfOk result (λ o. (fetch : ℕ → Option Instr86) → Reads image.now.code fetch → SaysRun (course_of (run86_read command.now) image.now fetch) devices.old command.now.run.steps [] o devices.new (H.state host.old) (H.state host.new)) }
     ensures cut { IfErr result (IsCut (run86_read command.now) image.now devices.old (H.state host.old) (H.state host.new)) }
     ensures only { OnlySays (H.state host.old) (H.state host.new) }
     ensures counted { OnOk result (SameFaults (H.state host.old) (H.state host.new)) }
 {
     let page = &command.run.page;
-    let steps = command.run.steps;
+    let steps = u64::from(command.run.steps);
     run_86(
         alloc,
         image,
@@ -147,5 +147,6 @@ fn run<H: Host>(
         devices,
         steps,
         host,
+        b"",
     )
 }

@@ -6,7 +6,7 @@ ghost use Rattle.asm86_lines.specs.Order.{at_start, in_order};
 use asm80_program::{Placed, Program80};
 use asm86_image::image;
 use asm86_lines::{Jump, Label, Line86, Stmt86};
-use bdos_emulation::{RunEnd, TalkFault, Why, run_80, run_86};
+use bdos_emulation::{Conversation, RunEnd, TalkFault, Why, run_80, run_86};
 use bdos_ports::Devices;
 use bdos_small::Disk;
 use cells::{Cond, Place, Rule};
@@ -104,28 +104,37 @@ fn keeps_all_but_a(alloc: Global) -> Result<Program80, AllocError> {
     Program80::new(alloc, instrs.to_vec(alloc)?, Vec::new(alloc), 0xF000)
 }
 
-/// Whether an 8080 program over a console comes to this and says this, where the call of the host with this number fails.
-fn comes_to(
-    alloc: Global,
-    program: &Program80,
-    (input, ports): (&str, &[u8]),
-    limit: u32,
-    fails: u64,
-    end: Result<RunEnd, TalkFault>,
-    said: &str,
-) -> Result<bool, Fail> {
+/// A program, its input and the bytes of its ports, the most instructions, the call of the host that fails, what the run comes to, and
+/// what it says.
+type Row<'a> = (
+    &'a Program80,
+    (&'a str, &'a [u8]),
+    u64,
+    u64,
+    Result<Conversation, TalkFault>,
+    &'a str,
+);
+
+/// What a run comes to that has this end after so many instructions.
+fn ran(end: RunEnd, steps: u64) -> Result<Conversation, TalkFault> {
+    Ok(Conversation { end, steps })
+}
+
+/// Whether an 8080 program over a console comes to this and says this.
+fn is_so(alloc: Global, row: &Row<'_>) -> Result<bool, Fail> {
+    let (program, (input, ports), limit, fails, comes, said) = *row;
     let page = Page::of_tail(b"").ok_or("a page")?;
     let mut host = MemHost::new(alloc);
     host.fail_at(fails)?;
     let input = Vec::from_slice(alloc, input.as_bytes())?;
     let ports = Vec::from_slice(alloc, ports)?;
     let mut devices = Devices::new(Disk::empty(alloc), input, ports);
-    let came = run_80(alloc, program, &page, &mut devices, limit, &mut host);
-    Ok(came == end && host.said() == said.as_bytes())
+    let came = run_80(alloc, program, &page, &mut devices, limit, &mut host, b"");
+    Ok(came == comes && host.said() == said.as_bytes())
 }
 
 #[test]
-fn programs_say_their_events(rt: HostRuntime) -> Result<(), Fail> {
+fn programs_say_their_calls(rt: HostRuntime) -> Result<(), Fail> {
     let alloc = rt.alloc();
     let letter = one_letter(alloc)?;
     let byte = one_byte(alloc)?;
@@ -135,16 +144,18 @@ fn programs_say_their_events(rt: HostRuntime) -> Result<(), Fail> {
     let left = RunEnd::Stopped(Why::Left(Place::At(0x103), Rule::P1));
     let unsaid = Err(TalkFault::Unsaid(HostFault::Failed));
     let none: &[u8] = &[];
-    let one: &[u8] = &[0xAB];
-    let two: &[u8] = &[1, 2];
-    let adjusted: &[u8] = &[0x99];
     let nothing = ("", none);
     let opened = "0f 005c 00202020202020202020202000\nend\n";
-    let echo = echoes(alloc)?;
-    let keeps = keeps_all_but_a(alloc)?;
-    for (row, (program, given, limit, fails, end, said)) in [
-        (&letter, nothing, 3, 0, Ok(RunEnd::StepLimit), "02 41\n"),
-        (&letter, nothing, 4, 0, Ok(RunEnd::Ended(4)), "02 41\nend\n"),
+    let rows: [Row<'_>; 10] = [
+        (&letter, nothing, 3, 0, ran(RunEnd::StepLimit, 3), "02 41\n"),
+        (
+            &letter,
+            nothing,
+            4,
+            0,
+            ran(RunEnd::Ended, 4),
+            "02 41\nend\n",
+        ),
         (&letter, nothing, 10, 1, unsaid, ""),
         (&letter, nothing, 10, 2, unsaid, "02 41\n"),
         (
@@ -152,45 +163,56 @@ fn programs_say_their_events(rt: HostRuntime) -> Result<(), Fail> {
             nothing,
             10,
             3,
-            Ok(RunEnd::Ended(4)),
+            ran(RunEnd::Ended, 4),
             "02 41\nend\n",
         ),
-        (&byte, nothing, 10, 0, Ok(RunEnd::InputEnded), "01\n"),
-        (&byte, ("A", none), 10, 0, Ok(RunEnd::Ended(3)), "01\nend\n"),
-        (&number, nothing, 10, 0, Ok(left), ""),
-        (&file, nothing, 10, 0, Ok(RunEnd::Ended(4)), opened),
-        (&drive, nothing, 10, 0, Ok(RunEnd::NoDrive(14)), "0e 01\n"),
-        (&echo, nothing, 10, 0, Ok(RunEnd::InputEnded), "in 07\n"),
+        (&byte, nothing, 10, 0, ran(RunEnd::InputEnded, 2), "01\n"),
         (
-            &echo,
-            ("A", one),
+            &byte,
+            ("A", none),
             10,
             0,
-            Ok(RunEnd::InputEnded),
-            "in 07\nout 08 ab\nin 09\n",
+            ran(RunEnd::Ended, 3),
+            "01\nend\n",
         ),
+        (&number, nothing, 10, 0, ran(left, 1), ""),
+        (&file, nothing, 10, 0, ran(RunEnd::Ended, 4), opened),
         (
-            &echo,
-            ("", two),
+            &drive,
+            nothing,
             10,
             0,
-            Ok(RunEnd::Ended(4)),
-            "in 07\nout 08 01\nin 09\nend\n",
+            ran(RunEnd::NoDrive(14), 3),
+            "0e 01\n",
         ),
-        (
-            &keeps,
-            ("", adjusted),
-            20,
-            0,
-            Ok(RunEnd::Ended(11)),
-            "in 07\nout 08 99\nout 08 34\nend\n",
-        ),
-    ]
-    .into_iter()
-    .enumerate()
-    {
-        let is_so = comes_to(alloc, program, given, limit, fails, end, said)?;
-        assert!(rt; is_so, "row {row}");
+    ];
+    for (number, row) in rows.iter().enumerate() {
+        assert!(rt; is_so(alloc, row)?, "row {number}");
+    }
+    Ok(())
+}
+
+#[test]
+fn programs_say_what_their_ports_give_and_take(rt: HostRuntime) -> Result<(), Fail> {
+    let alloc = rt.alloc();
+    let echo = echoes(alloc)?;
+    let keeps = keeps_all_but_a(alloc)?;
+    let none: &[u8] = &[];
+    let one: &[u8] = &[0xAB];
+    let two: &[u8] = &[1, 2];
+    let adjusted: &[u8] = &[0x99];
+    let ended = RunEnd::InputEnded;
+    let first = "in 07\nout 08 ab\nin 09\n";
+    let both = "in 07\nout 08 01\nin 09\nend\n";
+    let kept = "in 07\nout 08 99\nout 08 34\nend\n";
+    let rows: [Row<'_>; 4] = [
+        (&echo, ("", none), 10, 0, ran(ended, 1), "in 07\n"),
+        (&echo, ("A", one), 10, 0, ran(ended, 3), first),
+        (&echo, ("", two), 10, 0, ran(RunEnd::Ended, 4), both),
+        (&keeps, ("", adjusted), 20, 0, ran(RunEnd::Ended, 11), kept),
+    ];
+    for (number, row) in rows.iter().enumerate() {
+        assert!(rt; is_so(alloc, row)?, "row {number}");
     }
     Ok(())
 }
@@ -270,8 +292,8 @@ fn text_comes_to(
     text: &[Line86],
     ports: &[u8],
     choice: u128,
-    limit: u32,
-    end: RunEnd,
+    limit: u64,
+    comes: Result<Conversation, TalkFault>,
     said: &str,
 ) -> Result<bool, Fail>
     requires order { in_order at_start (statements text.now) ≡ true }
@@ -293,15 +315,16 @@ fn text_comes_to(
         &mut devices,
         limit,
         &mut host,
+        b"",
     );
-    Ok(came == Ok(end) && host.said() == said.as_bytes())
+    Ok(came == comes && host.said() == said.as_bytes())
 }
 
 #[test]
 fn texts_say_their_events(rt: HostRuntime) -> Result<(), Fail> {
     let alloc = rt.alloc();
-    let no_instruction = RunEnd::Stopped(Why::NoInstruction(1));
-    let stack_segment = RunEnd::Stopped(Why::StackSegment(0));
+    let no_instruction = ran(RunEnd::Stopped(Why::NoInstruction(1)), 1);
+    let stack_segment = ran(RunEnd::Stopped(Why::StackSegment(0)), 0);
     assert!(rt;
         text_comes_to(
             alloc,
@@ -310,12 +333,12 @@ fn texts_say_their_events(rt: HostRuntime) -> Result<(), Fail> {
             &[],
             0,
             19,
-            RunEnd::StepLimit,
+            ran(RunEnd::StepLimit, 19),
             "02 41\n"
         )?
     );
     for choice in [0, u128::MAX] {
-        let end = RunEnd::Ended(20);
+        let end = ran(RunEnd::Ended, 20);
         assert!(rt;
             text_comes_to(
                 alloc,
@@ -331,7 +354,7 @@ fn texts_say_their_events(rt: HostRuntime) -> Result<(), Fail> {
     }
     assert!(rt; text_comes_to(alloc, &rt, &FALLS_OFF, &[], 0, 10, no_instruction, "")?);
     assert!(rt; text_comes_to(alloc, &rt, &PUSHES, &[], 0, 10, stack_segment, "")?);
-    let off = RunEnd::Stopped(Why::NoInstruction(21));
+    let off = ran(RunEnd::Stopped(Why::NoInstruction(21)), 10);
     let said = "in 07\nout 08 00\nout 08 34\n";
     for choice in [1, u128::MAX] {
         assert!(rt; text_comes_to(alloc, &rt, &PORTS, &[0], choice, 100, off, said)?);
@@ -344,7 +367,7 @@ fn texts_say_their_events(rt: HostRuntime) -> Result<(), Fail> {
             &[],
             1,
             100,
-            RunEnd::InputEnded,
+            ran(RunEnd::InputEnded, 3),
             "in 07\n"
         )?
     );

@@ -20,9 +20,9 @@ returns-in_err-machine-clause-cut g c =
     let page = c.args.page.now in
     let limit = c.args.limit in
     let host = g.H.Host.state c.args.host.now in
-    on_fault c.from_residual.result (λ h. h ≡ Memory) (IsCutOff (course80 p page) c.args.devices.now limit host host) c.from_residual.ensures.1
-    (λ h is. subst (IsCutOff (course80 p page) c.args.devices.now limit host host) (sym is)
-    (says_none (course80 p page) (one_run (machine80 p) [] why80 (start80 p page)) c.args.devices.now limit host, record { reads = refl; writes = refl }))
+    on_fault c.from_residual.result (λ h. h ≡ Memory) (IsCutOff (course80 p page) c.args.devices.now limit c.args.prefix.now host host) c.from_residual.ensures.1
+    (λ h is. subst (IsCutOff (course80 p page) c.args.devices.now limit c.args.prefix.now host host) (sym is)
+    (says_none (course80 p page) (one_run (machine80 p) [] why80 (start80 p page)) c.args.devices.now limit c.args.prefix.now host, record { reads = refl; writes = refl }))
 
 pub returns-clause-cut : goal.returns-clause-cut
 returns-clause-cut g c =
@@ -34,7 +34,7 @@ returns-clause-cut g c =
     let new = g.H.Host.state c.converse.new.host in
     let first : List Reply → ℕ → Seen = course80_from m.program.now (state_of m.cpu) nothing in
     let is : first ≡ course80 p page = ap (λ q. course80_from q (state_of m.cpu) nothing) c.in_ok-machine.ensures.program ∙ ap (λ s. course80_from p s nothing) c.in_ok-machine.ensures.start in
-    subst (λ course. IfErr c.converse.result (IsCutOff course c.args.devices.now limit old new)) is c.converse.ensures.cut
+    subst (λ course. IfErr c.converse.result (IsCutOff course c.args.devices.now limit c.args.prefix.now old new)) is c.converse.ensures.cut
 
 pub returns-clause-run : goal.returns-clause-run
 returns-clause-run g c =
@@ -47,4 +47,4 @@ returns-clause-run g c =
     let first : List Reply → ℕ → Seen = course80_from m.program.now (state_of m.cpu) nothing in
     let is : first ≡ course80 p page = ap (λ q. course80_from q (state_of m.cpu) nothing) c.in_ok-machine.ensures.program ∙ ap (λ s. course80_from p s nothing) c.in_ok-machine.ensures.start in
     let left = c.converse.new.devices in
-    IfOk-weaker c.converse.result (λ o. SaysRun first c.args.devices.now limit o left old new) (λ o. SaysRun (course80 p page) c.args.devices.now limit o left old new) (λ o h. subst (λ course. SaysRun course c.args.devices.now limit o left old new) is h) c.converse.ensures.run
+    IfOk-weaker c.converse.result (λ o. SaysRun first c.args.devices.now limit c.args.prefix.now o left old new) (λ o. SaysRun (course80 p page) c.args.devices.now limit c.args.prefix.now o left old new) (λ o h. subst (λ course. SaysRun course c.args.devices.now limit c.args.prefix.now o left old new) is h) c.converse.ensures.run

@@ -32,9 +32,9 @@ returns-clause-run g c =
     let run : (fetch : ℕ → Option Instr86) → List Reply → ℕ → Seen = λ fetch. course86 fetch image page fill (start_by choice) (choice ∷ []) in
     let given = c.args.devices.now in
     let left = c.converse.new.devices in
-    IfOk-weaker c.converse.result (λ o. SaysRun first given limit o left old new) (λ o. (fetch : ℕ → Option Instr86) → Reads image.code fetch → SaysRun (run fetch) given limit o left old new) (λ o h fetch reads.
+    IfOk-weaker c.converse.result (λ o. SaysRun first given limit c.args.prefix.now o left old new) (λ o. (fetch : ℕ → Option Instr86) → Reads image.code fetch → SaysRun (run fetch) given limit c.args.prefix.now o left old new) (λ o h fetch reads.
     let is = course86_is fetch image page fill (start_by choice) choice m.choice (code_of m.cpu) (standing m.cpu).state c.in_ok-machine.ensures.choice c.in_ok-machine.ensures.code state c.new.ensures.reader reads in
-    subst (λ course. SaysRun course given limit o left old new) is h) c.converse.ensures.run
+    subst (λ course. SaysRun course given limit c.args.prefix.now o left old new) is h) c.converse.ensures.run
 
 pub returns-clause-cut : goal.returns-clause-cut
 returns-clause-cut g c =
@@ -50,9 +50,9 @@ returns-clause-cut g c =
     let first : List Reply → ℕ → Seen = course86_from (code_of m.cpu) m.choice (standing m.cpu).state nothing in
     let run : (fetch : ℕ → Option Instr86) → List Reply → ℕ → Seen = λ fetch. course86 fetch image page fill (start_by choice) (choice ∷ []) in
     let given = c.args.devices.now in
-    IfErr-weaker c.converse.result (IsCutOff first given limit old new) (λ fault. (fetch : ℕ → Option Instr86) → Reads image.code fetch → IsCutOff (run fetch) given limit old new fault) (λ fault h fetch reads.
+    IfErr-weaker c.converse.result (IsCutOff first given limit c.args.prefix.now old new) (λ fault. (fetch : ℕ → Option Instr86) → Reads image.code fetch → IsCutOff (run fetch) given limit c.args.prefix.now old new fault) (λ fault h fetch reads.
     let is = course86_is fetch image page fill (start_by choice) choice m.choice (code_of m.cpu) (standing m.cpu).state c.in_ok-machine.ensures.choice c.in_ok-machine.ensures.code state c.new.ensures.reader reads in
-    subst (λ course. IsCutOff course given limit old new fault) is h) c.converse.ensures.cut
+    subst (λ course. IsCutOff course given limit c.args.prefix.now old new fault) is h) c.converse.ensures.cut
 
 pub returns-in_err-machine-clause-cut : goal.returns-in_err-machine-clause-cut
 returns-in_err-machine-clause-cut g c =
@@ -63,6 +63,6 @@ returns-in_err-machine-clause-cut g c =
     let limit = c.args.limit in
     let host = g.H.Host.state c.args.host.now in
     let run : (fetch : ℕ → Option Instr86) → List Reply → ℕ → Seen = λ fetch. course86 fetch image page fill (start_by choice) (choice ∷ []) in
-    on_fault c.from_residual.result (λ h. h ≡ Memory) (λ fault. (fetch : ℕ → Option Instr86) → Reads image.code fetch → IsCutOff (run fetch) c.args.devices.now limit host host fault) c.from_residual.ensures.1
-    (λ h is fetch reads. subst (IsCutOff (run fetch) c.args.devices.now limit host host) (sym is)
-    (says_none (run fetch) (one_run (machine86 fetch) (choice ∷ []) why86 (start86 image page fill (start_by choice))) c.args.devices.now limit host, record { reads = refl; writes = refl }))
+    on_fault c.from_residual.result (λ h. h ≡ Memory) (λ fault. (fetch : ℕ → Option Instr86) → Reads image.code fetch → IsCutOff (run fetch) c.args.devices.now limit c.args.prefix.now host host fault) c.from_residual.ensures.1
+    (λ h is fetch reads. subst (IsCutOff (run fetch) c.args.devices.now limit c.args.prefix.now host host) (sym is)
+    (says_none (run fetch) (one_run (machine86 fetch) (choice ∷ []) why86 (start86 image page fill (start_by choice))) c.args.devices.now limit c.args.prefix.now host, record { reads = refl; writes = refl }))

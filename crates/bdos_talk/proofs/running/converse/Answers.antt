@@ -1,4 +1,4 @@
-use Rattle.std.proofs.Common.{◌≡◌, ◌+◌, refl, sym, subst, arith}
+use Rattle.std.proofs.Common.{◌≡◌, refl, sym, subst, arith}
 use Rattle.std.proofs.lemmas.Grind.{common_steps}
 use Rattle.host.proofs.HostLemmas.{OnlySays-trans}
 use Rattle.bdos_talk.specs.declared.running.RunEnd.TheVariants.{StepLimit}
@@ -15,7 +15,7 @@ loop-count-init g c =
     let host = g.H.Host.state c.args.host.now in
     record {
       runs = c.requires;
-      advance = advance_none (g.E.Emulator.course c.args.machine.now) c.args.devices.now host;
+      advance = advance_none c.args.prefix.now (g.E.Emulator.course c.args.machine.now) c.args.devices.now host;
       only = record { files = λ name. refl; reads = refl; writes = omega arith };
       counted = record { reads = refl; writes = refl };
     }
@@ -30,10 +30,10 @@ loop-count-preserved g c =
     let old = g.H.Host.state c.args.host.now in
     let mid = g.H.Host.state c.loop-count.host in
     let new = g.H.Host.state c.turn.new.host in
-    let done : Advance 1 before after c.loop-count.devices c.turn.new.devices mid new = subst (IsTurnDone (j + 1) before after c.loop-count.devices c.turn.new.devices mid new) c.in_default.is c.in_ok-end.ensures.done in
+    let done : Advance c.args.prefix.now 1 before after c.loop-count.devices c.turn.new.devices mid new = subst (IsTurnDone c.args.prefix.now before after c.loop-count.devices c.turn.new.devices mid new) c.in_default.is c.in_ok-end.ensures.done in
     record {
       runs = c.in_ok-end.ensures.ready (cc);
-      advance = advance_then j first before after c.args.devices.now c.loop-count.devices c.turn.new.devices old mid new c.loop-count.invariant.advance done;
+      advance = advance_then c.args.prefix.now j first before after c.args.devices.now c.loop-count.devices c.turn.new.devices old mid new c.loop-count.invariant.advance done;
       only = OnlySays-trans c.loop-count.invariant.only c.turn.ensures.only;
       counted = grind (arith, common_steps, c.in_ok-end.ensures.counted);
     }
@@ -51,8 +51,9 @@ returns-in-Some-clause-run g c =
     let new = g.H.Host.state c.turn.new.host in
     let supply = c.args.devices.now in
     let left = c.loop-count.devices in
-    let done : Rest end (j + 1) before left c.turn.new.devices mid new = subst (IsTurnDone (j + 1) before after left c.turn.new.devices mid new) c.in-Some.is c.in_ok-end.ensures.done in
-    says_end first before (g.met.E.Emulator.single c.args.machine.now) supply left old mid new j c.loop-count.invariant.advance end (j + 1) c.args.limit (g.met.E.Emulator.begins c.loop-count.machine) (omega arith) (omega arith) c.turn.new.devices done
+    let done : Rest c.args.prefix.now end before left c.turn.new.devices mid new = subst (IsTurnDone c.args.prefix.now before after left c.turn.new.devices mid new) c.in-Some.is c.in_ok-end.ensures.done in
+    subst (λ n. SaysRun (first nothing) supply c.args.limit c.args.prefix.now (record { end = end; steps = n }) c.turn.new.devices old new) (sym c.steps_by-steps.ensures.steps)
+    (says_end c.args.prefix.now first before (g.met.E.Emulator.single c.args.machine.now) supply left old mid new j c.loop-count.invariant.advance end c.args.limit (g.met.E.Emulator.begins c.loop-count.machine) (omega arith) c.turn.new.devices done)
 
 -- no turn is left
 pub returns-clause-run : goal.returns-clause-run
@@ -62,7 +63,7 @@ returns-clause-run g c =
     let old = g.H.Host.state c.args.host.now in
     let mid = g.H.Host.state c.loop-count.host in
     let all : c.loop-count.count ≡ c.args.limit = omega arith in
-    subst (λ n. SaysRun (first nothing) c.args.devices.now n StepLimit c.loop-count.devices old mid) all (says_limit first before (g.met.E.Emulator.single c.args.machine.now) c.args.devices.now c.loop-count.devices old mid mid c.loop-count.count c.loop-count.invariant.advance (g.met.E.Emulator.begins c.loop-count.machine))
+    subst (λ n. SaysRun (first nothing) c.args.devices.now n c.args.prefix.now (record { end = StepLimit; steps = n }) c.loop-count.devices old mid) all (says_limit c.args.prefix.now first before (g.met.E.Emulator.single c.args.machine.now) c.args.devices.now c.loop-count.devices old mid mid c.loop-count.count c.loop-count.invariant.advance (g.met.E.Emulator.begins c.loop-count.machine))
 
 -- a fault
 pub returns-in_err-end-clause-cut : goal.returns-in_err-end-clause-cut
@@ -74,6 +75,6 @@ returns-in_err-end-clause-cut g c =
     let new = g.H.Host.state c.turn.new.host in
     let e = c.in_err-end in
     let known = c.loop-count.invariant in
-    on_fault c.from_residual.result (λ h. h ≡ e.field-0.0) (IsCutOff (first nothing) c.args.devices.now c.args.limit old new) c.from_residual.ensures.1
-    (λ h is. subst (IsCutOff (first nothing) c.args.devices.now c.args.limit old new) (sym is)
-    (cut_off first before (g.met.E.Emulator.single c.args.machine.now) c.args.devices.now c.loop-count.devices old mid new c.loop-count.count known.advance c.args.limit (omega arith) known.counted e.field-0.0 e.ensures.cut))
+    on_fault c.from_residual.result (λ h. h ≡ e.field-0.0) (IsCutOff (first nothing) c.args.devices.now c.args.limit c.args.prefix.now old new) c.from_residual.ensures.1
+    (λ h is. subst (IsCutOff (first nothing) c.args.devices.now c.args.limit c.args.prefix.now old new) (sym is)
+    (cut_off c.args.prefix.now first before (g.met.E.Emulator.single c.args.machine.now) c.args.devices.now c.loop-count.devices old mid new c.loop-count.count known.advance c.args.limit (omega arith) known.counted e.field-0.0 e.ensures.cut))

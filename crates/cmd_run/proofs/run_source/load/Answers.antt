@@ -3,78 +3,40 @@ use Rattle.cmd_words.specs.ReadCommands.{run80_read}
 use Rattle.cmd_run.specs.declared.halt.Halt.TheVariants.{By}
 use Rattle.cmd_run.specs.Ends.{Halts}
 use Rattle.cmd_run.specs.Supplies.{given_of}
-use Rattle.cmd_inputs.specs.Sources.{SourceGives}
-use Rattle.cmd_run.specs.Runs80.{LoadStops, no_source, no_supply, no_program, no_disk}
+use Rattle.cmd_run.specs.Runs80.{LoadStops, no_disk}
 use Rattle.cmd_inputs.proofs.Told.{judged}
-use Rattle.cmd_run.proofs.Loading.{supply_before, faults_before, supply_stops_before}
 use Rattle.cmd_run.proofs.run_source.load.Goals as goal
 
-pub returns-in_err-source-clause-stopped : goal.returns-in_err-source-clause-stopped
-returns-in_err-source-clause-stopped g c =
-    let old = g.H.Host.state c.args.host.now in
-    let new = g.H.Host.state c.read_source.new.host in
-    judged c.from_residual.result (λ h. h ≡ By c.in_err-source.field-0.0) (Halts (LoadStops (run80_read c.args.command.now) old new)) c.from_residual.ensures.1
-    (λ h is. subst (Halts (LoadStops (run80_read c.args.command.now) old new)) (sym is) (no_source c.in_err-source.ensures.stopped))
-
-pub returns-in_err-supplies-clause-stopped : goal.returns-in_err-supplies-clause-stopped
-returns-in_err-supplies-clause-stopped g c =
-    let old = g.H.Host.state c.args.host.now in
-    let mid = g.H.Host.state c.read_source.new.host in
-    let new = g.H.Host.state c.read_supplies.new.host in
-    let first = c.in_ok-source.ensures in
-    judged c.from_residual-in_err-supplies.result (λ h. h ≡ By c.in_err-supplies.field-0.0) (Halts (LoadStops (run80_read c.args.command.now) old new)) c.from_residual-in_err-supplies.ensures.1
-    (λ h is. subst (Halts (LoadStops (run80_read c.args.command.now) old new)) (sym is)
-    (no_supply first.read.bytes first.read.file (supply_stops_before old mid new first.only first.counted (run80_read c.args.command.now).run c.in_err-supplies.field-0.0 c.in_err-supplies.ensures.stopped)))
-
--- the source is refused, and the other files were read
-pub returns-in_err-program-clause-stopped : goal.returns-in_err-program-clause-stopped
-returns-in_err-program-clause-stopped g c =
+pub returns-in_err-named-clause-stopped : goal.returns-in_err-named-clause-stopped
+returns-in_err-named-clause-stopped g c =
     let command = run80_read c.args.command.now in
     let old = g.H.Host.state c.args.host.now in
-    let mid = g.H.Host.state c.read_source.new.host in
-    let new = g.H.Host.state c.read_supplies.new.host in
-    let first = c.in_ok-source.ensures in
-    let second = c.in_ok-supplies.ensures in
-    let s = c.in_ok-supplies.supplies in
-    let given = given_of s.input.items s.disk.items s.ports.items in
-    judged c.from_residual-in_err-program.result (λ h. h ≡ By c.in_err-program.field-0.0) (Halts (LoadStops command old new)) c.from_residual-in_err-program.ensures.1
-    (λ h is. subst (Halts (LoadStops command old new)) (sym is)
-    (no_program first.read.bytes given first.read.file (supply_before old mid new first.only first.counted command.run given second.read)
-    (faults_before old mid new first.only first.counted second.counted)
-    (subst (SourceGives first.read.bytes command.top) c.in_err-program.was first.read.gives)))
+    let new = g.H.Host.state c.read_program.new.host in
+    judged c.from_residual.result (λ h. h ≡ c.in_err-named.field-0.0) (Halts (LoadStops command old new)) c.from_residual.ensures.1
+    (λ h is. subst (Halts (LoadStops command old new)) (sym is) c.in_err-named.ensures.stopped)
 
 -- the disk's file is none
 pub returns-in_err-devices-clause-stopped : goal.returns-in_err-devices-clause-stopped
 returns-in_err-devices-clause-stopped g c =
     let command = run80_read c.args.command.now in
     let old = g.H.Host.state c.args.host.now in
-    let mid = g.H.Host.state c.read_source.new.host in
-    let new = g.H.Host.state c.read_supplies.new.host in
-    let first = c.in_ok-source.ensures in
-    let second = c.in_ok-supplies.ensures in
-    let s = c.in_ok-supplies.supplies in
+    let new = g.H.Host.state c.read_program.new.host in
+    let n = c.in_ok-named.ensures.named in
+    let s = c.in_ok-named.named.supplies in
     let given = given_of s.input.items s.disk.items s.ports.items in
     judged c.from_residual-in_err-devices.result (λ h. h ≡ By c.in_err-devices.field-0.0) (Halts (LoadStops command old new)) c.from_residual-in_err-devices.ensures.1
     (λ h is. subst (Halts (LoadStops command old new)) (sym is)
-    (no_disk first.read.bytes given c.in_ok-program.program first.read.file (supply_before old mid new first.only first.counted command.run given second.read)
-    (faults_before old mid new first.only first.counted second.counted)
-    (subst (SourceGives first.read.bytes command.top) c.in_ok-program.was first.read.gives) c.in_err-devices.ensures.stopped))
+    (no_disk n.source given c.in_ok-named.named.program n.file n.supplied c.in_ok-named.ensures.counted n.assembled c.in_err-devices.ensures.stopped))
 
 pub returns-clause-loaded : goal.returns-clause-loaded
 returns-clause-loaded g c =
-    let command = run80_read c.args.command.now in
-    let old = g.H.Host.state c.args.host.now in
-    let mid = g.H.Host.state c.read_source.new.host in
-    let new = g.H.Host.state c.read_supplies.new.host in
-    let first = c.in_ok-source.ensures in
-    let second = c.in_ok-supplies.ensures in
-    let s = c.in_ok-supplies.supplies in
-    let given = given_of s.input.items s.disk.items s.ports.items in
+    let n = c.in_ok-named.ensures.named in
+    let s = c.in_ok-named.named.supplies in
     record {
-      source = first.read.bytes;
-      file = first.read.file;
-      assembled = subst (SourceGives first.read.bytes command.top) c.in_ok-program.was first.read.gives;
-      given = given;
-      supplied = supply_before old mid new first.only first.counted command.run given second.read;
+      source = n.source;
+      file = n.file;
+      assembled = n.assembled;
+      given = given_of s.input.items s.disk.items s.ports.items;
+      supplied = n.supplied;
       devices = c.in_ok-devices.ensures.devices;
     }
