@@ -11,7 +11,7 @@ use Rattle.cmd_words.specs.Words.{Command, command_of, IsCommand, IsNoCommand}
 use Rattle.cmd_words.proofs.Forms.{form_of_rule}
 use Rattle.cmd_words.proofs.Reading.{behind_item, behind_mark, behind_nothing}
 
-one_sorting : {c : CommandName} {ws : List Word} {items others : List Item} → Sorts c ws items → Sorts c ws others → items ≡ others
+pub one_sorting : {c : CommandName} {ws : List Word} {items others : List Item} → Sorts c ws items → Sorts c ws others → items ≡ others
 one_sorting none s = sym (behind_nothing s)
 one_sorting marked s = sym (behind_mark s)
 one_sorting (more {ws = []} f s) t = elim f [ ]

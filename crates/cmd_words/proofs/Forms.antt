@@ -9,19 +9,19 @@ use Rattle.std.proofs.lemmas.Option.{none-some, same_Some}
 use Rattle.std.proofs.lemmas.Slice.Eq.{bytes_eq-Decides}
 use Rattle.std.proofs.Math.Seq.{drop-cons}
 use Rattle.cmd_words.specs.declared.table.CommandName.{CommandName}
-use Rattle.cmd_words.specs.declared.table.CommandName.TheVariants.{Translate, Check, Flags, Run80, Run86}
+use Rattle.cmd_words.specs.declared.table.CommandName.TheVariants.{Translate, Check, Flags, Run80, Run86, Both, Sample}
 use Rattle.cmd_words.specs.declared.table.OptionName.{OptionName}
 use Rattle.cmd_words.specs.declared.table.OptionName.TheVariants.{Top, Choice, Input, Disk, Ports, OutDisk, Tail, Steps, Plain}
 use Rattle.cmd_words.specs.Table.{Word, option_word, options_of, flags_of, named_among}
 use Rattle.cmd_words.specs.Items.{Item, Name, Setting, is_value, Begins, name, flag, parted, joined, mark}
-use Rattle.cmd_words.specs.Forms.{is_equals, has_equals, First, first_item, joined_item, parted_item, lone_item}
+use Rattle.cmd_words.proofs.FirstItem.{is_equals, has_equals, First, first_item, joined_item, parted_item, lone_item}
 
 -- a word that names an option is that option's word
 by_first_word : (t : Bool) (p o : OptionName) (w : Word) (others : Option OptionName) → bytes_eq (option_word p) w ≡ t → cond t (Some p) others ≡ Some o → (others ≡ Some o → w ≡ option_word o) → w ≡ option_word o
 by_first_word true p o w others is found behind = sym ((bytes_eq-Decides (option_word p) w).0 is) ∙ ap option_word (same_Some p o found)
 by_first_word false p o w others is found behind = behind found
 
-named_word : (options : List OptionName) (w : Word) (o : OptionName) → named_among options w ≡ Some o → w ≡ option_word o
+pub named_word : (options : List OptionName) (w : Word) (o : OptionName) → named_among options w ≡ Some o → w ≡ option_word o
 named_word [] w o e = absurd (none-some o e)
 named_word (p ∷ options) w o e = by_first_word _ p o w (named_among options w) refl e (named_word options w o)
 
@@ -46,7 +46,7 @@ option_words Steps = record { alone = refl; whole = refl; begins = λ text. refl
 option_words Plain = record { alone = refl; whole = refl; begins = λ text. refl; place = λ text. lt-ltb _ _ (omega arith); before = λ text. refl; after = λ text. refl }
 
 -- no option of a command is a flag of it
-no_flag : (c : CommandName) (o p : OptionName) → named_among (options_of c) (option_word o) ≡ Some p → named_among (flags_of c) (option_word o) ≡ None
+pub no_flag : (c : CommandName) (o p : OptionName) → named_among (options_of c) (option_word o) ≡ Some p → named_among (flags_of c) (option_word o) ≡ None
 no_flag Translate Plain p e = absurd (none-some p e)
 no_flag Translate Top p e = refl
 no_flag Translate Choice p e = refl
@@ -60,6 +60,8 @@ no_flag Check o p e = refl
 no_flag Flags o p e = refl
 no_flag Run80 o p e = refl
 no_flag Run86 o p e = refl
+no_flag Both o p e = refl
+no_flag Sample o p e = refl
 
 -- what begins by the rules is what the form tells
 pub form_of_rule : {c : CommandName} {w : Word} {ws rest : List Word} {item : Item} → Begins c (w ∷ ws) item rest → first_item c w ws ≡ Some (item, rest)
@@ -126,3 +128,5 @@ no_item_at_mark Check ws = refl
 no_item_at_mark Flags ws = refl
 no_item_at_mark Run80 ws = refl
 no_item_at_mark Run86 ws = refl
+no_item_at_mark Both ws = refl
+no_item_at_mark Sample ws = refl

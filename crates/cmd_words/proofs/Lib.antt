@@ -1,5 +1,15 @@
+pub mod FirstItem
+pub mod Rules
+pub mod Rows
+pub mod Turns
+pub mod LongTurns
+pub mod Uses
+pub mod WordForms
+pub mod Readings
+pub mod Repeats
+pub mod Gathering
+pub mod Answered
 pub mod Numbers
 pub mod Forms
-pub mod Gathering
 pub mod Reading
 pub mod Commands

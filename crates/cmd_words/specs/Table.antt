@@ -2,7 +2,7 @@
 use Rattle.std.specs.Prelude.{ℕ, List, [], ◌∷◌, codes, Option, find}
 use Rattle.std.specs.Str.{bytes_eq}
 use Rattle.cmd_words.specs.declared.table.CommandName.{CommandName}
-use Rattle.cmd_words.specs.declared.table.CommandName.TheVariants.{Translate, Check, Flags, Run80, Run86}
+use Rattle.cmd_words.specs.declared.table.CommandName.TheVariants.{Translate, Check, Flags, Run80, Run86, Both, Sample}
 use Rattle.cmd_words.specs.declared.table.OptionName.{OptionName}
 use Rattle.cmd_words.specs.declared.table.OptionName.TheVariants.{Top, Choice, Input, Disk, Ports, OutDisk, Tail, Steps, Plain}
 
@@ -11,7 +11,7 @@ abbrev pub Word : Type 0
 Word = List ℕ
 
 abbrev pub commands : List CommandName
-commands = Translate ∷ (Check ∷ (Flags ∷ (Run80 ∷ (Run86 ∷ []))))
+commands = Translate ∷ (Check ∷ (Flags ∷ (Run80 ∷ (Run86 ∷ (Both ∷ (Sample ∷ []))))))
 
 abbrev pub command_word : CommandName → Word
 command_word Translate = codes "translate"
@@ -19,6 +19,20 @@ command_word Check = codes "check"
 command_word Flags = codes "flags"
 command_word Run80 = codes "run80"
 command_word Run86 = codes "run86"
+command_word Both = codes "both"
+command_word Sample = codes "sample"
+
+-- an option's name, which stands behind two hyphens in its word
+abbrev pub long_name : OptionName → Word
+long_name Top = codes "top"
+long_name Choice = codes "choice"
+long_name Input = codes "input"
+long_name Disk = codes "disk"
+long_name Ports = codes "ports"
+long_name OutDisk = codes "out-disk"
+long_name Tail = codes "tail"
+long_name Steps = codes "steps"
+long_name Plain = codes "plain"
 
 abbrev pub option_word : OptionName → Word
 option_word Top = codes "--top"
@@ -38,6 +52,8 @@ options_of Check = Top ∷ []
 options_of Flags = Top ∷ []
 options_of Run80 = Top ∷ (Input ∷ (Disk ∷ (Ports ∷ (OutDisk ∷ (Tail ∷ (Steps ∷ []))))))
 options_of Run86 = Choice ∷ (Input ∷ (Disk ∷ (Ports ∷ (OutDisk ∷ (Tail ∷ (Steps ∷ []))))))
+options_of Both = Top ∷ (Choice ∷ (Input ∷ (Disk ∷ (Ports ∷ (OutDisk ∷ (Tail ∷ (Steps ∷ [])))))))
+options_of Sample = []
 
 -- the options without a value, its flags
 abbrev pub flags_of : CommandName → List OptionName
@@ -46,6 +62,8 @@ flags_of Check = []
 flags_of Flags = []
 flags_of Run80 = []
 flags_of Run86 = []
+flags_of Both = []
+flags_of Sample = []
 
 -- the command of a word, which is exactly its word
 abbrev pub command_named : Word → Option CommandName

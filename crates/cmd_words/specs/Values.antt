@@ -31,6 +31,13 @@ steps_within n = if nat_le 1 n && nat_le n 10000000 then Some n else None
 abbrev pub steps_value : Word → Option ℕ
 steps_value text = option_and_then steps_within (number_in 10 8 text)
 
+abbrev pub count_within : ℕ → Option ℕ
+count_within n = if nat_le 1 n && nat_le n 500 then Some n else None
+
+-- the number of routines of a made source: 1 to 3 decimal digits, from 1 to 500
+abbrev pub count_value : Word → Option ℕ
+count_value text = option_and_then count_within (number_in 10 3 text)
+
 -- a file's name is not empty
 abbrev pub file_name : Word → Option Word
 file_name text = if nat_lt 0 (length text) then Some text else None

@@ -4,7 +4,7 @@ use Rattle.dialogue.specs.StartPage.{page_of_tail}
 use Rattle.cmd_words.specs.declared.table.CommandName.{CommandName}
 use Rattle.cmd_words.specs.declared.table.CommandName.TheVariants as named
 use Rattle.cmd_words.specs.Table.{Word, command_named}
-use Rattle.cmd_words.specs.Values.{top_value, choice_value, steps_value, file_name}
+use Rattle.cmd_words.specs.Values.{top_value, choice_value, steps_value, count_value, file_name}
 use Rattle.cmd_words.specs.Given.{Occurrence, Absent, Once, Repeated, Names, NoName, OneName, TwoNames, MoreNames, Gathered, AreSorted}
 
 -- `translate IN OUT [--plain] [--top H]`
@@ -47,12 +47,26 @@ pub record Run86 : Type 0 where
   pub choice : ℕ
   pub run : RunOptions
 
+-- `both IN [--top H] [--choice H]` and run options
+pub record Both : Type 0 where
+  pub source : Word
+  pub top : ℕ
+  pub choice : ℕ
+  pub run : RunOptions
+
+-- `sample K OUT`
+pub record Sample : Type 0 where
+  pub count : ℕ
+  pub output : Word
+
 pub data Command : Type 0 where
   Translates : (command : Translate) → Command
   Checks : (command : Check) → Command
   ListsFlags : (command : Flags) → Command
   Runs80 : (command : Run80) → Command
   Runs86 : (command : Run86) → Command
+  RunsBoth : (command : Both) → Command
+  MakesSample : (command : Sample) → Command
 
 infixl 10 ◌>>=◌
 abbrev pub ◌>>=◌ : {A B : Type 0} → Option A → (A → Option B) → Option B
@@ -104,6 +118,16 @@ two_files (TwoNames first second) = do
   Some (first, second)
 two_files MoreNames = None
 
+-- a number of routines, and then a file
+abbrev pub count_and_file : Names → Option (ℕ × Word)
+count_and_file NoName = None
+count_and_file (OneName w) = None
+count_and_file (TwoNames first second) = do
+  count ← count_value first
+  file ← file_name second
+  Some (count, file)
+count_and_file MoreNames = None
+
 abbrev pub translate_of : Gathered → Option Translate
 translate_of g = do
   plain ← flag_of g.plain
@@ -147,6 +171,19 @@ run86_of g = do
   run ← run_options_of g
   Some (record { text = text; choice = choice; run = run })
 
+abbrev pub both_of : Gathered → Option Both
+both_of g = do
+  source ← one_file g.names
+  top ← top_of g
+  choice ← choice_of g
+  run ← run_options_of g
+  Some (record { source = source; top = top; choice = choice; run = run })
+
+abbrev pub sample_of : Gathered → Option Sample
+sample_of g = do
+  names ← count_and_file g.names
+  Some (record { count = names.0; output = names.1 })
+
 -- the command that its name and what stands behind it make
 abbrev pub command_of : CommandName → Gathered → Option Command
 command_of named.Translate g = option_map Translates (translate_of g)
@@ -154,6 +191,8 @@ command_of named.Check g = option_map Checks (check_of g)
 command_of named.Flags g = option_map ListsFlags (flags_command_of g)
 command_of named.Run80 g = option_map Runs80 (run80_of g)
 command_of named.Run86 g = option_map Runs86 (run86_of g)
+command_of named.Both g = option_map RunsBoth (both_of g)
+command_of named.Sample g = option_map MakesSample (sample_of g)
 
 -- the words are this command: the first is its name, and the others give its values
 pub record IsCommand (words : List Word) (c : Command) : Type 0 where

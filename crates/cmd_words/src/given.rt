@@ -1,22 +1,19 @@
 //! The names and options behind a command's word, gathered.
 
-ghost use Rattle.std.specs.Prelude.{◌≡◌, [], fold, map, MatchOption};
+ghost use Rattle.std.specs.Prelude.{◌≡◌, [], codes, IfOk, MatchOption, map, option_map, unwrap_or};
 ghost use Rattle.std.specs.String.{string_bytes};
-ghost use Rattle.cmd_words.specs.Items.{Name, Setting};
-ghost use Rattle.cmd_words.specs.Given.{gathered, AreSorted, AreUnsorted};
-ghost use Rattle.cmd_words.specs.Read.{item_of, item_more, names_read, occurrence_of, one_more, one_name_more};
+ghost use Rattle.clap.specs.Words.{first_of, found_of, rows_of};
+ghost use Rattle.cmd_words.specs.Asked.{GiveNoCommand};
+ghost use Rattle.cmd_words.specs.Given.{names, AreSorted};
+ghost use Rattle.cmd_words.specs.Read.{names_read, IsFlag, IsGivenIn};
 
-use crate::items::{Item, first_item, first_word, is_mark};
+use crate::asking::{NAMES, asked};
+use crate::items::has_short;
 use crate::table::{CommandName, OptionName};
+use clap::ArgMatches;
+use clap::error::ErrorKind;
+use std::alloc::{AllocError, Global};
 use std::marker::Model;
-
-/// An option stands nowhere, once with a text, or more often.
-#[derive(Clone, Copy)]
-pub enum Occurrence<'a> {
-    Absent,
-    Once(&'a str),
-    Repeated,
-}
 
 /// No name, one, two, or more.
 #[derive(Clone, Copy)]
@@ -27,136 +24,102 @@ pub enum Names<'a> {
     More,
 }
 
-/// What the words behind a command's word give.
+/// What the words behind a command's word give, where no option stands twice: the names, each option's text, and whether the flag
+/// stands.
 #[derive(Drop)]
 pub struct Given<'a> {
     pub names: Names<'a>,
-    pub top: Occurrence<'a>,
-    pub choice: Occurrence<'a>,
-    pub input: Occurrence<'a>,
-    pub disk: Occurrence<'a>,
-    pub ports: Occurrence<'a>,
-    pub out_disk: Occurrence<'a>,
-    pub tail: Occurrence<'a>,
-    pub steps: Occurrence<'a>,
-    pub plain: Occurrence<'a>,
+    pub top: Option<&'a str>,
+    pub choice: Option<&'a str>,
+    pub input: Option<&'a str>,
+    pub disk: Option<&'a str>,
+    pub ports: Option<&'a str>,
+    pub out_disk: Option<&'a str>,
+    pub tail: Option<&'a str>,
+    pub steps: Option<&'a str>,
+    pub plain: bool,
 }
 
 impl<'a> Model for Given<'a> {
     ghost use Rattle.cmd_words.specs.Given.{Gathered};
-    ghost use Rattle.cmd_words.specs.Read.{names_read, occurrence_of};
+    ghost use Rattle.cmd_words.specs.Read.{flag_read, names_read, option_read};
 
     ghost Value = { Gathered };
 
     ghost view = { λ g. record {
       names = names_read g.names;
-      top = occurrence_of g.top;
-      choice = occurrence_of g.choice;
-      input = occurrence_of g.input;
-      disk = occurrence_of g.disk;
-      ports = occurrence_of g.ports;
-      out_disk = occurrence_of g.out_disk;
-      tail = occurrence_of g.tail;
-      steps = occurrence_of g.steps;
-      plain = occurrence_of g.plain;
+      top = option_read g.top;
+      choice = option_read g.choice;
+      input = option_read g.input;
+      disk = option_read g.disk;
+      ports = option_read g.ports;
+      out_disk = option_read g.out_disk;
+      tail = option_read g.tail;
+      steps = option_read g.steps;
+      plain = flag_read g.plain;
     } };
 }
 
-impl<'a> Occurrence<'a> {
-    // With one more.
-    fn and(self, text: &'a str) -> Occurrence<'a>
-        ensures { occurrence_of result ≡ one_more (occurrence_of self.entry) text.now }
-    {
-        match self {
-            Occurrence::Absent => Occurrence::Once(text),
-            Occurrence::Once(_) | Occurrence::Repeated => Occurrence::Repeated,
-        }
-    }
-}
-
 impl<'a> Names<'a> {
-    // With one more.
-    fn and(self, name: &'a str) -> Names<'a>
-        ensures { names_read result ≡ one_name_more (names_read self.entry) name.now }
+    fn of_texts(texts: Option<&[&'a str]>) -> Names<'a>
+        ensures { names_read result ≡ names (unwrap_or (option_map (λ s. map (λ v. v.now) s.now) texts.entry) []) }
     {
-        match self {
-            Names::Zero => Names::One(name),
-            Names::One(first) => Names::Two(first, name),
-            Names::Two(_, _) | Names::More => Names::More,
+        let Some(texts) = texts else {
+            return Names::Zero;
+        };
+        match texts {
+            [] => Names::Zero,
+            [name] => Names::One(*name),
+            [first, second] => Names::Two(*first, *second),
+            _ => Names::More,
         }
     }
 }
 
 impl<'a> Given<'a> {
-    /// What the words behind a command's word give; None where they are no items of the command.
-    pub fn of_words(command: CommandName, words: &'a [String]) -> Option<Given<'a>>
-        ensures { MatchOption result (AreUnsorted command (map string_bytes words.now))
-            (λ given. AreSorted command (map string_bytes words.now) given) }
+    /// What the words behind a command's word give; None where they give no command. `clap` reads them, and says all of words of
+    /// more than one hyphen or none; a word of one hyphen and something else is refused before.
+    pub fn of_words(
+        alloc: Global,
+        command: CommandName,
+        words: &'a [String],
+    ) -> Result<Option<Given<'a>>, AllocError>
+        ensures { IfOk result (λ read. MatchOption read (GiveNoCommand command (map string_bytes words.now))
+            (λ given. AreSorted command (map string_bytes words.now) given)) }
     {
-        let mut given = Given::nothing();
-        let mut rest = words;
-        loop {
-            let Some((word, others)) = first_word(rest) else {
-                return Some(given);
-            };
-            if is_mark(word) {
-                given.add_names(others);
-                return Some(given);
-            }
-            let (item, behind) = first_item(command, word, others)?;
-            given.add(item);
-            rest = behind;
+        if has_short(words) {
+            return Ok(None);
+        }
+        let asked = asked(alloc, command)?;
+        match asked.try_get_matches_from(words) {
+            Ok(matches) => Ok(Some(Given::of_matches(&matches))),
+            Err(error) => match error.kind() {
+                ErrorKind::OutOfMemory => Err(AllocError),
+                _ => Ok(None),
+            },
         }
     }
 
-    // What no words give.
-    fn nothing() -> Given<'a>
-        ensures { result ≡ gathered [] }
+    fn of_matches(matches: &ArgMatches<'a>) -> Given<'a>
+        ensures { IsGivenIn (rows_of (found_of matches.now)) result }
     {
         Given {
-            names: Names::Zero,
-            top: Occurrence::Absent,
-            choice: Occurrence::Absent,
-            input: Occurrence::Absent,
-            disk: Occurrence::Absent,
-            ports: Occurrence::Absent,
-            out_disk: Occurrence::Absent,
-            tail: Occurrence::Absent,
-            steps: Occurrence::Absent,
-            plain: Occurrence::Absent,
+            names: Names::of_texts(matches.get_raw(NAMES)),
+            top: matches.get_str(OptionName::Top.name()),
+            choice: matches.get_str(OptionName::Choice.name()),
+            input: matches.get_str(OptionName::Input.name()),
+            disk: matches.get_str(OptionName::Disk.name()),
+            ports: matches.get_str(OptionName::Ports.name()),
+            out_disk: matches.get_str(OptionName::OutDisk.name()),
+            tail: matches.get_str(OptionName::Tail.name()),
+            steps: matches.get_str(OptionName::Steps.name()),
+            plain: is_plain(matches),
         }
     }
+}
 
-    fn add_names(&mut self, names: &'a [String])
-        ensures { self.new ≡ fold item_more self.old (map Name (map string_bytes names.now)) }
-    {
-        for name in names {
-            self.add(Item::Name(name.as_str()));
-        }
-    }
-
-    fn add(&mut self, item: Item<'a>)
-        ensures { self.new ≡ item_more self.old (item_of item.entry) }
-    {
-        match item {
-            Item::Name(name) => self.names = self.names.and(name),
-            Item::Setting(option, text) => self.add_setting(option, text),
-        }
-    }
-
-    fn add_setting(&mut self, option: OptionName, text: &'a str)
-        ensures { self.new ≡ item_more self.old (Setting option text.now) }
-    {
-        match option {
-            OptionName::Top => self.top = self.top.and(text),
-            OptionName::Choice => self.choice = self.choice.and(text),
-            OptionName::Input => self.input = self.input.and(text),
-            OptionName::Disk => self.disk = self.disk.and(text),
-            OptionName::Ports => self.ports = self.ports.and(text),
-            OptionName::OutDisk => self.out_disk = self.out_disk.and(text),
-            OptionName::Tail => self.tail = self.tail.and(text),
-            OptionName::Steps => self.steps = self.steps.and(text),
-            OptionName::Plain => self.plain = self.plain.and(text),
-        }
-    }
+fn is_plain(matches: &ArgMatches<'_>) -> bool
+    ensures { IsFlag (first_of (codes "plain") (rows_of (found_of matches.now))) result }
+{
+    matches.get_flag(OptionName::Plain.name())
 }

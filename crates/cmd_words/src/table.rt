@@ -1,7 +1,7 @@
 //! The table of the commands.
 
 ghost use Rattle.std.specs.Prelude.{◌≡◌};
-ghost use Rattle.cmd_words.specs.Table.{command_named, command_word, commands, flags_of, named_among, option_word, options_of};
+ghost use Rattle.cmd_words.specs.Table.{command_named, command_word, commands, flags_of, long_name, options_of};
 
 /// A command's name.
 #[derive(Clone, Copy)]
@@ -11,6 +11,8 @@ pub enum CommandName {
     Flags,
     Run80,
     Run86,
+    Both,
+    Sample,
 }
 
 /// An option's name, or a flag's.
@@ -27,12 +29,14 @@ pub enum OptionName {
     Plain,
 }
 
-const COMMANDS: [CommandName; 5] = [
+const COMMANDS: [CommandName; 7] = [
     CommandName::Translate,
     CommandName::Check,
     CommandName::Flags,
     CommandName::Run80,
     CommandName::Run86,
+    CommandName::Both,
+    CommandName::Sample,
 ];
 
 impl CommandName {
@@ -46,7 +50,8 @@ impl CommandName {
             .find(|command| command.word() == word)
     }
 
-    fn word(self) -> &'static str
+    /// The word that is the command's name.
+    pub fn word<'a>(self) -> &'a str
         ensures { result.now ≡ command_word self }
     {
         match self {
@@ -55,25 +60,13 @@ impl CommandName {
             CommandName::Flags => "flags",
             CommandName::Run80 => "run80",
             CommandName::Run86 => "run86",
+            CommandName::Both => "both",
+            CommandName::Sample => "sample",
         }
     }
 
-    /// The option with a value that a word names.
-    pub fn option_of_word(self, word: &str) -> Option<OptionName>
-        ensures { result ≡ named_among (options_of self) word.now }
-    {
-        OptionName::among(self.options(), word)
-    }
-
-    /// The flag that a word names.
-    pub fn flag_of_word(self, word: &str) -> Option<OptionName>
-        ensures { result ≡ named_among (flags_of self) word.now }
-    {
-        OptionName::among(self.flags(), word)
-    }
-
-    // The options with a value that the command takes.
-    fn options(self) -> &'static [OptionName]
+    /// The options with a value that the command takes.
+    pub fn options(self) -> &'static [OptionName]
         ensures { result.now ≡ options_of self }
     {
         use OptionName::*;
@@ -82,42 +75,42 @@ impl CommandName {
             CommandName::Translate | CommandName::Check | CommandName::Flags => &[Top],
             CommandName::Run80 => &[Top, Input, Disk, Ports, OutDisk, Tail, Steps],
             CommandName::Run86 => &[Choice, Input, Disk, Ports, OutDisk, Tail, Steps],
+            CommandName::Both => &[Top, Choice, Input, Disk, Ports, OutDisk, Tail, Steps],
+            CommandName::Sample => &[],
         }
     }
 
-    // The flags that the command takes.
-    fn flags(self) -> &'static [OptionName]
+    /// The flags that the command takes.
+    pub fn flags(self) -> &'static [OptionName]
         ensures { result.now ≡ flags_of self }
     {
         match self {
             CommandName::Translate => &[OptionName::Plain],
-            CommandName::Check | CommandName::Flags | CommandName::Run80 | CommandName::Run86 =>
-                &[],
+            CommandName::Check
+            | CommandName::Flags
+            | CommandName::Run80
+            | CommandName::Run86
+            | CommandName::Both
+            | CommandName::Sample => &[],
         }
     }
 }
 
 impl OptionName {
-    // The option among some that a word names.
-    fn among(options: &[OptionName], word: &str) -> Option<OptionName>
-        ensures { result ≡ named_among options.now word.now }
-    {
-        options.iter().copied().find(|option| option.word() == word)
-    }
-
-    fn word(self) -> &'static str
-        ensures { result.now ≡ option_word self }
+    /// The name, which stands behind two hyphens in the option's word.
+    pub fn name<'a>(self) -> &'a str
+        ensures { result.now ≡ long_name self }
     {
         match self {
-            OptionName::Top => "--top",
-            OptionName::Choice => "--choice",
-            OptionName::Input => "--input",
-            OptionName::Disk => "--disk",
-            OptionName::Ports => "--ports",
-            OptionName::OutDisk => "--out-disk",
-            OptionName::Tail => "--tail",
-            OptionName::Steps => "--steps",
-            OptionName::Plain => "--plain",
+            OptionName::Top => "top",
+            OptionName::Choice => "choice",
+            OptionName::Input => "input",
+            OptionName::Disk => "disk",
+            OptionName::Ports => "ports",
+            OptionName::OutDisk => "out-disk",
+            OptionName::Tail => "tail",
+            OptionName::Steps => "steps",
+            OptionName::Plain => "plain",
         }
     }
 }

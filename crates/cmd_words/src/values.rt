@@ -3,10 +3,13 @@
 ghost use Rattle.std.specs.Prelude.{◌≡◌, ◌<◌, ◌≤◌, ◌^◌, IfSome, option_map, option_copied};
 ghost use Rattle.std.specs.List.{list_all};
 ghost use Rattle.std.specs.Char.{is_digit};
-ghost use Rattle.cmd_words.specs.Values.{choice_value, file_name, number_in, steps_value, top_value};
+ghost use Rattle.cmd_words.specs.Values.{choice_value, file_name, number_in, steps_value, count_value, top_value};
 
 /// The most steps that a run may be given.
 const MOST_STEPS: u128 = 10_000_000;
+
+/// The most routines of a made source.
+const MOST_ROUTINES: u128 = 500;
 
 /// The lowest and the highest top of a program area.
 const LOWEST_TOP: u128 = 0x1000;
@@ -42,6 +45,18 @@ pub fn steps_value(text: &str) -> Option<u32>
     let steps = number_in(10, 8, text)?;
     if 1 <= steps && steps <= MOST_STEPS {
         Some(steps as u32)
+    } else {
+        None
+    }
+}
+
+/// The number of routines that a made source is to have.
+pub fn count_value(text: &str) -> Option<u32>
+    ensures { result ≡ count_value text.now }
+{
+    let count = number_in(10, 3, text)?;
+    if 1 <= count && count <= MOST_ROUTINES {
+        Some(count as u32)
     } else {
         None
     }

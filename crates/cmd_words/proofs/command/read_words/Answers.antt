@@ -3,7 +3,7 @@ use Rattle.std.specs.String.{string_bytes}
 use Rattle.cmd_words.proofs.Commands.{reads_command}
 use Rattle.cmd_words.proofs.command.read_words.Goals as goal
 
-pub returns : goal.returns
-returns c =
-    reads_command (map string_bytes c.args.words.now) c.in_ok-first.first.now (map string_bytes c.in_ok-first.rest.now) c.in_ok-name.name c.in_ok-given.given c.command.result
-    c.in_ok-first.ensures.first (sym c.in_ok-name.ensures) c.in_ok-given.ensures c.command.ensures
+pub returns-in-Ok-Some : goal.returns-in-Ok-Some
+returns-in-Ok-Some c =
+    reads_command (map string_bytes c.args.words.now) c.in-Some.first.now (map string_bytes c.in-Some.rest.now) c.in-Some-of_word.name _ c.command.result
+    c.in-Some.ensures.first (sym c.in-Some-of_word.ensures) (rw c.in-Ok-Some.field-0-is at c.in-Ok-Some.ensures) c.command.ensures

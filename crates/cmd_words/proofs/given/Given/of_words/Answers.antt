@@ -1,32 +1,28 @@
-use Rattle.std.proofs.Common.{◌≡◌, ◌≢◌, map, sym, ◌∙◌}
+use Rattle.std.proofs.Common.{◌≡◌, ap, sym, ◌∙◌, map, inl, inr}
 use Rattle.std.specs.String.{string_bytes}
-use Rattle.std.proofs.lemmas.Bool.{false≢true}
-use Rattle.std.proofs.lemmas.Slice.Eq.{bytes_eq-Decides}
-use Rattle.cmd_words.specs.Items.{mark}
-use Rattle.cmd_words.proofs.Reading.{item_further, unsorted, sorted_at_mark, sorted_at_end}
+use Rattle.clap.specs.Words.{app_of, fault_of, found_of, is_simple, is_simple_and_free, kind_of, matches_of, rows_of}
+use Rattle.cmd_words.specs.Asked.{asked}
+use Rattle.cmd_words.proofs.Answered.{faulty_words, short_words, taken_words}
+use Rattle.cmd_words.proofs.Rules.{asked_free, asked_simple}
 use Rattle.cmd_words.proofs.given.Given.of_words.Goals as goal
 
-pub returns-in_default : goal.returns-in_default
-returns-in_default c = sorted_at_end _ _ _ (rw c.in_default.ensures.first at c.loop-word.invariant)
+pub returns-then-has_short : goal.returns-then-has_short
+returns-then-has_short c = short_words c.args.command (map string_bytes c.args.words.now) (sym c.has_short.ensures ∙ c.if-has_short.true)
 
-pub returns-then-is_mark : goal.returns-then-is_mark
-returns-then-is_mark c =
-    let word = c.in-Some.word.now in
-    let is : word ≡ mark = (bytes_eq-Decides word mark).0 (sym c.is_mark.ensures ∙ c.if-is_mark.true) in
-    rw c.add_names.ensures
-    (sorted_at_mark c.args.command (map string_bytes c.args.words.now) c.loop-word.given word (map string_bytes c.in-Some.others.now)
-    (rw c.in-Some.ensures.first at c.loop-word.invariant) is)
+pub returns-in-Ok : goal.returns-in-Ok
+returns-in-Ok c =
+    let words = map string_bytes c.args.words.now in
+    let is : app_of c.in_ok-asked.asked ≡ asked c.args.command = c.in_ok-asked.ensures in
+    let rows = c.in-Ok.ensures.matches (ap is_simple is ∙ asked_simple c.args.command) in
+    let clean = c.in-Ok.ensures.kinds (ap is_simple_and_free is ∙ asked_free c.args.command) in
+    taken_words c.args.command words (rows_of (found_of c.in-Ok.matches)) _ (sym c.has_short.ensures ∙ c.if-has_short.false) (ap (λ a. fault_of a words) (sym is) ∙ clean) (rows.0 ∙ ap (λ a. matches_of a words) is) c.of_matches.ensures
 
-pub returns-in_err-item : goal.returns-in_err-item
-returns-in_err-item c =
-    let word = c.in-Some.word.now in
-    let other : word ≢ mark = λ e. false≢true (sym c.if-is_mark.false ∙ c.is_mark.ensures ∙ (bytes_eq-Decides word mark).1 e) in
-    rw c.from_residual.ensures
-    (unsorted c.args.command (map string_bytes c.args.words.now) c.loop-word.given word (map string_bytes c.in-Some.others.now)
-    (rw c.in-Some.ensures.first at c.loop-word.invariant) (sym c.in_err-item.ensures.first) other)
-
-pub loop-word-preserved : goal.loop-word-preserved
-loop-word-preserved c =
-    rw c.add.ensures
-    (item_further c.args.command (map string_bytes c.args.words.now) c.loop-word.given c.in-Some.word.now (map string_bytes c.in-Some.others.now) (map string_bytes c.in_ok-item.behind.now) _
-    (rw c.in-Some.ensures.first at c.loop-word.invariant) (sym c.in_ok-item.ensures.first))
+pub returns : goal.returns
+returns c =
+    let words = map string_bytes c.args.words.now in
+    let is : app_of c.in_ok-asked.asked ≡ asked c.args.command = c.in_ok-asked.ensures in
+    let faults = c.in-Err.ensures.kinds (ap is_simple_and_free is ∙ asked_free c.args.command) in
+    elim faults [
+      | inl memory ↦ absurd (c.in_default.not-OutOfMemory (c.kind.ensures ∙ memory))
+      | inr among ↦ faulty_words c.args.command words (kind_of c.in-Err.error) (app_of c.in_ok-asked.asked) is (sym c.has_short.ensures ∙ c.if-has_short.false) among
+    ]
