@@ -1,0 +1,5 @@
+pub mod Lasts
+pub mod Loads
+pub mod Runs
+pub mod Gives
+pub mod Completes

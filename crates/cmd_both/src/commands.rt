@@ -1,0 +1,83 @@
+// The work of `both`: a source's program runs on the tagged 8080, and the image of its lean text on the 8086.
+ghost use Rattle.std.specs.Prelude.{◌≡◌, true, IfOk, IfErr};
+ghost use Rattle.asm80_program.specs.Program.{is_top};
+ghost use Rattle.cmd_words.specs.ReadCommands.{both_read};
+ghost use Rattle.cmd_run.specs.Keeping.{DiskAlone};
+ghost use Rattle.cmd_both.specs.Lasts.{IsMade, came_of, steps_of};
+ghost use Rattle.cmd_both.specs.Gives.{HasCome, IsHalted, Gives};
+ghost use Rattle.cmd_both.specs.Completes.{Completes};
+
+use crate::last::{Last, last_of, say_ending};
+use crate::loading::{Loaded, load};
+use crate::runs::{limit86, run_first, run_second, start_is_in_range};
+use asm80_values::source_has_one_outcome;
+use bdos_disk::disks_read_back;
+use bdos_emulation::runs_are_one;
+use cmd_reports::say_stop;
+use cmd_run::{Halt, keep_disk, kept_name, line_of, steps_of, unsaid_status};
+use cmd_words::Both;
+use host::Host;
+use std::alloc::Global;
+use xlt_core::own_texts_are_same;
+
+/// Runs the source of a command on both machines over devices of the same bytes, the 8080 first, says each event of their dialogues and
+/// then what the 8080's run came to, and answers the status. The top of the program area is a multiple of 100H from 1000H to 0FF00H.
+pub fn both<H: Host>(alloc: Global, host: &mut H, command: &Both<'_>) -> u8
+    requires { is_top command.now.top ≡ true }
+    ensures gives { Gives (both_read command.now) (H.state host.old) (H.state host.new) result }
+    ensures files { DiskAlone (both_read command.now).run.out_disk (H.state host.old) (H.state host.new) }
+    ensures completes { Completes (both_read command.now) (H.state host.old) (H.state host.new) result }
+{
+    source_has_one_outcome();
+    disks_read_back();
+    own_texts_are_same();
+    carry_out(alloc, host, command)
+}
+
+// The work, and what is said last.
+fn carry_out<H: Host>(alloc: Global, host: &mut H, command: &Both<'_>) -> u8
+    requires { is_top command.now.top ≡ true }
+    ensures gives { Gives (both_read command.now) (H.state host.old) (H.state host.new) result }
+    ensures files { DiskAlone (both_read command.now).run.out_disk (H.state host.old) (H.state host.new) }
+{
+    match work(alloc, host, command) {
+        Ok(last) => say_ending(host, last),
+        Err(Halt::By(stop)) => say_stop(alloc, host, stop),
+        Err(Halt::Unsaid(fault)) => unsaid_status(fault),
+    }
+}
+
+// The work up to the last line, whose memory is taken before the disk is written.
+fn work<'a, H: Host>(alloc: Global, host: &mut H, command: &Both<'a>) -> Result<Last<'a>, Halt<'a>>
+    requires { is_top command.now.top ≡ true }
+    ensures made { IfOk result IsMade }
+    ensures came { IfOk result (λ last. HasCome (both_read command.now) (H.state host.old) (H.state host.new) (came_of last) (steps_of last)) }
+    ensures halted { IfErr result (IsHalted (both_read command.now) (H.state host.old) (H.state host.new)) }
+{
+    runs_are_one();
+    let loaded = load(alloc, host, command)?;
+    let Loaded {
+        program,
+        image,
+        fill,
+        devices,
+        second,
+    } = loaded;
+    let fill = fill.as_slice();
+    start_is_in_range(&command.run.page, fill, command.choice);
+    let mut devices = devices;
+    let mut second = second;
+    let first = run_first(alloc, host, command, &program, &mut devices)?;
+    let limit = limit86(first.steps);
+    let next = run_second(alloc, host, command, &image, fill, &mut second, limit)?;
+    let line = line_of(&program, first.end);
+    let came = steps_of(first, command.run.steps, line);
+    let last = last_of(alloc, came, next.steps)?;
+    keep_disk(
+        alloc,
+        host,
+        kept_name(command.run.out_disk, first.end),
+        devices.disk(),
+    )?;
+    Ok(last)
+}
