@@ -6,3 +6,4 @@ mod report;
 mod savings;
 
 pub use listing::flags;
+pub use savings::{Saving, saved_among, savings_of};

@@ -4,7 +4,7 @@ ghost use Rattle.std.specs.Fmt.{decimal};
 ghost use Rattle.std.specs.String.{string_bytes};
 ghost use Rattle.cmd_flags.specs.Report.{letter_if, letters, save_text, save_line, report_lines, AreLines};
 
-use crate::savings::{Saving, saves_any, savings_of};
+use crate::savings::{Saving, saved_among, saves_any, savings_of};
 use asm80_program::Program80;
 use cells::{Keep, Part};
 use cmd_reports::{saves_line, word_digits};
@@ -26,11 +26,7 @@ fn lines_of(alloc: Global, savings: &[Saving]) -> Result<Vec<String>, AllocError
     for saving in savings {
         lines.push(save_line(alloc, saving)?)?;
     }
-    let saved = savings
-        .iter()
-        .filter(|saving| saves_any(saving.keep))
-        .count();
-    lines.push(saves_line(alloc, saved, savings.len())?)?;
+    lines.push(saves_line(alloc, saved_among(savings), savings.len())?)?;
     Ok(lines)
 }
 

@@ -1,5 +1,5 @@
 // The instructions that may have to save flags, with the flags that each of them has to save.
-ghost use Rattle.std.specs.Prelude.{◌≡◌, IfOk};
+ghost use Rattle.std.specs.Prelude.{◌≡◌, IfOk, count_by};
 ghost use Rattle.cmd_flags.specs.Report.{sums, AreSavings, saves_any};
 
 use asm80_program::Program80;
@@ -31,6 +31,16 @@ pub fn savings_of(alloc: Global, program: &Program80) -> Result<Vec<Saving>, All
         }
     }
     Ok(savings)
+}
+
+/// How many of them have a flag to save.
+pub fn saved_among(savings: &[Saving]) -> usize
+    ensures { result ≡ count_by (λ s. saves_any s.keep) savings.now }
+{
+    savings
+        .iter()
+        .filter(|saving| saves_any(saving.keep))
+        .count()
 }
 
 /// Whether a flag has to be saved.

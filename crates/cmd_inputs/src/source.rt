@@ -4,7 +4,7 @@ ghost use Rattle.host.specs.Host.{SameFaults, OnlyReads};
 ghost use Rattle.asm80_program.specs.Program.{is_top};
 ghost use Rattle.asm80_tokens.specs.Tree.{statement_of};
 ghost use Rattle.cmd_inputs.specs.Files.{ReadStops, input_limit};
-ghost use Rattle.cmd_inputs.specs.Sources.{ReadsSource, StatementsGive};
+ghost use Rattle.cmd_inputs.specs.Sources.{ReadsSource, SourceGives, StatementsGive};
 
 use crate::files::{SOURCE_LIMIT, read_named_into};
 use asm80_program::Program80;
@@ -35,6 +35,22 @@ pub fn read_source<'a, H: Host>(
     };
     read_named_into(host, name, SOURCE_LIMIT, &mut source)?;
     Ok(source.program(alloc, top)?)
+}
+
+/// The program of the source that bytes are, for a top of the program area, or its first refusal.
+pub fn program_of_bytes<'a>(
+    alloc: Global,
+    bytes: &[u8],
+    top: u16,
+) -> Result<Result<Program80, Stop<'a>>, AllocError>
+    requires { is_top top ≡ true }
+    ensures { IfOk result (SourceGives bytes.now top) }
+{
+    let mut source = SourceLines {
+        lines: Lines::new(alloc)?,
+    };
+    source.receive(bytes)?;
+    source.program(alloc, top)
 }
 
 // The lines of a source, as far as its file was read. Of its bytes only the line that is not complete yet is kept.

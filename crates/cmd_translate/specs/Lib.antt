@@ -1,2 +1,0 @@
-pub mod Translates
-pub mod Work
