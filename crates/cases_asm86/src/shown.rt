@@ -2,7 +2,7 @@
 use asm86::{Image86, Line86, Stmt86, write_line};
 use std::alloc::{AllocError, Global};
 
-/// The most bytes of code that are shown; of longer code the first and the last four.
+/// The most bytes of code that are shown; of longer code the first five and the last four.
 const MOST_CODE: usize = 48;
 
 /// Statements in one line, as `L0100: / NOP`, or `none`.
@@ -70,7 +70,7 @@ fn code_text(alloc: Global, code: &[u8]) -> Result<String, AllocError> {
     if size <= MOST_CODE {
         return hex::encode_upper(alloc, code);
     }
-    let first = hex::encode_upper(alloc, &code[..4])?;
+    let first = hex::encode_upper(alloc, &code[..5])?;
     let last = hex::encode_upper(alloc, &code[size - 4..])?;
     format!(in alloc; "{first}..{last} {size} bytes")
 }

@@ -1,6 +1,7 @@
 // The program over files in memory, a case a line: `WORDS | P | I | N`. The words stand behind the program's name, `;` parts those
-// of several calls. The files P and I have these lines, which ` \ ` parts, and `N * LINE` is as many lines; the file OUT holds
-// `before`. The call of the host with the number N fails. A line without a bar is a source of the 8080 from 100H on, which runs.
+// of several calls. The files P and I have these lines, which ` \ ` parts, and `N * LINE` is as many lines, in which `%` stands for
+// the number of each; the file OUT holds `before`. The call of the host with the number N fails. A line without a bar is a source of
+// the 8080 from 100H on, which runs.
 //
 // The answer is the status of each call, what is said, where ` / ` parts the lines, and behind an arrow, if OUT no longer holds
 // `before`, what it holds, of a long text its length. An empty line and one that begins with `#` are repeated.
@@ -19,20 +20,25 @@ fn words_of(alloc: Global, text: &str) -> Result<Vec<String>, AllocError> {
     Ok(words)
 }
 
-// A line, and how often it stands.
-fn repeated(line: &str) -> (u32, &str) {
-    if let Some((times, rest)) = line.split_once(" * ")
+// A line, or as many as stand before the sign `*`.
+fn add_line(file: &mut String, line: &str) -> Result<(), AllocError> {
+    if let Some((times, line)) = line.split_once(" * ")
         && let Ok(times) = times.parse::<u32>()
     {
-        return (times, rest);
+        return add_lines(file, times, line);
     }
-    (1, line)
+    file.push_str(line)?;
+    file.push('\n')
 }
 
-fn add_line(file: &mut String, line: &str) -> Result<(), AllocError> {
-    let (times, line) = repeated(line);
-    for _ in 0..times {
-        file.push_str(line)?;
+// So many lines. The sign `%` is the number of each, from 1 on.
+fn add_lines(file: &mut String, times: u32, line: &str) -> Result<(), AllocError> {
+    let parts = line.split_once('%');
+    for number in 0..times {
+        match parts {
+            Some((before, behind)) => write!(file, "{before}{}{behind}", number + 1)?,
+            None => file.push_str(line)?,
+        }
         file.push('\n')?;
     }
     Ok(())

@@ -43,47 +43,80 @@ fn disk_of(alloc: Global, files: &[File]) -> Result<Vec<u8>, AllocError> {
     Ok(disk)
 }
 
-// The first word of each line, with a blank behind it.
-fn first_words(alloc: Global, said: &[u8]) -> Result<Vec<u8>, AllocError> {
+/// A program, its words, how many words of each line are looked at, and these words.
+#[derive(Clone, Copy)]
+struct Call<'a> {
+    file: &'a [u8],
+    words: &'a [&'a str],
+    count: u32,
+    wanted: &'a [u8],
+}
+
+// The first words of each line, so many, with a blank behind them.
+fn first_words(alloc: Global, said: &[u8], count: u32) -> Result<Vec<u8>, AllocError> {
     let mut words = Vec::new(alloc);
-    let mut is_first = true;
+    let mut word: u32 = 1;
     for byte in said {
         if *byte == b'\n' {
             words.push(b' ')?;
-            is_first = true;
-        } else if *byte == b' ' {
-            is_first = false;
-        } else if is_first {
+            word = 1;
+            continue;
+        }
+        if *byte == b' ' {
+            word = word.saturating_add(1);
+        }
+        if word <= count {
             words.push(*byte)?;
         }
     }
     Ok(words)
 }
 
-// The program with these words says these lines, by their first words, and leaves this disk in the file E.
-fn assert_copies(rt: &impl Abort, alloc: Global, words: &[&str], file: &[u8]) -> Result<(), Fail> {
+// The program with these words says lines that begin with these words, and leaves this disk in the file E.
+fn assert_copies(rt: &impl Abort, alloc: Global, call: &Call) -> Result<(), Fail> {
     let mut host = MemHost::new(alloc);
-    host.put("P", file)?;
+    host.put("P", call.file)?;
     host.put("D", &disk_of(alloc, &GIVEN)?)?;
-    assert_eq!(rt; xlt(alloc, list_of(alloc, words)?, &mut host), 0);
-    let calls = first_words(alloc, host.said())?;
-    let wanted = b"0f 13 16 1a 14 15 14 10 09 end ended ";
-    assert!(rt; calls.as_slice() == wanted.as_slice());
+    assert_eq!(rt; xlt(alloc, list_of(alloc, call.words)?, &mut host), 0);
+    let calls = first_words(alloc, host.said(), call.count)?;
+    assert!(rt; calls.as_slice() == call.wanted);
     let left = disk_of(alloc, &LEFT)?;
     assert!(rt; host.file("E") == Some(left.as_slice()));
     Ok(())
 }
 
+const OPTIONS: [&str; 6] = ["--disk", "D", "--out-disk", "E", "--tail", "A.TXT B.TXT"];
+
 #[test]
-fn a_file_is_copied_on_both_machines(rt: HostRuntime) -> Result<(), Fail> {
+fn a_file_is_copied_on_each_machine(rt: HostRuntime) -> Result<(), Fail> {
     let alloc = rt.alloc();
-    let options = ["--disk", "D", "--out-disk", "E", "--tail", "A.TXT B.TXT"];
-    let [a, b, c, d, e, f] = options;
-    assert_copies(&rt, alloc, &["run80", "P", a, b, c, d, e, f], COPIER)?;
+    let [a, b, c, d, e, f] = OPTIONS;
     let mut host = MemHost::new(alloc);
     host.put("P", COPIER)?;
     let words = list_of(alloc, &["translate", "P", "OUT", "--plain"])?;
     assert_eq!(rt; xlt(alloc, words, &mut host), 0);
     let text = host.file("OUT").ok_or("a text")?;
-    assert_copies(&rt, alloc, &["run86", "P", a, b, c, d, e, f], text)
+    for (command, file) in [("run80", COPIER), ("run86", text)] {
+        let call = Call {
+            file,
+            words: &[command, "P", a, b, c, d, e, f],
+            count: 1,
+            wanted: b"0f 13 16 1a 14 15 14 10 09 end ended ",
+        };
+        assert_copies(&rt, alloc, &call)?;
+    }
+    Ok(())
+}
+
+#[test]
+fn a_file_is_copied_on_both_machines(rt: HostRuntime) -> Result<(), Fail> {
+    let [a, b, c, d, e, f] = OPTIONS;
+    let call = Call {
+        file: COPIER,
+        words: &["both", "P", a, b, c, d, e, f],
+        count: 2,
+        wanted: b"80 0f 80 13 80 16 80 1a 80 14 80 15 80 14 80 10 80 09 80 end \
+            86 0f 86 13 86 16 86 1a 86 14 86 15 86 14 86 10 86 09 86 end ended after ",
+    };
+    assert_copies(&rt, rt.alloc(), &call)
 }

@@ -200,6 +200,51 @@ const RUN_OPTIONS: [Row; 26] = [
     (&["run80", "A", TAIL_127], "none"),
 ];
 
+const BOTH: [Row; 8] = [
+    (
+        &["both", "A"],
+        "both A top f000 choice 0 input none ports none tail 0 steps 1000000",
+    ),
+    (
+        &[
+            "both",
+            "--choice=aB",
+            "--top",
+            "c000",
+            "A",
+            "--ports=P",
+            "--steps=7",
+        ],
+        "both A top c000 choice ab input none ports P tail 0 steps 7",
+    ),
+    (
+        &["both", "--input", "F", "--", "--top"],
+        "both --top top f000 choice 0 input F ports none tail 0 steps 1000000",
+    ),
+    (&["both"], "none"),
+    (&["both", "A", "B"], "none"),
+    (&["both", "A", PLAIN], "none"),
+    (&["both", "A", "--choice=1", "--choice=1"], "none"),
+    (&["Both", "A"], "none"),
+];
+
+const SAMPLE: [Row; 14] = [
+    (&["sample", "1", "A"], "sample 1 A"),
+    (&["sample", "500", "A"], "sample 500 A"),
+    (&["sample", "007", "A"], "sample 7 A"),
+    (&["sample", "--", "12", "-x"], "sample 12 -x"),
+    (&["sample", "0", "A"], "none"),
+    (&["sample", "000", "A"], "none"),
+    (&["sample", "501", "A"], "none"),
+    (&["sample", "0001", "A"], "none"),
+    (&["sample", "+1", "A"], "none"),
+    (&["sample", "", "A"], "none"),
+    (&["sample", "1", ""], "none"),
+    (&["sample", "1"], "none"),
+    (&["sample", "A", "1"], "none"),
+    (&["sample", "1", "A", "--top=8000"], "none"),
+];
+
 pub(crate) fn list_of(alloc: Global, words: &[&str]) -> Result<Vec<String>, AllocError> {
     let mut list = Vec::new(alloc);
     for word in words {
@@ -222,7 +267,7 @@ fn run_text(alloc: Global, run: &RunOptions) -> Result<String, AllocError> {
 // The command that words are.
 fn told(alloc: Global, words: &[&str]) -> Result<String, AllocError> {
     let list = list_of(alloc, words)?;
-    match read_words(list.as_slice()) {
+    match read_words(alloc, list.as_slice())? {
         None => String::from_str(alloc, "none"),
         Some(Command::Translate(command)) => {
             let mode = if command.plain { "plain" } else { "lean" };
@@ -248,6 +293,16 @@ fn told(alloc: Global, words: &[&str]) -> Result<String, AllocError> {
             let run = run_text(alloc, &command.run)?;
             format!(in alloc; "{} choice {:x} {run}", command.text, command.choice)
         }
+        Some(Command::Both(command)) => {
+            let run = run_text(alloc, &command.run)?;
+            format!(in alloc;
+                "both {} top {:x} choice {:x} {run}",
+                command.source, command.top, command.choice
+            )
+        }
+        Some(Command::Sample(command)) => {
+            format!(in alloc; "sample {} {}", command.count, command.output)
+        }
     }
 }
 
@@ -264,5 +319,7 @@ fn words_are_read(rt: HostRuntime) -> Result<(), Fail> {
     expect_rows(&rt, rt.alloc(), &NAMES_AND_FLAGS)?;
     expect_rows(&rt, rt.alloc(), &OPTIONS_WITH_VALUES)?;
     expect_rows(&rt, rt.alloc(), &LISTINGS)?;
+    expect_rows(&rt, rt.alloc(), &BOTH)?;
+    expect_rows(&rt, rt.alloc(), &SAMPLE)?;
     expect_rows(&rt, rt.alloc(), &RUN_OPTIONS)
 }

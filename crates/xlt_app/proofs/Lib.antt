@@ -1,3 +1,3 @@
-pub mod Outcomes
+pub mod Asked
 pub mod Statuses
-pub mod Tops
+pub mod Outcomes

@@ -4,25 +4,32 @@ use Rattle.std.specs.Prelude.{Result, Ok, Err}
 use Rattle.host.specs.declared.HostFault.{HostFault}
 use Rattle.host.specs.declared.HostFault.TheVariants.{Failed, Memory}
 use Rattle.host.specs.Host.{HostState}
-use Rattle.cmd_words.specs.Words.{Translate, Check, Flags, Run80, Run86}
+use Rattle.cmd_words.specs.Words.{Translate, Check, Flags, Run80, Run86, Both, Sample, Command, Translates, Checks, ListsFlags, Runs80, Runs86, RunsBoth, MakesSample}
 use Rattle.cmd_reports.specs.declared.stop.Stop.{Stop}
 use Rattle.cmd_reports.specs.declared.stop.Stop.TheVariants.{SourceLine, SourceProgram, ReadFailed, WriteFailed, OutOfMemory, LeftProfile, StepLimit, NotShown, InputEnded, TextLine, ShortJump, NoInstruction, StackSegment, OddCall, BadDisk, NoDrive, CodeTooLarge, FileTooLong}
-use Rattle.cmd_reports.specs.Lines.{status_of, ended_line}
+use Rattle.cmd_reports.specs.Lines.{status_of, ended_line, both_line}
 use Rattle.cmd_reports.specs.Said.{IsDone, whole, failed, no_memory, Closes, said, unsaid}
 use Rattle.std.specs.List.{concat}
 use Rattle.cmd_run.specs.Ends.{unsaid_status}
 use Rattle.cmd_run.specs.Lasts.{EndsBy}
-use Rattle.cmd_translate.specs.Translates as translation
-use Rattle.cmd_check.specs.Checks as checking
+use Rattle.cmd_both.specs.Lasts.{EndsBy as BothEndBy}
+use Rattle.cmd_texts.specs.Translates as translation
+use Rattle.cmd_texts.specs.Checks as checking
 use Rattle.cmd_flags.specs.Listing as listing
 use Rattle.cmd_run.specs.Runs80 as source
 use Rattle.cmd_run.specs.Runs86 as text
-use Rattle.xlt_app.specs.Top.{IsStatus}
+use Rattle.cmd_texts.specs.Samples as making
+use Rattle.cmd_both.specs.Gives as both
+use Rattle.xlt_app.specs.Top.{IsStatus, Answers}
 
 -- a status that is not that of refused words
 pub record IsOfCommand (status : ℕ) : Type 0 where
   pub number : IsStatus status
   pub other : status ≡ 2 → ⊥
+
+-- that of refused words
+pub of_words : IsStatus 2
+of_words = (2, omega arith, refl)
 
 of_0 : IsOfCommand 0
 of_0 = record { number = (0, omega arith, refl); other = λ e. absurd (omega arith) }
@@ -36,7 +43,7 @@ of_3 = record { number = (3, omega arith, refl); other = λ e. absurd (omega ari
 of_4 : IsOfCommand 4
 of_4 = record { number = (4, omega arith, refl); other = λ e. absurd (omega arith) }
 
-of_5 : IsOfCommand 5
+pub of_5 : IsOfCommand 5
 of_5 = record { number = (5, omega arith, refl); other = λ e. absurd (omega arith) }
 
 of_6 : IsOfCommand 6
@@ -126,7 +133,7 @@ of_unsaid Memory = of_5
 
 -- ---- the commands
 
-pub of_translation : (c : Translate) (old new : HostState) (status : ℕ) → translation.Gives c old new status → IsOfCommand status
+of_translation : (c : Translate) (old new : HostState) (status : ℕ) → translation.Gives c old new status → IsOfCommand status
 of_translation c old new _ (translation.translated p lines a w s l f) = of_0
 of_translation c old new _ (translation.refused line rule r l) = of_1
 of_translation c old new _ (translation.too_large size x l) = of_13
@@ -138,11 +145,11 @@ of_translation c old new _ (translation.no_memory_to_write p lines a w s) = of_5
 of_translation c old new _ (translation.no_memory_to_say p lines a w f s) = of_5
 of_translation c old new _ (translation.too_long l s) = of_14
 
-pub of_checking : (c : Check) (old new : HostState) (status : ℕ) → checking.Gives c old new status → IsOfCommand status
+of_checking : (c : Check) (old new : HostState) (status : ℕ) → checking.Gives c old new status → IsOfCommand status
 of_checking c old new status (checking.shown mid line h d) = of_done line mid new status d
 of_checking c old new status (checking.stopped mid stop s k) = of_closes stop mid new status k
 
-pub of_listing : (c : Flags) (old new : HostState) (status : ℕ) → listing.Gives c old new status → IsOfCommand status
+of_listing : (c : Flags) (old new : HostState) (status : ℕ) → listing.Gives c old new status → IsOfCommand status
 of_listing c old new status (listing.reported mid lines h d) = of_done (concat lines) mid new status d
 of_listing c old new status (listing.stopped mid stop s k) = of_closes stop mid new status k
 
@@ -150,12 +157,38 @@ of_ending : (came : Result ℕ Stop) (old new : HostState) (status : ℕ) → En
 of_ending (Ok steps) old new status e = of_done (ended_line steps) old new status e
 of_ending (Err stop) old new status e = of_closes stop old new status e
 
-pub of_run80 : (c : Run80) (old new : HostState) (status : ℕ) → source.Gives c old new status → IsOfCommand status
+of_run80 : (c : Run80) (old new : HostState) (status : ℕ) → source.Gives c old new status → IsOfCommand status
 of_run80 c old new status (source.ran kept came h e) = of_ending came kept new status e
 of_run80 c old new status (source.unsaid fault e k) = subst IsOfCommand (sym e) (of_unsaid fault)
 of_run80 c old new status (source.stopped mid stop s k) = of_closes stop mid new status k
 
-pub of_run86 : (c : Run86) (old new : HostState) (status : ℕ) → text.Gives c old new status → IsOfCommand status
+of_run86 : (c : Run86) (old new : HostState) (status : ℕ) → text.Gives c old new status → IsOfCommand status
 of_run86 c old new status (text.ran kept came h e) = of_ending came kept new status e
 of_run86 c old new status (text.unsaid fault e k) = subst IsOfCommand (sym e) (of_unsaid fault)
 of_run86 c old new status (text.stopped mid stop s k) = of_closes stop mid new status k
+
+of_both_ending : (came : Result ℕ Stop) (steps86 : ℕ) (old new : HostState) (status : ℕ) → BothEndBy came steps86 old new status → IsOfCommand status
+of_both_ending (Ok steps80) steps86 old new status e = of_done (both_line steps80 steps86) old new status e
+of_both_ending (Err stop) steps86 old new status e = of_closes stop old new status e
+
+of_both : (c : Both) (old new : HostState) (status : ℕ) → both.Gives c old new status → IsOfCommand status
+of_both c old new status (both.ran kept came steps86 h e) = of_both_ending came steps86 kept new status e
+of_both c old new status (both.unsaid fault e k) = subst IsOfCommand (sym e) (of_unsaid fault)
+of_both c old new status (both.stopped mid stop s k) = of_closes stop mid new status k
+
+of_making : (c : Sample) (old new : HostState) (status : ℕ) → making.Gives c old new status → IsOfCommand status
+of_making c old new _ (making.made line is w s f) = of_0
+of_making c old new _ (making.unwritten w s) = of_4
+of_making c old new _ (making.unsaid line is w f s) = of_4
+of_making c old new _ (making.no_memory l) = of_5
+of_making c old new _ (making.no_memory_to_write w s) = of_5
+of_making c old new _ (making.no_memory_to_say line is w f s) = of_5
+
+pub of_answer : (c : Command) (old new : HostState) (status : ℕ) → Answers c old new status → IsOfCommand status
+of_answer (Translates c) old new status a = of_translation c old new status a.gives
+of_answer (Checks c) old new status a = of_checking c old new status a.gives
+of_answer (ListsFlags c) old new status a = of_listing c old new status a.gives
+of_answer (Runs80 c) old new status a = of_run80 c old new status a.gives
+of_answer (Runs86 c) old new status a = of_run86 c old new status a.gives
+of_answer (RunsBoth c) old new status a = of_both c old new status a.gives
+of_answer (MakesSample c) old new status a = of_making c old new status a.gives

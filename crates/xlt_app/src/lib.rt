@@ -3,19 +3,19 @@
 
 ghost use Rattle.std.specs.Prelude.{◌≡◌, map};
 ghost use Rattle.std.specs.String.{string_bytes};
+ghost use Rattle.cmd_words.specs.ReadCommands.{command_read};
 ghost use Rattle.cmd_words.specs.Words.{Translate, Check, Translates, Checks, IsCommand};
-ghost use Rattle.xlt_app.specs.Top.{Headline, CheckedHeadline, Outcomes};
+ghost use Rattle.xlt_app.specs.Top.{Headline, CheckedHeadline, Outcomes, Answers, IsAsked};
 
-use cmd_check::check;
+use cmd_both::both;
 pub use cmd_files::{write_bytes, write_out};
 use cmd_flags::flags;
-use cmd_reports::words_refused;
+use cmd_reports::{Stop, say_stop, words_refused};
 use cmd_run::{run80, run86};
-use cmd_translate::translate;
-use cmd_words::{Command, read_words};
+use cmd_texts::{check, sample, translate};
+use cmd_words::{Command, read_words, words_are_one_command};
 use host::Host;
-use std::alloc::Global;
-use xlt_core::own_texts_are_same;
+use std::alloc::{AllocError, Global};
 
 /// What the program does with the words after its name: it answers the status that the process ends with. The files of the
 /// command are those of the host, and what is said goes to it.
@@ -26,15 +26,26 @@ pub fn xlt<H: Host>(alloc: Global, words: Vec<String>, host: &mut H) -> u8
         → result ≡ 0 → CheckedHeadline c (H.state host.old) }
     ensures outcomes { Outcomes (map string_bytes words.items) (H.state host.old) (H.state host.new) result }
 {
-    own_texts_are_same();
-    let Some(command) = read_words(words.as_slice()) else {
-        return words_refused(host);
-    };
+    words_are_one_command();
+    match read_words(alloc, words.as_slice()) {
+        Ok(Some(command)) => answer(alloc, host, &command),
+        Ok(None) => words_refused(host),
+        Err(AllocError) => say_stop(alloc, host, Stop::OutOfMemory),
+    }
+}
+
+// The status of a command.
+fn answer<H: Host>(alloc: Global, host: &mut H, command: &Command<'_>) -> u8
+    requires { IsAsked (command_read command.now) }
+    ensures { Answers (command_read command.now) (H.state host.old) (H.state host.new) result }
+{
     match command {
-        Command::Translate(command) => translate(alloc, host, &command),
-        Command::Check(command) => check(alloc, host, &command),
-        Command::Flags(command) => flags(alloc, host, &command),
-        Command::Run80(command) => run80(alloc, host, &command),
-        Command::Run86(command) => run86(alloc, host, &command),
+        Command::Translate(command) => translate(alloc, host, command),
+        Command::Check(command) => check(alloc, host, command),
+        Command::Flags(command) => flags(alloc, host, command),
+        Command::Run80(command) => run80(alloc, host, command),
+        Command::Run86(command) => run86(alloc, host, command),
+        Command::Both(command) => both(alloc, host, command),
+        Command::Sample(command) => sample(alloc, host, command),
     }
 }
