@@ -1,0 +1,16 @@
+// A law that the laws of texts are not laws of nothing.
+#![tactic(auto)]
+
+ghost use Rattle.own_runs.specs.Laws.{OwnRunsBeginInStep};
+
+use sym_same::blocks_follow;
+use xlt_core::own_texts_are_shown;
+
+/// A law: where the code of its text fits, in either mode, a program's run begins linked with that of its text. So lines match programs,
+/// linked runs and runs that follow one another are there.
+pub fn own_runs_begin_in_step()
+    ensures { OwnRunsBeginInStep }
+{
+    own_texts_are_shown();
+    blocks_follow();
+}
