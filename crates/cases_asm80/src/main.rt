@@ -5,6 +5,7 @@
 
 mod addresses;
 mod codes;
+mod columns;
 mod operands;
 mod program;
 mod source;

@@ -1,5 +1,6 @@
 // The operands of statements at 106H, as text, where instructions start at 100H, 103H and 106H.
 use crate::codes::{push_cell, push_code};
+use crate::columns::push_columns;
 use crate::source::statements_of;
 use asm80_names::{
     Names, Scope, has_place_inside, is_no_value, meaning_of, operand_divides_by_zero,
@@ -23,11 +24,12 @@ const HIDDEN: Meaning = Meaning {
     is_place: true,
 };
 
-/// What is asked of operands: their values, or what they make.
+/// What is asked of operands: their values, what they make, or the columns of the instruction that they make.
 #[derive(Clone, Copy)]
 pub enum Asked {
     Values,
     Form,
+    Columns,
 }
 
 #[derive(Drop)]
@@ -136,18 +138,33 @@ fn push_form(text: &mut String, form: &Form) -> Result<(), AllocError> {
     }
 }
 
-// What the operands of a statement make, or their refusal.
+// The columns of the instruction that operands make.
+fn push_columns_of(text: &mut String, form: &Form) -> Result<(), AllocError> {
+    match form {
+        Form::Instruction(found) => match found.instr {
+            Some(instr) => push_columns(text, instr),
+            None => text.push_str("none"),
+        },
+        Form::Nothing | Form::Data(_) => text.push_str("no instruction"),
+    }
+}
+
+// What the operands of a statement make, or its columns, or their refusal.
 fn push_made(
     alloc: Global,
     text: &mut String,
     setting: &Setting<'_>,
     statement: &Stmt80,
+    asked: Asked,
 ) -> Result<(), AllocError> {
     let Some(operation) = statement.op.and_then(|name| operation_of(name.as_slice())) else {
         return text.push_str("no operation");
     };
     match form_of(alloc, setting, operation, statement.args.as_slice()) {
-        Ok(form) => push_form(text, &form),
+        Ok(form) => match asked {
+            Asked::Columns => push_columns_of(text, &form),
+            Asked::Values | Asked::Form => push_form(text, &form),
+        },
         Err(fault) => write!(text, "{fault}"),
     }
 }
@@ -175,7 +192,7 @@ fn push_statements(
         text.push_str(before)?;
         match asked {
             Asked::Values => push_values(text, setting, statement.args.as_slice())?,
-            Asked::Form => push_made(alloc, text, setting, statement)?,
+            Asked::Form | Asked::Columns => push_made(alloc, text, setting, statement, asked)?,
         }
         before = "; ";
     }

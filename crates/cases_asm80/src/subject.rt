@@ -30,6 +30,7 @@ fn subject_of(heading: &str) -> Option<Subject> {
         "= addresses and meanings" => Some(Subject::Addresses),
         "= values of operands" => Some(Subject::Operands(Asked::Values)),
         "= what operands make" => Some(Subject::Operands(Asked::Form)),
+        "= columns of instructions" => Some(Subject::Operands(Asked::Columns)),
         _ => Some(Subject::Program(top_of(heading)?)),
     }
 }

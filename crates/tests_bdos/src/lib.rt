@@ -1,10 +1,8 @@
-// The calls of the BDOS, over public calls: their table, the answers of the console and of ports, and programs of both machines over it.
+// The calls of the BDOS, over public calls: their table, start pages, replies, and the answers of the console and of ports.
 #![tactic(auto)]
 
 #[cfg(test)]
 mod console;
-#[cfg(test)]
-mod emulation;
 #[cfg(test)]
 mod memory;
 #[cfg(test)]

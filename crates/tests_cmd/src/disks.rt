@@ -1,6 +1,5 @@
 // The file copier of the CP/M 2.2 Operating System Manual, section 5.4, over a disk: on either machine, its calls and the disk that
 // it leaves.
-use crate::words::list_of;
 use host::{Host, MemHost};
 use std::alloc::{AllocError, Global};
 use std::process::Abort;
@@ -26,6 +25,14 @@ const LEFT: [File; 3] = [
     (b"B       TXT", b'a', 1),
     (b"Z       TXT", b'z', 2),
 ];
+
+fn list_of(alloc: Global, words: &[&str]) -> Result<Vec<String>, AllocError> {
+    let mut list = Vec::new(alloc);
+    for word in words {
+        list.push(String::from_str(alloc, word)?)?;
+    }
+    Ok(list)
+}
 
 // The disk file of these two or three files.
 fn disk_of(alloc: Global, files: &[File]) -> Result<Vec<u8>, AllocError> {

@@ -1,5 +1,5 @@
-// The words of the commands, files in and out in pieces, and a disk that is copied on, over public calls. What each command does is tried by the cases of
-// `cases_cmd`.
+// Files in and out in pieces, and a disk that is copied on, over public calls. What words are read as is tried by the cases of
+// `cases_words`, and what each command does by those of `cases_cmd`.
 #![tactic(auto)]
 
 #[cfg(test)]
@@ -10,5 +10,3 @@ mod files;
 mod pieces;
 #[cfg(test)]
 mod sparing;
-#[cfg(test)]
-mod words;

@@ -1,0 +1,101 @@
+// What the words of a command line are read as, a case a line: blanks part the words behind `xlt`, `""` is a word without a letter,
+// and `~` and `^` are a blank and a tab in a word. The answer is the command that they are, or `none`. An empty line and one that
+// begins with `#` are repeated.
+#![tactic(auto)]
+
+use cmd_words::{Command, RunOptions, read_words};
+use std::alloc::{AllocError, Global};
+use std::io;
+
+fn word_of(alloc: Global, text: &str) -> Result<String, AllocError> {
+    let mut word = String::new(alloc);
+    if text != "\"\"" {
+        for letter in text.chars() {
+            word.push(match letter {
+                '~' => ' ',
+                '^' => '\t',
+                letter => letter,
+            })?;
+        }
+    }
+    Ok(word)
+}
+
+fn words_of(alloc: Global, line: &str) -> Result<Vec<String>, AllocError> {
+    let mut words = Vec::new(alloc);
+    for text in line.strip_prefix("xlt").unwrap_or("").split_whitespace() {
+        words.push(word_of(alloc, text)?)?;
+    }
+    Ok(words)
+}
+
+// Run options by the files of the input and of the ports, the byte at 80H and the steps.
+fn run_text(alloc: Global, run: &RunOptions) -> Result<String, AllocError> {
+    let input = run.input.unwrap_or("none");
+    let ports = run.ports.unwrap_or("none");
+    let count = run.page.bytes()[0x24];
+    format!(in alloc;
+        "input {input} ports {ports} tail {count} steps {}",
+        run.steps
+    )
+}
+
+fn command_text(alloc: Global, command: &Command) -> Result<String, AllocError> {
+    match command {
+        Command::Translate(command) => {
+            let mode = if command.plain { "plain" } else { "lean" };
+            format!(in alloc;
+                "{} {} {mode} top {:x}",
+                command.input, command.output, command.top
+            )
+        }
+        Command::Check(command) => {
+            format!(in alloc;
+                "check {} {} top {:x}",
+                command.source, command.text, command.top
+            )
+        }
+        Command::Flags(command) => {
+            format!(in alloc; "flags {} top {:x}", command.source, command.top)
+        }
+        Command::Run80(command) => {
+            let run = run_text(alloc, &command.run)?;
+            format!(in alloc; "{} top {:x} {run}", command.source, command.top)
+        }
+        Command::Run86(command) => {
+            let run = run_text(alloc, &command.run)?;
+            format!(in alloc; "{} choice {:x} {run}", command.text, command.choice)
+        }
+        Command::Both(command) => {
+            let run = run_text(alloc, &command.run)?;
+            format!(in alloc;
+                "both {} top {:x} choice {:x} {run}",
+                command.source, command.top, command.choice
+            )
+        }
+        Command::Sample(command) => {
+            format!(in alloc; "sample {} {}", command.count, command.output)
+        }
+    }
+}
+
+fn told(alloc: Global, line: &str) -> Result<String, AllocError> {
+    let words = words_of(alloc, line)?;
+    let text = match read_words(alloc, words.as_slice())? {
+        Some(command) => command_text(alloc, &command)?,
+        None => String::from_str(alloc, "none")?,
+    };
+    format!(in alloc; "{line} => {text}")
+}
+
+fn main(rt: HostRuntime) -> io::Result<()> {
+    for line in rt.lines(rt.alloc()) {
+        let line = line?;
+        if line.is_empty() || line.starts_with('#') {
+            println!(rt; "{line}")?;
+        } else {
+            println!(rt; "{}", told(rt.alloc(), line.as_str())?)?;
+        }
+    }
+    Ok(())
+}
