@@ -69,7 +69,7 @@ fn check_kept(
 }
 
 /// Whether what a text does at the label of an instruction is what the instruction does, with all parts kept, those after it at each
-/// instruction and at a return. It takes no memory.
+/// instruction and, where a place is taken, at a return. It takes no memory.
 pub fn check_all_kept(work: &mut Work, program: &Program80, text: &Index86, at: u16) -> Verdict
     requires { is_start program.now at ≡ true }
     ensures verdict { result ≡ verdict_of (block_reason program.now text.now (all_kept program.now) at 1) }

@@ -18,7 +18,7 @@ use sym_run::{Exit, Way};
 /// What is kept.
 #[derive(Clone, Copy)]
 pub enum Kept<'a> {
-    /// All parts at each instruction of a program, and at a return.
+    /// All parts at each instruction of a program, and at a return where a place is taken.
     All(&'a Program80),
     /// What is needed at the first address of each block, and nothing at any other place; and what is needed at a return.
     Needed(&'a Graph),
@@ -67,6 +67,7 @@ fn kept_at_return(kept: &Kept<'_>) -> Keep
     ensures { (k : Keeps) → KeepsAre kept.now k → result ≡ k.returned }
 {
     match kept {
+        Kept::All(program) if program.taken().is_empty() => Keep::none(),
         Kept::All(_) => Keep::all(),
         Kept::Needed(graph) => graph.need_return(),
     }
