@@ -1,3 +1,4 @@
 mod Lookup
 mod CellSearch
 mod Marks
+pub mod Standing

@@ -6,12 +6,6 @@ use Rattle.std.specs.Str.{bytes_eq}
 use Rattle.bdos_names.specs.Names.{is_name, is_before, is_after, matches}
 use Rattle.bdos_disk.specs.Stored.{Stored, zero_record}
 
-abbrev pub most_files : ℕ
-most_files = 64
-
-abbrev pub most_records : ℕ
-most_records = 8000
-
 -- a file that a disk may have
 pub record IsFile (f : Stored) : Type 0 where
   pub name : is_name f.name ≡ true

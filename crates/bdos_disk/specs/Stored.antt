@@ -1,11 +1,7 @@
 -- Files as a disk stores them.
 use Rattle.std.specs.Prelude.{ℕ, List, replicate}
 
--- a record is a list of 128 bytes
-abbrev pub record_length : ℕ
-record_length = 128
-
--- a record of zeros
+-- a record of zeros; records have 128 bytes
 abbrev pub zero_record : List ℕ
 zero_record = replicate 128 0
 

@@ -1,7 +1,7 @@
 -- The blocks of a program's graph as blocks to be run.
 use Rattle.std.specs.Prelude.{ℕ}
 use Rattle.asm80_program.specs.Program.{Program, IsProgram}
-use Rattle.flow.specs.Blocks.{IsBlock as IsBlockOf}
+use Rattle.flow.specs.Blocks.{IsBlockOf}
 use Rattle.sym_blocks.specs.Block80.{IsBlock}
 
 -- each block has 1 to 16 instructions from its leader on, of which the last alone may end it

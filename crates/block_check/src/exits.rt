@@ -1,24 +1,13 @@
 // Whether the exits of two outcomes agree.
 
 ghost use Rattle.std.specs.Prelude.{◌≡◌, ◌&&◌};
-ghost use Rattle.sym_terms.specs.Term.{same_place, same_bool};
+ghost use Rattle.sym_terms.specs.Term.{same_bool};
 ghost use Rattle.sym_terms.specs.Trees.{tree_in, IsGiven};
 ghost use Rattle.sym_blocks.specs.Agree.{agrees, way_agrees, ways_agree, exit_agrees};
 ghost use Rattle.sym_micro.specs.Exits.{tree_of_way, tree_of_exit, WayIsGiven, ExitIsGiven};
 
-use cells::Place;
 use sym_run::{Exit, Way, Work};
 use sym_terms::Term;
-
-fn same_place(one: Place, other: Place) -> bool
-    ensures { result ≡ same_place one other }
-{
-    match (one, other) {
-        (Place::At(a), Place::At(b)) => a == b,
-        (Place::Exit, Place::Exit) => true,
-        _ => false,
-    }
-}
 
 fn same_value(one: bool, other: bool) -> bool
     ensures { result ≡ same_bool one other }
@@ -47,16 +36,15 @@ fn way_agrees(work: &Work, one: Way, other: Way) -> bool
 {
     match (one, other) {
         (Way::Leave, _) => true,
-        (Way::Goto(q), Way::Goto(r)) => same_place(q, r),
+        (Way::Goto(q), Way::Goto(r)) => q.is_same(r),
         (Way::ByTerms(h, l), Way::ByTerms(u, v)) => halves_agree(work, h, l, u, v),
-        (Way::Call(q, back), Way::Call(r, other_back)) => same_place(q, r)
-            && same_place(back, other_back),
-        (Way::Sys(back), Way::Sys(other_back)) => same_place(back, other_back),
+        (Way::Call(q, back), Way::Call(r, other_back)) => q.is_same(r) && back.is_same(other_back),
+        (Way::Sys(back), Way::Sys(other_back)) => back.is_same(other_back),
         (Way::SysReturn, Way::SysReturn) | (Way::Boot, Way::Boot) => true,
         (Way::In(port, next), Way::In(other_port, other_next)) => port == other_port
-            && same_place(next, other_next),
+            && next.is_same(other_next),
         (Way::Out(port, next), Way::Out(other_port, other_next)) => port == other_port
-            && same_place(next, other_next),
+            && next.is_same(other_next),
         _ => false,
     }
 }

@@ -1,1 +1,2 @@
 mod KeepBits
+pub mod SamePlace

@@ -7,6 +7,7 @@ ghost use Rattle.std.specs.Ordering.{on};
 ghost use Rattle.std.specs.Prelude.{◌≡◌, ◌<◌, ◌==◌, ◌↔◌, IsTrue, not, option_map};
 ghost use Rattle.cells.specs.Bits.{has_bit};
 ghost use Rattle.cells.specs.Conditions.{unknown_flags, flags_of_byte, holds};
+ghost use Rattle.cells.specs.Places.{same_place};
 ghost use Rattle.cells.specs.Parts.{nothing, everything, only, union, has, bits_of_parts};
 
 use std::marker::Model;
@@ -16,6 +17,19 @@ use std::marker::Model;
 pub enum Place {
     At(u16),
     Exit,
+}
+
+impl Place {
+    /// Whether it is the other place.
+    pub fn is_same(self, other: Place) -> bool
+        ensures { result ≡ same_place self other }
+    {
+        match (self, other) {
+            (Place::At(a), Place::At(b)) => a == b,
+            (Place::Exit, Place::Exit) => true,
+            _ => false,
+        }
+    }
 }
 
 /// The five flags of the 8080, each 0, 1 or unknown.

@@ -33,7 +33,7 @@ use Rattle.cmd_run.proofs.Disks.{DiskLaw, disk_or_none}
 use Rattle.cmd_run.proofs.Completing80.{OneProgram, OneRefusal, NotBoth, only_run, refused, no_devices}
 use Rattle.xlt_core.specs.declared.translation.Mode.{Mode}
 use Rattle.xlt_core.specs.declared.translation.Mode.TheVariants.{Lean}
-use Rattle.xlt_core.specs.Translation.{IsText, code_of, CodeFits, IsTooLarge}
+use Rattle.xlt_core.specs.Translation.{IsText, code_size, CodeFits, IsTooLarge}
 use Rattle.cmd_both.specs.Lasts.{EndsBy}
 use Rattle.cmd_both.specs.Loads.{source_of, LeanStops, is_large, no_room, LoadStops, unloaded as Unloaded, no_image, no_memory as MemoryStops}
 use Rattle.cmd_both.specs.Runs.{HasBoth, HasCut, in_first, in_second}
@@ -49,7 +49,7 @@ module _ (program_is : OneProgram) (refusal_is : OneRefusal) (apart : NotBoth) (
     -- a text that fits is none that is too large
     not_large : (size : ℕ) (p : Program) (supply : Supply) → LeanFits c source given → IsSource source c.top p → HasDisk given supply → IsTooLarge Lean p size → ⊥
     not_large size p supply fits is has large =
-        let few : code_of large.lines < 0x10000 = fits p supply large.lines is has large.text in
+        let few : code_size large.lines < 0x10000 = fits p supply large.lines is has large.text in
         let many = large.large in
         let same = large.is in
         omega (arith, few, many, same)
@@ -89,7 +89,7 @@ module _ (program_is : OneProgram) (refusal_is : OneRefusal) (apart : NotBoth) (
     other_large p supply size is has large _ (too_large q s n also there more) =
         let program : q ≡ p = program_is source c.top q p also is in
         let lines : more.lines ≡ large.lines = text_is Lean p more.lines large.lines (subst (λ x. IsText Lean x more.lines) program more.text) large.text in
-        let size_is : n ≡ size = more.is ∙ ap code_of lines ∙ sym large.is in
+        let size_is : n ≡ size = more.is ∙ ap code_size lines ∙ sym large.is in
         ap (λ x. Err (CodeTooLarge x)) size_is
 
     large_status : (p : Program) (supply : Supply) (status : ℕ) (stop : Stop) → IsSource source c.top p → HasDisk given supply → LeanStops p stop → (status ≡ 5) ⊎ (status ≡ status_of stop) → HasStatus (Comes c source given) status

@@ -7,7 +7,7 @@ use Rattle.asm80_program.specs.Program.{Program}
 use Rattle.asm86_lines.specs.Image.{Image}
 use Rattle.host.specs.Host.{HostState, SameFiles, OnlyReads, OnlySays, SameFaults}
 use Rattle.cpu80_steps.specs.Start.{IsPage}
-use Rattle.cpu86_steps.specs.Start.{IsFill}
+use Rattle.base_runs.specs.Fill.{IsFill}
 use Rattle.cmd_words.specs.Words.{Both}
 use Rattle.bdos_ports.specs.Supply.{Supply}
 use Rattle.bdos_talk.specs.declared.fault.TalkFault.{TalkFault}

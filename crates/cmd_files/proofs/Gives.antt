@@ -2,8 +2,14 @@
 use Rattle.std.proofs.Common.{◌≡◌, ℕ, ◌+◌, ◌<◌, ◌≤◌, List, [], ◌++◌, length, take, refl, ap, ◌∙◌, sym, subst, append_assoc, append-nil, length-append, arith}
 use Rattle.std.proofs.Math.Seq.{take-add}
 use Rattle.std.proofs.lemmas.List.{length-take, take_all}
-use Rattle.host.specs.Host.{FileTold, Untold, Missing, Holds, IsFile, IsStartOfFile, ReadsFile}
+use Rattle.host.specs.Host.{FileTold, Untold, Missing, Holds, IsFile, ReadsFile}
 use Rattle.cmd_files.specs.Transfer.{IsLonger, GivesFile}
+
+-- these bytes begin the file, where the host tells it; a file that is not there counts as empty
+abbrev pub IsStartOfFile : FileTold → List ℕ → Type 0
+IsStartOfFile Untold bytes = Unit {0}
+IsStartOfFile Missing bytes = bytes ≡ []
+IsStartOfFile (Holds held) bytes = bytes ≡ take (length bytes) held
 
 -- the first bytes of the file, so many, were given
 pub record Gives {S : Type 0} (has : S → List ℕ → Type 0) (told : FileTold) (at : ℕ) (old new : S) : Type 0 where

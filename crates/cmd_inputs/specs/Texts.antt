@@ -36,12 +36,12 @@ pub data LinesStop (bytes : List ℕ) : Stop → Type 0 where
   breaks : {line : ℕ} {rule : TextRule} → TextGives bytes (Err (line, rule)) → LinesStop bytes (TextLine line rule)
 
 -- what bytes are: the lines of a text, or none
-abbrev pub LinesGive : List ℕ → Result (Vec Line86) Stop → Type 0
-LinesGive bytes (Ok lines) = TextGives bytes (Ok lines.items)
-LinesGive bytes (Err stop) = LinesStop bytes stop
+abbrev pub BytesGiveLines : List ℕ → Result (Vec Line86) Stop → Type 0
+BytesGiveLines bytes (Ok lines) = TextGives bytes (Ok lines.items)
+BytesGiveLines bytes (Err stop) = LinesStop bytes stop
 
 -- a whole file, and what its bytes are
 pub record ReadsText (old : HostState) (name : List ℕ) (outcome : Result (Vec Line86) Stop) : Type 0 where
   pub bytes : List ℕ
   pub file : IsWhole old name text_limit bytes
-  pub gives : LinesGive bytes outcome
+  pub gives : BytesGiveLines bytes outcome

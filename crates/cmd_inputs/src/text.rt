@@ -59,11 +59,11 @@ impl Sink for TextLines {
 
 impl TextLines {
     ghost use Rattle.asm86_text.specs.Reader.{After};
-    ghost use Rattle.cmd_inputs.specs.Texts.{LinesGive};
+    ghost use Rattle.cmd_inputs.specs.Texts.{BytesGiveLines};
 
     // The lines of the whole text, or the first rule that one of them breaks.
     fn lines<'a>(self) -> Result<Result<Vec<Line86>, Stop<'a>>, AllocError>
-        ensures read { IfOk result (λ outcome. (bytes : List ℕ) → After bytes self.reader → LinesGive bytes outcome) }
+        ensures read { IfOk result (λ outcome. (bytes : List ℕ) → After bytes self.reader → BytesGiveLines bytes outcome) }
         ensures in_order { IfOk result (λ outcome. IfOk outcome (λ lines. in_order at_start (statements lines.items) ≡ true)) }
         ensures few { IfOk result (λ outcome. IfOk outcome (λ lines. length lines.items < 2 ^ 28)) }
     {

@@ -1,4 +1,4 @@
--- What the end of a run over a console is to a command.
+-- What the end of a run over devices is to a command.
 use Rattle.std.specs.Prelude.{ℕ, Result, Ok, Err}
 use Rattle.host.specs.declared.HostFault.{HostFault}
 use Rattle.host.specs.declared.HostFault.TheVariants.{Failed, Memory}

@@ -12,7 +12,7 @@ use Rattle.asm80_source.specs.Source.{IsSource, SourceRule, IsNoSource, OfLine, 
 use Rattle.asm86_lines.specs.declared.line.Line86.{Line86}
 use Rattle.cmd_words.specs.Words.{Translate}
 use Rattle.xlt_core.specs.declared.translation.Mode.{Mode}
-use Rattle.xlt_core.specs.Translation.{IsText, code_of, CodeFits, IsTooLarge}
+use Rattle.xlt_core.specs.Translation.{IsText, code_size, CodeFits, IsTooLarge}
 use Rattle.i86.specs.Decode.{HasReader}
 use Rattle.sym_same.specs.Same.{Same}
 use Rattle.cmd_reports.specs.declared.stop.Stop.{Stop}
@@ -46,7 +46,7 @@ pub record SourceLaw : Type 0 where
 -- code that fits is not too large
 not_both : OneText → (mode : Mode) (p : Program) (lines : List Line86) (size : ℕ) → IsText mode p lines → CodeFits lines → IsTooLarge mode p size → ⊥
 not_both one mode p lines size text fits large =
-    let is : size ≡ code_of lines = large.is ∙ ap code_of (one mode p large.lines lines large.text text) in
+    let is : size ≡ code_size lines = large.is ∙ ap code_size (one mode p large.lines lines large.text text) in
     let more = large.large in
     omega (arith, is, more, fits)
 
@@ -178,7 +178,7 @@ module _ (law : SourceLaw) (one : OneText) (c : Translate) (old new : HostState)
     too_large = λ q other t large.
         let same = one_program x.program q (large_told size x) t in
         let texts : x.large.lines ≡ large.lines = one (mode_of c.plain) q x.large.lines large.lines (subst (λ z. IsText (mode_of c.plain) z x.large.lines) same x.large.text) large.text in
-        let sizes : size ≡ other = x.large.is ∙ ap code_of texts ∙ sym large.is in
+        let sizes : size ≡ other = x.large.is ∙ ap code_size texts ∙ sym large.is in
         (refl, subst (λ n. Says old new (size_line n)) sizes (whole_line (size_line size) ends));
   }
   decides _ ne (unread f ends) = absurd (⊎_elim none.reads (λ m. let there : Missing ≡ Holds bytes = sym m ∙ told.0 in cc) f)

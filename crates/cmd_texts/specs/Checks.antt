@@ -24,7 +24,7 @@ use Rattle.cmd_inputs.specs.Sources.{SourceStops}
 use Rattle.cmd_inputs.specs.Texts.{IsNoImage, stop_of_image}
 
 -- lines have an image, whose code has one reader
-pub record Stands (lines : List Line86) : Type 0 where
+pub record HasOneImage (lines : List Line86) : Type 0 where
   pub assembles : Assembles lines
   pub reader : HasReader (image_of lines).code
 
@@ -59,7 +59,7 @@ module _ (c : Check) (old : HostState) where
     pub reads : Reads new source text
     pub is_source : IsSource source c.top p
     pub gives : TextGives text (Ok lines)
-    pub stands : Stands lines
+    pub stands : HasOneImage lines
 
   -- the text is shown, and this is its line
   pub record Shows (new : HostState) (line : List ℕ) : Type 0 where

@@ -5,7 +5,7 @@ use Rattle.asm86_lines.specs.declared.line.Line86.{Line86}
 use Rattle.asm80_program.specs.Program.{Program}
 use Rattle.asm80_source.specs.Source.{IsSource}
 use Rattle.xlt_core.specs.declared.translation.Mode.TheVariants.{Lean}
-use Rattle.xlt_core.specs.Translation.{IsText, code_of, CodeFits}
+use Rattle.xlt_core.specs.Translation.{IsText, code_size, CodeFits}
 use Rattle.cmd_flags.specs.declared.savings.Saving.{Saving}
 use Rattle.cmd_flags.specs.Report.{sums, saves_any, AreSavings}
 use Rattle.sample_lines.specs.Sample.{sample_lines, sample_text}
@@ -51,7 +51,7 @@ counts_of K program lines savings = record {
   lines = length (sample_lines K);
   instructions = length program.instrs;
   cells = length program.cells;
-  code = code_of lines;
+  code = code_size lines;
   saved = count_by (λ (s : Saving). saves_any s.keep) savings;
   sums = length savings;
 }

@@ -11,7 +11,7 @@ use Rattle.cmd_words.specs.Words.{Translate}
 use Rattle.i86.specs.Decode.{HasReader}
 use Rattle.xlt_core.specs.declared.translation.Mode.{Mode}
 use Rattle.xlt_core.specs.declared.translation.Mode.TheVariants.{Plain, Lean}
-use Rattle.xlt_core.specs.Translation.{IsText, code_of, CodeFits, IsTooLarge}
+use Rattle.xlt_core.specs.Translation.{IsText, code_size, CodeFits, IsTooLarge}
 pub use Rattle.sym_same.specs.Same.{Same}
 use Rattle.cmd_reports.specs.declared.stop.Stop.TheVariants.{CodeTooLarge}
 use Rattle.cmd_reports.specs.Lines.{line_of, named_line, memory_line, translated_line}
@@ -27,7 +27,7 @@ mode_of false = Lean
 
 -- the line of status 0: the program's instructions and data cells, and the bytes of its text's code
 abbrev pub line_of_text : Program → List Line86 → List ℕ
-line_of_text p lines = translated_line (length p.instrs) (length p.cells) (code_of lines)
+line_of_text p lines = translated_line (length p.instrs) (length p.cells) (code_size lines)
 
 -- the line of status 13: so many bytes are too many
 abbrev pub size_line : ℕ → List ℕ

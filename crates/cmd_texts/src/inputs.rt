@@ -5,7 +5,7 @@ ghost use Rattle.asm86_lines.specs.Image.{statements};
 ghost use Rattle.asm86_lines.specs.Order.{at_start, in_order};
 ghost use Rattle.cmd_words.specs.ReadCommands.{check_read};
 ghost use Rattle.cmd_inputs.specs.Texts.{stop_of_image};
-ghost use Rattle.cmd_texts.specs.Checks.{Loads, Stops, Stands, ImageStops};
+ghost use Rattle.cmd_texts.specs.Checks.{Loads, Stops, HasOneImage, ImageStops};
 
 use asm80_program::Program80;
 use asm86_image::{ImageFault, image};
@@ -47,7 +47,7 @@ pub fn load<'a, H: Host>(
 fn see_image<'a>(alloc: Global, lines: &[Line86]) -> Result<(), Stop<'a>>
     requires order { in_order at_start (statements lines.now) ≡ true }
     requires few { length lines.now < 2 ^ 28 }
-    ensures stands { OnOk result (Stands lines.now) }
+    ensures stands { OnOk result (HasOneImage lines.now) }
     ensures stopped { IfErr result (ImageStops lines.now) }
 {
     match image(alloc, lines) {

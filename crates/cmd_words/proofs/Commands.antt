@@ -9,7 +9,7 @@ use Rattle.cmd_words.specs.Given.{Gathered, gathered, AreSorted}
 use Rattle.cmd_words.specs.ReadCommands.{command_read}
 use Rattle.cmd_words.specs.Words.{Command, command_of, IsCommand, IsNoCommand}
 use Rattle.cmd_words.proofs.Forms.{form_of_rule}
-use Rattle.cmd_words.proofs.Reading.{behind_item, behind_mark, behind_nothing}
+use Rattle.cmd_words.proofs.BehindItem.{behind_item, behind_mark, behind_nothing}
 
 pub one_sorting : {c : CommandName} {ws : List Word} {items others : List Item} → Sorts c ws items → Sorts c ws others → items ≡ others
 one_sorting none s = sym (behind_nothing s)

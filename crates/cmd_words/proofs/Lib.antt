@@ -11,5 +11,5 @@ pub mod Gathering
 pub mod Answered
 pub mod Numbers
 pub mod Forms
-pub mod Reading
+pub mod BehindItem
 pub mod Commands

@@ -16,7 +16,7 @@ use Rattle.cmd_words.specs.Items.{Item, Name, Setting, Sorts, none, marked, more
 use Rattle.cmd_words.specs.Asked.{has_short}
 use Rattle.cmd_words.proofs.FirstItem.{first_item, joined_item, lone_item, is_equals}
 use Rattle.cmd_words.proofs.Forms.{rule_of_form}
-use Rattle.cmd_words.proofs.Reading.{behind_item, nothing_behind}
+use Rattle.cmd_words.proofs.BehindItem.{behind_item, nothing_behind}
 use Rattle.cmd_words.proofs.Rules.{rules, option_built, flag_built, by_long, flags_flag, no_flag_at, options_plain, is_flag}
 use Rattle.cmd_words.proofs.Uses.{item_rows, item_passes, items_pass, names_pass}
 use Rattle.cmd_words.proofs.Turns.{total, ending, effective, sound, before, behind, hold, waits_for, with_name, with_text, IsBetween, at_idle, at_names, IsPlainWord, mark_next, name_next, behind_next, name_sound, value_next, text_sound, waits_unsound, and_no}

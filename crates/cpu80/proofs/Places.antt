@@ -22,8 +22,10 @@ use Rattle.asm80_program.specs.Program.{Program, instr_at, is_start}
 use Rattle.cpu80_steps.specs.State.{State80, num_of, wrap}
 use Rattle.cpu80_steps.specs.Memory.{Halves, read_word}
 use Rattle.cpu80_steps.specs.Effect.{effect, push}
-use Rattle.cpu80_steps.specs.Call.{Return, ask, ask_after, call_by, is_just_below, seen_by, place_if, is_place, same_place, place_in, popped_return, return_after}
-use Rattle.cpu80_steps.specs.Step.{go_to, go_on, leave_to, go_by, go_back, jump, enter, call, where_holds, holds, ask_event, ask_port, sent, act, act_at, step_at, step80, return_of, return_at}
+use Rattle.cells.specs.Conditions.{holds}
+use Rattle.cells.specs.Places.{same_place}
+use Rattle.cpu80_steps.specs.Call.{Return, ask, ask_after, call_by, is_just_below, seen_by, place_if, is_place, place_in, popped_return, return_after}
+use Rattle.cpu80_steps.specs.Step.{go_to, go_on, leave_to, go_by, go_back, jump, enter, call, where_holds, ask_event, ask_port, sent, act, act_at, step_at, step80, return_of, return_at}
 
 -- where the answer ran on, an instruction comes next, or the end
 abbrev pub GoesOn : Program → Answer State80 Rule → Type 0

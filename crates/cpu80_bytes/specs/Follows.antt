@@ -5,7 +5,8 @@ use Rattle.dialogue.specs.declared.request.Reply.{Reply}
 use Rattle.base_runs.specs.Run.{IsNotStopped}
 use Rattle.asm80_program.specs.Program.{Program, IsProgram}
 use Rattle.cpu80_steps.specs.Start.{IsPage, run80}
-use Rattle.cpu80_bytes.specs.Start.{IsFill, run_bytes}
+use Rattle.base_runs.specs.Fill.{IsFill}
+use Rattle.cpu80_bytes.specs.Start.{run_bytes}
 
 -- what a reply writes are bytes
 abbrev pub WritesBytes : Reply → Type 0

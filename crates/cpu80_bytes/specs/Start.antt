@@ -1,5 +1,5 @@
 -- The start of a program over a fill of memory, and its run.
-use Rattle.std.specs.Prelude.{◌≡◌, ℕ, ◌-◌, ◌/◌, ◌%◌, ◌<◌, ◌==◌, ◌&&◌, nat_lt, nat_le, if◌then◌else◌, List, length, All, Option, Some, None, slice_index}
+use Rattle.std.specs.Prelude.{ℕ, ◌-◌, ◌/◌, ◌%◌, ◌==◌, ◌&&◌, nat_lt, nat_le, if◌then◌else◌, List, Option, Some, None, slice_index}
 use Rattle.cells.specs.declared.Place.{Place}
 use Rattle.cells.specs.declared.Place.TheVariants.{At, Exit}
 use Rattle.cells.specs.declared.Cell.{Cell}
@@ -11,11 +11,6 @@ use Rattle.cpu80_bytes.specs.State.{ByteState}
 use Rattle.cpu80_bytes.specs.Flags.{chosen_flags}
 use Rattle.cpu80_bytes.specs.Call.{Stop}
 use Rattle.cpu80_bytes.specs.Step.{byte_machine}
-
--- memory before the program is put into it: any 65,536 bytes
-pub record IsFill (fill : List ℕ) : Type 0 where
-  pub size : length fill ≡ 0x10000
-  pub bytes : All (λ b. b < 256) fill
 
 -- a place as a number: a code address is the 8080 address, EXIT is 0
 abbrev pub address_of : Place → ℕ

@@ -2,7 +2,6 @@
 // instructions", "Register pair instructions", "Rotate accumulator instructions"). It is of numbers alone.
 ghost use Rattle.std.specs.Prelude.{◌≡◌};
 ghost use Rattle.base_arithmetic.specs.Arithmetic.{as_bit, turned_left, turned_right, bit7, bit0};
-ghost use Rattle.cpu80_steps.specs.Effect.{clears};
 
 use crate::area::Area;
 use crate::draft::Draft;
@@ -12,13 +11,6 @@ use crate::numbers::{
 };
 use cells::{Cell, Rule};
 use i80::{Op, Pair, Reg, Src};
-
-// XRA A and SUB A.
-fn clears_a(op: Op, from: Src) -> bool
-    ensures { result ≡ clears op from }
-{
-    matches!(op, Op::Xra | Op::Sub) && matches!(from, Src::Reg(Reg::A))
-}
 
 // A byte turned left; the bit comes in at the right.
 fn left(value: u8, bit: bool) -> u8
@@ -83,7 +75,7 @@ impl Draft<'_> {
         ensures row { IsRow (alu area.now.program.now (state_of self.old) op from) result (state_of self.old) (state_of self.new) }
         ensures memory { self.new.memory.now ≡ self.old.memory.now }
     {
-        if clears_a(op, from) {
+        if op.gives_zero(from) {
             self.clear_a();
             return Ok(());
         }

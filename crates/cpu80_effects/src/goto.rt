@@ -1,7 +1,7 @@
 // Jumps, calls and returns (8080 Assembly Language Programming Manual, "Jump instructions", "Call subroutine instructions",
 // "Return from subroutine instructions"), and the places that cells name.
 ghost use Rattle.std.specs.Prelude.{◌≡◌};
-ghost use Rattle.cpu80_steps.specs.Call.{same_place, place_in};
+ghost use Rattle.cpu80_steps.specs.Call.{place_in};
 
 use crate::area::Area;
 use crate::draft::{Draft, Word};
@@ -10,32 +10,21 @@ use crate::turn::{Return, Turn};
 use cells::{Cell, Cond, Place, Rule};
 use i80::Goal;
 
-fn is_same_place(one: Place, other: Place) -> bool
-    ensures { result ≡ same_place one other }
-{
-    match (one, other) {
-        (Place::At(a), Place::At(b)) => a == b,
-        (Place::Exit, Place::Exit) => true,
-        _ => false,
-    }
-}
-
 /// The place that two cells name, the high and the low half of one code address: P1 where they name none.
 pub fn place_named(area: &Area, high: Cell, low: Cell) -> Result<Place, Rule>
     ensures { result ≡ place_in area.now.program.now high low }
 {
     match (high, low) {
-        (Cell::Hi(place), Cell::Lo(other)) if is_same_place(place, other) => area.checked_place(
-            place,
-        ),
+        (Cell::Hi(place), Cell::Lo(other)) if place.is_same(other) => area.checked_place(place),
         _ => Err(Rule::P1),
     }
 }
 
 impl Draft<'_> {
     ghost use Rattle.cpu80_steps.specs.Effect.{known};
+    ghost use Rattle.cells.specs.Conditions.{holds};
     ghost use Rattle.cpu80_steps.specs.Call.{popped_return, return_after};
-    ghost use Rattle.cpu80_steps.specs.Step.{go_to, go_back, leave_to, jump, call, holds, where_holds};
+    ghost use Rattle.cpu80_steps.specs.Step.{go_to, go_back, leave_to, jump, call, where_holds};
     ghost use Rattle.cpu80_effects.specs.Draft.{IsFresh, state_of};
     ghost use Rattle.cpu80_effects.specs.Turn.{IsAsking, AsksNothing, answer_of, gone, returns_in};
 

@@ -42,8 +42,8 @@ impl View for Sight<'_> {
     }
 
     fn writable(&self, at: u16) -> bool {
-        let is_kept = self.closed[at as usize] || at == 6 || at == 7;
+        let is_write_protected = self.closed[at as usize] || at == 6 || at == 7;
         let is_return = self.is_popped && (at == self.sp || at == self.sp.wrapping_add(1));
-        !(is_just_below(self.sp, at) || is_kept || is_return)
+        !(is_just_below(self.sp, at) || is_write_protected || is_return)
     }
 }

@@ -2,7 +2,7 @@
 -- tagged machine knows.
 use Rattle.std.proofs.Common.{◌≡◌, ℕ, ◌+◌, ◌/◌, ◌%◌, ◌<◌, ◌≤◌, ◌==◌, Bool, true, false, cond, not, List, [], ◌∷◌, length, Option, Some, None, Result, Ok, Err, refl, sym, ap, subst, ◌∙◌, arith}
 use Rattle.std.specs.Prelude.{◌&&◌, ◌||◌, is_some, All}
-use Rattle.std.proofs.lemmas.Bool.{and_parts, ltb-true, eqb-true}
+use Rattle.std.proofs.lemmas.Bool.{and_parts, ltb-true}
 use Rattle.std.proofs.lemmas.List.Elements.{All-head, All-tail}
 use Rattle.cells.specs.declared.Place.{Place}
 use Rattle.cells.specs.declared.Place.TheVariants.{At, Exit}
@@ -27,7 +27,9 @@ use Rattle.base_runs.specs.Run.{Answer, Ran, Asks, Ends, Stops}
 use Rattle.asm80_program.specs.Program.{Program, IsProgram}
 use Rattle.cpu80_steps.specs.State.{State80, num_of, wrap as wrap80}
 use Rattle.cpu80_steps.specs.Memory.{is_closed, put as put80, read_word}
-use Rattle.cpu80_steps.specs.Call.{Return as Return80, is_just_below, seen_by as seen_by80, ask as ask80, ask_after, call_by, call_system as call_system80, place_if, is_place, same_place, place_in, popped_return as popped_return80, put_bytes as put_bytes80, put_blocks as put_blocks80, answered as answered80, cells_after, after_reply as after_reply80}
+use Rattle.cells.specs.Places.{same_place}
+use Rattle.cells.proofs.SamePlace.{same_place_is}
+use Rattle.cpu80_steps.specs.Call.{Return as Return80, is_just_below, seen_by as seen_by80, ask as ask80, ask_after, call_by, call_system as call_system80, place_if, is_place, place_in, popped_return as popped_return80, put_bytes as put_bytes80, put_blocks as put_blocks80, answered as answered80, cells_after, after_reply as after_reply80}
 use Rattle.cpu80_steps.specs.Step.{return_at as return_at80, replied_to as replied_to80, replied80}
 use Rattle.cpu80_bytes.specs.State.{ByteState, wrap, word, word_at, next, put, byte_of}
 use Rattle.cpu80_bytes.specs.Call.{Stop, seen_by, ask, call_system, Return, place_of, popped_return, put_bytes, put_blocks, chosen_regs, answered, after_reply}
@@ -35,9 +37,10 @@ use Rattle.cpu80_bytes.specs.Step.{return_at, replied_to, replied_bytes}
 use Rattle.cpu80_bytes.specs.Start.{address_of}
 use Rattle.cpu80_bytes.specs.Follows.{WritesBytes}
 use Rattle.sym_calls.specs.Sight.{SeesMore, KnowsMore, WhoSeesMoreAsksTheSame}
-use Rattle.cpu80_follows.proofs.Stands.{Stands, RegsStand, CellsStand, StatesStand, put_stands, number, ok_is, err_is_not, then_is}
+use Rattle.dialogue.proofs.Tried.{ok_is, err_is_not, then_is}
+use Rattle.cpu80_follows.proofs.Stands.{Stands, RegsStand, CellsStand, StatesStand, put_stands, number}
 use Rattle.cpu80_follows.proofs.Moves.{high_small, low_small, reads_word}
-use Rattle.cpu80_follows.proofs.Rows.{start_range}
+use Rattle.asm80_program.proofs.Standing.{start_range}
 use Rattle.cpu80_follows.proofs.Within.{AreWithin, fit_within}
 
 -- after an event that both ask, whatever the reply that fits, the states stand for one another
@@ -93,12 +96,6 @@ place_if_is : (b : Bool) (q r : Place) → place_if b q ≡ Ok r → (b ≡ true
 place_if_is true q r e = (refl, ok_is q r e)
 place_if_is false q r e = absurd (err_is_not P1 r e)
 
-same_place_is : (q r : Place) → same_place q r ≡ true → r ≡ q
-same_place_is (At a) (At b) e = ap At (sym (eqb-true a b e))
-same_place_is (At a) Exit e = absurd (cc)
-same_place_is Exit (At b) e = absurd (cc)
-same_place_is Exit Exit e = refl
-
 halves : (n a b : ℕ) → a ≡ n / 256 → b ≡ n % 256 → word a b ≡ n
 halves n a b h l = omega (arith, h, l)
 
@@ -106,7 +103,7 @@ pub place_names : (p : Program) (high low : Cell) (q : Place) (a b : ℕ) → St
 place_names p (Hi r) (Lo o) q a b ha lb e =
     let f = place_if_is (same_place r o && is_place p r) r q e in
     let g = and_parts (same_place r o) (is_place p r) f.0 in
-    let same = same_place_is r o g.0 in
+    let same = sym (same_place_is r o g.0) in
     subst (λ k. Names p k (word a b)) f.1 (record { address = halves (address_of r) a b ha.means (lb.means ∙ ap (λ k. address_of k % 256) same); is_place = g.1 })
 place_names p (Hi r) (Num n) q a b ha lb e = absurd (err_is_not P1 q e)
 place_names p (Hi r) (Hi o) q a b ha lb e = absurd (err_is_not P1 q e)

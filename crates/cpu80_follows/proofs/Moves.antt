@@ -22,7 +22,8 @@ use Rattle.cpu80_steps.specs.Effect.{source as source80, into as into80, lda as 
 use Rattle.cpu80_bytes.specs.State.{ByteState, pair_word, with_bc, with_de, with_hl, with_word, with_a, wrap, put, next, put_word, bit_of}
 use Rattle.cpu80_bytes.specs.Flags.{flag_byte, flags_in_byte}
 use Rattle.cpu80_bytes.specs.Effect.{source, into, store, lda, lhld, shld, xchg, xthl, push, push_pair, popped, pop_pair}
-use Rattle.cpu80_follows.proofs.Stands.{Knows, Stands, FlagsStand, StatesStand, reg_stands, set_stands, put_stands, sets_regs, sets_flags, sets_cells, sets_sp, number, ok_is, then_is, err_is_not, word_is, word_small}
+use Rattle.dialogue.proofs.Tried.{ok_is, then_is, err_is_not}
+use Rattle.cpu80_follows.proofs.Stands.{Knows, Stands, FlagsStand, StatesStand, reg_stands, set_stands, put_stands, sets_regs, sets_flags, sets_cells, sets_sp, number, word_is, word_small}
 
 unless_is : (b : Bool) (r : Rule) (x : Bool) → unless_then b r ≡ Ok x → b ≡ false
 unless_is true r x e = absurd (err_is_not r x e)

@@ -1,6 +1,6 @@
 -- When bytes stand for what the tagged machine knows: a number is the byte; the halves of a place are those of its address, EXIT
 -- being 0; a flag byte has the flags that are known; of all else any byte may stand.
-use Rattle.std.proofs.Common.{◌≡◌, ℕ, ◌+◌, ◌*◌, ◌/◌, ◌%◌, ◌<◌, ◌==◌, Bool, true, false, cond, Option, Some, None, Result, Ok, Err, refl, ap, ◌∙◌, arith}
+use Rattle.std.proofs.Common.{◌≡◌, ℕ, ◌+◌, ◌*◌, ◌/◌, ◌%◌, ◌<◌, ◌==◌, Bool, true, false, cond, Option, Some, None, Ok, refl, ap, ◌∙◌, arith}
 use Rattle.cells.specs.declared.Place.{Place}
 use Rattle.cells.specs.declared.Flags.{Flags}
 use Rattle.cells.specs.declared.Cell.{Cell}
@@ -9,6 +9,7 @@ use Rattle.cells.specs.declared.Rule.{Rule}
 use Rattle.cells.specs.Bits.{has_bit}
 use Rattle.i80.specs.declared.Reg.{Reg}
 use Rattle.i80.specs.declared.Reg.TheVariants.{A, B, C, D, E, H, L}
+use Rattle.dialogue.proofs.Tried.{ok_is, err_is_not, then_is}
 use Rattle.dialogue.specs.Tried.{try_then}
 use Rattle.cpu80_steps.specs.State.{Regs80, State80, reg80, with_reg80, num_or}
 use Rattle.cpu80_steps.specs.Memory.{put as put80}
@@ -117,17 +118,6 @@ sets_place s u q d = record { regs = d.regs; flags = d.flags; mem = d.mem; sp = 
 
 pub number : (n : ℕ) → n < 256 → Stands (Num n) n
 number n lt = record { means = refl; small = lt }
-
-pub ok_is : {X R : Type 0} → (a b : X) → ◌≡◌ {A = Result X R} (Ok a) (Ok b) → a ≡ b
-ok_is a b e = cc
-
-pub err_is_not : {X R : Type 0} → (r : R) (x : X) → ◌≡◌ {A = Result X R} (Err r) (Ok x) → ⊥
-err_is_not r x e = cc
-
--- where steps one after the other are not refused, the first is not
-pub then_is : {X Y R : Type 0} → (r : Result X R) (f : X → Result Y R) (y : Y) → try_then r f ≡ Ok y → (x : X) × (r ≡ Ok x) × (f x ≡ Ok y)
-then_is (Ok x) f y e = (x, refl, e)
-then_is (Err r) f y e = absurd (err_is_not r y e)
 
 -- a cell that is taken as a number is one, and the byte is that number
 pub number_is : (r : Rule) (v : Cell) (n b : ℕ) → Stands v b → num_or r v ≡ Ok n → b ≡ n

@@ -1,5 +1,5 @@
 -- One step: what the tagged machine does, unless it leaves the profile, the one over bytes does too.
-use Rattle.std.proofs.Common.{◌≡◌, ℕ, ◌+◌, ◌/◌, ◌%◌, ◌<◌, ◌≤◌, ◌==◌, Bool, true, false, cond, not, Option, Some, None, Result, Ok, Err, refl, sym, ap, subst, ◌∙◌, arith}
+use Rattle.std.proofs.Common.{◌≡◌, ℕ, ◌+◌, ◌/◌, ◌%◌, ◌<◌, Bool, true, false, cond, not, Option, Some, None, Result, Ok, Err, refl, sym, ap, subst, ◌∙◌, arith}
 use Rattle.std.proofs.lemmas.Bool.{and_parts, ltb-true}
 use Rattle.cells.specs.declared.Place.{Place}
 use Rattle.cells.specs.declared.Place.TheVariants.{At, Exit}
@@ -22,32 +22,35 @@ use Rattle.asm80_program.specs.Program.{Program, IsProgram, instr_at, is_start}
 use Rattle.cpu80_steps.specs.State.{State80, wrap as wrap80, num_or, with_a as with_a80}
 use Rattle.cpu80_steps.specs.Effect.{effect as effect80, push as push80}
 use Rattle.cpu80_steps.specs.Call.{Return as Return80, call_system as call_system80, place_if, place_in, popped_return as popped_return80, return_after as return_after80}
-use Rattle.cpu80_steps.specs.Step.{go_to as go_to80, go_on, leave_to as leave_to80, go_by, go_back, jump as jump80, enter, call as call80, flipped, holds as holds80, where_holds, ask_event, ask_port, sent, act as act80, act_at as act_at80, step_at as step_at80, step80, return_of as return_of80, return_at as return_at80, replied_to as replied_to80}
+use Rattle.cells.specs.Conditions.{is_clear, holds as holds80}
+use Rattle.cpu80_steps.specs.Step.{go_to as go_to80, go_on, leave_to as leave_to80, go_by, go_back, jump as jump80, enter, call as call80, where_holds, ask_event, ask_port, sent, act as act80, act_at as act_at80, step_at as step_at80, step80, return_of as return_of80, return_at as return_at80, replied_to as replied_to80}
 use Rattle.cpu80_bytes.specs.State.{ByteFlags, ByteState, pair_word, wrap, with_a, word_at}
 use Rattle.cpu80_bytes.specs.Flags.{holds}
 use Rattle.cpu80_bytes.specs.Effect.{effect, push}
 use Rattle.cpu80_bytes.specs.Call.{Stop, call_system, popped_return}
 use Rattle.cpu80_bytes.specs.Step.{go_to, leave_to, ret, jump, call, act, after, act_at, step_at, step_bytes, return_of, return_at, replied_to, replied_bytes}
 use Rattle.sym_calls.specs.Sight.{WhoSeesMoreAsksTheSame}
-use Rattle.cpu80_follows.proofs.Stands.{Knows, FlagsStand, StatesStand, sets_sp, sets_place, number, ok_is, err_is_not, then_is, number_is}
+use Rattle.dialogue.proofs.Tried.{ok_is, err_is_not, then_is}
+use Rattle.cpu80_follows.proofs.Stands.{Knows, FlagsStand, StatesStand, sets_sp, sets_place, number, number_is}
 use Rattle.cpu80_follows.proofs.Moves.{sets_a, high_of_place, low_of_place, push_stands}
-use Rattle.cpu80_follows.proofs.Rows.{IsPlaced, is_placed, start_range, effects_stand}
+use Rattle.asm80_program.proofs.Standing.{IsPlaced, is_placed, start_range}
+use Rattle.cpu80_follows.proofs.Rows.{effects_stand}
 use Rattle.cpu80_follows.proofs.Calls.{IsAnswered, StepFollows, not_zero, Names, place_names, ReturnStands, pops, popped_stands, system_follows}
 
 -- conditions
 
-flipped_knows : (o : Option Bool) (b : Bool) → Knows o b → Knows (flipped o) (not b)
-flipped_knows None b h = tt
-flipped_knows (Some v) b h = ap not h
+is_clear_knows : (o : Option Bool) (b : Bool) → Knows o b → Knows (is_clear o) (not b)
+is_clear_knows None b h = tt
+is_clear_knows (Some v) b h = ap not h
 
 holds_knows : (f : Flags) (g : ByteFlags) (c : Cond) → FlagsStand f g → Knows (holds80 f c) (holds g c)
-holds_knows f g Nz h = flipped_knows f.z g.z h.z
+holds_knows f g Nz h = is_clear_knows f.z g.z h.z
 holds_knows f g Z h = h.z
-holds_knows f g Nc h = flipped_knows f.cy g.cy h.cy
+holds_knows f g Nc h = is_clear_knows f.cy g.cy h.cy
 holds_knows f g C h = h.cy
-holds_knows f g Po h = flipped_knows f.p g.p h.p
+holds_knows f g Po h = is_clear_knows f.p g.p h.p
 holds_knows f g Pe h = h.p
-holds_knows f g P h = flipped_knows f.s g.s h.s
+holds_knows f g P h = is_clear_knows f.s g.s h.s
 holds_knows f g M h = h.s
 
 -- the address after an instruction

@@ -24,7 +24,8 @@ use Rattle.cpu80_steps.specs.Effect.{source as source80, into as into80, known, 
 use Rattle.cpu80_bytes.specs.State.{ByteState, reg, wrap, pair_word, with_word, with_a, with_flags, with_cy, bit_of, byte_of}
 use Rattle.cpu80_bytes.specs.Flags.{settled, chosen_flags}
 use Rattle.cpu80_bytes.specs.Effect.{source, into, carry_for, a_after, computed, alu, counted_up, counted_down, inr, dcr, add_to_pair, added, dad, adjusted, daa, turned}
-use Rattle.cpu80_follows.proofs.Stands.{Knows, Stands, FlagsStand, StatesStand, reg_stands, sets_flags, number, ok_is, then_is, err_is_not, number_is}
+use Rattle.dialogue.proofs.Tried.{ok_is, then_is, err_is_not}
+use Rattle.cpu80_follows.proofs.Stands.{Knows, Stands, FlagsStand, StatesStand, reg_stands, sets_flags, number, number_is}
 use Rattle.cpu80_follows.proofs.Moves.{bit_small, reads, address_is, pair_is, sets_a, sets_word, source_stands, into_stands}
 
 -- flags

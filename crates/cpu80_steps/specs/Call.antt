@@ -8,6 +8,7 @@ use Rattle.cells.specs.declared.Cell.TheVariants.{Num, Lo, Hi, Psw, Junk}
 use Rattle.cells.specs.declared.Rule.{Rule}
 use Rattle.cells.specs.declared.Rule.TheVariants.{P1, P9, P12}
 use Rattle.cells.specs.Conditions.{unknown_flags}
+use Rattle.cells.specs.Places.{same_place}
 use Rattle.dialogue.specs.declared.blocks.Block.{Block}
 use Rattle.dialogue.specs.declared.request.Shape.{Shape}
 use Rattle.dialogue.specs.declared.request.Request.{Request}
@@ -22,7 +23,7 @@ use Rattle.dialogue.specs.Fits.{answer_of, dma_after}
 use Rattle.base_runs.specs.Run.{Answer, Asks, Ends, Stops}
 use Rattle.asm80_program.specs.Program.{Program, is_start}
 use Rattle.cpu80_steps.specs.State.{Regs80, State80, num_of, wrap, junk_regs}
-use Rattle.cpu80_steps.specs.Memory.{is_closed, is_kept, put, read_word}
+use Rattle.cpu80_steps.specs.Memory.{is_closed, is_write_protected, put, read_word}
 
 -- one of the eight cells below SP
 abbrev pub is_just_below : ℕ → ℕ → Bool
@@ -41,7 +42,7 @@ byte_seen p s a = cond (is_just_below s.sp a || is_closed p a) None (num_of (s.m
 -- one that it may write is neither closed, nor just below SP, nor of the word at 6, nor of the return that a jump to 5 pops
 abbrev pub may_be_written : Program → State80 → Bool → ℕ → Bool
 may_be_written p s is_popped a =
-    not (is_just_below s.sp a || (is_kept p a || (is_popped && (a == s.sp || a == wrap (s.sp + 1)))))
+    not (is_just_below s.sp a || (is_write_protected p a || (is_popped && (a == s.sp || a == wrap (s.sp + 1)))))
 
 abbrev pub seen_by : Program → State80 → Bool → Seen
 seen_by p s is_popped = record { byte = byte_seen p s; writable = may_be_written p s is_popped }
@@ -75,12 +76,6 @@ place_if false q = Err P1
 abbrev pub is_place : Program → Place → Bool
 is_place p (At a) = is_start p a
 is_place p Exit = true
-
-abbrev pub same_place : Place → Place → Bool
-same_place (At a) (At b) = a == b
-same_place (At a) Exit = false
-same_place Exit (At b) = false
-same_place Exit Exit = true
 
 abbrev pub place_in : Program → Cell → Cell → Result Place Rule
 place_in p (Hi q) (Lo r) = place_if (same_place q r && is_place p q) q

@@ -8,7 +8,6 @@ use Rattle.cells.specs.declared.Cell.{Cell}
 use Rattle.cells.specs.declared.Cell.TheVariants.{Num, Lo, Hi, Psw as PswCell}
 use Rattle.cells.specs.declared.Rule.{Rule}
 use Rattle.cells.specs.declared.Rule.TheVariants.{P5, P6, P7}
-use Rattle.i80.specs.declared.Reg.TheVariants.{A}
 use Rattle.i80.specs.declared.Src.{Src}
 use Rattle.i80.specs.declared.Src.TheVariants.{Reg as InReg, Mem}
 use Rattle.i80.specs.declared.Pair.{Pair}
@@ -21,6 +20,7 @@ use Rattle.i80.specs.declared.Word.{Word}
 use Rattle.i80.specs.declared.Word.TheVariants.{Num as Number, Code}
 use Rattle.i80.specs.declared.Instr80.{Instr80}
 use Rattle.i80.specs.declared.Instr80.TheVariants.{Nop, Mov, Mvi, Lxi, Lda, Sta, Lhld, Shld, Ldax, Stax, Xchg, Xthl, Sphl, Pchl, Alu, AluI, Inr, Dcr, Inx, Dcx, Dad, Daa, Cma, Stc, Cmc, Rlc, Rrc, Ral, Rar, Push, Pop, Jmp, Jif, Call, Cif, Ret, Rif, Rst0, In, Out}
+use Rattle.i80.specs.Columns.{gives_zero}
 use Rattle.dialogue.specs.Tried.{try_then}
 use Rattle.base_arithmetic.specs.Arithmetic.{as_bit, sum8, carry4, difference8, turned_left, turned_right, bit7, bit0, daa_result, daa_carry, daa_excepted}
 use Rattle.base_arithmetic.specs.Operations.{flags_by, result_of, flags_of, flags_in}
@@ -102,16 +102,11 @@ alu_with s op v =
     Ok (with_flags (with_a s (a_after op s.regs.a (result_of op x y c))) (flags_of op x y c)))))
 
 -- XRA A and SUB A clear A, whatever it holds
-abbrev pub clears : Op → Src → Bool
-clears Xra (InReg A) = true
-clears Sub (InReg A) = true
-clears op s = false
-
 abbrev pub cleared : State80 → State80
 cleared s = with_flags (with_a s (Num 0)) (flags_by 0 None (Some false))
 
 abbrev pub alu : Program → State80 → Op → Src → Result State80 Rule
-alu p s op from = cond (clears op from) (Ok (cleared s)) (try_then (source p s from) (alu_with s op))
+alu p s op from = cond (gives_zero op from) (Ok (cleared s)) (try_then (source p s from) (alu_with s op))
 
 -- a count up or down keeps CY; AC is known after a count up
 abbrev pub counted_up : State80 → ℕ → State80

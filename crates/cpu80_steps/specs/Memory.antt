@@ -13,8 +13,8 @@ abbrev pub is_closed : Program → ℕ → Bool
 is_closed p a = nat_lt a 6 || ((nat_le 8 a && nat_lt a 0x5C) || (nat_le p.top a || is_code p a))
 
 -- the word at 6 may be read and not written
-abbrev pub is_kept : Program → ℕ → Bool
-is_kept p a = is_closed p a || (a == 6 || a == 7)
+abbrev pub is_write_protected : Program → ℕ → Bool
+is_write_protected p a = is_closed p a || (a == 6 || a == 7)
 
 -- passes where the test fails
 abbrev pub unless_then : Bool → Rule → Result Bool Rule
@@ -37,7 +37,7 @@ abbrev pub read_at : Program → State80 → ℕ → Result Cell Rule
 read_at p s a = try_then (unless_then (is_closed p a) P2) (λ o. Ok (s.mem a))
 
 abbrev pub may_write : Program → ℕ → Result Bool Rule
-may_write p a = unless_then (is_kept p a) P3
+may_write p a = unless_then (is_write_protected p a) P3
 
 abbrev pub write_at : Program → State80 → ℕ → Cell → Result State80 Rule
 write_at p s a v = try_then (may_write p a) (λ o. Ok (record s { mem = put s.mem a v }))

@@ -1,14 +1,12 @@
 -- One step of the tagged 8080: an instruction's effect and the place that comes next, a call of the system, a port that is
 -- asked, the end, or the rule by which the program leaves the profile.
-use Rattle.std.specs.Prelude.{ℕ, ◌+◌, not, Bool, true, false, cond, Option, Some, None, Result, Ok, Err}
+use Rattle.std.specs.Prelude.{ℕ, ◌+◌, Bool, true, false, cond, Option, Some, None, Result, Ok, Err}
 use Rattle.cells.specs.declared.Place.{Place}
 use Rattle.cells.specs.declared.Place.TheVariants.{At, Exit}
 use Rattle.cells.specs.declared.Cell.TheVariants.{Num, Lo, Hi}
-use Rattle.cells.specs.declared.Flags.{Flags}
-use Rattle.cells.specs.declared.Cond.{Cond}
-use Rattle.cells.specs.declared.Cond.TheVariants.{Nz, Z, Nc, C, Po, Pe, P, M}
 use Rattle.cells.specs.declared.Rule.{Rule}
 use Rattle.cells.specs.declared.Rule.TheVariants.{P1, P6, P10}
+use Rattle.cells.specs.Conditions.{holds}
 use Rattle.i80.specs.declared.Goal.{Goal}
 use Rattle.i80.specs.declared.Goal.TheVariants.{At as Instr, Boot, Bdos}
 use Rattle.i80.specs.declared.Instr80.{Instr80}
@@ -62,21 +60,6 @@ abbrev pub call : Program → State80 → ℕ → Goal → Answer State80 Rule
 call p s a (Instr t) = enter p t a (push p s (Hi (At a)) (Lo (At a)))
 call p s a Boot = Ends
 call p s a Bdos = call_system p s (return_after p s a)
-
--- a condition, where its flag is known
-abbrev pub flipped : Option Bool → Option Bool
-flipped None = None
-flipped (Some b) = Some (not b)
-
-abbrev pub holds : Flags → Cond → Option Bool
-holds f Nz = flipped f.z
-holds f Z = f.z
-holds f Nc = flipped f.cy
-holds f C = f.cy
-holds f Po = flipped f.p
-holds f Pe = f.p
-holds f P = flipped f.s
-holds f M = f.s
 
 -- goes where the condition holds, and on to the place after where it does not; its flag is looked at first (P6)
 abbrev pub where_holds : Program → State80 → ℕ → Option Bool → Answer State80 Rule → Answer State80 Rule

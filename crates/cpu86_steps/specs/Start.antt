@@ -1,5 +1,5 @@
 -- The start of an image, and its run.
-use Rattle.std.specs.Prelude.{◌≡◌, ◌≢◌, ℕ, ◌-◌, ◌/◌, ◌%◌, ◌^◌, ◌<◌, ◌&&◌, nat_lt, nat_le, cond, List, [], ◌∷◌, length, All, Option, slice_index}
+use Rattle.std.specs.Prelude.{◌≢◌, ℕ, ◌-◌, ◌/◌, ◌%◌, ◌^◌, ◌<◌, ◌&&◌, nat_lt, nat_le, cond, List, [], ◌∷◌, All, Option, slice_index}
 use Rattle.i86.specs.declared.Instr86.{Instr86}
 use Rattle.dialogue.specs.declared.request.Reply.{Reply}
 use Rattle.asm86_lines.specs.Image.{Image}
@@ -32,11 +32,6 @@ pub record IsStart (r : Start) : Type 0 where
   pub ds : r.ds < 0x10000
   pub ss : r.ss < 0x10000
   pub flags : r.flags < 256
-
--- memory before the page and the image are put into it: any 65,536 bytes
-pub record IsFill (fill : List ℕ) : Type 0 where
-  pub size : length fill ≡ 0x10000
-  pub bytes : All (λ b. b < 256) fill
 
 -- the choices for undefined results: one at least, each below 2 ^ 128
 pub record AreChoices (choices : List ℕ) : Type 0 where

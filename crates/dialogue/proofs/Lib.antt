@@ -2,3 +2,4 @@ pub mod Cells
 pub mod Rows
 pub mod LawfulShapes
 pub mod Pages
+pub mod Tried

@@ -50,7 +50,7 @@ no_need p a x e (inr s) =
     absurd (omega (arith, edge.1))
 
 -- nothing is needed where no instruction starts
-none_needed : (p : Program) (a : ℕ) → NeedsAreClosed p → is_start p a ≡ false → AreNeeds p (Start a) nothing
+pub none_needed : (p : Program) (a : ℕ) → NeedsAreClosed p → is_start p a ≡ false → AreNeeds p (Start a) nothing
 none_needed p a closed h = λ x.
     let no : (has nothing x ≡ true) → Need p (Start a) x = λ e. let none = nothing_has x in absurd (cc) in
     (no, λ n. absurd (no_need p a x (no_instr (placed_in p.instrs a) h) (closed.only (Start a) x n)))

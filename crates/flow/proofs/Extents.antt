@@ -12,7 +12,7 @@ use Rattle.i80.specs.Columns.{length80, ends80}
 use Rattle.asm80_program.specs.declared.program.Placed.{Placed}
 use Rattle.asm80_program.specs.Program.{Program, IsProgram, instr_at, is_start}
 use Rattle.asm80_program.specs.Taken.{taken}
-use Rattle.flow.specs.Blocks.{is_cut, is_entered, cut_from, extent, blocks, leader_of, count_in, block_at, end_of, target_of, targets, place_after, IsBlock, IsLeader, IsStraight, IsBehindNone, BlocksCut, Cause, First, Target, Taken, BehindEnd, BehindNone, BehindSixteen}
+use Rattle.flow.specs.Blocks.{is_cut, is_entered, cut_from, extent, blocks, leader_of, count_in, block_at, end_of, target_of, targets, place_after, IsBlockOf, IsLeader, IsStraight, IsBehindNone, BlocksCut, Cause, First, Target, Taken, BehindEnd, BehindNone, BehindSixteen}
 use Rattle.flow.proofs.Cuts.{flat-cut, offset, block, within_flat, at_flat, Located, locate, one_location, joined_block, uncut_inside, sized_block, leader-first, next_block, ended_block, offset-zero}
 use Rattle.flow.proofs.Entries.{target_named, entered_target, entered_taken, cut_entered, cut_ended, cut_apart, target_among, contained}
 use Rattle.flow.proofs.Laid.{above, rising, strictly, length80-positive, behind_each, one_place, next_place, found_start, at_place}
@@ -36,13 +36,13 @@ pub record Numbered (p : Program) (a n : ℕ) : Type 0 where
   pub leader : leader_of (block (cut p) number) ≡ a
   pub count : length (block (cut p) number) ≡ n
 
-pub numbered : (p : Program) (a n : ℕ) → IsBlock p a n → Numbered p a n
+pub numbered : (p : Program) (a n : ℕ) → IsBlockOf p a n → Numbered p a n
 numbered p a n h =
     let lt : h.0 < length (cut p) = omega (arith, h.1, length-map (cut p) extent) in
     let is = sym (get_or-map extent (cut p) h.0 [] (a, n) lt) ∙ h.2 in
     record { number = h.0; within = lt; leader = ap (λ (e : ℕ × ℕ). e.0) is; count = ap (λ (e : ℕ × ℕ). e.1) is }
 
-pub is_block : (p : Program) (i : ℕ) → i < length (cut p) → IsBlock p (leader_of (block (cut p) i)) (length (block (cut p) i))
+pub is_block : (p : Program) (i : ℕ) → i < length (cut p) → IsBlockOf p (leader_of (block (cut p) i)) (length (block (cut p) i))
 is_block p i lt = (i, omega (arith, lt, length-map (cut p) extent), get_or-map extent (cut p) i [] (extent (block (cut p) i)) lt)
 
 pub is_leader : (p : Program) (i : ℕ) → i < length (cut p) → IsLeader p (leader_of (block (cut p) i))
@@ -156,7 +156,7 @@ module _ (p : Program) (is : IsProgram p) where
       let here = sym (at_place p.instrs at.0 no_placed at.1) ∙ at.2 in
       subst (IsLeader p) here (leader_cut at.0 at.1 (λ h same. each h (subst (λ l. l < length p.instrs) same at.1) (subst (λ l. (placed p l).at ≡ a) same here)))
 
-  covers : (a : ℕ) → is_start p a ≡ true → (b : ℕ) × (n : ℕ) × (k : ℕ) × IsBlock p b n × (k < n) × (place_after p b k ≡ a)
+  covers : (a : ℕ) → is_start p a ≡ true → (b : ℕ) × (n : ℕ) × (k : ℕ) × IsBlockOf p b n × (k < n) × (place_after p b k ≡ a)
   covers a start =
       let at = found_start p.instrs a start in
       let l = located at.0 at.1 in (
@@ -233,7 +233,7 @@ module _ (p : Program) (is : IsProgram p) where
           subst (IsLeader p) (next.1 ∙ sym place) (behind_last x.number m x.within size next.0)
 
   -- the count that is looked up for a leader
-  found : (a n : ℕ) → IsBlock p a n → block_at p a ≡ Some n
+  found : (a n : ℕ) → IsBlockOf p a n → block_at p a ≡ Some n
   found a n h =
       let looked = count_found (blocks p) h.0 a n h.1 h.2 in
       let x = numbered p a n h in
@@ -323,7 +323,7 @@ module _ (p : Program) (is : IsProgram p) where
           (λ t. cause_of_cut (offset (cut p) i + m) (omega (arith, within)) follows (subst (λ (v : Placed). is_cut p v (placed p (suc (offset (cut p) i + m))) ≡ true) last_is (subst (λ (w : Placed). is_cut p (get_or (block (cut p) i) (length (block (cut p) i) - 1) no_placed) w ≡ true) first_is t)))
           (λ full.
           let count : suc m ≡ 16 = sym size ∙ full in
-          BehindSixteen (leader_of (block (cut p) i)) (subst (λ n. IsBlock p (leader_of (block (cut p) i)) n) full (is_block p i lti))
+          BehindSixteen (leader_of (block (cut p) i)) (subst (λ n. IsBlockOf p (leader_of (block (cut p) i)) n) full (is_block p i lti))
           (ap (place_after p (leader_of (block (cut p) i))) (sym count) ∙ address_behind i m lti last ∙ follows))
           (ended_block p no_placed p.instrs i lt)
 
@@ -340,7 +340,7 @@ module _ (p : Program) (is : IsProgram p) where
     sizes = λ a n h. let x = numbered p a n h in let s = sized_block p p.instrs x.number x.within in (omega (arith, s.0, x.count), omega (arith, s.1, x.count));
     straight = λ a n h. let x = numbered p a n h in subst (λ m. IsStraight p a m) x.count (subst (λ b. IsStraight p b (length (block (cut p) x.number))) x.leader (block_straight x.number x.within));
     has_leader = λ a n h. let x = numbered p a n h in subst (IsLeader p) x.leader (is_leader p x.number x.within);
-    has_block = λ a h. let x = leads p a h in (length (block (cut p) x.0), subst (λ b. IsBlock p b (length (block (cut p) x.0))) x.2 (is_block p x.0 x.1));
+    has_block = λ a h. let x = leads p a h in (length (block (cut p) x.0), subst (λ b. IsBlockOf p b (length (block (cut p) x.0))) x.2 (is_block p x.0 x.1));
     found = found;
     covers = covers;
     once = λ a n k b m j h ltk h' ltj same. once a n k b m j (numbered p a n h) ltk (numbered p b m h') ltj same;

@@ -19,3 +19,4 @@ pub mod Passes
 pub mod Lookup
 pub mod Saved
 pub mod AllNeeds
+pub mod OneNeeds

@@ -74,8 +74,8 @@ count_in (b ∷ bs) a = cond (b.0 == a) (Some b.1) (count_in bs a)
 abbrev pub block_at : Program → ℕ → Option ℕ
 block_at p a = count_in (blocks p) a
 
-abbrev pub IsBlock : Program → ℕ → ℕ → Type 0
-IsBlock p a n = Contains (blocks p) (a, n)
+abbrev pub IsBlockOf : Program → ℕ → ℕ → Type 0
+IsBlockOf p a n = Contains (blocks p) (a, n)
 
 abbrev pub IsLeader : Program → ℕ → Type 0
 IsLeader p a = Contains (leaders p) a
@@ -106,22 +106,22 @@ pub data Cause (p : Program) (a : ℕ) : Type 0 where
   Taken : (among : Contains (taken p) a) → Cause p a
   BehindEnd : (b : ℕ) (i : Instr80) (here : instr_at p b ≡ Some i) (ends : ends80 i ≡ true) (place : b + length80 i ≡ a) → Cause p a
   BehindNone : (none : IsBehindNone p a) → Cause p a
-  BehindSixteen : (b : ℕ) (block : IsBlock p b 16) (place : place_after p b 16 ≡ a) → Cause p a
+  BehindSixteen : (b : ℕ) (block : IsBlockOf p b 16) (place : place_after p b 16 ≡ a) → Cause p a
 
 -- blocks are straight runs of 1 to 16 instructions; each instruction is one of exactly one block; and control goes from a block to
 -- leaders alone
 pub record BlocksCut (p : Program) : Type 0 where
-  pub sizes : (a n : ℕ) → IsBlock p a n → (1 ≤ n) × (n ≤ 16)
-  pub straight : (a n : ℕ) → IsBlock p a n → IsStraight p a n
-  pub has_leader : (a n : ℕ) → IsBlock p a n → IsLeader p a
-  pub has_block : (a : ℕ) → IsLeader p a → (n : ℕ) × IsBlock p a n
-  pub found : (a n : ℕ) → IsBlock p a n → block_at p a ≡ Some n
-  pub covers : (a : ℕ) → is_start p a ≡ true → (b : ℕ) × (n : ℕ) × (k : ℕ) × IsBlock p b n × (k < n) × (place_after p b k ≡ a)
-  pub once : (a n k b m j : ℕ) → IsBlock p a n → k < n → IsBlock p b m → j < m → place_after p a k ≡ place_after p b j → (a ≡ b) × (n ≡ m) × (k ≡ j)
+  pub sizes : (a n : ℕ) → IsBlockOf p a n → (1 ≤ n) × (n ≤ 16)
+  pub straight : (a n : ℕ) → IsBlockOf p a n → IsStraight p a n
+  pub has_leader : (a n : ℕ) → IsBlockOf p a n → IsLeader p a
+  pub has_block : (a : ℕ) → IsLeader p a → (n : ℕ) × IsBlockOf p a n
+  pub found : (a n : ℕ) → IsBlockOf p a n → block_at p a ≡ Some n
+  pub covers : (a : ℕ) → is_start p a ≡ true → (b : ℕ) × (n : ℕ) × (k : ℕ) × IsBlockOf p b n × (k < n) × (place_after p b k ≡ a)
+  pub once : (a n k b m j : ℕ) → IsBlockOf p a n → k < n → IsBlockOf p b m → j < m → place_after p a k ≡ place_after p b j → (a ≡ b) × (n ≡ m) × (k ≡ j)
   pub first : IsLeader p 0x100
   pub target : (a t : ℕ) (i : Instr80) → instr_at p a ≡ Some i → target_of i ≡ Some t → IsLeader p t
   pub is_taken : (a : ℕ) → Contains (taken p) a → IsLeader p a
   pub behind_end : (a : ℕ) (i : Instr80) → instr_at p a ≡ Some i → ends80 i ≡ true → is_start p (a + length80 i) ≡ true → IsLeader p (a + length80 i)
   pub behind_gap : (a : ℕ) → is_start p a ≡ true → IsBehindNone p a → IsLeader p a
-  pub behind_block : (a n : ℕ) → IsBlock p a n → is_start p (place_after p a n) ≡ true → IsLeader p (place_after p a n)
+  pub behind_block : (a n : ℕ) → IsBlockOf p a n → is_start p (place_after p a n) ≡ true → IsLeader p (place_after p a n)
   pub cause : (a : ℕ) → IsLeader p a → Cause p a

@@ -1,5 +1,5 @@
 -- What a host tells of the files and of what was said, its two counts of faults, and what a call may change.
-use Rattle.std.specs.Prelude.{◌≡◌, ◌≢◌, ℕ, ◌+◌, ◌-◌, ◌^◌, ◌<◌, ◌≤◌, ◌⊎◌, ◌↔◌, List, [], ◌++◌, length, take, drop, Option, Some, None, if◌then◌else◌, nat_lt}
+use Rattle.std.specs.Prelude.{◌≡◌, ◌≢◌, ℕ, ◌+◌, ◌-◌, ◌^◌, ◌<◌, ◌≤◌, ◌⊎◌, ◌↔◌, List, ◌++◌, length, take, drop, Option, Some, None, if◌then◌else◌, nat_lt}
 
 -- what a host tells of the file of a name: nothing, that there is no such file, or the bytes that it holds
 pub data FileTold : Type 0 where
@@ -32,12 +32,6 @@ abbrev pub IsFile : FileTold → List ℕ → Type 0
 IsFile Untold bytes = Unit {0}
 IsFile Missing bytes = ⊥
 IsFile (Holds held) bytes = held ≡ bytes
-
--- these bytes begin the file, where the host tells it; a file that is not there counts as empty
-abbrev pub IsStartOfFile : FileTold → List ℕ → Type 0
-IsStartOfFile Untold bytes = Unit {0}
-IsStartOfFile Missing bytes = bytes ≡ []
-IsStartOfFile (Holds held) bytes = bytes ≡ take (length bytes) held
 
 -- the file with these bytes in place of what it held
 abbrev pub rewritten : FileTold → List ℕ → FileTold

@@ -2,7 +2,7 @@
 #![tactic(auto)]
 
 ghost use Rattle.std.specs.Prelude.{◌≡◌, IsTrue};
-ghost use Rattle.i80.specs.Columns.{is_well_formed, length80, uses80, defs80, ends80};
+ghost use Rattle.i80.specs.Columns.{is_well_formed, length80, uses80, defs80, ends80, gives_zero};
 
 mod parts;
 
@@ -60,6 +60,15 @@ pub enum Op {
     Xra,
     Ora,
     Cmp,
+}
+
+impl Op {
+    /// Whether the operation gives 0 whatever A holds: XRA A and SUB A.
+    pub fn gives_zero(self, operand: Src) -> bool
+        ensures { result ≡ gives_zero self operand }
+    {
+        matches!((self, operand), (Op::Xra | Op::Sub, Src::Reg(Reg::A)))
+    }
 }
 
 /// The operand of LXI: a number, or the code address of an instruction.

@@ -131,18 +131,11 @@ pub(crate) fn carry_in(op: Op) -> Keep
     }
 }
 
-/// XRA A and SUB A give 0 whatever A holds.
-fn gives_zero(op: Op, operand: Src) -> bool
-    ensures { result ≡ gives_zero op operand }
-{
-    matches!((op, operand), (Op::Xra | Op::Sub, Src::Reg(Reg::A)))
-}
-
 /// What an operation on A uses.
 pub(crate) fn operands(op: Op, operand: Src) -> Keep
     ensures { result ≡ uses80 (Instr80.Alu op operand) }
 {
-    if gives_zero(op, operand) {
+    if op.gives_zero(operand) {
         Keep::none()
     } else {
         a().join(read(operand)).join(carry_in(op))

@@ -26,7 +26,8 @@ use Rattle.sym_blocks.specs.Stands.{IsHalf, Stands}
 use Rattle.sym_runs.specs.Linked.{places}
 use Rattle.sym_runs.specs.Runs86.{offsets_of}
 use Rattle.sym_texts.specs.Matches.{or_else, byte_at, DataStands}
-use Rattle.own_texts.proofs.Statements.{statements-numbered, eq_false}
+use Rattle.templates_plain.proofs.NumberedLines.{statements-numbered}
+use Rattle.own_texts.proofs.Statements.{eq_false}
 use Rattle.own_texts.proofs.Leading.{Leads, held_leads}
 use Rattle.own_texts.proofs.Data.{byte_of, bytes_of, data_cells}
 use Rattle.own_texts.proofs.Programs.{Begins, program_data}

@@ -5,7 +5,6 @@ use Rattle.std.proofs.lemmas.Bool.{or_left, or_right, eqb-true}
 use Rattle.std.proofs.lemmas.List.Folds.{list_any-append}
 use Rattle.base_addresses.specs.Addresses.{is_among}
 use Rattle.cells.specs.declared.Place.TheVariants.{At as AtPlace}
-use Rattle.cells.specs.declared.Cell.{Cell}
 use Rattle.cells.specs.declared.Cell.TheVariants.{Lo}
 use Rattle.i80.specs.declared.Word.TheVariants.{Num as Number, Code}
 use Rattle.i80.specs.declared.Goal.{Goal}
@@ -13,8 +12,9 @@ use Rattle.i80.specs.declared.Goal.TheVariants.{At, Boot, Bdos}
 use Rattle.i80.specs.declared.Instr80.{Instr80}
 use Rattle.i80.specs.declared.Instr80.TheVariants.{Lxi, Jmp, Jif, Call, Cif}
 use Rattle.i80.specs.Columns.{length80}
+use Rattle.asm80_program.proofs.Standing.{held_taken}
 use Rattle.asm80_program.specs.declared.program.Placed.{Placed}
-use Rattle.asm80_program.specs.Program.{Program, placed_in, instr_of_placed, instr_at, is_start, starts_of, cell_in, cell_at, AreLaid, named_by, NameStarts, AreCoded, IsProgram}
+use Rattle.asm80_program.specs.Program.{Program, placed_in, instr_of_placed, instr_at, is_start, starts_of, cell_at, AreLaid, named_by, NameStarts, AreCoded, IsProgram}
 use Rattle.asm80_program.specs.Taken.{place_of, place_placed, place_in_cell, takes, taken}
 use Rattle.flow.specs.Blocks.{target_of, IsLeader, BlocksCut}
 use Rattle.flow.proofs.Entries.{among_cons, among_some, contained}
@@ -53,16 +53,6 @@ start_among q (x ∷ xs) h = by_test (x.at == q) h (start_among q xs)
     by_test true g rest = refl
     by_test false g rest = rest g
 
-held_among : (a q : ℕ) (cs : List (ℕ × Cell)) → cell_in cs a ≡ Some (Lo (AtPlace q)) → is_among (filter_map place_in_cell cs) q ≡ true
-held_among a q [] h = absurd (cc)
-held_among a q (c ∷ cs) h = by_test (c.0 == a) h (held_among a q cs)
-  where
-    by_test : (u : Bool) → cond u (Some c.1) (cell_in cs a) ≡ Some (Lo (AtPlace q)) → (cell_in cs a ≡ Some (Lo (AtPlace q)) → is_among (filter_map place_in_cell cs) q ≡ true) → is_among (filter_map place_in_cell (c ∷ cs)) q ≡ true
-    by_test true g rest =
-        let value : c.1 ≡ Lo (AtPlace q) = cc in
-        among_some (place_in_cell c) (filter_map place_in_cell cs) q (ap (λ (v : Cell). place_in_cell (c.0, v)) value)
-    by_test false g rest = among_cons (place_in_cell c) (filter_map place_in_cell cs) q (rest g)
-
 module _ (p : Program) (is : IsProgram p) (cut : BlocksCut p) where
   taken_leads : (q : ℕ) → is_start p q ≡ true → takes p q ≡ true → Leads p (At q)
   taken_leads q start t = (cut.is_taken q (contained (taken p) q (among_kept (takes p) q (starts_of p.instrs) t (start_among q p.instrs start))), start)
@@ -73,7 +63,7 @@ module _ (p : Program) (is : IsProgram p) (cut : BlocksCut p) where
   -- a code address among the data
   pub held_leads : (a q : ℕ) → cell_at p a ≡ Some (Lo (AtPlace q)) → is_start p q ≡ true → Leads p (At q)
   held_leads a q here start =
-      taken_leads q start (either_takes q (or_right (is_among (filter_map place_placed p.instrs) q) (is_among (filter_map place_in_cell p.cells) q) (held_among a q p.cells here)))
+      taken_leads q start (either_takes q (or_right (is_among (filter_map place_placed p.instrs) q) (is_among (filter_map place_in_cell p.cells) q) (held_taken p.cells a q here)))
 
   -- instructions from a place on are all of the program from there on
   record Instrs (from : ℕ) (xs : List Placed) : Type 0 where

@@ -19,7 +19,8 @@ use Rattle.asm86_text.specs.Back.{AreWritten}
 use Rattle.asm86_text.specs.Stream.{has_end}
 use Rattle.sym_blocks.specs.Sorts.{IsCoded86, StatementIsCoded, StatementsAreCoded}
 use Rattle.sym_texts.specs.Matches.{DatumIsCoded, DataAreCoded}
-use Rattle.own_texts.proofs.Statements.{HaveLines, statements-numbered}
+use Rattle.templates_plain.proofs.NumberedLines.{statements-numbered}
+use Rattle.own_texts.proofs.Statements.{HaveLines}
 use Rattle.own_texts.proofs.Whole.{data_of, tail_of, body_of, all_lines}
 use Rattle.own_texts.proofs.CodeBytes.{word_below, byte_below, code_has_reader}
 

@@ -5,9 +5,7 @@ use Rattle.std.proofs.lemmas.Bool.Decides.{nat_tests}
 use Rattle.asm86_lines.specs.declared.line.Label.{Label}
 use Rattle.asm86_lines.specs.declared.line.Stmt86.{Stmt86}
 use Rattle.asm86_lines.specs.Layout.{size_of, sizes_of, marks, offset_from}
-use Rattle.asm86_lines.specs.Image.{statements}
 use Rattle.asm86_line_reader.specs.ReadBack.{has_line}
-use Rattle.templates_plain.specs.Plain.{numbered}
 use Rattle.templates.specs.Style.{without_last, without_first_if, without_last_if}
 
 abbrev pub Each : (Stmt86 → Type 0) → List Stmt86 → Type 0
@@ -69,8 +67,3 @@ eq_true a b h = grind (arith, nat_tests)
 
 pub eq_false : (a b : ℕ) → a ≢ b → (a == b) ≡ false
 eq_false a b h = grind (arith, nat_tests)
-
--- the statements of numbered lines
-pub statements-numbered : (n : ℕ) (xs : List Stmt86) → statements (numbered n xs) ≡ xs
-statements-numbered n [] = refl
-statements-numbered n (x ∷ xs) = ap (λ ys. x ∷ ys) (statements-numbered (n + 1) xs)

@@ -29,7 +29,8 @@ use Rattle.sym_texts.specs.Matches.{HasOpening}
 use Rattle.own_texts.specs.Fits.{StyleFits}
 use Rattle.own_texts.specs.Reach.{JumpsReach}
 use Rattle.asm86_image.proofs.Texts.{count_marks-append}
-use Rattle.own_texts.proofs.Statements.{Each, each-append, HaveLines, MarksNot, offset_past, stands_behind, statements-numbered}
+use Rattle.templates_plain.proofs.NumberedLines.{statements-numbered}
+use Rattle.own_texts.proofs.Statements.{Each, each-append, HaveLines, MarksNot, offset_past, stands_behind}
 use Rattle.own_texts.proofs.Shapes.{word_fits, byte_fits}
 use Rattle.own_texts.proofs.Body.{AreKnown, IsBody, blocks_body}
 use Rattle.own_texts.proofs.Leading.{Leads, program_known}

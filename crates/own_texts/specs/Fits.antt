@@ -2,13 +2,8 @@
 use Rattle.std.specs.Prelude.{◌<◌}
 use Rattle.asm86_lines.specs.Layout.{sizes_of}
 use Rattle.asm80_program.specs.Program.{Program}
-use Rattle.templates_plain.specs.Plain.{plain_statements}
 use Rattle.templates.specs.Style.{Style, styled_statements}
 
 -- the code of a program's text in a style has at most 65,535 bytes
 abbrev pub StyleFits : Style → Program → Type 0
 StyleFits s p = sizes_of (styled_statements s p) < 0x10000
-
--- the code of a program's plain text has
-abbrev pub CodeFits : Program → Type 0
-CodeFits p = sizes_of (plain_statements p) < 0x10000

@@ -24,7 +24,7 @@ use Rattle.flow.proofs.Cuts.{flat, flat-cut}
 use Rattle.templates_plain.specs.Template.{template}
 use Rattle.templates_plain.specs.Plain.{prologue, runtime, cell_statement, org_at, data_from, ending, numbered}
 use Rattle.templates.specs.Style.{Style, is_pair, knows_function, without_last, without_first_if, without_last_if, written_as, written, label_within, block_from, block_of, blocks_of, styled_statements}
-use Rattle.own_texts.proofs.Statements.{statements-numbered}
+use Rattle.templates_plain.proofs.NumberedLines.{statements-numbered}
 
 -- ---- a template
 

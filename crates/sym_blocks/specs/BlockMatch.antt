@@ -1,5 +1,5 @@
 -- When what a text does at a block's label matches the block, and else the first reason why not: its actions, its exits, the parts
--- that are needed behind it in their order, and SP.
+-- that are kept behind it in their order, and SP.
 use Rattle.std.specs.Prelude.{ℕ, Bool, true, false, not, ◌&&◌, ◌||◌, cond, List, [], ◌∷◌, Option, Some, None, Result, Ok, Err}
 use Rattle.std.specs.List.{find}
 use Rattle.cells.specs.declared.Place.{Place}

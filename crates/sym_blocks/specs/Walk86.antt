@@ -2,8 +2,8 @@
 --
 -- From the label on, instructions have their effect in terms. Labels of the block's own later instructions, K and U labels are
 -- passed; any other label ends the way as a jump to it does. A jump to a K or U label goes on there. The first conditional jump
--- makes two ways, which end by jumps, a call or a return. Each way has at least one instruction, and at most 10 for each of the
--- block's, its jumps counted.
+-- makes two ways, which end by jumps, a call or a return. IN, OUT and INT 224 end a walk, and are refused behind a conditional
+-- jump. Each way has at least one instruction, and at most 10 for each of the block's, its jumps counted.
 use Rattle.std.specs.Prelude.{ℕ, zero, suc, ◌*◌, ◌==◌, not, Bool, true, false, cond, List, [], ◌∷◌, drop, ◌||◌, Option, Some, None, Result, Ok, Err}
 use Rattle.std.specs.List.{list_any}
 use Rattle.cells.specs.declared.Place.{Place}

@@ -1,9 +1,8 @@
 -- The blocks of a program as a cut.
-use Rattle.std.proofs.Common.{◌≡◌, ◌∙◌, ℕ, zero, suc, ◌+◌, ◌<◌, ◌==◌, Bool, true, false, cond, List, [], ◌∷◌, length, get_or, Option, Some, None, refl, sym, ap, subst, arith, inl, inr, ◌⊎◌}
-use Rattle.std.specs.Prelude.{is_some, map, filter, IfSome}
+use Rattle.std.proofs.Common.{◌≡◌, ◌∙◌, ℕ, zero, suc, ◌+◌, ◌<◌, ◌==◌, Bool, true, false, cond, List, [], ◌∷◌, length, get_or, Option, Some, None, refl, ap, subst, arith, inl, inr, ◌⊎◌}
+use Rattle.std.specs.Prelude.{is_some, filter}
 use Rattle.std.specs.List.{Contains}
 use Rattle.std.proofs.lemmas.Bool.{eqb-true}
-use Rattle.std.proofs.lemmas.List.{get_or-map, get_or_default, length-map}
 use Rattle.cells.specs.declared.Part.{Part}
 use Rattle.cells.specs.declared.Part.TheVariants.{A, B, C, D, E, H, L, S, Z, Ac, P, Cy}
 use Rattle.cells.specs.declared.Place.TheVariants.{At}
@@ -13,13 +12,12 @@ use Rattle.i80.specs.declared.Instr80.TheVariants.{Lxi}
 use Rattle.i80.specs.declared.Word.TheVariants.{Code, Num}
 use Rattle.i80.specs.Columns.{length80}
 use Rattle.asm80_program.specs.declared.program.Placed.{Placed}
-use Rattle.asm80_program.specs.Program.{Program, IsProgram, placed_in, instr_at, is_start, starts, starts_of, named_by}
+use Rattle.asm80_program.specs.Program.{Program, IsProgram, placed_in, instr_at, is_start, starts_of, named_by}
 use Rattle.asm80_program.specs.Taken.{takes, taken}
-use Rattle.flow.specs.declared.node.Node.TheVariants.{Start}
-use Rattle.flow.specs.Need.{Need, NeedsAreClosed}
-use Rattle.flow.specs.Blocks.{blocks, block_at, target_of, place_after, behind, IsStraight, IsLeader, BlocksCut}
-use Rattle.flow.specs.Blocks.{IsBlock as IsBlockOf}
-use Rattle.flow.specs.Solving.{Needs, AreNeeds, AreAllNeeds}
+use Rattle.flow.specs.Need.{NeedsAreClosed}
+use Rattle.flow.specs.Blocks.{blocks, block_at, place_after, behind, IsStraight, IsLeader, BlocksCut}
+use Rattle.flow.specs.Blocks.{IsBlockOf}
+use Rattle.flow.specs.Solving.{Needs, AreAllNeeds}
 use Rattle.sym_blocks.specs.Block80.{IsBlock, instrs_from, address_after}
 use Rattle.sym_runs.specs.Linked.{HasBlock, IsFirstOf}
 use Rattle.sym_linking.specs.Cuts.{IsCut, ReturnsKeep}
@@ -63,7 +61,7 @@ among keep (x ∷ xs) a h k = by_here (x.at == a) refl h (λ g. among keep xs a 
     by_here true e g rest = here (keep x.at) (ap keep (eqb-true x.at a e) ∙ k) (eqb-true x.at a e)
     by_here false e g rest = later (keep x.at) (rest g)
 
-taken_has : (p : Program) (a : ℕ) → is_start p a ≡ true → takes p a ≡ true → Contains (taken p) a
+pub taken_has : (p : Program) (a : ℕ) → is_start p a ≡ true → takes p a ≡ true → Contains (taken p) a
 taken_has p a start t = among (takes p) p.instrs a start t
 
 -- ---- the address behind a block

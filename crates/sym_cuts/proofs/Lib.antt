@@ -1,2 +1,2 @@
 pub mod Names
-mod Cutting
+pub mod Cutting

@@ -18,7 +18,8 @@ use Rattle.asm86_lines.specs.declared.line.Label.TheVariants.{At}
 use Rattle.asm86_lines.specs.declared.line.Stmt86.{Stmt86}
 use Rattle.asm86_lines.specs.Layout.{same_label}
 use Rattle.templates_plain.specs.Template.{label_of, unless}
-use Rattle.sym_terms.specs.Term.{same_place, same_bool}
+use Rattle.cells.specs.Places.{same_place}
+use Rattle.sym_terms.specs.Term.{same_bool}
 use Rattle.sym_terms.specs.Making.{high, low}
 use Rattle.sym_terms.proofs.Equal.{both_true}
 use Rattle.sym_blocks.specs.Outcome.{Way, Goto, Call, Sys, SysReturn, Boot, Leave, One, Two}

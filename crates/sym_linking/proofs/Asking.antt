@@ -27,7 +27,7 @@ use Rattle.cpu86_steps.specs.Call.{OddCall, spoiled, seen_by as seen_by86, ask a
 use Rattle.sym_blocks.specs.Stands.{Stands}
 use Rattle.sym_calls.specs.Sight.{SeesMore, KnowsMore, WhoSeesMoreAsksTheSame}
 use Rattle.sym_runs.specs.States.{IsCell}
-use Rattle.sym_sound80.proofs.Answering.{then_is, ok_is, err_is_not}
+use Rattle.dialogue.proofs.Tried.{then_is, ok_is, err_is_not}
 use Rattle.sym_sound86.proofs.Words.{eq_false}
 use Rattle.sym_linking.proofs.Writes.{AreWithin, fit_within}
 

@@ -1,6 +1,5 @@
 -- One block is linked, by the way that both machines take.
 use Rattle.std.proofs.Common.{◌≡◌, ℕ, ◌+◌, ◌*◌, ◌-◌, ◌≤◌, ◌<◌, Bool, true, false, List, [], ◌∷◌, ◌++◌, Option, Some, None, Ok, refl, sym, ap, subst, ◌∙◌, arith, append_assoc, ◌⊎◌, inl, inr}
-use Rattle.std.specs.Prelude.{is_some}
 use Rattle.std.proofs.lemmas.Bool.{and_parts, eqb-true}
 use Rattle.cells.specs.declared.Place.TheVariants.{At, Exit as EndPlace}
 use Rattle.cells.specs.declared.Rule.{Rule}
@@ -47,7 +46,7 @@ use Rattle.sym_calls.specs.Sight.{WhoSeesMoreAsksTheSame}
 use Rattle.sym_values.specs.Linked.{EnvsStand, AgreeingTermsStand}
 use Rattle.sym_values.specs.Environments.{HasLabels}
 use Rattle.sym_sound86.proofs.Positions.{behind_is, offsets_are, offset_within, defined_here, place_is}
-use Rattle.sym_sound86.proofs.Walking.{err_is_not}
+use Rattle.dialogue.proofs.Tried.{err_is_not}
 use Rattle.sym_matching.specs.Matching.{BlocksStand, MatchingBlocksStand}
 use Rattle.sym_matching.proofs.Reasons.{walk_matches}
 use Rattle.sym_linking.specs.Linking.{WriteBytes, BlocksMatch, BlockLinks, BlocksAreLinked}
@@ -55,7 +54,9 @@ use Rattle.sym_linking.proofs.Exits.{IsWayOf, way_in}
 use Rattle.sym_linking.proofs.Running.{moved, turn_is, run_turns, run_quiet, runs_any, leaves_quiet, leaves_stopped}
 use Rattle.sym_linking.proofs.Going.{Follows}
 use Rattle.sym_linking.proofs.System.{AtSystem, called, jumped}
-use Rattle.sym_linking.proofs.Ways.{same_place_is, Ended, goto, boot, by_terms, call, asks_in, asks_out, through_runtime, directly}
+use Rattle.cells.specs.Places.{same_place}
+use Rattle.cells.proofs.SamePlace.{same_place_is}
+use Rattle.sym_linking.proofs.Ways.{Ended, goto, boot, by_terms, call, asks_in, asks_out, through_runtime, directly}
 
 -- the places that are held have labels
 
@@ -131,7 +132,7 @@ module _ (terms : AgreeingTermsStand) (same : WhoSeesMoreAsksTheSame) (runtimes 
         by_terms terms same runtimes p lines cut keeps fetch choices reads set labels count some_count x y t u w steps n few e d envs (k.sp refl) k.parts lv.some i j v z s both.0 both.1 ans ans80 lv.leads
     follows (ByTerms i j) (ByTerms v z) ans k h s ans80 (inr lv) = absurd lv.asks
     follows (Call q (At c)) (Call r back) ans k h s ans80 (inl lv) =
-        let both = and_parts (Rattle.sym_terms.specs.Term.same_place q r) (Rattle.sym_terms.specs.Term.same_place (At c) back) h in
+        let both = and_parts (same_place q r) (same_place (At c) back) h in
         let same_target = same_place_is q r both.0 in
         let same_back = same_place_is (At c) back both.1 in
         subst Then (sym ans80.4)
@@ -162,7 +163,7 @@ module _ (terms : AgreeingTermsStand) (same : WhoSeesMoreAsksTheSame) (runtimes 
         subst Then (sym ans80) (boot terms same runtimes p lines cut keeps fetch choices reads set labels count some_count x y t u w steps n few lv.leads)
     follows Boot Boot ans k h s ans80 (inr lv) = absurd lv.asks
     follows (In port (At c)) (In port' next) ans k h s ans80 (inr lv) =
-        let both = and_parts (Rattle.std.specs.Prelude.◌==◌ port port') (Rattle.sym_terms.specs.Term.same_place (At c) next) h in
+        let both = and_parts (Rattle.std.specs.Prelude.◌==◌ port port') (same_place (At c) next) h in
         let same_port : port ≡ port' = eqb-true port port' both.0 in
         let is = same_place_is (At c) next both.1 in
         subst Then (sym ans80.2)
@@ -173,7 +174,7 @@ module _ (terms : AgreeingTermsStand) (same : WhoSeesMoreAsksTheSame) (runtimes 
     follows (In port EndPlace) c ans k h s ans80 lv = absurd k.in_cut
     follows (In port (At c)) (In port' next) ans k h s ans80 (inl lv) = absurd lv.leads
     follows (Out port (At c)) (Out port' next) ans k h s ans80 (inr lv) =
-        let both = and_parts (Rattle.std.specs.Prelude.◌==◌ port port') (Rattle.sym_terms.specs.Term.same_place (At c) next) h in
+        let both = and_parts (Rattle.std.specs.Prelude.◌==◌ port port') (same_place (At c) next) h in
         let same_port : port ≡ port' = eqb-true port port' both.0 in
         let is = same_place_is (At c) next both.1 in
         subst Then (sym ans80.4)

@@ -11,7 +11,7 @@ use Rattle.asm86_lines.specs.declared.line.Label.{Label}
 use Rattle.asm86_lines.specs.declared.line.Label.TheVariants.{Sys as SysLabel}
 use Rattle.asm80_program.specs.Program.{Program}
 use Rattle.cpu80_steps.specs.State.{State80, wrap}
-use Rattle.cpu80_steps.specs.Memory.{is_kept, read_word}
+use Rattle.cpu80_steps.specs.Memory.{is_write_protected, read_word}
 use Rattle.cpu80_steps.specs.Call.{Return, is_just_below, may_be_written, place_in, place_if, is_place, popped_return}
 use Rattle.cpu86_steps.specs.State.{State86, put, put_word, put_bytes, back as below, byte_of, word, word_at, push}
 use Rattle.cpu86_steps.specs.Call.{chosen_six, spoiled, put_blocks}
@@ -21,7 +21,8 @@ use Rattle.sym_runs.specs.Runs80.{going_on}
 use Rattle.sym_runs.specs.Runs86.{GoesOnAt}
 use Rattle.sym_runs.specs.Linked.{IsFirstOf, places}
 use Rattle.sym_values.specs.Replayed.{MemoryStands}
-use Rattle.sym_sound80.proofs.Answering.{then_is, ok_is, read_word_is}
+use Rattle.dialogue.proofs.Tried.{then_is, ok_is}
+use Rattle.sym_sound80.proofs.Answering.{read_word_is}
 use Rattle.sym_sound80.proofs.Leaving.{place_is, place_if_is}
 use Rattle.sym_sound86.proofs.Words.{back_on, eq_true, lt_true, lt_false, at_least, spoiled_past, pushed_back, call_keeps}
 use Rattle.sym_linking.specs.Cuts.{IsCut}
@@ -79,7 +80,7 @@ module _ (p : Program) (cut : List (ℕ × ℕ)) (is_cut : IsCut p cut) (offset 
 
   -- cells just below SP are not written
   kept_below : (popped : Bool) (a : ℕ) → is_just_below t.sp a ≡ true → may_be_written p t popped a ≡ false
-  kept_below popped a h = ap (λ b. not (b || (is_kept p a || (popped && (a == t.sp || a == wrap (t.sp + 1)))))) h
+  kept_below popped a h = ap (λ b. not (b || (is_write_protected p a || (popped && (a == t.sp || a == wrap (t.sp + 1)))))) h
 
   -- a place that is held is the first of a block
   held_first : (q : Place) → IsHeldPlace p q → IsFirstOf cut q
@@ -165,7 +166,7 @@ module _ (p : Program) (cut : List (ℕ × ℕ)) (is_cut : IsCut p cut) (offset 
 
   -- a return that is popped is not written either
   kept_low : (a : ℕ) → a ≡ t.sp → may_be_written p t true a ≡ false
-  kept_low a e = ap (λ b. not (is_just_below t.sp a || (is_kept p a || (b || a == wrap (t.sp + 1))))) (eq_true a t.sp e) ∙ passed (is_just_below t.sp a) (is_kept p a)
+  kept_low a e = ap (λ b. not (is_just_below t.sp a || (is_write_protected p a || (b || a == wrap (t.sp + 1))))) (eq_true a t.sp e) ∙ passed (is_just_below t.sp a) (is_write_protected p a)
     where
       passed : (b c : Bool) → not (b || (c || true)) ≡ false
       passed true c = refl
@@ -173,7 +174,7 @@ module _ (p : Program) (cut : List (ℕ × ℕ)) (is_cut : IsCut p cut) (offset 
       passed false false = refl
 
   kept_high : (a : ℕ) → a ≡ wrap (t.sp + 1) → may_be_written p t true a ≡ false
-  kept_high a e = ap (λ b. not (is_just_below t.sp a || (is_kept p a || (a == t.sp || b)))) (eq_true a (wrap (t.sp + 1)) e) ∙ passed (is_just_below t.sp a) (is_kept p a) (a == t.sp)
+  kept_high a e = ap (λ b. not (is_just_below t.sp a || (is_write_protected p a || (a == t.sp || b)))) (eq_true a (wrap (t.sp + 1)) e) ∙ passed (is_just_below t.sp a) (is_write_protected p a) (a == t.sp)
     where
       passed : (b c d : Bool) → not (b || (c || (d || true))) ≡ false
       passed true c d = refl

@@ -1,7 +1,6 @@
 -- The ways out of a block, one by one: what the 8080's last step answers, and where the 8086 comes to.
 use Rattle.std.proofs.Common.{◌≡◌, ◌≢◌, ℕ, ◌+◌, ◌*◌, ◌≤◌, ◌<◌, true, false, List, [], length, Option, Some, Result, Ok, refl, sym, ap, subst, ◌∙◌, arith, ◌⊎◌, inl, inr}
-use Rattle.std.specs.Prelude.{◌&&◌}
-use Rattle.std.proofs.lemmas.Bool.{and_parts, eqb-true, ltb-true}
+use Rattle.std.proofs.lemmas.Bool.{and_parts, ltb-true}
 use Rattle.cells.specs.declared.Place.{Place}
 use Rattle.cells.specs.declared.Place.TheVariants.{At, Exit as EndPlace}
 use Rattle.cells.specs.declared.Cell.{Cell}
@@ -31,12 +30,12 @@ use Rattle.asm80_program.specs.Program.{Program}
 use Rattle.cpu80_steps.specs.State.{State80, wrap, num_of, with_a}
 use Rattle.cpu80_steps.specs.Memory.{put as put80, write_word}
 use Rattle.cpu80_steps.specs.Effect.{push as push80}
-use Rattle.cpu80_steps.specs.Call.{Return, is_just_below, seen_by, call_system, is_place, place_if, popped_return, after_reply}
+use Rattle.cpu80_steps.specs.Call.{Return, seen_by, call_system, is_place, place_if, after_reply}
 use Rattle.cpu80_steps.specs.Step.{leave_to, replied_to, replied80, return_at, machine80}
-use Rattle.cpu86_steps.specs.State.{State86, word, word_at, put_word, push, back as below}
+use Rattle.cpu86_steps.specs.State.{State86, word, put_word, back as below}
 use Rattle.cpu86_steps.specs.Call.{Stop, spoiled, call_system as call_system86, after_reply as after_reply86, replied86}
 use Rattle.cpu86_steps.specs.Step.{step86, machine86}
-use Rattle.sym_terms.specs.Term.{Term, High, Low, Loaded16}
+use Rattle.sym_terms.specs.Term.{Term}
 use Rattle.sym_terms.specs.Values80.{Env80}
 use Rattle.sym_terms.specs.Values86.{Env86}
 use Rattle.sym_blocks.specs.Outcome.{ByTerms, In, Out}
@@ -55,7 +54,8 @@ use Rattle.sym_values.specs.Linked.{EnvsStand, AgreeingTermsStand}
 use Rattle.sym_values.specs.Replayed.{MemoryStands}
 use Rattle.sym_values.specs.Environments.{HasLabels}
 use Rattle.sym_values.proofs.Replaying.{put_word_stands}
-use Rattle.sym_sound80.proofs.Answering.{then_is, ok_is, read_word_is, write_word_is}
+use Rattle.dialogue.proofs.Tried.{then_is, ok_is}
+use Rattle.sym_sound80.proofs.Answering.{read_word_is, write_word_is}
 use Rattle.sym_linking.specs.Linking.{AreBytes, WriteBytes, BlocksMatch}
 use Rattle.sym_linking.proofs.Exits.{ComesBack}
 use Rattle.sym_linking.proofs.Asking.{AsksSystem, CallsSystem80, leaves, resets, asking, calls_80, number_stands, IsSight, CallStands, asks_same, reply_fits}
@@ -63,13 +63,6 @@ use Rattle.sym_linking.proofs.Replying.{moved_bytes, memory_after, state80_after
 use Rattle.sym_linking.proofs.Standing.{StatesStand, parts_on, halves_place, place_halves, cell_put, as_many, not_next80, not_next86}
 use Rattle.sym_linking.proofs.Going.{Follows, Lands, here, ran_follows, ends_follow, asks_follow}
 use Rattle.sym_linking.proofs.System.{AtSystem, going_is, spoil_sight}
-
--- the same place
-pub same_place_is : (q r : Place) → Rattle.sym_terms.specs.Term.same_place q r ≡ true → q ≡ r
-same_place_is (At a) (At b) e = ap At (eqb-true a b e)
-same_place_is (At a) EndPlace e = absurd (cc)
-same_place_is EndPlace (At b) e = absurd (cc)
-same_place_is EndPlace EndPlace e = refl
 
 module _ (terms : AgreeingTermsStand) (same : WhoSeesMoreAsksTheSame) (runtimes : RuntimesRun86) (p : Program) (lines : List Line86) (cut : List (ℕ × ℕ)) (keeps : Keeps) (fetch : ℕ → Option Instr86) (choices : List ℕ) (reads : Reads (image_of lines).code fetch) (set : BlocksMatch p lines cut keeps) (labels : HasLabels p (offsets_of lines)) (count : ℕ) (some_count : 1 ≤ count) where
   abbrev offset : Label → Option ℕ

@@ -234,8 +234,3 @@ ByteIsCoded value = Unit {0}
 abbrev pub WordIsCoded : WordValue → Type 0
 WordIsCoded (NumberWord n) = n < 0x10000
 WordIsCoded value = Unit {0}
-
-abbrev pub IsCodedMicro : Micro → Type 0
-IsCodedMicro (Byte r value) = ByteIsCoded value
-IsCodedMicro (Word w value) = WordIsCoded value
-IsCodedMicro x = Unit {0}

@@ -8,7 +8,7 @@ use Rattle.i80.specs.Columns.{length80, ends80, is_well_formed}
 use Rattle.asm86_lines.specs.declared.line.Label.TheVariants.{At}
 use Rattle.asm80_program.specs.declared.program.Placed.{Placed}
 use Rattle.asm80_program.specs.Program.{Program, IsProgram, IsCoded, AreCoded, AreLaid, placed_in, instr_at, instr_of_placed}
-use Rattle.flow.specs.Blocks.{cut_from, leader_of, end_of, IsBlock}
+use Rattle.flow.specs.Blocks.{cut_from, leader_of, end_of, IsBlockOf}
 use Rattle.flow.proofs.Cuts.{flat, flat-cut, block, Joined, joined_block, sized_block}
 use Rattle.flow.proofs.Straight.{uncut}
 use Rattle.flow.proofs.Extents.{numbered}
@@ -170,7 +170,7 @@ some_block : (p : Program) (a count : ℕ) (b : List Placed) → 0 < length b �
 some_block p a count [] lt at size run s = absurd (omega arith)
 some_block p a count (x ∷ xs) lt at size run s = record { first = x; inner = xs; before = s.before; after = s.after; at = at; size = size; run = run; cut = s.is }
 
-pub block_is : (p : Program) (a count : ℕ) → IsBlock p a count → BlockAt p a count
+pub block_is : (p : Program) (a count : ℕ) → IsBlockOf p a count → BlockAt p a count
 block_is p a count h =
     let x = numbered p a count h in
     some_block p a count (block (cut_from p 0 p.instrs) x.number) (sized_block p p.instrs x.number x.within).0 x.leader x.count

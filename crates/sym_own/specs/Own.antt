@@ -3,7 +3,7 @@
 use Rattle.std.specs.Prelude.{◌≡◌, ℕ, true, Some, None}
 use Rattle.asm80_program.specs.declared.program.Placed.{Placed}
 use Rattle.asm80_program.specs.Program.{Program, placed_in, IsProgram}
-use Rattle.flow.specs.Blocks.{end_of, blocks, IsBlock}
+use Rattle.flow.specs.Blocks.{end_of, blocks, IsBlockOf}
 use Rattle.flow.specs.Saves.{is_word_sum}
 use Rattle.flow.specs.Solving.{Needs, AreAllNeeds}
 use Rattle.templates.specs.Style.{Style, plain_style, styled_statements}
@@ -26,7 +26,7 @@ OwnBlocksMatch =
     AreAllNeeds p n →
     Respects p n s →
     (a count : ℕ) →
-    IsBlock p a count →
+    IsBlockOf p a count →
     block_reason p (styled_statements s p) (needed_by p n) a count ≡ None
 
 -- so no block of the program has a reason why not

@@ -116,20 +116,13 @@ fn operate(terms: &mut Terms, run: &mut Run, op: Op, from: Src) -> Option<()>
     requires room { length run.old.actions.items ≤ 510 }
     ensures { GoesOn terms.old terms.new run.old run.new 24 2 (λ m. as80 m ≡ effect80 (as80 (machine_of terms.old run.old)) (Instr80.Alu op from)) result }
 {
-    if gives_zero(op, from) {
+    if op.gives_zero(from) {
         return clear(terms, run, op, from);
     }
     match from {
         Src::Reg(reg) => operate_register(terms, run, op, reg),
         Src::Mem => operate_memory(terms, run, op),
     }
-}
-
-// XRA A and SUB A give 0, whatever A holds.
-fn gives_zero(op: Op, from: Src) -> bool
-    ensures { result ≡ gives_zero op from }
-{
-    matches!((op, from), (Op::Xra | Op::Sub, Src::Reg(Reg::A)))
 }
 
 fn count(terms: &mut Terms, run: &mut Run, count: Count, on: Src) -> Option<()>

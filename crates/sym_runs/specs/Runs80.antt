@@ -1,6 +1,6 @@
 -- What a block's outcome means for the tagged 8080 that runs the block: its parts, SP and memory have the values of the outcome's
 -- terms, and its last step answers as the outcome's exit says.
-use Rattle.std.specs.Prelude.{◌≡◌, ◌<◌, ℕ, ◌+◌, ◌-◌, Bool, true, false, cond, List, [], ◌∷◌, ◌++◌, length, Some, Result, Ok, Err, ◌⊎◌}
+use Rattle.std.specs.Prelude.{◌≡◌, ◌<◌, ℕ, ◌+◌, ◌-◌, Bool, true, false, cond, List, [], ◌∷◌, ◌++◌, length, Some, Result, Ok, ◌⊎◌}
 use Rattle.cells.specs.declared.Place.{Place}
 use Rattle.cells.specs.declared.Place.TheVariants.{At}
 use Rattle.cells.specs.declared.Cell.{Cell}
@@ -13,7 +13,7 @@ use Rattle.dialogue.specs.declared.request.Event.TheVariants.{In as AskedIn, Out
 use Rattle.base_runs.specs.Run.{Answer, Ran, Asks, Ends, Stops}
 use Rattle.asm80_program.specs.Program.{Program, IsProgram}
 use Rattle.cpu80_steps.specs.State.{State80, Regs80, reg80, wrap}
-use Rattle.cpu80_steps.specs.Memory.{is_closed, is_kept, put, Halves, read_word}
+use Rattle.cpu80_steps.specs.Memory.{is_closed, is_write_protected, put, read_word}
 use Rattle.cpu80_steps.specs.Effect.{push}
 use Rattle.cpu80_steps.specs.Call.{Return, call_system, place_if, is_place, popped_return}
 use Rattle.cpu80_steps.specs.Step.{step80, leave_to, return_at, machine80}
@@ -73,9 +73,9 @@ Replays80 p e m (Load16 a ∷ xs) (LoadedWord h l ∷ loads) m' =
     (n : ℕ) × IsWordAddress e a n × (is_closed p n ≡ false) × (is_closed p (n + 1) ≡ false) × (l ≡ m n) × (h ≡ m (n + 1))
     × Replays80 p (with_load e (LoadedWord h l)) m xs loads m'
 Replays80 p e m (Store8 a v ∷ xs) loads m' =
-    (n : ℕ) × (c : Cell) × IsAddress e a n × Val80 e v (Byte c) × (is_kept p n ≡ false) × Replays80 p e (put m n c) xs loads m'
+    (n : ℕ) × (c : Cell) × IsAddress e a n × Val80 e v (Byte c) × (is_write_protected p n ≡ false) × Replays80 p e (put m n c) xs loads m'
 Replays80 p e m (Store16 a v ∷ xs) loads m' =
-    (n : ℕ) × (h l : Cell) × IsWordAddress e a n × Val80 e v (Word h l) × (is_kept p n ≡ false) × (is_kept p (n + 1) ≡ false)
+    (n : ℕ) × (h l : Cell) × IsWordAddress e a n × Val80 e v (Word h l) × (is_write_protected p n ≡ false) × (is_write_protected p (n + 1) ≡ false)
     × Replays80 p e (put (put m n l) (n + 1) h) xs loads m'
 
 -- the way that an exit takes: of two, the one where the flag has the value, which is known

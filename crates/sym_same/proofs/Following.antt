@@ -1,7 +1,7 @@
 -- A text that matches its program, from the start on.
 use Rattle.std.proofs.Common.{◌≡◌, ℕ, zero, suc, ◌+◌, ◌-◌, ◌/◌, ◌%◌, ◌≤◌, ◌<◌, ◌==◌, nat_le, nat_lt, ◌&&◌, ◌||◌, Bool, true, false, cond, List, [], ◌∷◌, ◌++◌, Option, Some, None, refl, sym, ap, subst, ◌∙◌, arith, inl, inr}
 use Rattle.std.specs.Prelude.{All, unwrap_or, slice_index, filter_map}
-use Rattle.std.specs.List.{list_any, cons_option}
+use Rattle.std.specs.List.{list_any}
 use Rattle.std.proofs.lemmas.Bool.{eqb-true}
 use Rattle.std.proofs.lemmas.Bool.Decides.{nat_tests}
 use Rattle.std.proofs.lemmas.List.Elements.{All-head, All-tail}
@@ -28,6 +28,7 @@ use Rattle.asm86_lines.specs.declared.line.Label.TheVariants.{End}
 use Rattle.asm86_lines.specs.declared.line.Line86.{Line86}
 use Rattle.asm86_lines.specs.Layout.{offset_of, place_of}
 use Rattle.asm86_lines.specs.Image.{image_of, statements}
+use Rattle.asm80_program.proofs.Standing.{held_taken}
 use Rattle.asm80_program.specs.Program.{Program, IsProgram, is_start, is_top, cell_at, cell_in, IsDatum, AreData}
 use Rattle.asm80_program.specs.Taken.{takes, place_placed, place_in_cell}
 use Rattle.cells.specs.declared.Cell.{Cell}
@@ -38,7 +39,8 @@ use Rattle.cpu80_steps.specs.Start.{IsPage, cell_or_junk, start_cell80, start80,
 use Rattle.cpu86_steps.specs.State.{State86, reg8}
 use Rattle.cpu86_steps.specs.Call.{Stop}
 use Rattle.cpu86_steps.specs.Step.{machine86}
-use Rattle.cpu86_steps.specs.Start.{Start, IsStart, IsFill, start_byte, start86, run86}
+use Rattle.base_runs.specs.Fill.{IsFill}
+use Rattle.cpu86_steps.specs.Start.{Start, IsStart, start_byte, start86, run86}
 use Rattle.sym_blocks.specs.declared.reason.Reason.{Reason}
 use Rattle.sym_blocks.specs.BlockMatch.{Keeps, block_reason}
 use Rattle.sym_runs.specs.States.{IsCell, IsState80}
@@ -46,14 +48,13 @@ use Rattle.sym_runs.specs.Runs86.{offsets_of}
 use Rattle.sym_runs.specs.Runtime.{RuntimesRun86}
 use Rattle.sym_runs.specs.Linked.{HasBlock, IsFirstOf, StandsIn, places, Linked, Paired, linked, ended, waiting}
 use Rattle.sym_sound86.proofs.Positions.{offsets_are, offset_within}
-use Rattle.sym_sound86.proofs.Words.{eq_true}
 use Rattle.sym_linking.specs.Linking.{AreBytes, WriteBytes, BlocksMatch, BlocksAreLinked}
 use Rattle.sym_linking.proofs.Running.{moved, turn_is, run_turns}
 use Rattle.sym_linking.proofs.Standing.{StatesStand, are_linked}
 use Rattle.sym_linking.proofs.Going.{ends_follow}
 use Rattle.sym_linking.proofs.Linked.{end_label}
 use Rattle.sym_texts.specs.Matches.{or_next, blocks_reason}
-use Rattle.sym_same.specs.Same.{IsBlock, IsReply, Same}
+use Rattle.sym_same.specs.Same.{IsReplyBlock, IsReply, Same}
 use Rattle.sym_same.specs.Laws.{IsMatch, IsFollowed, BlocksFollow, MatchesIsSame}
 use Rattle.sym_same.proofs.Opening.{s7, segments, label, opens}
 use Rattle.sym_same.proofs.Memory.{image_cells, opened_bytes, start_stands}
@@ -111,9 +112,9 @@ left_bytes {S} {X} m cs (suc n) r h = left_bytes m cs n (turn m cs r) (by_status
     by_status Over = h
     by_status (Stopped x) = h
 
-block_bytes : (bs : List ReplyBlock) → All IsBlock bs → AreBytes bs
+block_bytes : (bs : List ReplyBlock) → All IsReplyBlock bs → AreBytes bs
 block_bytes [] h = tt
-block_bytes (b ∷ bs) h = ((All-head IsBlock b bs h).bytes, block_bytes bs (All-tail IsBlock b bs h))
+block_bytes (b ∷ bs) h = ((All-head IsReplyBlock b bs h).bytes, block_bytes bs (All-tail IsReplyBlock b bs h))
 
 reply_bytes : (ys : List Reply) → All IsReply ys → WriteBytes ys
 reply_bytes [] h = tt
@@ -128,29 +129,6 @@ any_last a (x ∷ xs) ys h = or_right (x == a) (any_last a xs ys h)
     or_right : (b : Bool) → list_any (λ b. b == a) (xs ++ ys) ≡ true → (b || list_any (λ b. b == a) (xs ++ ys)) ≡ true
     or_right true e = refl
     or_right false e = e
-
--- a place in a data cell is taken
-held_taken : (cs : List (ℕ × Cell)) (a q : ℕ) → cell_in cs a ≡ Some (Lo (At q)) → list_any (λ b. b == q) (filter_map place_in_cell cs) ≡ true
-held_taken [] a q h = absurd (cc)
-held_taken (c ∷ cs) a q h = by_here (c.0 == a) h (held_taken cs a q)
-  where
-    or_right : (b r : Bool) → r ≡ true → (b || r) ≡ true
-    or_right true r e = refl
-    or_right false r e = e
-
-    first : (v : Cell) → v ≡ Lo (At q) → list_any (λ b. b == q) (filter_map place_in_cell ((c.0, v) ∷ cs)) ≡ true
-    first v e = subst (λ v. list_any (λ b. b == q) (filter_map place_in_cell ((c.0, v) ∷ cs)) ≡ true) (sym e) (ap (λ t. t || list_any (λ b. b == q) (filter_map place_in_cell cs)) (eq_true q q refl))
-
-    later : (o : Option ℕ) → list_any (λ b. b == q) (filter_map place_in_cell cs) ≡ true → list_any (λ b. b == q) (cons_option o (filter_map place_in_cell cs)) ≡ true
-    later None g = g
-    later (Some k) g = or_right (k == q) _ g
-
-    by_here : (t : Bool) → cond t (Some c.1) (cell_in cs a) ≡ Some (Lo (At q)) → (cell_in cs a ≡ Some (Lo (At q)) → list_any (λ b. b == q) (filter_map place_in_cell cs) ≡ true) → list_any (λ b. b == q) (filter_map place_in_cell (c ∷ cs)) ≡ true
-    by_here true g rest = first c.1 (cell_is c.1 (Lo (At q)) g)
-      where
-        cell_is : (x y : Cell) → ◌≡◌ {A = Option Cell} (Some x) (Some y) → x ≡ y
-        cell_is x y h = cc
-    by_here false g rest = later (place_in_cell c) (rest g)
 
 small_at : (xs : List ℕ) (i : ℕ) → All (λ b. b < 256) xs → slice_index xs i < 256
 small_at [] i h = omega arith

@@ -8,7 +8,8 @@ use Rattle.asm86_lines.specs.declared.line.Line86.{Line86}
 use Rattle.asm86_lines.specs.Image.{Assembles, image_of, statements}
 use Rattle.asm80_program.specs.Program.{Program, IsProgram}
 use Rattle.cpu80_steps.specs.Start.{IsPage, run80}
-use Rattle.cpu86_steps.specs.Start.{Start, IsStart, IsFill, AreChoices, run86}
+use Rattle.base_runs.specs.Fill.{IsFill}
+use Rattle.cpu86_steps.specs.Start.{Start, IsStart, AreChoices, run86}
 use Rattle.sym_blocks.specs.BlockMatch.{Keeps}
 use Rattle.sym_blocks.specs.Sorts.{StatementsAreCoded}
 use Rattle.sym_runs.specs.Runs86.{offsets_of}

@@ -13,16 +13,17 @@ use Rattle.cpu80_steps.specs.State.{State80}
 use Rattle.cpu80_steps.specs.Start.{IsPage, run80}
 use Rattle.cpu86_steps.specs.State.{State86}
 use Rattle.cpu86_steps.specs.Call.{Stop}
-use Rattle.cpu86_steps.specs.Start.{Start, IsStart, IsFill, AreChoices, run86}
+use Rattle.base_runs.specs.Fill.{IsFill}
+use Rattle.cpu86_steps.specs.Start.{Start, IsStart, AreChoices, run86}
 
 -- a reply: a word, and blocks of bytes at addresses below 65,536
-pub record IsBlock (b : Block) : Type 0 where
+pub record IsReplyBlock (b : Block) : Type 0 where
   pub at : b.at < 0x10000
   pub bytes : All (λ n. n < 256) b.bytes
 
 pub record IsReply (y : Reply) : Type 0 where
   pub answer : y.answer < 0x10000
-  pub writes : All IsBlock y.writes
+  pub writes : All IsReplyBlock y.writes
 
 -- for every start page, fill of memory, start, list of choices and list of replies the two runs have the same dialogue;
 -- `fetch` is what stands at each place of the image's code: where the image has a reader, that is one

@@ -1,26 +1,15 @@
 -- What a step of the tagged 8080 has done where it is not refused.
-use Rattle.std.proofs.Common.{◌≡◌, ℕ, ◌+◌, ◌*◌, ◌/◌, ◌%◌, ◌<◌, ◌==◌, Bool, true, false, Result, Ok, Err, refl, ap, subst, ◌∙◌, arith}
+use Rattle.std.proofs.Common.{◌≡◌, ℕ, ◌+◌, ◌*◌, ◌/◌, ◌%◌, ◌<◌, ◌==◌, Bool, true, false, Ok, refl, ap, subst, ◌∙◌, arith}
 use Rattle.cells.specs.declared.Cell.{Cell}
 use Rattle.cells.specs.declared.Cell.TheVariants.{Num, Lo, Hi, Psw, Junk}
 use Rattle.cells.specs.declared.Rule.{Rule}
 use Rattle.cells.specs.declared.Rule.TheVariants.{P2, P3, P4, P8}
-use Rattle.dialogue.specs.Tried.{try_then}
+use Rattle.dialogue.proofs.Tried.{ok_is, err_is_not, then_is}
 use Rattle.asm80_program.specs.Program.{Program}
 use Rattle.cpu80_steps.specs.State.{State80, num_or}
-use Rattle.cpu80_steps.specs.Memory.{is_closed, is_kept, unless_then, put, address, word_fits, read_at, may_write, write_at, Halves, read_word, write_word}
+use Rattle.cpu80_steps.specs.Memory.{is_closed, is_write_protected, unless_then, put, address, word_fits, read_at, may_write, write_at, Halves, read_word, write_word}
 use Rattle.sym_terms.specs.Values80.{Word, word_of}
 use Rattle.sym_runs.specs.States.{IsCell}
-
-pub ok_is : {X R : Type 0} → (a b : X) → ◌≡◌ {A = Result X R} (Ok a) (Ok b) → a ≡ b
-ok_is a b e = cc
-
-pub err_is_not : {X R : Type 0} → (r : R) (x : X) → ◌≡◌ {A = Result X R} (Err r) (Ok x) → ⊥
-err_is_not r x e = cc
-
--- where steps one after the other are not refused, the first is not
-pub then_is : {X Y R : Type 0} → (r : Result X R) (f : X → Result Y R) (y : Y) → try_then r f ≡ Ok y → (x : X) × (r ≡ Ok x) × (f x ≡ Ok y)
-then_is (Ok x) f y e = (x, refl, e)
-then_is (Err r) f y e = absurd (err_is_not r y e)
 
 pub unless_is : (b : Bool) (r : Rule) (x : Bool) → unless_then b r ≡ Ok x → b ≡ false
 unless_is true r x e = absurd (err_is_not r x e)
@@ -54,10 +43,10 @@ read_is p s n c e =
     let t = then_is (unless_then (is_closed p n) P2) _ c e in
     (unless_is (is_closed p n) P2 t.0 t.1, ok_is (s.mem n) c t.2)
 
-pub write_is : (p : Program) (s t : State80) (n : ℕ) (c : Cell) → write_at p s n c ≡ Ok t → (is_kept p n ≡ false) × (record s { mem = put s.mem n c } ≡ t)
+pub write_is : (p : Program) (s t : State80) (n : ℕ) (c : Cell) → write_at p s n c ≡ Ok t → (is_write_protected p n ≡ false) × (record s { mem = put s.mem n c } ≡ t)
 write_is p s t n c e =
     let w = then_is (may_write p n) _ t e in
-    (unless_is (is_kept p n) P3 w.0 w.1, ok_is _ t w.2)
+    (unless_is (is_write_protected p n) P3 w.0 w.1, ok_is _ t w.2)
 
 -- a word does not begin at the last cell
 within : (n : ℕ) → n < 0x10000 → (n == 0xFFFF) ≡ false → n + 1 < 0x10000
@@ -73,9 +62,9 @@ read_word_is p s n w lt e =
     let is = ok_is _ w high.2 in
     (within n lt (unless_is (n == 0xFFFF) P4 fits.0 fits.1), l.0, h.0, h.1 ∙ ap (λ (v : Halves). v.high) is, l.1 ∙ ap (λ (v : Halves). v.low) is)
 
-pub write_word_is : (p : Program) (s t : State80) (n : ℕ) (h l : Cell) → n < 0x10000 → write_word p s n h l ≡ Ok t → (n + 1 < 0x10000) × (is_kept p n ≡ false) × (is_kept p (n + 1) ≡ false) × (record s { mem = put (put s.mem n l) (n + 1) h } ≡ t)
+pub write_word_is : (p : Program) (s t : State80) (n : ℕ) (h l : Cell) → n < 0x10000 → write_word p s n h l ≡ Ok t → (n + 1 < 0x10000) × (is_write_protected p n ≡ false) × (is_write_protected p (n + 1) ≡ false) × (record s { mem = put (put s.mem n l) (n + 1) h } ≡ t)
 write_word_is p s t n h l lt e =
     let fits = then_is (word_fits n) _ t e in
     let low = then_is (may_write p n) _ t fits.2 in
     let high = then_is (may_write p (n + 1)) _ t low.2 in
-    (within n lt (unless_is (n == 0xFFFF) P4 fits.0 fits.1), unless_is (is_kept p n) P3 low.0 low.1, unless_is (is_kept p (n + 1)) P3 high.0 high.1, ok_is _ t high.2)
+    (within n lt (unless_is (n == 0xFFFF) P4 fits.0 fits.1), unless_is (is_write_protected p n) P3 low.0 low.1, unless_is (is_write_protected p (n + 1)) P3 high.0 high.1, ok_is _ t high.2)

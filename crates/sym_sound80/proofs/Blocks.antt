@@ -14,7 +14,7 @@ use Rattle.asm80_program.specs.Program.{Program, IsProgram, instr_at, is_start}
 use Rattle.cpu80_steps.specs.State.{State80, reg80}
 use Rattle.cpu80_steps.specs.Effect.{effect}
 use Rattle.cpu80_steps.specs.Call.{popped_return}
-use Rattle.cpu80_steps.specs.Step.{go_to, go_on, go_by, go_back, jump as jump80, call as call80, act, act_at, step80, return_of, return_at, machine80}
+use Rattle.cpu80_steps.specs.Step.{go_to, go_on, go_back, jump as jump80, call as call80, act, act_at, step80, return_of, return_at, machine80}
 use Rattle.sym_terms.specs.Values80.{Load80, Byte, word_of, Val80}
 use Rattle.sym_terms.specs.Laws.{MadeTermsKeepValues, MadeTermsHaveSorts}
 use Rattle.sym_blocks.specs.Outcome.{Way, Exit, One, Outcome, held_at_start}
@@ -27,7 +27,8 @@ use Rattle.sym_sound80.proofs.Denoting.{Denotes}
 use Rattle.sym_sound80.proofs.Moves.{Denoted}
 use Rattle.sym_sound80.proofs.Rows.{row}
 use Rattle.sym_sound80.proofs.Leaving.{AnswersBy, AnsweredBy, goto_answered, pair_answered, return_answered, jump_answered, call_answered, in_answered, out_answered, one_answered, two_answered}
-use Rattle.sym_sound80.proofs.Standing.{IsPlaced, is_placed, starts_there, loads_held, call_taken, cif_taken}
+use Rattle.asm80_program.proofs.Standing.{IsPlaced, is_placed}
+use Rattle.sym_sound80.proofs.Standing.{starts_there, loads_held, call_taken, cif_taken}
 
 -- the step at an instruction
 step_is : (p : Program) (s : State80) (at : ℕ) (i : Instr80) → s.place ≡ At at → instr_at p at ≡ Some i → step80 p s ≡ act p s (at + length80 i) i

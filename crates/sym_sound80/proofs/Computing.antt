@@ -30,7 +30,8 @@ use Rattle.sym_runs.specs.States.{IsCell}
 use Rattle.sym_runs.specs.Runs80.{env80, FlagsHold80}
 use Rattle.sym_sound80.proofs.Denoting.{Denotes}
 use Rattle.sym_sound80.proofs.Holding.{sets_parts, sets_reg}
-use Rattle.sym_sound80.proofs.Answering.{ok_is, err_is_not, then_is, number_is}
+use Rattle.dialogue.proofs.Tried.{ok_is, err_is_not, then_is}
+use Rattle.sym_sound80.proofs.Answering.{number_is}
 
 -- results are bytes
 pub result_small : (op : Op) (x y c : ℕ) → x < 256 → y < 256 → result_of op x y c < 256

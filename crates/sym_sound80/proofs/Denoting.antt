@@ -8,7 +8,7 @@ use Rattle.cells.specs.declared.Flags.{Flags}
 use Rattle.cells.specs.declared.Cell.{Cell}
 use Rattle.asm80_program.specs.Program.{Program}
 use Rattle.cpu80_steps.specs.State.{State80, Regs80, reg80}
-use Rattle.cpu80_steps.specs.Memory.{is_closed, is_kept, put}
+use Rattle.cpu80_steps.specs.Memory.{is_closed, is_write_protected, put}
 use Rattle.sym_terms.specs.Term.{Term, Loaded8, Loaded16}
 use Rattle.sym_terms.specs.Values80.{Load80, LoadedByte, LoadedWord, Byte, Word, OneBit, word_of, Val80}
 use Rattle.sym_blocks.specs.Outcome.{Load8, Load16, Store8, Store16, Held}
@@ -82,7 +82,7 @@ module _ (p : Program) (s0 : State80) where
       by_place true = i
       by_place false = h a open_cell
 
-  pub stores_byte : (loads : List Load80) (x : Symbolic80) (s : State80) (address value : Term) (n : ℕ) (c : Cell) → Denotes p s0 loads x s → n < 0x10000 → Val80 (env80 s0 loads) address (word_of n) → Val80 (env80 s0 loads) value (Byte c) → is_kept p n ≡ false → IsCell p c → Denotes p s0 loads (store8 x address value) (record s { mem = put s.mem n c })
+  pub stores_byte : (loads : List Load80) (x : Symbolic80) (s : State80) (address value : Term) (n : ℕ) (c : Cell) → Denotes p s0 loads x s → n < 0x10000 → Val80 (env80 s0 loads) address (word_of n) → Val80 (env80 s0 loads) value (Byte c) → is_write_protected p n ≡ false → IsCell p c → Denotes p s0 loads (store8 x address value) (record s { mem = put s.mem n c })
   stores_byte loads x s address value n c d lt v w may i = record {
     is_state = record { regs = d.is_state.regs; mem = cell_put s.mem n c d.is_state.mem i; sp = d.is_state.sp };
     holds = d.holds;
@@ -93,7 +93,7 @@ module _ (p : Program) (s0 : State80) where
     dma = d.dma;
   }
 
-  pub stores_word : (loads : List Load80) (x : Symbolic80) (s : State80) (address value : Term) (n : ℕ) (h l : Cell) → Denotes p s0 loads x s → n + 1 < 0x10000 → Val80 (env80 s0 loads) address (word_of n) → Val80 (env80 s0 loads) value (Word h l) → is_kept p n ≡ false → is_kept p (n + 1) ≡ false → IsCell p h → IsCell p l → Denotes p s0 loads (store16 x address value) (record s { mem = put (put s.mem n l) (n + 1) h })
+  pub stores_word : (loads : List Load80) (x : Symbolic80) (s : State80) (address value : Term) (n : ℕ) (h l : Cell) → Denotes p s0 loads x s → n + 1 < 0x10000 → Val80 (env80 s0 loads) address (word_of n) → Val80 (env80 s0 loads) value (Word h l) → is_write_protected p n ≡ false → is_write_protected p (n + 1) ≡ false → IsCell p h → IsCell p l → Denotes p s0 loads (store16 x address value) (record s { mem = put (put s.mem n l) (n + 1) h })
   stores_word loads x s address value n h l d lt v w may_low may_high i j = record {
     is_state = record { regs = d.is_state.regs; mem = cell_put (put s.mem n l) (n + 1) h (cell_put s.mem n l d.is_state.mem j) i; sp = d.is_state.sp };
     holds = d.holds;

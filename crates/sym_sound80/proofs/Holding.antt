@@ -23,7 +23,8 @@ use Rattle.sym_runs.specs.States.{IsCell}
 use Rattle.sym_runs.specs.Runs80.{env80, FlagsHold80, Holds80}
 use Rattle.sym_sound80.proofs.Writing.{each_written}
 use Rattle.sym_sound80.proofs.Denoting.{Denotes, loads_byte, byte_loaded, stores_byte}
-use Rattle.sym_sound80.proofs.Answering.{ok_is, then_is, address_is, read_is, write_is}
+use Rattle.dialogue.proofs.Tried.{ok_is, then_is}
+use Rattle.sym_sound80.proofs.Answering.{address_is, read_is, write_is}
 
 pub reg_sorted : (x : Held) → HeldIsSorted x → (r : Reg) → IsMadeAs is_byte (reg_term x r)
 reg_sorted x h A = h.a

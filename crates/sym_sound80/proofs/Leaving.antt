@@ -1,9 +1,9 @@
 -- What the last instruction of a block answers.
 use Rattle.std.proofs.Common.{◌≡◌, ℕ, ◌+◌, Bool, true, false, cond, List, Option, Some, None, Result, Ok, Err, refl, sym, ap, subst, ◌∙◌, ◌⊎◌, inl, inr}
 use Rattle.std.specs.Prelude.{◌&&◌}
-use Rattle.std.proofs.lemmas.Bool.{and_parts, eqb-true}
+use Rattle.std.proofs.lemmas.Bool.{and_parts}
 use Rattle.cells.specs.declared.Place.{Place}
-use Rattle.cells.specs.declared.Place.TheVariants.{At, Exit as EndPlace}
+use Rattle.cells.specs.declared.Place.TheVariants.{At}
 use Rattle.cells.specs.declared.Flags.{Flags}
 use Rattle.cells.specs.declared.Cell.{Cell}
 use Rattle.cells.specs.declared.Cell.TheVariants.{Num, Lo, Hi, Psw, Junk}
@@ -22,8 +22,11 @@ use Rattle.asm80_program.specs.Taken.{takes}
 use Rattle.cpu80_steps.specs.State.{State80, wrap, num_or}
 use Rattle.cpu80_steps.specs.Memory.{read_word}
 use Rattle.cpu80_steps.specs.Effect.{push}
-use Rattle.cpu80_steps.specs.Call.{Return, place_if, is_place, same_place, place_in, popped_return, return_after}
-use Rattle.cpu80_steps.specs.Step.{go_to, leave_to, go_by, go_back, jump as jump80, enter, call as call80, flipped, holds, where_holds as where_holds80, ask_event, ask_port, sent, return_at}
+use Rattle.cells.specs.Conditions.{is_clear, holds}
+use Rattle.cells.specs.Places.{same_place}
+use Rattle.cells.proofs.SamePlace.{same_place_is}
+use Rattle.cpu80_steps.specs.Call.{Return, place_if, is_place, place_in, popped_return, return_after}
+use Rattle.cpu80_steps.specs.Step.{go_to, leave_to, go_by, go_back, jump as jump80, enter, call as call80, where_holds as where_holds80, ask_event, ask_port, sent, return_at}
 use Rattle.sym_terms.specs.Term.{High, Low, Loaded16, same_bool}
 use Rattle.sym_terms.specs.Values80.{Env80, Load80, Byte, OneBit, Val80}
 use Rattle.sym_blocks.specs.Outcome.{Way, Goto, ByTerms, Call, Leave, In, Out, Exit, One, Held}
@@ -31,7 +34,8 @@ use Rattle.sym_blocks.specs.Block80.{Symbolic80, goto, jump, call, return_by, as
 use Rattle.sym_runs.specs.States.{IsCell}
 use Rattle.sym_runs.specs.Runs80.{env80, FlagsHold80, Takes80, Answers80}
 use Rattle.sym_sound80.proofs.Denoting.{Denotes, word_loaded}
-use Rattle.sym_sound80.proofs.Answering.{ok_is, err_is_not, then_is, number_is, read_word_is}
+use Rattle.dialogue.proofs.Tried.{ok_is, err_is_not, then_is}
+use Rattle.sym_sound80.proofs.Answering.{number_is, read_word_is}
 
 -- the place after a call of an instruction is taken
 abbrev pub ReturnIsTaken : Program → ℕ → Goal → Type 0
@@ -44,12 +48,6 @@ abbrev pub Answered : Program → Env80 → State80 → Way → Answer State80 R
 Answered p e t way a = ((r : Rule) × (a ≡ Stops r)) ⊎ Answers80 p e t way a
 
 -- the cells of a place
-same_place_is : (q r : Place) → same_place q r ≡ true → r ≡ q
-same_place_is (At a) (At b) e = ap At (sym (eqb-true a b e))
-same_place_is (At a) EndPlace e = absurd (cc)
-same_place_is EndPlace (At b) e = absurd (cc)
-same_place_is EndPlace EndPlace e = refl
-
 pub record NamesPlace (p : Program) (high low : Cell) (q : Place) : Type 0 where
   pub high_is : high ≡ Hi q
   pub low_is : low ≡ Lo q
@@ -65,7 +63,7 @@ place_is p (Hi r) (Lo o) q e =
     let g = and_parts (same_place r o) (is_place p r) f.0 in
     record {
       high_is = ap Hi f.1;
-      low_is = ap Lo (same_place_is r o g.0 ∙ f.1);
+      low_is = ap Lo (sym (same_place_is r o g.0) ∙ f.1);
       is_place = subst (λ x. is_place p x ≡ true) f.1 g.1;
     }
 place_is p (Hi r) (Num n) q e = absurd (err_is_not P1 q e)
@@ -195,10 +193,10 @@ flag_value e x f Pe h = h.3
 flag_value e x f P h = h.0
 flag_value e x f M h = h.0
 
-flipped_is : (o : Option Bool) (k : Bool) → flipped o ≡ Some k → (b : Bool) × (o ≡ Some b) × (same_bool b false ≡ k)
-flipped_is None k e = absurd (cc)
-flipped_is (Some true) k e = let same : Some false ≡ Some k = e in (true, refl, cc)
-flipped_is (Some false) k e = let same : Some true ≡ Some k = e in (false, refl, cc)
+is_clear_is : (o : Option Bool) (k : Bool) → is_clear o ≡ Some k → (b : Bool) × (o ≡ Some b) × (same_bool b false ≡ k)
+is_clear_is None k e = absurd (cc)
+is_clear_is (Some true) k e = let same : Some false ≡ Some k = e in (true, refl, cc)
+is_clear_is (Some false) k e = let same : Some true ≡ Some k = e in (false, refl, cc)
 
 straight_is : (o : Option Bool) (k : Bool) → o ≡ Some k → (b : Bool) × (o ≡ Some b) × (same_bool b true ≡ k)
 straight_is o true e = (true, e, refl)
@@ -206,13 +204,13 @@ straight_is o false e = (false, e, refl)
 
 -- where a condition holds, or does not, its flag has this value
 holds_is : (f : Flags) (c : Cond) (k : Bool) → holds f c ≡ Some k → (b : Bool) × (flag_of f c ≡ Some b) × (same_bool b (wanted c) ≡ k)
-holds_is f Nz k e = flipped_is f.z k e
+holds_is f Nz k e = is_clear_is f.z k e
 holds_is f Z k e = straight_is f.z k e
-holds_is f Nc k e = flipped_is f.cy k e
+holds_is f Nc k e = is_clear_is f.cy k e
 holds_is f C k e = straight_is f.cy k e
-holds_is f Po k e = flipped_is f.p k e
+holds_is f Po k e = is_clear_is f.p k e
 holds_is f Pe k e = straight_is f.p k e
-holds_is f P k e = flipped_is f.s k e
+holds_is f P k e = is_clear_is f.s k e
 holds_is f M k e = straight_is f.s k e
 
 -- the way that an exit takes, and the answer by it

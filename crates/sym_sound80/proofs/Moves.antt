@@ -30,7 +30,8 @@ use Rattle.sym_runs.specs.States.{IsCell, IsHeldPlace}
 use Rattle.sym_runs.specs.Runs80.{env80}
 use Rattle.sym_sound80.proofs.Denoting.{Denotes, loads_byte, byte_loaded, loads_word, word_loaded, stores_byte, stores_word}
 use Rattle.sym_sound80.proofs.Holding.{sets_parts, sets_reg, pair_value, sets_bc, sets_de, sets_hl, fetches, puts}
-use Rattle.sym_sound80.proofs.Answering.{ok_is, then_is, read_is, write_is, read_word_is, write_word_is}
+use Rattle.dialogue.proofs.Tried.{ok_is, then_is}
+use Rattle.sym_sound80.proofs.Answering.{read_is, write_is, read_word_is, write_word_is}
 use Rattle.sym_sound80.proofs.Computing.{sets_flags}
 
 -- a state that holds what the terms say, with what was loaded

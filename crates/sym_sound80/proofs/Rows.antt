@@ -9,7 +9,6 @@ use Rattle.i80.specs.declared.Src.{Src}
 use Rattle.i80.specs.declared.Src.TheVariants.{Reg as InReg, Mem}
 use Rattle.i80.specs.declared.Pair.TheVariants.{B as PairB, D as PairD, H as PairH, Sp}
 use Rattle.i80.specs.declared.Op.{Op}
-use Rattle.i80.specs.declared.Op.TheVariants.{Sub, Xra}
 use Rattle.i80.specs.declared.Word.TheVariants.{Num as Number, Code as CodeAt}
 use Rattle.i80.specs.declared.Instr80.{Instr80}
 use Rattle.i80.specs.declared.Instr80.TheVariants.{Nop, Mov, Mvi, Lxi, Lda, Sta, Lhld, Shld, Ldax, Stax, Xchg, Xthl, Sphl, Alu as AluWith, AluI, Inr, Dcr, Inx, Dcx, Dad, Daa, Cma, Stc, Cmc, Rlc, Rrc, Ral, Rar, Push, Pop}
@@ -17,7 +16,7 @@ use Rattle.i80.specs.Columns.{is_well_formed, gives_zero}
 use Rattle.asm80_program.specs.Program.{Program, IsCoded}
 use Rattle.cpu80_steps.specs.State.{State80}
 use Rattle.cpu80_steps.specs.Memory.{address}
-use Rattle.cpu80_steps.specs.Effect.{source as source80, into as into80, lda as lda80, sta as sta80, clears, cleared as cleared80, alu as alu80, alu_with, effect}
+use Rattle.cpu80_steps.specs.Effect.{source as source80, into as into80, lda as lda80, sta as sta80, cleared as cleared80, alu as alu80, alu_with, effect}
 use Rattle.sym_terms.specs.Term.{Num}
 use Rattle.sym_terms.specs.Values80.{Load80, word_of, Val80}
 use Rattle.sym_terms.specs.Laws.{MadeTermsKeepValues, MadeTermsHaveSorts}
@@ -27,7 +26,8 @@ use Rattle.sym_runs.specs.States.{IsHeldPlace}
 use Rattle.sym_runs.specs.Runs80.{env80}
 use Rattle.sym_sound80.proofs.Denoting.{Denotes}
 use Rattle.sym_sound80.proofs.Holding.{pair_value, pair_address, fetches, puts}
-use Rattle.sym_sound80.proofs.Answering.{ok_is, then_is, address_is}
+use Rattle.dialogue.proofs.Tried.{ok_is, then_is}
+use Rattle.sym_sound80.proofs.Answering.{address_is}
 use Rattle.sym_sound80.proofs.Computing.{byte_number, byte_sorted, operates}
 use Rattle.sym_sound80.proofs.Moves.{Denoted, word_sorted, word_number, sets_sp, loads_a, stores_a, exchanges, moves, sets_number, loads_code_bc, loads_code_de, loads_code_hl, loads_hl, stores_pair, exchanges_top, pushes_pair, pops}
 use Rattle.sym_sound80.proofs.Sums.{counts_up, counts_down, adds_to_pair, adds_pair, sets_cy, adjusts, inverts, turns_cy, turns_left, turns_right, turns_left_through, turns_right_through, clears_a}
@@ -36,11 +36,6 @@ use Rattle.sym_sound80.proofs.Sums.{counts_up, counts_down, adds_to_pair, adds_p
 abbrev pub LoadsHeld : Program → Instr80 → Type 0
 LoadsHeld p (Lxi pair (CodeAt a)) = IsHeldPlace p (At a)
 LoadsHeld p i = Unit {0}
-
-same_clears : (op : Op) (from : Src) → clears op from ≡ gives_zero op from
-same_clears Xra (InReg A) = refl
-same_clears Sub (InReg A) = refl
-same_clears op from = refl
 
 module _ (keep : MadeTermsKeepValues) (sorts : MadeTermsHaveSorts) (p : Program) (s0 : State80) where
   done : (loads : List Load80) (x : Symbolic80) (s t : State80) → Denotes p s0 loads x s → ◌≡◌ {A = Result State80 Rule} (Ok s) (Ok t) → Denoted p s0 x t
@@ -58,16 +53,16 @@ module _ (keep : MadeTermsKeepValues) (sorts : MadeTermsHaveSorts) (p : Program)
       let f = fetches keep p s0 loads x s Mem m.0 d h m.1 in
       within f.loads _ t (operates keep sorts p s0 f.loads (after_source x Mem) s t op (source x Mem) m.0 f.denotes h f.value f.sorted f.cell m.2)
 
-  operates_or_clears : (loads : List Load80) (x : Symbolic80) (s t : State80) (op : Op) (from : Src) (b : Bool) → Denotes p s0 loads x s → HeldIsSorted x.held → clears op from ≡ b → alu80 p s op from ≡ Ok t → Denoted p s0 (alu_by x op from) t
+  operates_or_clears : (loads : List Load80) (x : Symbolic80) (s t : State80) (op : Op) (from : Src) (b : Bool) → Denotes p s0 loads x s → HeldIsSorted x.held → gives_zero op from ≡ b → alu80 p s op from ≡ Ok t → Denoted p s0 (alu_by x op from) t
   operates_or_clears loads x s t op from true d h is e =
-      let symbolic : with_held x (cleared x.held) ≡ alu_by x op from = ap (λ b. cond b (with_held x (cleared x.held)) (with_held (after_source x from) (operated op (source x from) x.held))) (sym is ∙ same_clears op from) in
+      let symbolic : with_held x (cleared x.held) ≡ alu_by x op from = ap (λ b. cond b (with_held x (cleared x.held)) (with_held (after_source x from) (operated op (source x from) x.held))) (sym is) in
       let answer : Ok (cleared80 s) ≡ Ok t = ap (λ b. cond b (Ok (cleared80 s)) (by_source op from)) (sym is) ∙ e in
       subst (λ (y : Symbolic80). Denoted p s0 y t) symbolic (done loads _ (cleared80 s) t (clears_a keep sorts p s0 loads x s d) answer)
     where
       by_source : Op → Src → Result State80 Rule
       by_source op from = Rattle.dialogue.specs.Tried.try_then (source80 p s from) (alu_with s op)
   operates_or_clears loads x s t op from false d h is e =
-      let symbolic : with_held (after_source x from) (operated op (source x from) x.held) ≡ alu_by x op from = ap (λ b. cond b (with_held x (cleared x.held)) (with_held (after_source x from) (operated op (source x from) x.held))) (sym is ∙ same_clears op from) in
+      let symbolic : with_held (after_source x from) (operated op (source x from) x.held) ≡ alu_by x op from = ap (λ b. cond b (with_held x (cleared x.held)) (with_held (after_source x from) (operated op (source x from) x.held))) (sym is) in
       let answer : by_source op from ≡ Ok t = ap (λ b. cond b (Ok (cleared80 s)) (by_source op from)) (sym is) ∙ e in
       subst (λ (y : Symbolic80). Denoted p s0 y t) symbolic (operates_on loads x s t op from d h (then_is (source80 p s from) (alu_with s op) t answer))
     where
@@ -124,7 +119,7 @@ module _ (keep : MadeTermsKeepValues) (sorts : MadeTermsHaveSorts) (p : Program)
       let a = then_is (address s.regs.h s.regs.l) _ t e in
       let n = pair_address keep p s0 loads x s a.0 d o.held a.1 in
       done loads _ _ t (sets_sp p s0 loads x s (pair_term x PairH) a.0 d n.0 n.1) a.2
-  row loads x s t (AluWith op from) d o c w l e = operates_or_clears loads x s t op from (clears op from) d o.held refl e
+  row loads x s t (AluWith op from) d o c w l e = operates_or_clears loads x s t op from (gives_zero op from) d o.held refl e
   row loads x s t (AluI op n) d o c w l e = within loads _ t (operates keep sorts p s0 loads x s t op (Num n) (NumCell n) d o.held (byte_number (env80 s0 loads) n c) (byte_sorted n c) c e)
   row loads x s t (Inr on) d o c w l e = counts_up keep sorts p s0 loads x s t on d o.held e
   row loads x s t (Dcr on) d o c w l e = counts_down keep sorts p s0 loads x s t on d o.held e

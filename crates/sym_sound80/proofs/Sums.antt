@@ -34,7 +34,8 @@ use Rattle.sym_runs.specs.States.{IsCell}
 use Rattle.sym_runs.specs.Runs80.{env80}
 use Rattle.sym_sound80.proofs.Denoting.{Denotes}
 use Rattle.sym_sound80.proofs.Holding.{sets_reg, pair_value, fetches, puts}
-use Rattle.sym_sound80.proofs.Answering.{ok_is, err_is_not, then_is, number_is, halves_are}
+use Rattle.dialogue.proofs.Tried.{ok_is, err_is_not, then_is}
+use Rattle.sym_sound80.proofs.Answering.{number_is, halves_are}
 use Rattle.sym_sound80.proofs.Computing.{alu_gives, adjust_gives, all_flags, count_flags, sets_flags, byte_number, zero_bit, one_bit, byte_sorted, known_is}
 use Rattle.sym_sound80.proofs.Moves.{Denoted, held_after, word_sorted, word_number, sets_number}
 

@@ -20,7 +20,6 @@ use Rattle.templates_plain.specs.Template.{reg_of}
 use Rattle.sym_terms.specs.Term.{Start, Unknown}
 use Rattle.sym_terms.specs.Values86.{Env86, Number, Val86, start86 as started}
 use Rattle.sym_terms.specs.Laws.{MadeTermsKeepValues, MadeTermsHaveSorts}
-use Rattle.sym_blocks.specs.declared.reason.Reason.{Reason}
 use Rattle.sym_blocks.specs.declared.reason.Reason.TheVariants.{Missing, Length}
 use Rattle.sym_blocks.specs.Outcome.{Outcome}
 use Rattle.sym_blocks.specs.Block80.{reg_term, instrs_from}
@@ -31,7 +30,7 @@ use Rattle.sym_runs.specs.States.{IsState86}
 use Rattle.sym_runs.specs.Runs86.{part86, IsEnv86, with_loads, Leaves86, LeavesAsking86, WalkRuns86, offsets_of, WalksRun86}
 use Rattle.sym_sound86.proofs.Denoting.{Denotes}
 use Rattle.sym_sound86.proofs.Positions.{Position, offsets_are, behind_is, MetAt, met_at}
-use Rattle.sym_sound86.proofs.Walking.{err_is_not}
+use Rattle.dialogue.proofs.Tried.{err_is_not}
 use Rattle.sym_sound86.proofs.Walks.{Leaves, arrives, asks, IsAsked, WalkRuns, walk_runs}
 
 -- the start of a walk

@@ -9,7 +9,7 @@ use Rattle.i86.specs.declared.Jump.TheVariants.{Jb, Jnb, Jz, Jnz, Js, Jns, Jp, J
 use Rattle.i86.specs.declared.Instr86.{Instr86}
 use Rattle.i86.specs.declared.Instr86.TheVariants.{Jcc, JmpNear, JmpShort, JmpBx, CallNear, Ret}
 use Rattle.i86.specs.Code.{Reads}
-use Rattle.dialogue.specs.Tried.{try_then}
+use Rattle.dialogue.proofs.Tried.{ok_is, err_is_not}
 use Rattle.base_arithmetic.specs.Arithmetic.{as_bit}
 use Rattle.base_runs.specs.Run.{Ran, choice_at}
 use Rattle.asm86_lines.specs.declared.line.Label.{Label}
@@ -17,7 +17,7 @@ use Rattle.asm86_lines.specs.declared.line.Label.TheVariants.{At, Skip, User, Sy
 use Rattle.asm86_lines.specs.declared.line.Stmt86.{Stmt86}
 use Rattle.asm86_lines.specs.declared.line.Stmt86.TheVariants.{Run, Jmp, Jmps, Jcc as JccTo, Call as CallTo}
 use Rattle.asm86_lines.specs.declared.line.Line86.{Line86}
-use Rattle.asm86_lines.specs.Layout.{size_of, offset_of, place_of, distance16, distance8}
+use Rattle.asm86_lines.specs.Layout.{offset_of, place_of, distance16, distance8}
 use Rattle.asm86_lines.specs.Image.{Assembles, image_of, statements, AllDefined, used_in}
 use Rattle.asm80_program.specs.Program.{Program, is_start}
 use Rattle.cpu86_steps.specs.State.{State86, Flags86, wrap, word, word_at, push}
@@ -43,17 +43,6 @@ use Rattle.sym_sound86.proofs.Stepping.{past, short_lands, steps_as}
 
 pub has_sorts : (x : Symbolic86) → AreSorted86 x → HasSorts x
 has_sorts x o = record { held = o.held; ah = o.ah; si = o.si; sp = o.sp }
-
--- a result that is not refused
-pub ok_is : {A : Type 0} → (x y : A) → ◌≡◌ {A = Result A Reason} (Ok x) (Ok y) → x ≡ y
-ok_is x y e = cc
-
-pub err_is_not : {A : Type 0} → (r : Reason) (y : A) → ◌≡◌ {A = Result A Reason} (Err r) (Ok y) → ⊥
-err_is_not r y e = cc
-
-pub then_is : {A B : Type 0} → (r : Result A Reason) (f : A → Result B Reason) (y : B) → try_then r f ≡ Ok y → (x : A) × (r ≡ Ok x) × (f x ≡ Ok y)
-then_is (Ok x) f y e = (x, refl, e)
-then_is (Err r) f y e = absurd (err_is_not r y e)
 
 pub cond_is : {A : Type 0} → (b : Bool) (x : Result A Reason) (y : A) → cond b x (Err Form) ≡ Ok y → (b ≡ true) × (x ≡ Ok y)
 cond_is true x y e = (refl, e)

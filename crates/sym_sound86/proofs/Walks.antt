@@ -42,7 +42,8 @@ use Rattle.sym_sound86.proofs.Words86.{sets_word}
 use Rattle.sym_sound86.proofs.Rows86.{goes_on, row}
 use Rattle.sym_sound86.proofs.Positions.{Position, position_next, offsets_are, behind_is, MetAt, met_at, coded_here}
 use Rattle.sym_sound86.proofs.Stepping.{past, keeps_ip, steps_as, steps_on}
-use Rattle.sym_sound86.proofs.Walking.{has_sorts, ok_is, err_is_not, then_is, cond_is, jump_is, end_is, jumps_where, stack_is, names, lands_small, jump_steps, short_steps, condition_steps, call_steps, return_steps, bx_steps, label_leads, return_leads, bx_leads, goes_on_next, system_back, call_leads, WayRuns, way_runs}
+use Rattle.dialogue.proofs.Tried.{ok_is, err_is_not, then_is}
+use Rattle.sym_sound86.proofs.Walking.{has_sorts, cond_is, jump_is, end_is, jumps_where, stack_is, names, lands_small, jump_steps, short_steps, condition_steps, call_steps, return_steps, bx_steps, label_leads, return_leads, bx_leads, goes_on_next, system_back, call_leads, WayRuns, way_runs}
 
 word_sorted : (n : ℕ) → n < 0x10000 → IsMadeAs is_word (Num n)
 word_sorted n lt = (lt, Rattle.std.proofs.lemmas.Bool.lt-ltb n 0x10000 lt)

@@ -1,11 +1,11 @@
 -- The test of two terms is true exactly where they are equal.
 use Rattle.std.proofs.Common.{◌≡◌, ◌==◌, ◌&&◌, Bool, true, false, refl, sym, ap, ◌∙◌}
 use Rattle.std.proofs.lemmas.Bool.{eqb-true, eq-eqb}
-use Rattle.cells.specs.declared.Place.{Place}
-use Rattle.cells.specs.declared.Place.TheVariants.{At, Exit}
 use Rattle.cells.specs.declared.Part.{Part}
+use Rattle.cells.specs.Places.{same_place}
+use Rattle.cells.proofs.SamePlace.{same_place_is, same_place_refl}
 use Rattle.i80.specs.declared.Op.{Op}
-use Rattle.sym_terms.specs.Term.{Term, Num, Start, StartSp, Loaded8, Loaded16, Alu, Flag, Sum16, High, Low, Join, FlagByte, Bit, Turn, Turned, Adjust, Code, Unknown, same_place, same_bool, same_term}
+use Rattle.sym_terms.specs.Term.{Term, Num, Start, StartSp, Loaded8, Loaded16, Alu, Flag, Sum16, High, Low, Join, FlagByte, Bit, Turn, Turned, Adjust, Code, Unknown, same_bool, same_term}
 use Rattle.sym_terms.specs.Numbers.{part_number, part_of, op_number, op_of}
 use Rattle.sym_terms.proofs.Codes.{part_of-part_number, op_of-op_number}
 
@@ -27,11 +27,6 @@ same_part q q' h = sym (part_of-part_number q) ∙ ap part_of (eqb-true (part_nu
 
 same_op : (q q' : Op) → (op_number q == op_number q') ≡ true → q ≡ q'
 same_op q q' h = sym (op_of-op_number q) ∙ ap op_of (eqb-true (op_number q) (op_number q') h) ∙ op_of-op_number q'
-
-same_place-true : (q q' : Place) → same_place q q' ≡ true → q ≡ q'
-same_place-true (At a) (At b) h = ap At (eqb-true a b h)
-same_place-true Exit Exit h = refl
-same_place-true q q' h = absurd (cc)
 
 same_bool-true : (b b' : Bool) → same_bool b b' ≡ true → b ≡ b'
 same_bool-true true true h = refl
@@ -94,15 +89,11 @@ same_term-true (Adjust a ac cy) (Adjust a' ac' cy') h =
     let ec : cy ≡ cy' = same_term-true cy cy' (second_true _ _ rest) in
     cc
 same_term-true (Code q high) (Code q' high') h =
-    let eq : q ≡ q' = same_place-true q q' (first_true _ _ h) in
+    let eq : q ≡ q' = same_place_is q q' (first_true _ _ h) in
     let eh : high ≡ high' = same_bool-true high high' (second_true (same_place q q') _ h) in
     cc
 same_term-true Unknown Unknown h = refl
 same_term-true s t h = absurd (cc)
-
-same_place_refl : (q : Place) → same_place q q ≡ true
-same_place_refl (At a) = eq-eqb a a refl
-same_place_refl Exit = refl
 
 same_bool_refl : (b : Bool) → same_bool b b ≡ true
 same_bool_refl true = refl

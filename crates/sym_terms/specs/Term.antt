@@ -2,7 +2,7 @@
 -- The same terms serve both processors; what differs is what they stand for.
 use Rattle.std.specs.Prelude.{ℕ, nat_lt, ◌&&◌, ◌||◌, ◌==◌, not, Bool, true, false}
 use Rattle.cells.specs.declared.Place.{Place}
-use Rattle.cells.specs.declared.Place.TheVariants.{At, Exit}
+use Rattle.cells.specs.Places.{same_place}
 use Rattle.cells.specs.declared.Part.{Part}
 use Rattle.cells.specs.declared.Part.TheVariants.{A, B, C, D, E, H, L, S, Z, Ac, P, Cy}
 use Rattle.i80.specs.declared.Op.{Op}
@@ -159,11 +159,6 @@ shows_open (Join h l) = is_open_itself h || is_open_itself l
 shows_open t = is_open_itself t
 
 -- Whether two terms are the same.
-
-abbrev pub same_place : Place → Place → Bool
-same_place (At a) (At b) = a == b
-same_place Exit Exit = true
-same_place q r = false
 
 abbrev pub same_bool : Bool → Bool → Bool
 same_bool true b = b

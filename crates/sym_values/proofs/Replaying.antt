@@ -7,7 +7,7 @@ use Rattle.cells.specs.declared.Place.{Place}
 use Rattle.cells.specs.declared.Cell.{Cell}
 use Rattle.cells.specs.declared.Cell.TheVariants.{Num as NumCell}
 use Rattle.asm80_program.specs.Program.{Program}
-use Rattle.cpu80_steps.specs.Memory.{is_closed, is_kept, put as put80}
+use Rattle.cpu80_steps.specs.Memory.{is_closed, is_write_protected, put as put80}
 use Rattle.cpu86_steps.specs.State.{word, wrap, put, put_word, word_at}
 use Rattle.sym_terms.specs.Term.{Term, is_word}
 use Rattle.sym_terms.specs.Values80.{Env80, Load80, LoadedByte, LoadedWord, word_of, Val80}
@@ -47,7 +47,7 @@ loads_snoc16 offset (LoadedWord x y ∷ xs) (LoadedByte86 m ∷ ys) p q w h s = 
 same_address : (offset : Place → Option ℕ) (n m : ℕ) → WordStands offset (NumCell (n / 256)) (NumCell (n % 256)) m → m ≡ n
 same_address offset n m h = let high = h.0 in let low = h.1 in omega (arith, high, low)
 
-pub open_cell : (p : Program) (a : ℕ) → is_kept p a ≡ false → is_closed p a ≡ false
+pub open_cell : (p : Program) (a : ℕ) → is_write_protected p a ≡ false → is_closed p a ≡ false
 open_cell p a h = left_false (is_closed p a) (a == 6 || a == 7) h
   where
     left_false : (b c : Bool) → (b || c) ≡ false → b ≡ false

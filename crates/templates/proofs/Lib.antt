@@ -1,4 +1,4 @@
-mod Needed
+mod OneText
 mod Trims
 mod Laid
 mod Joined

@@ -1,5 +1,5 @@
 -- The jumps that are short by the places of the long text are those of the lean text.
-use Rattle.std.proofs.Common.{◌≡◌, ℕ, ◌+◌, List, [], ◌∷◌, refl, ap, subst, ◌∙◌}
+use Rattle.std.proofs.Common.{◌≡◌, List, refl, ap, subst, ◌∙◌}
 use Rattle.i80.specs.declared.Goal.{Goal}
 use Rattle.i80.specs.declared.Goal.TheVariants.{At as AtGoal, Boot, Bdos}
 use Rattle.i80.specs.declared.Instr80.{Instr80}
@@ -13,18 +13,13 @@ use Rattle.asm80_program.specs.declared.program.Placed.{Placed}
 use Rattle.asm80_program.specs.Program.{Program}
 use Rattle.flow.specs.Solving.{Needs}
 use Rattle.templates_plain.specs.Template.{label_of}
-use Rattle.templates_plain.specs.Plain.{numbered}
+use Rattle.templates_plain.proofs.NumberedLines.{statements-numbered}
 use Rattle.templates.specs.Style.{Style, styled_statements, styled}
 use Rattle.templates.specs.Lean.{long_style, lean_style, lean, reaches, reaches_in}
 use Rattle.templates.specs.Places.{ArePlaces, target_in, reaches_by}
 use Rattle.templates.specs.Jumps.{style_by}
 use Rattle.templates.specs.declared.places.Places.{Places}
 use Rattle.templates.specs.declared.places.Jumps.TheVariants.{Long, Reaching}
-
--- the statements of lines are those that were numbered
-statements-numbered : (n : ℕ) (xs : List Stmt86) → statements (numbered n xs) ≡ xs
-statements-numbered n [] = refl
-statements-numbered n (x ∷ xs) = ap (λ ys. x ∷ ys) (statements-numbered (n + 1) xs)
 
 same_target : (t : Places) (xs : List Stmt86) (goal : Goal) → ArePlaces t 0 xs → target_in t goal ≡ place_of xs (label_of goal)
 same_target t xs (AtGoal a) h = h.lines a

@@ -15,9 +15,13 @@ use Rattle.asm86_lines.specs.Image.{Image}
 use Rattle.asm80_program.specs.declared.program.Placed.{Placed}
 use Rattle.asm80_program.specs.Program.{Program, IsProgram, cell_in, CellsAreLaid}
 use Rattle.sym_texts.specs.Matches.{or_else, byte_at}
-use Rattle.text_parts.specs.Parts.{CellStands, AllStand, DataStandIn}
+use Rattle.text_parts.specs.Parts.{CellStands, DataStandIn}
 
 -- ---- cells one by one
+
+abbrev pub AllStand : Image → List (ℕ × Cell) → Type 0
+AllStand image [] = Unit {0}
+AllStand image (c ∷ cs) = CellStands image c.0 c.1 × AllStand image cs
 
 all_stand : (image : Image) (cs : List (ℕ × Cell)) → AllStand image cs → (a : ℕ) (c : Cell) → cell_in cs a ≡ Some c → CellStands image a c
 all_stand image [] all a c h = absurd (cc)

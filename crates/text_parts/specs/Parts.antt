@@ -1,5 +1,5 @@
 -- The parts of a text, as they are looked at.
-use Rattle.std.specs.Prelude.{◌≡◌, ℕ, List, [], ◌∷◌, ◌++◌, Some}
+use Rattle.std.specs.Prelude.{◌≡◌, ℕ, List, ◌∷◌, ◌++◌, Some}
 use Rattle.cells.specs.declared.Cell.{Cell}
 use Rattle.asm86_lines.specs.declared.line.Label.TheVariants.{At}
 use Rattle.asm86_lines.specs.declared.line.Stmt86.{Stmt86}
@@ -18,10 +18,6 @@ Opens top text rest = text ≡ Cseg ∷ (prologue top ++ Mark (At 0x100) ∷ res
 -- the image's cell at an address is there, and a cell of the program stands for it
 abbrev pub CellStands : Image → ℕ → Cell → Type 0
 CellStands image a c = (b : ℕ) × (byte_at image.cells a ≡ Some b) × Stands (places (offset_in image.labels)) c b
-
-abbrev pub AllStand : Image → List (ℕ × Cell) → Type 0
-AllStand image [] = Unit {0}
-AllStand image (c ∷ cs) = CellStands image c.0 c.1 × AllStand image cs
 
 -- each data cell of a program stands for an image's cell at its address
 abbrev pub DataStandIn : Program → Image → Type 0

@@ -1,29 +1,28 @@
 -- The plain text matches its program, each instruction alone.
-use Rattle.std.proofs.Common.{◌≡◌, ℕ, ◌+◌, ◌==◌, Bool, true, false, cond, List, [], ◌∷◌, Option, Some, None, refl, sym, ap, subst, ◌∙◌, inl, inr}
-use Rattle.std.specs.Prelude.{is_some, map, IfSome}
+use Rattle.std.proofs.Common.{◌≡◌, ℕ, ◌==◌, Bool, true, false, cond, List, [], ◌∷◌, length, Some, None, refl, sym, ap, subst, ◌∙◌, inl, inr, arith}
+use Rattle.std.specs.Prelude.{is_some, map}
+use Rattle.std.specs.List.{Contains}
 use Rattle.std.proofs.lemmas.Bool.{eqb-true}
 use Rattle.cells.specs.declared.Place.TheVariants.{At}
 use Rattle.cells.specs.declared.Part.{Part}
 use Rattle.cells.specs.declared.Part.TheVariants.{A, B, C, D, E, H, L, S, Z, Ac, P, Cy}
-use Rattle.cells.specs.Parts.{Parts, has, nothing, everything}
-use Rattle.i80.specs.declared.Instr80.{Instr80}
+use Rattle.cells.specs.Parts.{has, nothing, everything}
 use Rattle.asm86_lines.specs.declared.line.Stmt86.{Stmt86}
-use Rattle.asm86_lines.specs.Image.{Assembles, statements}
+use Rattle.asm86_lines.specs.Image.{statements}
 use Rattle.asm80_program.specs.declared.program.Placed.{Placed}
-use Rattle.asm80_program.specs.Program.{Program, IsProgram, NameStarts, placed_in, instr_of_placed, instr_at, is_start, named_by}
-use Rattle.asm80_program.specs.Taken.{takes}
+use Rattle.asm80_program.specs.Program.{Program, IsProgram, placed_in, is_start}
+use Rattle.asm80_program.specs.Taken.{taken as taken_places}
 use Rattle.templates_plain.specs.Plain.{plain, plain_statements}
-use Rattle.sym_blocks.specs.declared.reason.Reason.{Reason}
 use Rattle.sym_blocks.specs.Block80.{IsBlock}
 use Rattle.sym_blocks.specs.BlockMatch.{Keeps, block_reason}
-use Rattle.sym_blocks.specs.Sorts.{StatementsAreCoded}
-use Rattle.sym_runs.specs.Runtime.{HasRuntime}
 use Rattle.sym_runs.specs.Linked.{HasBlock, IsFirstOf}
-use Rattle.sym_linking.specs.Cuts.{IsCut}
-use Rattle.sym_texts.specs.Matches.{HasOpening, DataStands, DataAreCoded, or_next, blocks_reason}
+use Rattle.sym_linking.specs.Cuts.{IsCut, ReturnsKeep}
+use Rattle.sym_texts.specs.Matches.{or_next, blocks_reason}
 use Rattle.sym_same.specs.Laws.{IsMatch}
 use Rattle.sym_plain.specs.Plain.{OnesAreBlocks, PlainBlocksMatch}
-use Rattle.own_texts.proofs.Statements.{statements-numbered}
+use Rattle.templates_plain.proofs.NumberedLines.{statements-numbered}
+use Rattle.sym_cuts.proofs.Names.{names_start}
+use Rattle.sym_cuts.proofs.Cutting.{taken_has}
 use Rattle.xlt_core.proofs.Styles.{TextStands}
 use Rattle.sym_texts.specs.Ones.{ones, all_kept}
 
@@ -55,18 +54,6 @@ starts_in (x ∷ xs) a count (inr has) = let r = starts_in xs a count has in (by
     by_here true g = refl
     by_here false g = g
 
--- each place that is named is an instruction's
-names_start : (p : Program) (xs : List Placed) → NameStarts p xs → (at a : ℕ) (i : Instr80) → instr_of_placed (placed_in xs at) ≡ Some i → named_by i ≡ Some a → is_start p a ≡ true
-names_start p [] n at a i h g = absurd (cc)
-names_start p (x ∷ xs) n at a i h g = by_here (x.at == at) h (names_start p xs n.1 at a i)
-  where
-    instr_is : (i j : Instr80) → ◌≡◌ {A = Option Instr80} (Some i) (Some j) → i ≡ j
-    instr_is i j h = cc
-
-    by_here : (t : Bool) → instr_of_placed (cond t (Some x) (placed_in xs at)) ≡ Some i → (instr_of_placed (placed_in xs at) ≡ Some i → named_by i ≡ Some a → is_start p a ≡ true) → is_start p a ≡ true
-    by_here true e rest = subst (λ o. IfSome o (λ b. is_start p b ≡ true)) (ap named_by (instr_is x.instr i e) ∙ g) n.0
-    by_here false e rest = rest e g
-
 module _ (blocks : OnesAreBlocks) (p : Program) (is : IsProgram p) where
   first_of : (a : ℕ) → is_start p a ≡ true → IsFirstOf (ones p) (At a)
   first_of a h = (1, first_in p.instrs a h)
@@ -97,6 +84,16 @@ has_everything Cy = refl
 kept_at_start : (p : Program) (a : ℕ) → is_start p a ≡ true → (q : Part) → has ((all_kept p).at a) q ≡ true
 kept_at_start p a h q = ap (λ t. has (cond t everything nothing) q) h ∙ has_everything q
 
+-- at a return is kept what is kept at the places that are taken
+returns_all : (p : Program) → ReturnsKeep p (all_kept p)
+returns_all p a q start taken kept = by_places (taken_places p) (taken_has p a start taken)
+  where
+    by_places : (xs : List ℕ) → Contains xs a → has (cond (length xs == 0) nothing everything) q ≡ true
+    by_places [] h = absurd (omega (arith, h.1))
+    by_places (x ∷ xs) h =
+        let some : (length (x ∷ xs) == 0) ≡ false = grind (arith, Rattle.std.proofs.lemmas.Bool.Decides.nat_tests) in
+        ap (λ t. has (cond t nothing everything) q) some ∙ has_everything q
+
 -- no block has a reason
 none_of : (p : Program) (text : List Stmt86) (keeps : Keeps) (xs : List Placed) → ((a : ℕ) → HasBlock (ones_of xs) a 1 → block_reason p text keeps a 1 ≡ None) → blocks_reason p text keeps (ones_of xs) ≡ None
 none_of p text keeps [] each = refl
@@ -111,7 +108,7 @@ plain_matches blocks match p is t = record {
   coded = t.own.coded;
   data_coded = t.own.data_coded;
   is_cut = ones_cut blocks p is;
-  returns = λ a q start taken kept. has_everything q;
+  returns = returns_all p;
   matches = record {
     opening = t.own.opening;
     runtime = t.own.runtime;

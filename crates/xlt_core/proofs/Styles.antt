@@ -4,7 +4,7 @@ use Rattle.std.specs.Prelude.{Ok}
 use Rattle.i86.specs.Decode.{HasReader}
 use Rattle.asm80_program.specs.Program.{Program, IsProgram}
 use Rattle.asm86_lines.specs.declared.line.Line86.{Line86}
-use Rattle.asm86_lines.specs.Image.{Assembles, image_of, statements}
+use Rattle.asm86_lines.specs.Image.{Assembles, image_of}
 use Rattle.asm86_lines.specs.Layout.{sizes_of}
 use Rattle.asm86_lines.specs.Written.{text_of}
 use Rattle.asm86_text.specs.Stream.{TextGives}
@@ -23,7 +23,7 @@ use Rattle.sym_own.specs.Own.{Respects, OwnTextsMatch, StylesRespectNeeds}
 use Rattle.own_texts.specs.Fits.{StyleFits}
 use Rattle.own_texts.specs.Own.{IsOwnText}
 use Rattle.own_texts.specs.Reach.{JumpsReach}
-use Rattle.own_texts.proofs.Statements.{statements-numbered}
+use Rattle.templates_plain.proofs.NumberedLines.{statements-numbered}
 use Rattle.xlt_validation.specs.declared.finding.Finding.{Finding}
 use Rattle.xlt_validation.specs.declared.finding.Finding.TheVariants.{Shown}
 use Rattle.xlt_validation.specs.Findings.{IsFinding, OneFinding}

@@ -16,20 +16,20 @@ abbrev pub IsText : Mode → Program → List Line86 → Type 0
 IsText Plain p lines = lines ≡ plain p
 IsText Lean p lines = IsLean p lines
 
--- the bytes of the code of lines
-abbrev pub code_of : List Line86 → ℕ
-code_of lines = sizes_of (statements lines)
+-- the number of bytes of the code of lines
+abbrev pub code_size : List Line86 → ℕ
+code_size lines = sizes_of (statements lines)
 
 -- the code has at most 65,535 bytes
 abbrev pub CodeFits : List Line86 → Type 0
-CodeFits lines = code_of lines < 0x10000
+CodeFits lines = code_size lines < 0x10000
 
 -- the code of a program's text in a mode has so many bytes, more than 65,535
 pub record IsTooLarge (mode : Mode) (p : Program) (size : ℕ) : Type 0 where
   pub lines : List Line86
   pub text : IsText mode p lines
   pub large : 0x10000 ≤ size
-  pub is : size ≡ code_of lines
+  pub is : size ≡ code_size lines
 
 -- a program has no text in a mode: its code is too large; want of memory has no cause
 abbrev pub HasNoText : Mode → Program → CoreFault → Type 0

@@ -1,24 +1,17 @@
 -- Of a program and lines just one thing is found.
-use Rattle.std.proofs.Common.{◌≡◌, ◌∙◌, ℕ, List, length, Option, Some, None, refl, sym, ap, subst}
+use Rattle.std.proofs.Common.{◌≡◌, ◌∙◌, ℕ, List, Option, Some, None, refl, sym, ap, subst}
 use Rattle.asm86_lines.specs.declared.line.Line86.{Line86}
 use Rattle.asm80_program.specs.Program.{Program}
-use Rattle.flow.specs.declared.node.Node.TheVariants.{Start, Return}
 use Rattle.flow.specs.Blocks.{blocks}
-use Rattle.flow.specs.Solving.{Needs, AreAllNeeds}
+use Rattle.flow.specs.Solving.{Needs}
 use Rattle.sym_blocks.specs.declared.reason.Reason.{Reason}
 use Rattle.sym_blocks.specs.BlockMatch.{Keeps}
 use Rattle.sym_texts.specs.Matches.{Finds, opening, runtime, cells, blocks as by_blocks}
 use Rattle.sym_texts.specs.Needed.{needed_by}
-use Rattle.block_check.proofs.Needed.{needs_once}
+use Rattle.flow.proofs.OneNeeds.{all_needs_once}
 use Rattle.xlt_validation.specs.declared.finding.Finding.{Finding}
 use Rattle.xlt_validation.specs.declared.finding.Finding.TheVariants.{Shown, NotShown}
-use Rattle.xlt_validation.specs.Findings.{reason_in, Counts, IsFinding, OneFinding}
-
-same_needs : (p : Program) (n m : Needs) → AreAllNeeds p n → AreAllNeeds p m → n ≡ m
-same_needs p n m x y = λ i. record {
-  at = λ a. needs_once p (Start a) (n.at a) (m.at a) (x.at a) (y.at a) i;
-  returned = needs_once p Return n.returned m.returned x.returned y.returned i;
-}
+use Rattle.xlt_validation.specs.Findings.{reason_in, Counts, OneFinding}
 
 one_reason : (p : Program) (lines : List Line86) (cut : List (ℕ × ℕ)) (keeps : Keeps) (o q : Option (ℕ × Reason)) → Finds p lines cut keeps o → Finds p lines cut keeps q → o ≡ q
 one_reason p lines cut keeps _ _ (opening none) (opening other) = refl
@@ -52,6 +45,6 @@ by_reason p (NotShown a r) (NotShown b s) e x y = ap (λ (z : ℕ × Reason). No
 
 pub one_finding : OneFinding
 one_finding p lines f g x y =
-    let same = same_needs p y.needs x.needs y.are x.are in
+    let same = all_needs_once p y.needs x.needs y.are x.are in
     let finds = subst (λ (n : Needs). Finds p lines (blocks p) (needed_by p n) (reason_in g)) same y.finds in
     by_reason p f g (one_reason p lines (blocks p) (needed_by p x.needs) (reason_in f) (reason_in g) x.finds finds) x.counts y.counts

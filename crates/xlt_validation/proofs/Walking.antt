@@ -1,26 +1,23 @@
 -- From block to block.
-use Rattle.std.proofs.Common.{◌≡◌, ◌∙◌, ℕ, zero, suc, ◌+◌, ◌<◌, ◌≤◌, List, [], ◌∷◌, length, get_or, Option, Some, None, refl, sym, ap, subst, arith}
-use Rattle.std.specs.Prelude.{drop, map}
+use Rattle.std.proofs.Common.{◌≡◌, ◌∙◌, ℕ, suc, ◌+◌, ◌<◌, ◌≤◌, List, [], ◌∷◌, length, get_or, Option, Some, None, refl, sym, ap, subst, arith}
+use Rattle.std.specs.Prelude.{drop}
 use Rattle.std.proofs.Math.Seq.{drop-cons}
 use Rattle.std.proofs.lemmas.List.{drop_all, get_or-map, get_or_default, length-map}
 use Rattle.asm86_lines.specs.declared.line.Stmt86.{Stmt86}
 use Rattle.asm80_program.specs.Program.{Program}
-use Rattle.flow.specs.Blocks.{blocks, leaders, block_at, IsBlock, IsLeader, BlocksCut}
-use Rattle.flow.specs.Solving.{Needs, AreAllNeeds}
+use Rattle.flow.specs.Blocks.{blocks, leaders, IsBlockOf}
 use Rattle.sym_blocks.specs.declared.reason.Reason.{Reason}
 use Rattle.sym_blocks.specs.BlockMatch.{Keeps, block_reason}
-use Rattle.sym_run.specs.Outcomes.{WorkState}
 use Rattle.sym_texts.specs.Matches.{or_next, blocks_reason}
-use Rattle.sym_texts.specs.Needed.{needed_by}
 use Rattle.block_check.specs.declared.block.Verdict.{Verdict}
 use Rattle.block_check.specs.declared.block.Verdict.TheVariants.{Shown, NotShown}
 use Rattle.block_check.specs.Comparing.{verdict_of, AfterShown}
-use Rattle.xlt_validation.specs.Findings.{last_of, HoldsBlock}
+use Rattle.xlt_validation.specs.Findings.{last_of}
 
 -- so many blocks have been looked at
 pub record IsBlockAt (p : Program) (i leader count : ℕ) : Type 0 where
   pub rest : drop i (blocks p) ≡ (leader, count) ∷ drop (i + 1) (blocks p)
-  pub block : IsBlock p leader count
+  pub block : IsBlockOf p leader count
 
 next_is : (i : ℕ) → suc i ≡ i + 1
 next_is i = omega arith

@@ -1,5 +1,5 @@
 use Rattle.flow.specs.declared.node.Node.TheVariants.{Return}
-use Rattle.block_check.proofs.Needed.{needs_once}
+use Rattle.flow.proofs.OneNeeds.{needs_once}
 use Rattle.block_check.proofs.kept.kept_at_return.Goals as goal
 
 pub returns-in-Needed : goal.returns-in-Needed

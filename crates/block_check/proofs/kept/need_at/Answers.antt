@@ -1,7 +1,7 @@
 use Rattle.std.proofs.Common.{sym, subst}
 use Rattle.flow.specs.declared.node.Node.TheVariants.{Start}
 use Rattle.flow.specs.Solving.{AreNeeds}
-use Rattle.block_check.proofs.Needed.{none_needed}
+use Rattle.flow.proofs.AllNeeds.{none_needed}
 use Rattle.block_check.proofs.kept.need_at.Goals as goal
 
 pub returns-in-None : goal.returns-in-None

@@ -6,7 +6,7 @@ use Rattle.cmd_reports.specs.declared.stop.Stop.TheVariants.{OutOfMemory}
 use Rattle.cmd_run.specs.declared.halt.Halt.TheVariants.{By}
 use Rattle.cmd_run.specs.Ends.{Halts}
 use Rattle.asm86_lines.specs.Image.{IsImage}
-use Rattle.cmd_inputs.specs.Texts.{stop_of_image, LinesGive}
+use Rattle.cmd_inputs.specs.Texts.{stop_of_image, BytesGiveLines}
 use Rattle.cmd_run.specs.Supplies.{given_of}
 use Rattle.cmd_run.specs.Runs86.{LoadStops, no_text, no_supply, no_disk, no_memory}
 use Rattle.cmd_inputs.proofs.Told.{judged}
@@ -45,7 +45,7 @@ returns-in_err-lines-clause-stopped g c =
     (λ h is. subst (Halts (LoadStops command old new)) (sym is)
     (lines_stop command old new first.read.bytes given first.read.file (supply_before old mid new first.only first.counted command.run given second.read)
     (faults_before old mid new first.only first.counted second.counted) c.in_err-lines.field-0.0
-    (subst (LinesGive first.read.bytes) c.in_err-lines.was first.read.gives)))
+    (subst (BytesGiveLines first.read.bytes) c.in_err-lines.was first.read.gives)))
 
 -- the lines have no image
 pub returns-in_err-image-clause-stopped : goal.returns-in_err-image-clause-stopped
@@ -62,7 +62,7 @@ returns-in_err-image-clause-stopped g c =
     (λ h is. subst (Halts (LoadStops command old new)) (sym is)
     (image_stops command old new first.read.bytes given first.read.file (supply_before old mid new first.only first.counted command.run given second.read)
     (faults_before old mid new first.only first.counted second.counted)
-    c.in_ok-lines.lines.items c.as_slice.result.now c.as_slice.ensures.value (subst (LinesGive first.read.bytes) c.in_ok-lines.was first.read.gives) c.in_err-image.field-0.0 c.in_err-image.ensures.answer))
+    c.in_ok-lines.lines.items c.as_slice.result.now c.as_slice.ensures.value (subst (BytesGiveLines first.read.bytes) c.in_ok-lines.was first.read.gives) c.in_err-image.field-0.0 c.in_err-image.ensures.answer))
 
 -- the disk's file is none
 pub returns-in_err-devices-clause-stopped : goal.returns-in_err-devices-clause-stopped
@@ -82,7 +82,7 @@ returns-in_err-devices-clause-stopped g c =
     (faults_before old mid new first.only first.counted second.counted)
     (record {
       lines = c.in_ok-lines.lines.items;
-      reads = subst (LinesGive first.read.bytes) c.in_ok-lines.was first.read.gives;
+      reads = subst (BytesGiveLines first.read.bytes) c.in_ok-lines.was first.read.gives;
       assembled = subst (λ l. IsImage l image) c.as_slice.ensures.value c.in_ok-image.ensures.answer;
     })
     c.in_err-devices.ensures.stopped))
@@ -109,7 +109,7 @@ returns-clause-loaded g c =
       file = first.read.file;
       assembled = record {
         lines = c.in_ok-lines.lines.items;
-        reads = subst (LinesGive first.read.bytes) c.in_ok-lines.was first.read.gives;
+        reads = subst (BytesGiveLines first.read.bytes) c.in_ok-lines.was first.read.gives;
         assembled = subst (λ l. IsImage l image) c.as_slice.ensures.value c.in_ok-image.ensures.answer;
       };
       reader = subst HasReader c.code.ensures (decoded c.code.result.now, c.decode_at.ensures.reader);

@@ -2,9 +2,9 @@ use Rattle.std.proofs.Common.{◌≡◌, sym, subst}
 use Rattle.cmd_words.specs.ReadCommands.{check_read}
 use Rattle.cmd_inputs.specs.Files.{text_limit}
 use Rattle.cmd_inputs.specs.Sources.{SourceGives}
-use Rattle.cmd_inputs.specs.Texts.{LinesGive}
+use Rattle.cmd_inputs.specs.Texts.{BytesGiveLines}
 use Rattle.cmd_inputs.proofs.Told.{judged}
-use Rattle.cmd_texts.specs.Checks.{Stands, ImageStops, Stops, no_source, no_text, refused}
+use Rattle.cmd_texts.specs.Checks.{HasOneImage, ImageStops, Stops, no_source, no_text, refused}
 use Rattle.cmd_texts.proofs.CheckLoading.{reads_before, stops_before, both_read, lines_stop, image_stop}
 use Rattle.cmd_texts.proofs.inputs.load.Goals as goal
 
@@ -57,7 +57,7 @@ returns-in_err-lines-clause-stopped g c =
     judged c.from_residual-in_err-lines.result (λ s. s ≡ stop) (Stops command old new) c.from_residual-in_err-lines.ensures.1
     (λ s is. subst (Stops command old new) (sym is)
     (lines_stop command old new first.read.bytes second.read.bytes reads c.in_ok-program.program (subst (SourceGives first.read.bytes command.top) c.in_ok-program.was first.read.gives) stop
-    (subst (LinesGive second.read.bytes) c.in_err-lines.was second.read.gives)))
+    (subst (BytesGiveLines second.read.bytes) c.in_err-lines.was second.read.gives)))
 
 -- its lines have no image
 pub returns-in_err-see_image-clause-stopped : goal.returns-in_err-see_image-clause-stopped
@@ -73,7 +73,7 @@ returns-in_err-see_image-clause-stopped g c =
     judged c.from_residual-in_err-see_image.result (λ s. s ≡ stop) (Stops command old new) c.from_residual-in_err-see_image.ensures.1
     (λ s is. subst (Stops command old new) (sym is)
     (image_stop command old new first.read.bytes second.read.bytes reads c.in_ok-program.program (subst (SourceGives first.read.bytes command.top) c.in_ok-program.was first.read.gives)
-    c.in_ok-lines.lines.items (subst (LinesGive second.read.bytes) c.in_ok-lines.was second.read.gives) stop
+    c.in_ok-lines.lines.items (subst (BytesGiveLines second.read.bytes) c.in_ok-lines.was second.read.gives) stop
     (subst (λ l. ImageStops l stop) c.as_slice.ensures.value c.in_err-see_image.ensures.stopped)))
 
 pub returns-clause-loaded : goal.returns-clause-loaded
@@ -89,6 +89,6 @@ returns-clause-loaded g c =
       text = second.read.bytes;
       reads = both_read command old mid new first.read.bytes second.read.bytes first.only first.counted first.read.file second.only second.counted second.read.file;
       is_source = subst (SourceGives first.read.bytes command.top) c.in_ok-program.was first.read.gives;
-      gives = subst (LinesGive second.read.bytes) c.in_ok-lines.was second.read.gives;
-      stands = subst Stands c.as_slice.ensures.value c.in_ok-see_image.ensures.stands;
+      gives = subst (BytesGiveLines second.read.bytes) c.in_ok-lines.was second.read.gives;
+      stands = subst HasOneImage c.as_slice.ensures.value c.in_ok-see_image.ensures.stands;
     }

@@ -1,4 +1,4 @@
-use Rattle.templates.proofs.Needed.{lean_is_one}
+use Rattle.templates.proofs.OneText.{lean_is_one}
 use Rattle.templates.proofs.laws.lean_texts_are_one.Goals as goal
 
 pub returns : goal.returns

@@ -1,6 +1,6 @@
 use Rattle.std.proofs.Common.{◌↔◌}
 use Rattle.std.specs.Prelude.{drop}
-use Rattle.text_parts.specs.Parts.{AllStand}
+use Rattle.text_parts.proofs.Cells.{AllStand}
 use Rattle.text_parts.proofs.data.data_stand.Given as goal
 
 abbrev pub invariant-loop-at : goal.invariant-loop-at

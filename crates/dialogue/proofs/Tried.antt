@@ -1,0 +1,14 @@
+-- Results, and steps one after the other.
+use Rattle.std.proofs.Common.{◌≡◌, Result, Ok, Err, refl}
+use Rattle.dialogue.specs.Tried.{try_then}
+
+pub ok_is : {X R : Type 0} → (a b : X) → ◌≡◌ {A = Result X R} (Ok a) (Ok b) → a ≡ b
+ok_is a b e = cc
+
+pub err_is_not : {X R : Type 0} → (r : R) (x : X) → ◌≡◌ {A = Result X R} (Err r) (Ok x) → ⊥
+err_is_not r x e = cc
+
+-- where steps one after the other are not refused, the first is not
+pub then_is : {X Y R : Type 0} → (r : Result X R) (f : X → Result Y R) (y : Y) → try_then r f ≡ Ok y → (x : X) × (r ≡ Ok x) × (f x ≡ Ok y)
+then_is (Ok x) f y e = (x, refl, e)
+then_is (Err r) f y e = absurd (err_is_not r y e)
