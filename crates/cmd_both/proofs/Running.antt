@@ -15,7 +15,6 @@ use Rattle.bdos_talk.specs.declared.fault.TalkFault.TheVariants.{Unsaid as Untol
 use Rattle.bdos_talk.specs.declared.running.Conversation.{Conversation}
 use Rattle.bdos_talk.specs.Talk.{HasOneRun}
 use Rattle.cmd_reports.specs.declared.stop.Stop.{Stop}
-use Rattle.cmd_reports.specs.declared.stop.Stop.TheVariants.{OutOfMemory}
 use Rattle.cmd_run.specs.declared.halt.Halt.{Halt}
 use Rattle.cmd_run.specs.declared.halt.Halt.TheVariants.{By, Unsaid}
 use Rattle.cmd_run.specs.Ends.{steps_of, Halts, halt_of_talk}
@@ -108,11 +107,11 @@ module _ (c : Both) (old new : HostState) (o p : Conversation) (runs : HasBoth c
   pub lose : (kept : HostState) (stop : Stop) → KeepStops (kept_name c.run.out_disk o.end) runs.left.system.disk new kept stop → LosesDisk c old kept stop
   lose kept stop stops = record { first = o; second = p; mid = new; runs = runs; stops = stops }
 
--- ---- what the work comes to, by what each of its steps gave
+-- ---- what the runs come to, by what each of their steps gave
 
 module _ (c : Both) (old start mid new : HostState) (program : Program) (image : Image) (supply second left left86 : Supply) (limit : ℕ) (o p : Conversation) (loads : Loads c old program image supply) (reads : OnlyReads old start) (counted : SameFaults old start) (says80 : OnlySays start mid) (runs80 : Says80 c program supply o left start mid)
     (counted80 : SameFaults start mid) (same : second ≡ supply) (is : limit ≡ limit86 o.steps) (says86 : OnlySays mid new) where
-  first_made : HasFirst c old program image supply o left mid
+  pub first_made : HasFirst c old program image supply o left mid
   first_made = has_first c old start mid program image supply loads reads counted says80 o left runs80 counted80
 
   -- a fault cut the 8086's run off
@@ -122,22 +121,11 @@ module _ (c : Both) (old start mid new : HostState) (program : Program) (image :
       (second_cut c old mid new program image supply left o first_made says86 fault (λ fetch reads. subst (λ n. Cuts86 c image fetch supply n mid new fault) is (subst (λ s. Cuts86 c image fetch s limit mid new fault) same (cut fetch reads))))
 
   module _ (runs86 : (fetch : ℕ → Option Instr86) → Reads image.code fetch → Says86 c image fetch second limit p left86 mid new) (counted86 : SameFaults mid new) (is_page : IsPage c.run.page) (is_fill : IsFill (fill_by c.choice)) (small : c.choice < 2 ^ 128) (one : (fetch : ℕ → Option Instr86) → HasOneRun (course86_of c image fetch)) where
-    second_made : (fetch : ℕ → Option Instr86) → Reads image.code fetch → Says86 c image fetch supply (limit86 o.steps) p left86 mid new
+    pub second_made : (fetch : ℕ → Option Instr86) → Reads image.code fetch → Says86 c image fetch supply (limit86 o.steps) p left86 mid new
     second_made fetch reads = subst (λ n. Says86 c image fetch supply n p left86 mid new) is (subst (λ s. Says86 c image fetch s limit p left86 mid new) same (runs86 fetch reads))
 
-    abbrev both_made : HasBoth c old o p new
+    abbrev pub both_made : HasBoth c old o p new
     both_made = has_both c old mid new program image supply left o first_made says86 is_page is_fill small one p left86 second_made counted86
-
-    -- there was no room for the last line
-    pub line_halts : IsHalted c old new (By OutOfMemory)
-    line_halts = no_line o p both_made
-
-    -- the disk was not written
-    pub disk_halts : (kept : HostState) (stop : Stop) → KeepStops (kept_name c.run.out_disk o.end) left.system.disk new kept stop → IsHalted c old kept (By stop)
-    disk_halts kept stop stops = unkept (lose c old new o p both_made kept stop stops)
-
-    pub comes : (line : ℕ) (came : Result ℕ Stop) (steps86 : ℕ) (kept : HostState) → ((n : ℕ) → IsLineOf program o.end n → line ≡ n) → came ≡ steps_of c.run.steps line o → steps86 ≡ p.steps → Keeps (kept_name c.run.out_disk o.end) left.system.disk new kept → HasCome c old kept came steps86
-    comes line came steps86 kept at ran counts keeps = come c old new o p both_made line came steps86 kept at ran counts keeps
 
 -- ---- no file changes but that of the disk
 

@@ -8,11 +8,9 @@ ghost use Rattle.cmd_both.specs.Gives.{HasCome, IsHalted, Gives};
 ghost use Rattle.cmd_both.specs.Completes.{Completes};
 
 use crate::last::{Last, last_of, say_ending};
-use crate::loading::{Loaded, load};
-use crate::runs::{limit86, run_first, run_second, start_is_in_range};
+use crate::making::make_runs;
 use asm80_values::source_has_one_outcome;
 use bdos_disk::disks_read_back;
-use bdos_emulation::runs_are_one;
 use cmd_reports::say_stop;
 use cmd_run::{Halt, keep_disk, kept_name, line_of, steps_of, unsaid_status};
 use cmd_words::Both;
@@ -54,30 +52,15 @@ fn work<'a, H: Host>(alloc: Global, host: &mut H, command: &Both<'a>) -> Result<
     ensures came { IfOk result (λ last. HasCome (both_read command.now) (H.state host.old) (H.state host.new) (came_of last) (steps_of last)) }
     ensures halted { IfErr result (IsHalted (both_read command.now) (H.state host.old) (H.state host.new)) }
 {
-    runs_are_one();
-    let loaded = load(alloc, host, command)?;
-    let Loaded {
-        program,
-        image,
-        fill,
-        devices,
-        second,
-    } = loaded;
-    let fill = fill.as_slice();
-    start_is_in_range(&command.run.page, fill, command.choice);
-    let mut devices = devices;
-    let mut second = second;
-    let first = run_first(alloc, host, command, &program, &mut devices)?;
-    let limit = limit86(first.steps);
-    let next = run_second(alloc, host, command, &image, fill, &mut second, limit)?;
-    let line = line_of(&program, first.end);
-    let came = steps_of(first, command.run.steps, line);
-    let last = last_of(alloc, came, next.steps)?;
+    let made = make_runs(alloc, host, command)?;
+    let line = line_of(&made.program, made.first.end);
+    let came = steps_of(made.first, command.run.steps, line);
+    let last = last_of(alloc, came, made.second.steps)?;
     keep_disk(
         alloc,
         host,
-        kept_name(command.run.out_disk, first.end),
-        devices.disk(),
+        kept_name(command.run.out_disk, made.first.end),
+        made.devices.disk(),
     )?;
     Ok(last)
 }

@@ -6,6 +6,7 @@ mod commands;
 mod last;
 mod lean;
 mod loading;
+mod making;
 mod runs;
 
 pub use commands::both;

@@ -1,80 +1,57 @@
-use Rattle.std.proofs.Common.{◌≡◌, [], ◌∷◌, ◌∙◌, sym, subst}
-use Rattle.bdos_emulation.specs.Starts.{start_by}
+use Rattle.std.proofs.Common.{◌≡◌, ℕ, ◌∙◌, sym, subst}
+use Rattle.asm80_program.specs.Program.{Program}
+use Rattle.bdos_ports.specs.Supply.{Supply}
 use Rattle.cmd_words.specs.ReadCommands.{both_read}
 use Rattle.cmd_reports.specs.declared.stop.Stop.TheVariants.{OutOfMemory}
 use Rattle.cmd_run.specs.declared.halt.Halt.TheVariants.{By}
-use Rattle.cmd_run.specs.Ends.{halt_of_talk}
 use Rattle.cmd_run.specs.Keeping.{kept_name, Keeps, KeepStops}
-use Rattle.cmd_run.specs.Runs86.{fill_by}
+use Rattle.cmd_run.specs.Runs80.{IsLineOf}
 use Rattle.cmd_inputs.proofs.Told.{judged}
 use Rattle.cmd_both.specs.Lasts.{came_of, steps_of}
-use Rattle.cmd_both.specs.Gives.{IsHalted}
-use Rattle.cmd_both.proofs.Running.{filled, unloaded_halts, cut_halts, first_cut, second_halts, line_halts, disk_halts, comes}
+use Rattle.cmd_both.specs.Gives.{IsHalted, no_line, unkept}
+use Rattle.cmd_both.proofs.Running.{come, lose}
 use Rattle.cmd_both.proofs.commands.work.Goals as goal
 
-pub returns-in_err-loaded-clause-halted : goal.returns-in_err-loaded-clause-halted
-returns-in_err-loaded-clause-halted g c =
-    let command = both_read c.args.command.now in
-    let old = g.H.Host.state c.args.host.now in
-    let new = g.H.Host.state c.load.new.host in
-    judged c.from_residual.result (λ h. h ≡ c.in_err-loaded.field-0.0) (IsHalted command old new) c.from_residual.ensures.1
-    (λ h is. subst (IsHalted command old new) (sym is) (unloaded_halts command old new c.in_err-loaded.field-0.0 c.in_err-loaded.ensures.only c.in_err-loaded.ensures.stopped))
-
--- a fault cut the 8080's run off
-pub returns-in_err-first-clause-halted : goal.returns-in_err-first-clause-halted
-returns-in_err-first-clause-halted g c =
-    let command = both_read c.args.command.now in
-    let old = g.H.Host.state c.args.host.now in
-    let start = g.H.Host.state c.load.new.host in
-    let new = g.H.Host.state c.run_first.new.host in
-    let l = c.in_ok-loaded in
-    let e = c.in_err-first.ensures in
-    let fault = c.in_err-first.field-0.0 in
-    judged c.from_residual-in_err-first.result (λ h. h ≡ halt_of_talk fault) (IsHalted command old new) c.from_residual-in_err-first.ensures.1
-    (λ h is. subst (IsHalted command old new) (sym is)
-    (cut_halts command old new fault
-    (first_cut command old start new l.loaded.program l.loaded.image l.loaded.devices l.ensures.loaded l.ensures.only l.ensures.counted e.only fault e.cut)))
-
--- a fault cut the 8086's run off
-pub returns-in_err-next-clause-halted : goal.returns-in_err-next-clause-halted
-returns-in_err-next-clause-halted g c =
-    let command = both_read c.args.command.now in
-    let old = g.H.Host.state c.args.host.now in
-    let new = g.H.Host.state c.run_second.new.host in
-    judged c.from_residual-in_err-next.result (λ h. h ≡ halt_of_talk c.in_err-next.field-0.0) (IsHalted command old new) c.from_residual-in_err-next.ensures.1
-    (λ h is. subst (IsHalted command old new) (sym is)
-    (second_halts (both_read c.args.command.now) (g.H.Host.state c.args.host.now) (g.H.Host.state c.load.new.host) (g.H.Host.state c.run_first.new.host) (g.H.Host.state c.run_second.new.host) c.in_ok-loaded.loaded.program c.in_ok-loaded.loaded.image c.in_ok-loaded.loaded.devices c.in_ok-loaded.loaded.second c.run_first.new.devices c.run_second.new.devices c.limit86-limit.result c.in_ok-first.first c.in_ok-first.first c.in_ok-loaded.ensures.loaded c.in_ok-loaded.ensures.only c.in_ok-loaded.ensures.counted c.in_ok-first.ensures.only c.in_ok-first.ensures.run c.in_ok-first.ensures.counted c.in_ok-loaded.ensures.second c.limit86-limit.ensures c.in_err-next.ensures.only c.in_err-next.field-0.0 c.in_err-next.ensures.cut))
-
+-- there was no room for the last line
 pub returns-in_err-last-clause-halted : goal.returns-in_err-last-clause-halted
 returns-in_err-last-clause-halted g c =
     let command = both_read c.args.command.now in
     let old = g.H.Host.state c.args.host.now in
-    let new = g.H.Host.state c.run_second.new.host in
+    let new = g.H.Host.state c.make_runs.new.host in
+    let m = c.in_ok-made.made in
     judged c.from_residual-in_err-last.result (λ h. h ≡ By OutOfMemory) (IsHalted command old new) c.from_residual-in_err-last.ensures.1
-    (λ h is. subst (IsHalted command old new) (sym is)
-    (line_halts (both_read c.args.command.now) (g.H.Host.state c.args.host.now) (g.H.Host.state c.load.new.host) (g.H.Host.state c.run_first.new.host) (g.H.Host.state c.run_second.new.host) c.in_ok-loaded.loaded.program c.in_ok-loaded.loaded.image c.in_ok-loaded.loaded.devices c.in_ok-loaded.loaded.second c.run_first.new.devices c.run_second.new.devices c.limit86-limit.result c.in_ok-first.first c.in_ok-next.next c.in_ok-loaded.ensures.loaded c.in_ok-loaded.ensures.only c.in_ok-loaded.ensures.counted c.in_ok-first.ensures.only c.in_ok-first.ensures.run c.in_ok-first.ensures.counted c.in_ok-loaded.ensures.second c.limit86-limit.ensures c.in_ok-next.ensures.only c.in_ok-next.ensures.run c.in_ok-next.ensures.counted c.start_is_in_range.ensures.page (filled c.args.command.now.choice c.in_ok-loaded.loaded.fill.items c.as_slice-fill.result.now c.in_ok-loaded.ensures.fill c.in_ok-loaded.ensures.fill_len c.as_slice-fill.ensures.value c.start_is_in_range.ensures.fill) c.start_is_in_range.ensures.choice (λ fetch. c.runs_are_one.ensures.of_86 fetch c.in_ok-loaded.loaded.image c.args.command.now.run.page (fill_by c.args.command.now.choice) (start_by c.args.command.now.choice) (c.args.command.now.choice ∷ []))))
+    (λ h is. subst (IsHalted command old new) (sym is) (no_line m.first m.second c.in_ok-made.ensures.made.runs))
 
 -- the disk was not written
 pub returns-in_err-keep_disk-clause-halted : goal.returns-in_err-keep_disk-clause-halted
 returns-in_err-keep_disk-clause-halted g c =
     let command = both_read c.args.command.now in
     let old = g.H.Host.state c.args.host.now in
-    let new = g.H.Host.state c.run_second.new.host in
+    let new = g.H.Host.state c.make_runs.new.host in
     let kept = g.H.Host.state c.keep_disk.new.host in
     let stop = c.in_err-keep_disk.field-0.0 in
-    let stops : KeepStops (kept_name command.run.out_disk c.in_ok-first.first.end) c.run_first.new.devices.system.disk new kept stop =
-    subst (λ d. KeepStops (kept_name command.run.out_disk c.in_ok-first.first.end) d new kept stop) c.disk.ensures
+    let m = c.in_ok-made.made in
+    let has = c.in_ok-made.ensures.made in
+    let stops : KeepStops (kept_name command.run.out_disk m.first.end) m.devices.system.disk new kept stop =
+    subst (λ d. KeepStops (kept_name command.run.out_disk m.first.end) d new kept stop) c.disk.ensures
     (subst (λ n. KeepStops n c.disk.result.now new kept stop) c.kept_name.ensures c.in_err-keep_disk.ensures.stopped) in
     judged c.from_residual-in_err-keep_disk.result (λ h. h ≡ By stop) (IsHalted command old kept) c.from_residual-in_err-keep_disk.ensures.1
     (λ h is. subst (IsHalted command old kept) (sym is)
-    (disk_halts (both_read c.args.command.now) (g.H.Host.state c.args.host.now) (g.H.Host.state c.load.new.host) (g.H.Host.state c.run_first.new.host) (g.H.Host.state c.run_second.new.host) c.in_ok-loaded.loaded.program c.in_ok-loaded.loaded.image c.in_ok-loaded.loaded.devices c.in_ok-loaded.loaded.second c.run_first.new.devices c.run_second.new.devices c.limit86-limit.result c.in_ok-first.first c.in_ok-next.next c.in_ok-loaded.ensures.loaded c.in_ok-loaded.ensures.only c.in_ok-loaded.ensures.counted c.in_ok-first.ensures.only c.in_ok-first.ensures.run c.in_ok-first.ensures.counted c.in_ok-loaded.ensures.second c.limit86-limit.ensures c.in_ok-next.ensures.only c.in_ok-next.ensures.run c.in_ok-next.ensures.counted c.start_is_in_range.ensures.page (filled c.args.command.now.choice c.in_ok-loaded.loaded.fill.items c.as_slice-fill.result.now c.in_ok-loaded.ensures.fill c.in_ok-loaded.ensures.fill_len c.as_slice-fill.ensures.value c.start_is_in_range.ensures.fill) c.start_is_in_range.ensures.choice (λ fetch. c.runs_are_one.ensures.of_86 fetch c.in_ok-loaded.loaded.image c.args.command.now.run.page (fill_by c.args.command.now.choice) (start_by c.args.command.now.choice) (c.args.command.now.choice ∷ [])) kept stop stops))
+    (unkept (lose command old new m.first m.second has.runs kept stop
+    (subst (λ (s : Supply). KeepStops (kept_name command.run.out_disk m.first.end) s.system.disk new kept stop) (sym has.left) stops))))
 
 pub returns-clause-came : goal.returns-clause-came
 returns-clause-came g c =
     let command = both_read c.args.command.now in
-    let new = g.H.Host.state c.run_second.new.host in
+    let old = g.H.Host.state c.args.host.now in
+    let new = g.H.Host.state c.make_runs.new.host in
     let kept = g.H.Host.state c.keep_disk.new.host in
-    let keeps : Keeps (kept_name command.run.out_disk c.in_ok-first.first.end) c.run_first.new.devices.system.disk new kept =
-    subst (λ d. Keeps (kept_name command.run.out_disk c.in_ok-first.first.end) d new kept) c.disk.ensures
+    let m = c.in_ok-made.made in
+    let has = c.in_ok-made.ensures.made in
+    let keeps : Keeps (kept_name command.run.out_disk m.first.end) m.devices.system.disk new kept =
+    subst (λ d. Keeps (kept_name command.run.out_disk m.first.end) d new kept) c.disk.ensures
     (subst (λ n. Keeps n c.disk.result.now new kept) c.kept_name.ensures c.in_ok-keep_disk.ensures.kept) in
-    comes (both_read c.args.command.now) (g.H.Host.state c.args.host.now) (g.H.Host.state c.load.new.host) (g.H.Host.state c.run_first.new.host) (g.H.Host.state c.run_second.new.host) c.in_ok-loaded.loaded.program c.in_ok-loaded.loaded.image c.in_ok-loaded.loaded.devices c.in_ok-loaded.loaded.second c.run_first.new.devices c.run_second.new.devices c.limit86-limit.result c.in_ok-first.first c.in_ok-next.next c.in_ok-loaded.ensures.loaded c.in_ok-loaded.ensures.only c.in_ok-loaded.ensures.counted c.in_ok-first.ensures.only c.in_ok-first.ensures.run c.in_ok-first.ensures.counted c.in_ok-loaded.ensures.second c.limit86-limit.ensures c.in_ok-next.ensures.only c.in_ok-next.ensures.run c.in_ok-next.ensures.counted c.start_is_in_range.ensures.page (filled c.args.command.now.choice c.in_ok-loaded.loaded.fill.items c.as_slice-fill.result.now c.in_ok-loaded.ensures.fill c.in_ok-loaded.ensures.fill_len c.as_slice-fill.ensures.value c.start_is_in_range.ensures.fill) c.start_is_in_range.ensures.choice (λ fetch. c.runs_are_one.ensures.of_86 fetch c.in_ok-loaded.loaded.image c.args.command.now.run.page (fill_by c.args.command.now.choice) (start_by c.args.command.now.choice) (c.args.command.now.choice ∷ [])) c.line_of-line.result (came_of c.in_ok-last.last) (steps_of c.in_ok-last.last) kept c.line_of-line.ensures (c.in_ok-last.ensures.came ∙ c.steps_of-came.ensures) c.in_ok-last.ensures.steps keeps
+    come command old new m.first m.second has.runs c.line_of-line.result (came_of c.in_ok-last.last) (steps_of c.in_ok-last.last) kept
+    (subst (λ (p : Program). (n : ℕ) → IsLineOf p m.first.end n → c.line_of-line.result ≡ n) (sym has.program) c.line_of-line.ensures)
+    (c.in_ok-last.ensures.came ∙ c.steps_of-came.ensures) c.in_ok-last.ensures.steps
+    (subst (λ (s : Supply). Keeps (kept_name command.run.out_disk m.first.end) s.system.disk new kept) (sym has.left) keeps)
