@@ -2,7 +2,7 @@
 use Rattle.std.proofs.Common.{◌≡◌, ℕ, zero, suc, ◌+◌, ◌-◌, ◌<◌, ◌≤◌, Bool, true, false, cond, ltb, leb, eqb, List, [], ◌∷◌, length, get_or, Option, Some, None, Result, Ok, Err, MatchResult, refl, sym, ap, ◌∙◌, arith}
 use Rattle.std.specs.List.Sorted.{IsBinarySearchResult}
 use Rattle.std.specs.Ordering.{nat_cmp}
-use Rattle.std.proofs.lemmas.List.{length-map, get_or-map}
+use Rattle.std.proofs.lemmas.List.{length-map}
 use Rattle.std.proofs.lemmas.Bool.{leb-true, and_parts}
 use Rattle.std.proofs.lemmas.Bool.Decides.{nat_tests}
 use Rattle.std.specs.Prelude.{◌%◌, ◌==◌, nat_le, ◌&&◌}
@@ -113,9 +113,6 @@ last_from-at xs from limit a k d laid last =
 
 pub length-starts : (xs : List Placed) → length (starts_of xs) ≡ length xs
 length-starts xs = length-map xs (λ (x : Placed). x.at)
-
-pub start-at : (xs : List Placed) (k : ℕ) (d : Placed) → k < length xs → get_or (starts_of xs) k 0 ≡ (get_or xs k d).at
-start-at xs k d lt = get_or-map (λ (x : Placed). x.at) xs k d 0 lt
 
 -- the next instruction starts past this one
 pub past-laid : (xs : List Placed) (from limit k : ℕ) → AreLaid from limit xs → suc k < length xs → get_or (starts_of xs) k 0 < get_or (starts_of xs) (suc k) 0

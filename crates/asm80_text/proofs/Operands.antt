@@ -10,7 +10,7 @@ use Rattle.asm80_tokens.specs.Grammar.{Spells, Begins, Ends, alone, joined, tigh
 use Rattle.asm80_tokens.specs.Results.{Sure, Gives}
 use Rattle.asm80_tokens.proofs.Chain.{spells_shorter}
 use Rattle.asm80_text.specs.Statement.{IsOperand, AreOperands, text, value, last, more}
-use Rattle.asm80_text.specs.Results.{SureOperand, GivesOperand, GivesOperands}
+use Rattle.asm80_text.specs.Results.{SureOperand, GivesOperand}
 
 -- a text begins no expression
 mutual
@@ -81,14 +81,6 @@ module _ (ts rest after : List Token) (front : List Operand) (a : Operand)
       let o = only bs x in
       let p = rest_of next e o.0 o.2 in
       (p.0, o.1 ∙ ap (λ (k : List Operand). front ++ k) p.1 ∙ sym (append_assoc front (a ∷ []) p.0), p.2)
-
-first_fails : (rest : List Token) (bs : List Operand) → AreOperands rest bs → ((b : Operand) (r : List Token) → IsOperand rest b r → Ends 5 r → ⊥) → ⊥
-first_fails rest bs (last {a = b} y) n = n b [] y tt
-first_fails rest bs (more {rest = r} {a = b} y z) n = n b (Comma ∷ r) y tt
-
-pub fails_on : (ts rest : List Token) (front : List Operand) (f : ParseFault) → ((bs : List Operand) → AreOperands ts bs → (others : List Operand) × (bs ≡ front ++ others) × AreOperands rest others) → GivesOperand rest (Err f) → GivesOperands ts (Err f)
-fails_on ts rest front faults.Memory only g = tt
-fails_on ts rest front faults.Malformed only g = λ bs x. let o = only bs x in first_fails rest o.0 o.2 g
 
 false_true : false ≡ true → ⊥
 false_true e = cc

@@ -105,12 +105,6 @@ parens_read ts after rest e p s = record {
   only = λ o r b h. let f = s.only o (Close ∷ r) (parens_is b) tt in (f.0, cc (p, f.1));
 }
 
-pub parens_open : (ts after : List Token) (e : Tree) → ((rest : List Token) → after ≢ Close ∷ rest) → Sure (Spells 5 ts) (Ends 5) e after → Never (Begins 0 (Open ∷ ts)) (EndsInside 0)
-parens_open ts after e p s = λ o r b h. p r (s.only o (Close ∷ r) (parens_is b) tt).1
-
-pub parens_never : (ts : List Token) → Never (Spells 5 ts) (Ends 5) → Never (Begins 0 (Open ∷ ts)) (EndsInside 0)
-parens_never ts n = λ o r b h. n o (Close ∷ r) (parens_is b) tt
-
 -- ---- signs and NOT
 
 pub minus_read : (ts rest r : List Token) (e : Tree) → ts ≡ Op Sub ∷ rest → Sure (Spells 1 rest) (Ends 1) e r → Sure (Begins 2 ts) (EndsInside 2) (Negated e) r
@@ -120,14 +114,8 @@ minus_read ts rest r e p s = rw p (record {
   only = λ o t b h. let m = minus_is b in let f = s.only m.0 t m.2 h in (cc (f.0, m.1), f.1);
 })
 
-pub minus_never : (ts rest : List Token) → ts ≡ Op Sub ∷ rest → Never (Spells 1 rest) (Ends 1) → Never (Begins 2 ts) (EndsInside 2)
-minus_never ts rest p n = rw p (λ o t b h. let m = minus_is b in n m.0 t m.2 h)
-
 pub plus_read : (ts rest r : List Token) (e : Tree) → ts ≡ Op Add ∷ rest → Sure (Spells 1 rest) (Ends 1) e r → Sure (Begins 2 ts) (EndsInside 2) e r
 plus_read ts rest r e p s = rw p (record { holds = plus s.holds; ended = s.ended; only = λ o t b h. s.only o t (plus_is b) h })
-
-pub plus_never : (ts rest : List Token) → ts ≡ Op Add ∷ rest → Never (Spells 1 rest) (Ends 1) → Never (Begins 2 ts) (EndsInside 2)
-plus_never ts rest p n = rw p (λ o t b h. n o t (plus_is b) h)
 
 -- no operator has the level of NOT
 looser_three : (o : Option Two) → IsLooser 2 o → IsLooser 3 o

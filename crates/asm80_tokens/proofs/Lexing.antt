@@ -1,8 +1,7 @@
 -- A line has one list of tokens.
-use Rattle.std.proofs.Common.{◌≡◌, ℕ, List, ◌∷◌, true, Option, refl, sym, ap, ◌∙◌}
+use Rattle.std.proofs.Common.{◌≡◌, ℕ, List, ◌∷◌, Option, refl, sym, ap, ◌∙◌}
 use Rattle.asm80_tokens.specs.declared.fault.LineRule.{LineRule}
 use Rattle.asm80_tokens.specs.declared.token.Token.{Token}
-use Rattle.asm80_tokens.specs.Letters.{is_blank}
 use Rattle.asm80_tokens.specs.Tokens.{Got, Lexes, ends, blank, comment, token, faulty}
 
 got_same : (a b : Token) (r s : List ℕ) → Got a r ≡ Got b s → (a ≡ b) × (r ≡ s)
@@ -29,8 +28,3 @@ one_reading (faulty ne n t) (faulty ne' n' t') = (refl, cc)
 one_reading (faulty ne n t) (token ne' n' t' y) = absurd cc
 one_reading (faulty ne n t) (blank e y) = absurd cc
 one_reading (faulty ne n t) (comment y) = absurd (n refl)
-
--- ---- what a loop does
-
-pub past_blank : (bytes rest : List ℕ) (b : ℕ) (so_far line : List Token → Option LineRule → Type 0) → ((ts : List Token) (f : Option LineRule) → Lexes bytes ts f → line ts f) → bytes ≡ b ∷ rest → is_blank b ≡ true → (ts : List Token) (f : Option LineRule) → Lexes rest ts f → line ts f
-past_blank bytes rest b so_far line h e is ts f x = h ts f (rw e (blank is x))

@@ -1,5 +1,5 @@
 -- Along the second walk: what the items so far are, and what is left.
-use Rattle.std.proofs.Common.{◌≡◌, ℕ, ◌<◌, length, ◌&&◌, ◌||◌, Bool, true, false, cond, List, [], ◌∷◌, ◌++◌, map, filter, Option, Some, None, Ok, Err, refl, sym, ap, subst, ◌∙◌, append_assoc, append-nil}
+use Rattle.std.proofs.Common.{◌≡◌, ℕ, ◌&&◌, ◌||◌, Bool, true, false, cond, List, [], ◌∷◌, ◌++◌, map, filter, Option, Some, None, Ok, Err, refl, sym, ap, subst, ◌∙◌, append_assoc, append-nil}
 use Rattle.std.specs.Option.{option_or, option_to_list}
 use Rattle.std.proofs.Math.Path.{fun_ext}
 use Rattle.asm80_tokens.specs.declared.stmt.Stmt80.{Stmt80}
@@ -154,10 +154,3 @@ module _ (statements : List Stmt80) (t : Taken) (rest : List Taken) (names : Lis
       → ((r : Row) → StandsForRow statements t r → GivesItem (seen_in names flags r) r (Err (Refused line rule)))
       → second_fault (walked (map statement_of statements)) (rows (map statement_of statements)) ≡ Some (line, rule)
   along_fault found line rule a item = a.fault ∙ fault_at a.left line rule a.stand a.taken a.sees item
-
-pub along_within : (statements : List Stmt80) (t : Taken) (rest : List Taken) (names : List Name) (found : List Item) → Along statements (t ∷ rest) names found → t.statement < length statements
-along_within statements t rest names found a = within_by a.left a.stand
-  where
-    within_by : (left : List Row) → Stand statements (t ∷ rest) left → t.statement < length statements
-    within_by [] h = absurd h
-    within_by (r ∷ left) h = h.0.within

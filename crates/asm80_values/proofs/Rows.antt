@@ -1,8 +1,7 @@
 -- The items of rows, from the forms of their operands.
-use Rattle.std.proofs.Common.{◌≡◌, ℕ, Bool, true, false, ◌||◌, List, Option, Some, Result, Ok, Err, refl, subst}
+use Rattle.std.proofs.Common.{◌≡◌, Bool, true, false, ◌||◌, List, Option, Some, Result, Ok, refl, subst}
 use Rattle.asm80_tokens.specs.Tree.{Operand}
 use Rattle.asm80_operands.specs.declared.fault.FormFault.{FormFault}
-use Rattle.asm80_operands.specs.declared.fault.FormFault.TheVariants.{Rule, Memory}
 use Rattle.asm80_operands.specs.declared.form.Form.{Form}
 use Rattle.asm80_operands.specs.declared.form.Form.TheVariants.{Nothing, Instruction, Data}
 use Rattle.asm80_operands.specs.declared.form.Instruction.{Instruction as Instr}
@@ -12,7 +11,7 @@ use Rattle.asm80_source.specs.declared.operation.Operation.{Operation}
 use Rattle.asm80_source.specs.Items.{Setting, is_instruction_op}
 use Rattle.asm80_source.specs.Walk.{Row, row_operation}
 use Rattle.asm80_values.specs.declared.item.Item.{Item}
-use Rattle.asm80_values.specs.Second.{GivesItem, IsItemOf, fault_on, fills}
+use Rattle.asm80_values.specs.Second.{GivesItem, IsItemOf, fills}
 
 -- the same of the same
 pub given : (t0 t : Setting) (o : Operation) (args0 args : List Operand) (r : Result Form FormFault) → t0 ≡ t → args0 ≡ args → GivesForm t0 o args0 r → GivesForm t o args r
@@ -23,14 +22,6 @@ given t0 t o args0 args r same same_args h =
 
 pub item_given : (t : Setting) (r : Row) (o : Operation) (f : Form) (i : Option Item) → row_operation r ≡ Some o → GivesForm t o r.statement.args (Ok f) → IsItemOf t r i → GivesItem t r (Ok i)
 item_given t r o f i is h item = (rw is h.0, item)
-
-pub fault_given : (t : Setting) (r : Row) (o : Operation) (fault : FormFault) (line : ℕ) → line ≡ r.statement.line → row_operation r ≡ Some o → GivesForm t o r.statement.args (Err fault) → GivesItem t r (Err (fault_on line fault))
-fault_given t r o (Rule rule) line same is h = (same, rw is h)
-fault_given t r o Memory line same is h = tt
-
--- what is neither an instruction nor data fills no cells
-pub nothing_fills : (t : Setting) (o : Operation) (args : List Operand) (oo : Option Operation) → oo ≡ Some o → IsForm t o args Nothing → fills oo ≡ false
-nothing_fills t o args oo is h = rw (is, h.0, h.1) refl
 
 or-true : (b : Bool) → (b || true) ≡ true
 or-true true = refl

@@ -26,10 +26,6 @@ other_renamed (m ∷ names) n t h = other_set m n t (named (renamed names n) t) 
 itself : (t : List ℕ) → bytes_eq t t ≡ true
 itself t = (bytes_eq-Decides t t).1 refl
 
-own_by : (b : Bool) (m n : Name) (o : Option Name) → cond b (Some m) None ≡ None → cond b (Some m) o ≡ o
-own_by true m n o h = absurd cc
-own_by false m n o h = refl
-
 none_of : (b : Bool) (m : Name) (o : Option Name) → cond b (Some m) o ≡ None → (b ≡ false) × (o ≡ None)
 none_of true m o h = absurd cc
 none_of false m o h = (refl, h)

@@ -1,14 +1,14 @@
 -- The state behind one statement more.
-use Rattle.std.proofs.Common.{◌≡◌, ℕ, ◌+◌, ◌<◌, ◌≤◌, ◌⊎◌, inl, inr, drop, drop-cons, add-one, arith, List, [], ◌∷◌, ◌++◌, length, map, get_or, Bool, true, false, refl, sym, ap, subst, ◌∙◌, append_assoc}
+use Rattle.std.proofs.Common.{◌≡◌, ℕ, ◌+◌, ◌<◌, ◌⊎◌, inl, inr, drop, drop-cons, add-one, arith, List, [], ◌∷◌, ◌++◌, length, map, get_or, Bool, true, false, refl, sym, ap, subst, ◌∙◌, append_assoc}
 use Rattle.std.specs.Prelude.{filter}
-use Rattle.std.proofs.lemmas.List.{append-nil, length-map, get_or-map, get_or_default, drop_all}
+use Rattle.std.proofs.lemmas.List.{append-nil, length-map, get_or-map, get_or_default}
 use Rattle.asm80_tokens.specs.declared.stmt.Stmt80.{Stmt80}
 use Rattle.asm80_tokens.specs.Tree.{Statement, statement_of}
 use Rattle.asm80_source.specs.Walk.{Walk, Row, is_taken, after, ends, rows_from, walk_from, rows, walked, row_is_taken}
 use Rattle.asm80_source.specs.FirstFaults.{first_fault}
 use Rattle.asm80_walk.specs.declared.walked.Taken.{Taken}
 use Rattle.asm80_walk.specs.Walked.{StandsFor, Stand}
-use Rattle.asm80_walk.specs.State.{State, walk_of, taken_row, Steps, start, Done}
+use Rattle.asm80_walk.specs.State.{State, walk_of, taken_row, Steps, Done}
 use Rattle.asm80_walk.proofs.Verdicts.{verdict, verdict_stays, verdict_at_end}
 
 -- The state is reached, and these statements are left.
@@ -94,9 +94,6 @@ done statements s h = record {
 
 -- ---- in the loop over the statements
 
-pub reaches_start : (statements : List Stmt80) → Reaches statements start (map statement_of statements)
-reaches_start statements = record { before = []; stand = tt; taken = refl; end = refl; fault = refl }
-
 module _ (statements : List Stmt80) (i : ℕ) (x : Stmt80) (old new : State) (lt : i < length statements) (is : x ≡ get_or statements i x) (h : Reaches statements old (drop i (map statement_of statements))) (k : Steps i (statement_of x) old new) where
   left_now : drop i (map statement_of statements) ≡ statement_of x ∷ drop (i + 1) (map statement_of statements)
   left_now = rw add-one (drop-cons (map statement_of statements) i (statement_of x) (omega (arith, length-map statements statement_of))) ∙ ap (λ (s : Statement). s ∷ drop (i + 1) (map statement_of statements)) (get_or-map statement_of statements i x (statement_of x) lt ∙ ap statement_of (sym is))
@@ -112,8 +109,3 @@ module _ (statements : List Stmt80) (i : ℕ) (x : Stmt80) (old new : State) (lt
 
   pub done_at_end : ends (walk_of old) (statement_of x) ≡ true → Done statements new
   done_at_end e = done statements new (reached statements i (statement_of x) old new _ [] reaches_now k (comes_to_end (walk_of old) (statement_of x) _ e) lt is_now)
-
-pub done_with_all : (statements : List Stmt80) (i : ℕ) (s : State) → length statements ≤ i → Reaches statements s (drop i (map statement_of statements)) → Done statements s
-done_with_all statements i s le h =
-    let none = drop_all i (map statement_of statements) (omega (arith, length-map statements statement_of)) in
-    done statements s (rw none at h)

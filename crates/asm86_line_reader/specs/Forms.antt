@@ -1,6 +1,6 @@
 -- The forms of a statement: an operation with its operands, and the statement that they make (Intel 8086 Family User's Manual,
--- "Instruction set"; CP/M-86 Programmer's Guide, "Assembler Directives"; the choice of forms is this project's). What is in no row is no statement.
--- A number may be above 255 here where a byte is needed: `is_small` says where none is.
+-- "Instruction set"; CP/M-86 Programmer's Guide, "Assembler Directives"; the choice of forms is this project's). What is in no row is
+-- no statement. A number may be above 255 here where a byte is needed: `is_small` says where none is.
 use Rattle.std.specs.Prelude.{ℕ, ◌==◌, nat_le, cond, List, [], ◌∷◌, Bool, true, false, Option, Some, None, option_map}
 use Rattle.i86.specs.declared.Reg8.{Reg8}
 use Rattle.i86.specs.declared.Reg8.TheVariants.{Al, Cl}

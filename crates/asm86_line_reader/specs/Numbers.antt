@@ -1,4 +1,5 @@
--- The numbers of a line, in capitals: decimal, or hexadecimal with an H behind the digits (CP/M-86 Programmer's Guide, "Numeric Constants").
+-- The numbers of a line, in capitals: decimal, or hexadecimal with an H behind the digits (CP/M-86 Programmer's Guide, "Numeric
+-- Constants").
 use Rattle.std.specs.Prelude.{ℕ, ◌-◌, ◌==◌, nat_lt, ◌&&◌, cond, List, Option, Some, None, length, take, slice_index}
 use Rattle.std.specs.List.{list_all}
 use Rattle.std.specs.Char.{digit_value}

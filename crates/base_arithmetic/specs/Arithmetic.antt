@@ -30,7 +30,7 @@ borrow8 x y c = nat_lt x (y + c)
 abbrev pub borrow4 : ℕ → ℕ → ℕ → Bool
 borrow4 x y c = nat_lt (x % 16) (y % 16 + c)
 
--- a byte turned left, its bit 7 going out, and right, its bit 0 going out, with a bit that comes in
+-- a byte rotated left, its bit 7 going out, and right, its bit 0 going out, with a bit that comes in
 abbrev pub turned_left : ℕ → ℕ → ℕ
 turned_left v c = (2 * v + c) % 256
 

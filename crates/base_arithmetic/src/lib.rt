@@ -1,2 +1,2 @@
-// Arithmetic that both processors have, as definitions: sums, differences and turns of bytes, and their flags.
+// Arithmetic that both processors have, as definitions: sums, differences and rotations of bytes, and their flags.
 #![tactic(auto)]

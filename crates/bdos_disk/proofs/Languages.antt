@@ -2,7 +2,7 @@
 use Rattle.std.proofs.Common.{◌≡◌, ℕ, zero, suc, ◌+◌, ◌-◌, ◌*◌, ◌/◌, ◌%◌, ◌<◌, ◌≤◌, true, false, List, [], ◌∷◌, ◌++◌, length, take, drop, get_or, replicate, refl, sym, ap, ◌∙◌, subst, arith}
 use Rattle.std.specs.Prelude.{Some}
 use Rattle.std.specs.List.{All}
-use Rattle.std.proofs.lemmas.List.{append-nil, length-append, length-take-le, length-drop, length-replicate, take-append-drop, take-append-le, take_all, take_more_same, nil_from_length, get_or-take, get_or_append_left}
+use Rattle.std.proofs.lemmas.List.{append-nil, length-append, length-take-le, length-drop, length-replicate, take-append-drop, take-append-le, take_all, nil_from_length, get_or-take, get_or_append_left}
 use Rattle.std.proofs.lemmas.List.Elements.{All-nil, All-cons, All-head, All-tail}
 use Rattle.std.proofs.Math.Seq.{take-add}
 use Rattle.std.proofs.lemmas.List.Sums.{sum_by-cons}
@@ -18,22 +18,11 @@ use Rattle.bdos_disk.specs.Reading.{AreFiles}
 use Rattle.bdos_disk.proofs.Files.{count_of}
 use Rattle.bdos_disk.proofs.Parts.{same_front}
 
--- numbers as words
-pub word_back : (n : ℕ) → n % 256 + 256 * (n / 256) ≡ n
-word_back n = omega arith
-
 word_low : (low : ℕ) → low < 256 → word low ≡ low ∷ (0 ∷ [])
 word_low low lt =
     let a : low % 256 ≡ low = omega arith in
     let b : low / 256 ≡ 0 = omega arith in
     ap (λ x. x ∷ (low / 256 ∷ [])) a ∙ ap (λ x. low ∷ (x ∷ [])) b
-
-pub word_of : (low high : ℕ) → low < 256 → word (low + 256 * high) ≡ low ∷ (high ∷ [])
-word_of low high lt =
-    let n = low + 256 * high in
-    let a : n % 256 ≡ low = omega arith in
-    let b : n / 256 ≡ high = omega arith in
-    ap (λ x. x ∷ (n / 256 ∷ [])) a ∙ ap (λ x. low ∷ (x ∷ [])) b
 
 module _ (most : ℕ) where
   -- no first byte
@@ -199,13 +188,6 @@ module _ (most : ℕ) where
   word_second_at (low ∷ []) e le lt large = absurd (omega (arith, e))
   word_second_at (low ∷ (high ∷ bs)) e le lt large = word_second most low high bs le lt large
 
--- the mark, as far as the bytes have it
-abbrev IsMark : Unit {0} → Type 0
-IsMark _ = Unit {0}
-
-abbrev mark_bytes : Unit {0} → List ℕ
-mark_bytes _ = mark
-
 pub mark_breaks : (bytes : List ℕ) (k : ℕ) → k < 8 → k ≤ length bytes → take k bytes ≡ take k mark → (k < length bytes → get_or bytes k 0 ≡ get_or mark k 0 → ⊥) → BreaksAt {V = Unit {0}} (λ _. Unit {0}) (λ _. mark) bytes k
 mark_breaks bytes k lt le same differs =
     let further : k < length bytes → (rest : List ℕ) → mark ≡ take (k + 1) bytes ++ rest → ⊥ = λ less rest e.
@@ -221,13 +203,6 @@ mark_breaks bytes k lt le same differs =
           further less (drop (k + 1) mark) (sym (take-append-drop (k + 1) mark) ∙ ap (λ p. p ++ drop (k + 1) mark) (sym start));
       no_further = λ less v is b. further less b.0 b.1;
     }
-
--- one byte more of the mark
-pub mark_more : (bytes : List ℕ) (k : ℕ) → k < 8 → k < length bytes → take k bytes ≡ take k mark → get_or bytes k 0 ≡ get_or mark k 0 → take (k + 1) bytes ≡ take (k + 1) mark
-mark_more bytes k lt less same at = take_more_same bytes mark k 0 less lt same at
-
-pub mark_all : (bytes : List ℕ) → take 8 bytes ≡ take 8 mark → bytes ≡ mark ++ drop 8 bytes
-mark_all bytes e = sym (take-append-drop 8 bytes) ∙ ap (λ p. p ++ drop 8 bytes) e
 
 -- one record more
 pub records_more : (records more : List (List ℕ)) (r bytes : List ℕ) (k : ℕ) → all_records records ≡ take (k * 128) bytes → more ≡ records ++ r ∷ [] → r ≡ take 128 (drop (k * 128) bytes) → all_records more ≡ take ((k + 1) * 128) bytes

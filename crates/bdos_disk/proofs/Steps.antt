@@ -201,18 +201,6 @@ pub record StillReading (count : ℕ) (bytes : List ℕ) (files : List Stored) (
   pub whole : (fs : List Stored) → AreFiles last (count - index) room fs → AreFiles None count 8000 (files ++ fs)
   pub breaks : (k : ℕ) → BreaksAt (AreFiles last (count - index) room) files_bytes (drop at bytes) k → BreaksAt (AreFiles None count 8000) files_bytes bytes (at + k)
 
-pub still_first : (count : ℕ) (bytes : List ℕ) → StillReading count bytes [] None 8000 0 0
-still_first count bytes =
-    let none : count - 0 ≡ count = omega arith in
-    record {
-      within = omega arith;
-      stands = refl;
-      small = omega arith;
-      can = λ _. refl;
-      whole = λ fs h. subst (λ n. AreFiles None n 8000 fs) none h;
-      breaks = λ k h. let zero-k : k ≡ 0 + k = omega arith in subst (λ j. BreaksAt (AreFiles None count 8000) files_bytes bytes j) zero-k (subst (λ n. BreaksAt (AreFiles None n 8000) files_bytes bytes k) none h);
-    }
-
 module _ (count : ℕ) (few : count ≤ 64) (bytes : List ℕ) (files : List Stored) (last : Option (List ℕ)) (room at index : ℕ) (s : StillReading count bytes files last room at index) (more : index < count) where
   left : count - index ≡ count - 1 - index + 1
   left = omega (arith, more)
@@ -248,8 +236,3 @@ module _ (count : ℕ) (few : count ≤ 64) (bytes : List ℕ) (files : List Sto
             let same : at + (used + k) ≡ at + used + k = omega arith in
             subst (λ j. BreaksAt (AreFiles None count 8000) files_bytes bytes j) same (still_breaks (used + k) (next_breaks last after room le (drop at bytes) f used next k here));
       }
-
--- all files were read
-pub still_done : (count : ℕ) (bytes : List ℕ) (files : List Stored) (last : Option (List ℕ)) (room at : ℕ) → StillReading count bytes files last room at count → AreFiles None count 8000 files
-still_done count bytes files last room at s =
-    subst (AreFiles None count 8000) (append-nil files) (s.whole [] (record { files = tt; count_is = omega arith; small = omega arith }))

@@ -12,7 +12,7 @@ use Rattle.bdos_disk.specs.declared.reading.Stop.TheVariants.{At, Memory}
 use Rattle.bdos_disk.specs.Stored.{Stored}
 use Rattle.bdos_disk.specs.Disks.{AreFilesAfter, records_in, IsDisk}
 use Rattle.bdos_disk.specs.DiskFile.{mark, word, all_records, file_bytes, files_bytes, disk_file, IsBadAt}
-use Rattle.bdos_disk.specs.Reading.{AreFiles, StopsBy, behind, fault_of, IsFaultOf}
+use Rattle.bdos_disk.specs.Reading.{AreFiles, StopsBy, behind}
 use Rattle.bdos_disk.proofs.Files.{count_of}
 use Rattle.bdos_disk.proofs.Parts.{same_front, first_breaks, second_breaks}
 use Rattle.bdos_disk.proofs.Languages.{length-all_records, same_records, word_only, top_files, length-top_files, none-top_files, top_files-after}
@@ -25,10 +25,6 @@ stops_behind P Q n Memory h f = tt
 pub stops_weaker : (P Q : ℕ → Type 0) (s : Stop) → StopsBy P s → ((k : ℕ) → P k → Q k) → StopsBy Q s
 stops_weaker P Q (At k) h f = f k h
 stops_weaker P Q Memory h f = tt
-
-pub fault_from : (bytes : List ℕ) (s : Stop) → StopsBy (IsBadAt bytes) s → IsFaultOf bytes (fault_of s)
-fault_from bytes (At k) h = h
-fault_from bytes Memory h = tt
 
 -- how long a disk file is
 length-files_bytes : (last : Option (List ℕ)) (fs : List Stored) → AreFilesAfter last fs → length (files_bytes fs) ≡ 13 * length fs + 128 * records_in fs

@@ -11,9 +11,10 @@ use bdos_names::Name;
 use std::alloc::{AllocError, Global};
 use std::marker::Model;
 
-/// The most files that a disk has, and the most records of all its files.
+/// The most files that a disk has.
 pub const MOST_FILES: usize = 64;
 
+/// The most records that all files of a disk have together.
 pub const MOST_RECORDS: usize = 8000;
 
 /// A disk, seen as the list of its files in ascending order of their names: at most 64 files, with at most 8,000 records in all.

@@ -41,9 +41,8 @@ pub fn run_80<H: Host>(
 }
 
 /// Runs the image of an 8086 program over devices for up to `limit` instructions, and says each event of its dialogue, in a line that
-/// begins with the prefix. The fill is
-/// memory before the page and the image are put into it; the choice gives what registers and flags hold at the start, and each
-/// undefined result.
+/// begins with the prefix. The fill is memory before the page and the image are put into it; the choice gives what registers and flags
+/// hold at the start, and each undefined result.
 pub fn run_86<H: Host>(
     alloc: Global,
     image: &Image86,

@@ -1,4 +1,4 @@
-// The emulated machines over a small BDOS and ports: the 8080 and the 8086 are run by one loop.
+// The emulated machines over a small BDOS and ports: the tagged 8080 and the 8086 are run by one loop.
 #![tactic(auto)]
 
 mod commands;

@@ -39,7 +39,7 @@ impl Plain86 {
         ensures runs { IfOk result (λ m. Runs86 m.cpu) }
         ensures reader { IsOnlyReader image.now.code (decoded image.now.code) }
     {
-        // that the code has one reader
+        // for its contract alone: the code has one reader
         let _ = decode_at(image.code(), 0);
         let cpu = Cpu86::new(alloc, image, start, page, fill)?;
         Ok(Plain86 { cpu, choice })

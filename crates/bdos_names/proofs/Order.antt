@@ -60,10 +60,6 @@ before_cases a b = by_order (compared a b) refl
     by_order Equal e = inr (inl (same_from_compared a b e))
     by_order Greater e = inr (inr (ap is_lt (nat_list_cmp_total.antisymm b a ∙ ap ordering_reverse e)))
 
-pub before_differs : (a b : List ℕ) → is_before a b ≡ true → bytes_eq a b ≡ false
-before_differs a b e =
-    false_from_ne_true (bytes_eq a b) (λ s. let same = (bytes_eq-Decides a b).0 s in both_ways (is_before a b) (ap (λ x. is_before x b) same ∙ before_itself b) e)
-
 pub before_differs_back : (a b : List ℕ) → is_before a b ≡ true → bytes_eq b a ≡ false
 before_differs_back a b e =
     false_from_ne_true (bytes_eq b a) (λ s. let same = (bytes_eq-Decides b a).0 s in both_ways (is_before a b) (ap (λ x. is_before a x) same ∙ before_itself a) e)

@@ -103,9 +103,10 @@ impl Name {
     }
 }
 
-/// The lowest and the highest byte of a name.
+/// The lowest byte of a name, with which it is filled up.
 pub const BLANK: u8 = 0x20;
 
+/// The highest byte of a name.
 pub const TOP: u8 = 0x7E;
 
 /// Whether a file's name may have a byte.

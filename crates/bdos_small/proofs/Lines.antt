@@ -87,15 +87,6 @@ pub record Ends (room : ℕ) (input line rest : List ℕ) : Type 0 where
   pub bytes : line ≡ line_read room input
   pub left : rest ≡ line_left room input
 
-pub stands_first : (room : ℕ) (input : List ℕ) → Stands room input [] 0
-stands_first room input =
-    let none : room - 0 ≡ room = omega arith in
-    record {
-      within = omega arith;
-      bytes = ap (λ m. line_read m input) none;
-      left = ap (λ m. line_left m input) none;
-    }
-
 -- the byte at an index comes next
 next : (input : List ℕ) (i d : ℕ) → i < length input → drop i input ≡ get_or input i d ∷ drop (i + 1) input
 next input i d lt = drop-cons input i d lt ∙ ap (λ k. get_or input i d ∷ drop k input) (sym (add-one i))

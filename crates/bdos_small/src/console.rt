@@ -17,8 +17,7 @@ const VERSION: u16 = 0x22;
 /// The argument of function 6 that asks for a byte.
 const DIRECT_INPUT: u8 = 0xFF;
 
-/// What a call is answered: a reply; that it has no input left for it; or that the call needs a drive that is not
-/// there.
+/// What a call is answered: a reply; that no input is left for it; or that it needs a drive that is not there.
 #[derive(Drop)]
 pub enum Answer {
     Reply(Reply),
@@ -54,7 +53,8 @@ impl Console {
     }
 
     /// The answer to a call. Only a reply takes input, so that after another answer or want of memory the call can be answered
-    /// anew; only a line wants memory. Function 0 ends a program and is not asked; it is answered `NoDrive`, as the functions of a disk are.
+    /// anew; only a line wants memory. Function 0 ends a program and is not asked; it is answered `NoDrive`, as the functions of a
+    /// disk are.
     pub fn answer(&mut self, alloc: Global, request: &Request) -> Result<Answer, AllocError>
         requires { IsLawful request.now }
         ensures answer { IfOk result (λ a. ◌≡◌ {A = Answered} (record { answer = a; left = self.new }) (console_answer self.old request.now)) }

@@ -1,4 +1,4 @@
--- A run over devices, a console and ports: its replies are theirs to its own events. What it comes to, and what it says meanwhile.
+-- A run over devices, a small BDOS and ports: its replies are theirs to its own events. What it comes to, and what it says meanwhile.
 use Rattle.std.specs.Prelude.{◌≡◌, ℕ, suc, ◌<◌, ◌≤◌, List, [], ◌∷◌, ◌++◌, Option, Some, None, All}
 use Rattle.dialogue.specs.declared.request.Reply.{Reply}
 use Rattle.dialogue.specs.declared.request.Event.{Event}

@@ -1,4 +1,4 @@
-// A machine that talks to a console and ports: one loop runs it, and each event of its dialogue is said as it comes.
+// A machine that talks to a small BDOS and ports: one loop runs it, and each event of its dialogue is said as it comes.
 #![tactic(auto)]
 
 mod emulator;

@@ -7,7 +7,7 @@ ghost use Rattle.block_check.specs.Kept.{wanted_parts, lost_of};
 
 use cells::{Keep, Part};
 
-/// Parts that are kept: A of its own account, since IN brings a byte into it and OUT sends it.
+/// Parts that are kept. A stands apart from the others, since an IN writes it and an OUT reads it.
 #[derive(Clone, Copy)]
 pub struct Wanted {
     pub a: bool,

@@ -85,6 +85,7 @@ pub fn start_is_in_range(page: &Page, fill: &[u8], choice: u128)
     bytes_are_in_range(fill);
 }
 
+// A law too: its loop only leads the proof from byte to byte.
 fn bytes_are_in_range(bytes: &[u8])
     ensures { All (λ n. n < 256) bytes.now }
 {

@@ -1,9 +1,8 @@
 -- The bytes of a file that were given so far to what takes them.
-use Rattle.std.proofs.Common.{◌≡◌, ℕ, ◌+◌, ◌<◌, ◌≤◌, List, [], ◌++◌, length, take, refl, ap, ◌∙◌, sym, subst, append_assoc, append-nil, length-append, arith}
+use Rattle.std.proofs.Common.{◌≡◌, ℕ, ◌+◌, ◌≤◌, List, [], ◌++◌, length, take, refl, ap, ◌∙◌, sym, subst, append_assoc, append-nil, length-append, arith}
 use Rattle.std.proofs.Math.Seq.{take-add}
-use Rattle.std.proofs.lemmas.List.{length-take, take_all}
-use Rattle.host.specs.Host.{FileTold, Untold, Missing, Holds, IsFile, ReadsFile}
-use Rattle.cmd_files.specs.Transfer.{IsLonger, GivesFile}
+use Rattle.std.proofs.lemmas.List.{length-take}
+use Rattle.host.specs.Host.{FileTold, Untold, Missing, Holds, ReadsFile}
 
 -- these bytes begin the file, where the host tells it; a file that is not there counts as empty
 abbrev pub IsStartOfFile : FileTold → List ℕ → Type 0
@@ -50,28 +49,3 @@ gives_more has told at k into old mid new g le r step =
       start = start_more told g.bytes into k le g.start (subst (λ n. ReadsFile told n k into) (sym count) r);
       given = λ before h. subst (has new) (append_assoc before g.bytes (take k into)) (step (before ++ g.bytes) (g.given before h));
     }
-
--- no piece is left
-whole_file : (told : FileTold) (bytes into : List ℕ) → IsStartOfFile told bytes → ReadsFile told (length bytes) 0 into → IsFile told bytes
-whole_file Untold bytes into s r = tt
-whole_file Missing bytes into s r = absurd r
-whole_file (Holds held) bytes into s r = sym (s ∙ take_all (length bytes) held (r.ends.0 refl))
-
-pub gives_file : {S : Type 0} (has : S → List ℕ → Type 0) (told : FileTold) (limit at : ℕ) (into : List ℕ) (old new : S) → Gives has told at old new → at ≤ limit → ReadsFile told at 0 into → GivesFile has told limit old new
-gives_file has told limit at into old new g le r =
-    let count = g.count in
-    record {
-      bytes = g.bytes;
-      whole = whole_file told g.bytes into g.start (subst (λ n. ReadsFile told n 0 into) (sym count) r);
-      within = omega (arith, count, le);
-      given = g.given;
-    }
-
--- more bytes than the limit
-longer_by : (told : FileTold) (limit : ℕ) (bytes : List ℕ) → IsStartOfFile told bytes → limit < length bytes → IsLonger told limit
-longer_by Untold limit bytes s lt = (bytes, tt, lt)
-longer_by Missing limit bytes s lt = let e = ap length s in absurd (omega (arith, e, lt))
-longer_by (Holds held) limit bytes s lt = let e = ap length s in (held, refl, omega (arith, e, lt, length-take (length bytes) held))
-
-pub longer : {S : Type 0} (has : S → List ℕ → Type 0) (told : FileTold) (limit at : ℕ) (old new : S) → Gives has told at old new → limit < at → IsLonger told limit
-longer has told limit at old new g lt = let count = g.count in longer_by told limit g.bytes g.start (omega (arith, count, lt))

@@ -40,7 +40,7 @@ pub fn read_named_into<'a, H: Host, S: Sink>(
 }
 
 /// Reads the file of a name, whose bytes are kept whole.
-pub fn read_named<'a, H: Host>(
+fn read_named<'a, H: Host>(
     alloc: Global,
     host: &mut H,
     name: &'a str,

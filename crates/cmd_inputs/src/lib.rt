@@ -5,6 +5,6 @@ mod files;
 mod source;
 mod text;
 
-pub use files::{read_input, read_named};
+pub use files::read_input;
 pub use source::{program_of_bytes, read_source};
 pub use text::read_text;

@@ -28,7 +28,8 @@ pub record LosesLine (line : List ℕ) (old new : HostState) : Type 0 where
   pub cut : CutsLine line old new
   pub failed : WriteFailed old new
 
--- what is said with status 0, a line or several, is said whole; or a fault is the status, 4 or for want of memory 5, and it is not said whole
+-- what is said with status 0, a line or several, is said whole; or a fault is the status, 4 or for want of memory 5, and it is not
+-- said whole
 pub data IsDone (line : List ℕ) (old new : HostState) : ℕ → Type 0 where
   whole : OnlySays old new → Says old new line → SameFaults old new → IsDone line old new 0
   failed : LosesLine line old new → IsDone line old new 4

@@ -143,7 +143,7 @@ fn rule_line(alloc: Global, text: &str, line: u32, rule: &str) -> Result<String,
     format!(in alloc; "{text}{line}: {rule}\n")
 }
 
-// A text, a number, and what is counted.
+/// A text, a number, and what is counted.
 pub fn count_line(alloc: Global, text: &str, number: u32, what: &str) -> Result<String, AllocError>
     ensures { IfOk result (λ line. string_bytes line ≡ count_line text.now number what.now) }
 {

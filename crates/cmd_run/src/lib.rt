@@ -1,4 +1,4 @@
-// The work of the commands that run a program: its files, its run over a console, and what is said of it.
+// The work of the commands that run a program: its files, its run over devices, and what is said of it.
 #![tactic(auto)]
 
 mod ends;

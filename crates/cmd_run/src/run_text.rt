@@ -99,7 +99,7 @@ fn load<'a, H: Host>(alloc: Global, host: &mut H, command: &Run86<'a>) -> Result
     let supplies = read_supplies(alloc, host, &command.run)?;
     let lines = text?;
     let image = image(alloc, lines.as_slice())?;
-    // that the code has one reader
+    // for its contract alone: the code has one reader
     let _ = decode_at(image.code(), 0);
     let devices = devices_of(alloc, supplies)?;
     let fill = fill_of(alloc, command.choice)?;

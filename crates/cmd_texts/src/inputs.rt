@@ -52,7 +52,7 @@ fn see_image<'a>(alloc: Global, lines: &[Line86]) -> Result<(), Stop<'a>>
 {
     match image(alloc, lines) {
         Ok(image) => {
-            // that the code has one reader
+            // for its contract alone: the code has one reader
             let _ = decode_at(image.code(), 0);
             Ok(())
         }

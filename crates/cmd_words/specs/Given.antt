@@ -79,7 +79,3 @@ pub record AreSorted (c : CommandName) (ws : List Word) (g : Gathered) : Type 0 
   pub items : List Item
   pub sorted : Sorts c ws items
   pub given : g ≡ gathered items
-
--- a command's words are no items
-abbrev pub AreUnsorted : CommandName → List Word → Type 0
-AreUnsorted c ws = (items : List Item) → Sorts c ws items → ⊥

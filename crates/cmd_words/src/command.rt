@@ -174,7 +174,7 @@ impl<'a> Given<'a> {
     fn plain(&self) -> bool
         ensures { flag_of self.now.plain ≡ Some result }
     {
-        if self.plain { true } else { false }
+        self.plain
     }
 
     fn run_options(&self) -> Option<RunOptions<'a>>

@@ -77,8 +77,8 @@ impl<'a> Names<'a> {
 }
 
 impl<'a> Given<'a> {
-    /// What the words behind a command's word give; None where they give no command. `clap` reads them, and says all of words of
-    /// more than one hyphen or none; a word of one hyphen and something else is refused before.
+    /// What the words behind a command's word give; None where they give no command. `clap` reads them. A word of one hyphen and
+    /// something else is refused before: `clap` reads it as characters, and no clause says that a word's bytes are such.
     pub fn of_words(
         alloc: Global,
         command: CommandName,

@@ -16,7 +16,7 @@ const LOWEST_TOP: u128 = 0x1000;
 
 const HIGHEST_TOP: u128 = 0xFF00;
 
-/// The top of the program area that `--top` gives: a multiple of 100H.
+/// The top of the program area that `--top` gives: a multiple of 100H from 1000H to 0FF00H, in four hexadecimal digits.
 pub fn top_value(text: &str) -> Option<u16>
     ensures { result ≡ top_value text.now }
 {
@@ -31,14 +31,14 @@ pub fn top_value(text: &str) -> Option<u16>
     }
 }
 
-/// The choice that `--choice` gives.
+/// The choice that `--choice` gives, in 1 to 32 hexadecimal digits.
 pub fn choice_value(text: &str) -> Option<u128>
     ensures { result ≡ choice_value text.now }
 {
     number_in(16, 32, text)
 }
 
-/// The number of steps that `--steps` gives.
+/// The number of steps that `--steps` gives: 1 to 10,000,000, in 1 to 8 decimal digits.
 pub fn steps_value(text: &str) -> Option<u32>
     ensures { result ≡ steps_value text.now }
 {
@@ -50,7 +50,7 @@ pub fn steps_value(text: &str) -> Option<u32>
     }
 }
 
-/// The number of routines that a made source is to have.
+/// The number of routines that a made source is to have: 1 to 500, in 1 to 3 decimal digits.
 pub fn count_value(text: &str) -> Option<u32>
     ensures { result ≡ count_value text.now }
 {
@@ -62,7 +62,7 @@ pub fn count_value(text: &str) -> Option<u32>
     }
 }
 
-/// The name of a file.
+/// The name of a file, which is not empty.
 pub fn file_name(text: &str) -> Option<&str>
     ensures { option_copied result ≡ file_name text.now }
 {

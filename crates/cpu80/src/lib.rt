@@ -1,4 +1,5 @@
-// The tagged 8080 with a program: its state, its steps, and its calls of the system.
+// The tagged 8080 with a program: its state, its steps, and what it asks of the system and of ports. The 8080 over plain bytes, with the
+// law that ties the two, has its names here too.
 #![tactic(auto)]
 
 mod memory;

@@ -12,14 +12,14 @@ use crate::numbers::{
 use cells::{Cell, Rule};
 use i80::{Op, Pair, Reg, Src};
 
-// A byte turned left; the bit comes in at the right.
+// A byte rotated left; the bit comes in at the right.
 fn left(value: u8, bit: bool) -> u8
     ensures { result ≡ turned_left value (as_bit bit) }
 {
     ((2 * u16::from(value) + u16::from(bit)) % 256) as u8
 }
 
-// A byte turned right; the bit comes in at the left.
+// A byte rotated right; the bit comes in at the left.
 fn right(value: u8, bit: bool) -> u8
     ensures { result ≡ turned_right value (as_bit bit) }
 {
@@ -211,7 +211,7 @@ impl Draft<'_> {
         Ok(())
     }
 
-    // A turned byte in A, and the bit that went out in CY.
+    // A rotated byte in A, and the bit that went out in CY.
     fn turn(&mut self, value: u8, out: bool)
         ensures state { state_of self.new ≡ with_cy (with_a (state_of self.old) (Num value)) out }
         ensures memory { self.new.memory.now ≡ self.old.memory.now }

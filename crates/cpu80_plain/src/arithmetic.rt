@@ -22,14 +22,14 @@ fn carry_for(op: Op, flags: FlagBits) -> u8
     }
 }
 
-/// A byte turned left; the bit comes in at the right.
+/// A byte rotated left; the bit comes in at the right.
 pub fn left(value: u8, flag: bool) -> u8
     ensures { result ≡ turned_left value (as_bit flag) }
 {
     ((2 * u16::from(value) + u16::from(bit(flag))) % 256) as u8
 }
 
-/// A byte turned right; the bit comes in at the left.
+/// A byte rotated right; the bit comes in at the left.
 pub fn right(value: u8, flag: bool) -> u8
     ensures { result ≡ turned_right value (as_bit flag) }
 {
@@ -134,7 +134,7 @@ impl Processor {
         self.set_flags(FlagBits::settled(byte_flags(value, None, Some(carry)), choice));
     }
 
-    /// A turned byte in A, and the bit that went out in CY.
+    /// A rotated byte in A, and the bit that went out in CY.
     pub fn turn(&mut self, value: u8, out: bool)
         ensures { state_of self.new ≡ turned (state_of self.old) value out }
     {

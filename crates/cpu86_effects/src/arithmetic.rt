@@ -141,7 +141,7 @@ pub fn add16_flags(x: u16, y: u16) -> Flags
     )
 }
 
-/// A byte turned by one bit; through CF the carry comes in.
+/// A byte rotated by one bit; through CF the carry comes in.
 pub fn rotate8_result(rotate: Rotate, value: u8, carry: bool) -> u8
     ensures { result ≡ rotate8_result rotate value carry }
 {
@@ -175,7 +175,7 @@ fn turn_right(value: u8, carry: bool) -> u8
     value / 2 + 128 * bit(carry)
 }
 
-/// A word turned by one bit; through CF the carry comes in.
+/// A word rotated by one bit; through CF the carry comes in.
 pub fn rotate16_result(rotate: Rotate, value: u16, carry: bool) -> u16
     ensures { result ≡ rotate16_result rotate value carry }
 {

@@ -1,4 +1,4 @@
-// System calls: what a program asks of the BDOS, what the BDOS may answer, and the page that a program starts with.
+// What a program asks of the BDOS and of ports, what may be answered, and the page that a program starts with.
 #![tactic(auto)]
 
 mod blocks;

@@ -23,9 +23,6 @@ leads : (p : Program) (q r : Node) (qs : List Node) → BeginsAt r qs → IsEdge
 leads p q r [] b e = tt
 leads p q r (s ∷ ss) b e = subst (IsEdge p q) b e
 
-begins_again : (q : Node) (qs : List Node) → BeginsAt q (q ∷ qs)
-begins_again q qs = refl
-
 pub need_passes : (p : Program) (q r : Node) (x : Part) → IsEdge p q r → has (defines_at p q) x ≡ false → Need p r x → Need p q x
 need_passes p q r x e d n = record {
   earlier = q ∷ n.earlier;

@@ -164,14 +164,6 @@ module _ (k m : Parts) (grows : (x : Part) → has k x ≡ true → has m x ≡ 
   pub size-rises : k ≢ m → size k < size m
   size-rises other = ⊎_elim (λ lt. lt) (λ le. absurd (other (same_members k m (same_size le)))) (cases_lt (size k) (size m))
 
--- a part that is added if it is left
-pub with_left : (left k m : Parts) (q x : Part) → is_left k m q ≡ true → has (union left (only q)) x ≡ (has left x || (has (only q) x && is_left k m x))
-with_left left k m q x is = has-union left (only q) x ∙ ap (λ b. has left x || b) (picked (has (only q) x) refl)
-  where
-    picked : (b : Bool) → has (only q) x ≡ b → b ≡ (b && is_left k m x)
-    picked true one = sym (ap (is_left k m) (sym (only-has q x one)) ∙ is)
-    picked false one = refl
-
 pub without_left : (left k m : Parts) (q x : Part) → is_left k m q ≡ false → has left x ≡ (has left x || (has (only q) x && is_left k m x))
 without_left left k m q x is = sym (ap (λ b. has left x || b) (none (has (only q) x) refl) ∙ or-false (has left x))
   where

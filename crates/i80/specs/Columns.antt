@@ -1,4 +1,5 @@
--- The columns of the instruction table (Intel 8080 Assembly Language Programming Manual, chapter 2, "The 8080 instruction set"): the bytes of each instruction, the parts that it uses and the parts that it defines.
+-- The columns of the instruction table (Intel 8080 Assembly Language Programming Manual, chapter 2, "The 8080 instruction set"): the
+-- bytes of each instruction, the parts that it uses, the parts that it defines, and whether it ends a block.
 use Rattle.std.specs.Prelude.{ℕ, Bool, true, false, if◌then◌else◌, [], ◌∷◌}
 use Rattle.cells.specs.declared.Cond.{Cond}
 use Rattle.cells.specs.declared.Cond.TheVariants.{Nz, Z as Zero, Nc, C as Carry, Po, Pe, P as Plus, M as Minus}

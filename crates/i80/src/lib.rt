@@ -1,4 +1,4 @@
-// The instructions of the 8080 (Intel 8080 Assembly Language Programming Manual), but for IN, OUT, HLT, EI, DI and RST 1 to 7.
+// The instructions of the 8080 (Intel 8080 Assembly Language Programming Manual), but for HLT, EI, DI and RST 1 to 7.
 #![tactic(auto)]
 
 ghost use Rattle.std.specs.Prelude.{◌≡◌, IsTrue};

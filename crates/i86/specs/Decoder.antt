@@ -1,5 +1,5 @@
--- A way from the bytes to the instruction, by which the code decodes. Nobody has to believe it: what it finds is proved to be what stands there
--- by the encodings, and nothing else (`decode_at`, `code_has_one_reader`).
+-- A way from the bytes to the instruction, by which the code decodes. Nobody has to believe it: what it finds is proved to be what
+-- stands there by the encodings, and nothing else (`decode_at`, `code_has_one_reader`).
 use Rattle.std.specs.Prelude.{ℕ, ◌+◌, ◌*◌, ◌/◌, ◌%◌, ◌==◌, nat_le, Bool, ◌&&◌, cond, List, [], ◌∷◌, Option, Some, None, option_map, slice_get}
 use Rattle.i86.specs.declared.Reg8.{Reg8}
 use Rattle.i86.specs.declared.Reg8.TheVariants.{Al, Cl, Dl, Bl, Ah, Ch, Dh, Bh}

@@ -1,4 +1,5 @@
--- The encoding of each instruction: the table of the Intel 8086 Family User's Manual, "Machine instruction encoding", for the forms of this subset.
+-- The encoding of each instruction: the table of the Intel 8086 Family User's Manual, "Machine instruction encoding", for the forms
+-- of this subset.
 use Rattle.std.specs.Prelude.{ℕ, ◌+◌, ◌*◌, ◌/◌, ◌%◌, List, [], ◌∷◌}
 use Rattle.i86.specs.declared.Reg8.{Reg8}
 use Rattle.i86.specs.declared.Reg8.TheVariants.{Al, Cl, Dl, Bl, Ah, Ch, Dh, Bh}

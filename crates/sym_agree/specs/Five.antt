@@ -33,7 +33,7 @@ one_of f Ac = f.ac
 one_of f P = f.p
 one_of f part = f.cy
 
--- a word of two bytes, and one that was turned
+-- a word of two bytes, and one that was rotated
 pub record IsJoin (pool : Contents) (s h l : TermId) : Type 0 where
   pub high : IsA is_byte pool h
   pub low : IsA is_byte pool l

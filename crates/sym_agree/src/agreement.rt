@@ -51,6 +51,7 @@ fn agree_turned(terms: &Terms, s: Term, carry: Term, t: Term) -> bool
     same(terms, s, t) && knows
 }
 
+// A byte, which is no Join and no Turned.
 fn agree_byte(terms: &Terms, byte: Term, seen: Seen) -> bool
     requires byte { IsA is_byte terms.now byte }
     requires seen { SeenIsGiven terms.now seen }
@@ -67,6 +68,7 @@ fn agree_plain(terms: &Terms, s: Term, seen: Seen) -> bool
     ensures { result ≡ agrees (tree_in terms.now s) (tree_of_seen terms.now seen) }
 {
     made_terms_have_sorts();
+    // for its contract alone: the terms are terms
     let _mark = terms.mark();
     match flags_of(terms, s) {
         Some(five) => agree_five(terms, s, five, seen),
@@ -103,6 +105,7 @@ fn agree_flag(terms: &Terms, flag: Term, part: Part, seen: Seen) -> bool
     ensures { result ≡ agrees (tree_in terms.now flag) (bit (tree_of_seen terms.now seen) part) }
 {
     made_terms_have_sorts();
+    // for its contract alone: the terms are terms
     let _mark = terms.mark();
     let unknown = is_unknown(terms, flag);
     let one = is_bit_in(terms, flag, part, seen);

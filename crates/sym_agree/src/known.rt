@@ -1,5 +1,5 @@
-// Whether nothing unknown stands in a term. An Unknown shows in a made term where the term is one itself, or a half of a Join or a flag of
-// a FlagByte is, so that no term is walked.
+// Whether nothing unknown stands in a term. An Unknown shows in a made term where the term is one itself, or a half of a Join or a
+// flag of a FlagByte is, so that no term is walked.
 
 ghost use Rattle.std.specs.Prelude.{◌≡◌, not, false, MatchOption};
 ghost use Rattle.sym_terms.specs.Term.{is_bit, is_byte};
@@ -37,6 +37,7 @@ pub fn knows_bit(terms: &Terms, bit: Term) -> bool
     ensures { result ≡ not (has_unknown (tree_in terms.now bit)) }
 {
     made_terms_have_sorts();
+    // for its contract alone: the terms are terms
     let _mark = terms.mark();
     !is_unknown(terms, bit)
 }
@@ -47,6 +48,7 @@ pub fn knows_byte(terms: &Terms, byte: Term) -> bool
     ensures { result ≡ not (has_unknown (tree_in terms.now byte)) }
 {
     made_terms_have_sorts();
+    // for its contract alone: the terms are terms
     let _mark = terms.mark();
     match flags_of(terms, byte) {
         Some(five) => knows_five(terms, byte, five),

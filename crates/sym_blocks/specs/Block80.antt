@@ -172,7 +172,7 @@ dad s pair =
     let t = with_pair s PairH (sum16 (pair_term s PairH) (pair_term s pair)) in
     with_held t (record (t.held) { cy = carry_of (pair_term s PairH) (pair_term s pair) })
 
--- RLC, RRC, RAL and RAR are the turns 0 to 3; through CY goes the old CY
+-- RLC, RRC, RAL and RAR are the rotations 0 to 3; through CY goes the old CY
 abbrev pub turn_by : Symbolic80 → ℕ → Term → Symbolic80
 turn_by s kind carry =
     let r = turn kind s.held.a carry in

@@ -220,7 +220,7 @@ abbrev pub add16 : Symbolic86 → Reg16 → Reg16 → Symbolic86
 add16 s r q =
     with_cf (losing_flags (with_reg16 s r (sum16 (reg16_term s r) (reg16_term s q)))) (carry_of (reg16_term s r) (reg16_term s q))
 
--- rotations by 1; of a byte they are the turns 0 to 3, and through CF goes the old CF
+-- rotations by 1; of a byte they are the kinds 0 to 3, and through CF goes the old CF
 abbrev pub turn_kind : Rotate → ℕ
 turn_kind Rol = 0
 turn_kind Ror = 1

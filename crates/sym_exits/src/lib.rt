@@ -14,8 +14,8 @@ pub fn templates_are_walked()
 {}
 
 /// A law: where the template of an instruction that ends a block stands, and behind it a label that ends the way, the walk ends by an
-/// exit that agrees with the 8080's. So does the end of a block whose last instruction goes on, a
-/// conditional jump that is short, and a call of the system by INT 224.
+/// exit that agrees with the 8080's. So do the end of a block whose last instruction goes on, a conditional jump that is short, and a
+/// call of the system by INT 224.
 pub fn exits_agree()
     ensures { ExitsAgree }
 {}

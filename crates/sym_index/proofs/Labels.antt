@@ -1,9 +1,5 @@
 -- Labels as keys: the test that a hash map has for them, and looking one up from the front of a list.
-use Rattle.std.proofs.Common.{◌≡◌, ℕ, ◌-◌, ◌≤◌, Bool, true, false, cond, List, [], ◌∷◌, length, drop, Option, Some, refl, sym, ap, subst, ◌∙◌, arith, ◌==◌}
-use Rattle.asm86_lines.specs.declared.line.Stmt86.{Stmt86}
-use Rattle.asm86_lines.specs.Layout.{marks}
-use Rattle.sym_blocks.specs.Walk86.{behind}
-use Rattle.sym_index.specs.Places.{IsPlace}
+use Rattle.std.proofs.Common.{◌≡◌, ℕ, ◌-◌, cond, List, [], ◌∷◌, Some, refl, sym, ap, ◌∙◌, arith, ◌==◌}
 use Rattle.std.proofs.lemmas.Bool.Decides.{nat_tests}
 use Rattle.std.specs.Map.{lookup}
 use Rattle.asm86_lines.specs.declared.line.Label.{Label}
@@ -84,13 +80,3 @@ put_is k q v es fs h =
     ∙ h
     ∙ ap (λ b. cond b (Some v) (lookup (eq-value.it q) es)) (eq_is_same k q ∙ same_sym q k)
     ∙ ap (λ r. cond (same_label k q) (Some v) r) (lookup_is q es)
-
--- one statement more in front
-pub one_more : (xs : List Stmt86) (at : ℕ) (x : Stmt86) (q : Label) (old new : Option ℕ) → at ≤ length xs → drop (at - 1) xs ≡ x ∷ drop at xs → new ≡ cond (marks q x) (Some at) old → IsPlace xs old (behind (drop at xs) q) → IsPlace xs new (behind (drop (at - 1) xs) q)
-one_more xs at x q old new le e f h =
-    subst (λ ys. IsPlace xs new (behind ys q)) (sym e)
-    (subst (λ o. IsPlace xs o (cond (marks q x) (Some (drop at xs)) (behind (drop at xs) q))) (sym f) (by_test (marks q x)))
-  where
-    by_test : (b : Bool) → IsPlace xs (cond b (Some at) old) (cond b (Some (drop at xs)) (behind (drop at xs) q))
-    by_test true = (le, refl)
-    by_test false = h

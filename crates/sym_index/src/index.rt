@@ -55,6 +55,7 @@ impl Index86 {
     pub fn behind(&self, label: Label) -> Option<usize>
         ensures { IsPlace self.now result (behind self.now label) }
     {
+        // a look at them, for what the index keeps to
         let _statements = &self.statements;
         self.places.get(&label).copied()
     }

@@ -89,18 +89,6 @@ not_both : (b : Bool) → b ≡ true → b ≡ false → ⊥
 not_both true e h = absurd (cc)
 not_both false e h = absurd (cc)
 
-bytes_past80 : (m : ℕ → Cell) (at : ℕ) (bs : List ℕ) (a : ℕ) → ((k : ℕ) → at ≤ k → k < at + length bs → k ≢ a) → put_bytes80 m at bs a ≡ m a
-bytes_past80 m at [] a h = refl
-bytes_past80 m at (b ∷ bs) a h =
-    bytes_past80 (put80 m at (Num b)) (at + 1) bs a (λ k low high. h k (omega (arith, low)) (omega (arith, high)))
-    ∙ ap (λ t. cond t (Num b) (m a)) (eq_false a at (λ e. h at (omega arith) (omega arith) (sym e)))
-
-pub blocks_past80 : (passes : ℕ → Bool) (m : ℕ → Cell) (bs : List Block) (a : ℕ) → AreWithin passes bs → passes a ≡ false → put_blocks80 m bs a ≡ m a
-blocks_past80 passes m [] a w h = refl
-blocks_past80 passes m (b ∷ bs) a w h =
-    blocks_past80 passes (put_bytes80 m b.at b.bytes) bs a w.2 h
-    ∙ bytes_past80 m b.at b.bytes a (λ k low high e. not_both (passes a) (subst (λ n. passes n ≡ true) e (w.1 k low high)) h)
-
 bytes_past86 : (m : ℕ → ℕ) (at : ℕ) (bs : List ℕ) (a : ℕ) → at + length bs ≤ 0x10000 → ((k : ℕ) → at ≤ k → k < at + length bs → k ≢ a) → put_bytes m at bs a ≡ m a
 bytes_past86 m at [] a le h = refl
 bytes_past86 m at (b ∷ []) a le h = ap (λ t. cond t b (m a)) (eq_false a at (λ e. h at (omega arith) (omega arith) (sym e)))

@@ -12,9 +12,6 @@ pub record Performing (start now : Contents) (first run : Run) (steps left : Lis
   pub room : length run.actions.items + all_moves left ≤ 512
   pub rest : (new : Contents) (s : Run) (made : Option (Unit {0})) → GoesOn now new run s (weights left) (all_moves left) (λ m. m ≡ micros (machine_of now run) left) made → GoesOn start new first s (weights steps) (all_moves steps) (λ m. m ≡ micros (machine_of start first) steps) made
 
-pub begins : (start : Contents) (first : Run) (steps : List Micro) → IsReady start first → length first.actions.items + all_moves steps ≤ 512 → Performing start start first first steps steps
-begins start first steps h room = record { ready = h; room = room; rest = λ new s made g. g }
-
 pub goes_on : (start now new : Contents) (first run s : Run) (steps left : List Micro) (x : Micro) → Performing start now first run steps (x ∷ left) → GoesOn now new run s (weight x) (moves x) (λ m. m ≡ micro (machine_of now run) x) (Some tt) → Performing start new first s steps left
 goes_on start now new first run s steps left x d g = record {
   ready = g.ready;

@@ -19,7 +19,7 @@ use Rattle.sym_micro.specs.declared.micro.WordSlot.{WordSlot}
 use Rattle.sym_micro.specs.declared.micro.WordSlot.TheVariants.{V, W, X}
 use Rattle.sym_micro.specs.Machine.{Machine, byte_in, with_byte, word_in, with_word, with_flag}
 use Rattle.sym_micro.specs.Stands.{id_of_byte, run_with_byte, run_with_word, run_with_flag, trees_of_held, tree_of_action, trees_of_actions, machine_of, HeldIsGiven, ActionIsGiven, ActionsAreGiven, RunIsGiven, IsResult, IsTurned, IsSorted, IsReady, GoesOn, Gives, Runs}
-use Rattle.sym_micro.proofs.Sorted.{with_byte_sorted, with_word_sorted, with_flag_sorted, with_sp_sorted, with_si_sorted, with_result_sorted, with_turned_sorted}
+use Rattle.sym_micro.proofs.Sorted.{with_byte_sorted, with_word_sorted, with_flag_sorted, with_result_sorted, with_turned_sorted}
 
 -- growth
 
@@ -331,52 +331,6 @@ gave_flag old new r slot n tree t h g s = record {
   gives = flag_machine new r slot t ∙ ap₂ (λ m q. with_flag m slot q) (same_machine old new n g.grows r h.given) g.gives.1;
   enough = λ _. refl;
 }
-
-pub gave_sp : (old new : Contents) (r : Run) (n : ℕ) (tree : Term) (t : TermId) → IsReady old r → Gives old new n tree (Some t) → IsMadeAs is_word tree → GoesOn old new r (record r { sp = t }) n 0 (λ m. m ≡ record (machine_of old r) { sp = tree }) (Some tt)
-gave_sp old new r n tree t h g s =
-    let k : IsReady new r = ready_still old new n g.grows r g.terms h in
-    let q = g.gives.0 in
-    let given : RunIsGiven new (record r { sp = t }) = with_given k.given q in
-    record {
-      grows = g.grows;
-      ready = record {
-        terms = g.terms;
-        given = given;
-        sorted = with_sp_sorted (machine_of new r) (tree_in new t) k.sorted (subst (IsMadeAs is_word) (sym g.gives.1) s);
-        capacity = h.capacity;
-        few = h.few;
-        room = h.room;
-      };
-      few = omega arith;
-      gives = ap₂ (λ (m : Machine) (q : Term). record m { sp = q }) (same_machine old new n g.grows r h.given) g.gives.1;
-      enough = λ _. refl;
-    }
-  where
-    with_given : RunIsGiven new r → IsGiven new t → RunIsGiven new (record r { sp = t })
-    with_given h q = record { held = h.held; ah = h.ah; si = h.si; sp = q; t = h.t; u = h.u; v = h.v; w = h.w; x = h.x; result = h.result; turned = h.turned; actions = h.actions }
-
-pub gave_si : (old new : Contents) (r : Run) (n : ℕ) (tree : Term) (t : TermId) → IsReady old r → Gives old new n tree (Some t) → IsMadeAs is_word tree → GoesOn old new r (record r { si = t }) n 0 (λ m. m ≡ record (machine_of old r) { si = tree }) (Some tt)
-gave_si old new r n tree t h g s =
-    let k : IsReady new r = ready_still old new n g.grows r g.terms h in
-    let q = g.gives.0 in
-    let given : RunIsGiven new (record r { si = t }) = with_given k.given q in
-    record {
-      grows = g.grows;
-      ready = record {
-        terms = g.terms;
-        given = given;
-        sorted = with_si_sorted (machine_of new r) (tree_in new t) k.sorted (subst (IsMadeAs is_word) (sym g.gives.1) s);
-        capacity = h.capacity;
-        few = h.few;
-        room = h.room;
-      };
-      few = omega arith;
-      gives = ap₂ (λ (m : Machine) (q : Term). record m { si = q }) (same_machine old new n g.grows r h.given) g.gives.1;
-      enough = λ _. refl;
-    }
-  where
-    with_given : RunIsGiven new r → IsGiven new t → RunIsGiven new (record r { si = t })
-    with_given h q = record { held = h.held; ah = h.ah; si = q; sp = h.sp; t = h.t; u = h.u; v = h.v; w = h.w; x = h.x; result = h.result; turned = h.turned; actions = h.actions }
 
 pub gave_result : (old new : Contents) (r : Run) (n : ℕ) (tree : Term) (t : TermId) → IsReady old r → Gives old new n tree (Some t) → IsResult tree → GoesOn old new r (record r { result = t }) n 0 (λ m. m ≡ record (machine_of old r) { result = tree }) (Some tt)
 gave_result old new r n tree t h g s =

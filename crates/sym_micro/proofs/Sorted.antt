@@ -118,7 +118,7 @@ kind_below Ror = lit< tt
 kind_below Rcl = lit< tt
 kind_below Rcr = lit< tt
 
--- none of the four is the turn of a word
+-- none of the four is the rotation of a word
 pub turn_is : (kind : Rotate) (a c : Term) → turn_or_turned (turn_kind kind) a c ≡ turn (turn_kind kind) a c
 turn_is Rol a c = refl
 turn_is Ror a c = refl

@@ -62,7 +62,7 @@ pub enum ByteValue {
     Half(WordSlot, bool),
     /// What the last operation gave.
     Result,
-    /// What the last turn gave.
+    /// What the last rotation gave.
     Turned,
     /// What the next load brings.
     Loaded,
@@ -77,7 +77,7 @@ pub enum WordValue {
     Join(ByteSlot, ByteSlot),
     /// What SP held at the start.
     StartSp,
-    /// A word turned right by 1 with CY.
+    /// A word rotated right by 1 through CY.
     Turned,
     /// What the next load brings.
     Loaded,
@@ -93,11 +93,11 @@ pub enum FlagValue {
     Start(bool),
     /// What the last operation left of it.
     OfResult,
-    /// What the last turn left of CY.
+    /// What the last rotation left of CY.
     OfTurned,
     /// Its bit in a byte.
     InByte(ByteSlot),
-    /// The carry that was turned into a word, where the word is known to be one.
+    /// The carry that was rotated into a word, where the word is known to be one such.
     BroughtBack(WordSlot),
     Unknown,
 }
@@ -120,7 +120,7 @@ pub enum Micro {
     Operate(Op, ByteSlot, ByteSlot),
     /// The decimal adjustment of A.
     Adjust,
-    /// A byte is turned by 1: RCL and RCR through CY.
+    /// A byte is rotated by 1: by RCL and RCR through CY.
     Turn(Rotate, ByteSlot),
     /// A load or a store at the address that a word register holds.
     Load8(WordSlot),

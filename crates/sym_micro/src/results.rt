@@ -72,7 +72,7 @@ pub fn adjusted_term(terms: &mut Terms, run: &Run) -> Option<Term>
     terms.adjust(run.held.a, run.held.ac, run.held.cy)
 }
 
-/// A byte turned by 1.
+/// A byte rotated by 1.
 pub fn turned_term(terms: &mut Terms, run: &Run, kind: Rotate, slot: ByteSlot) -> Option<Term>
     requires { IsReady terms.old run.now }
     ensures { Gives terms.old terms.new 2 (turn (turn_kind kind) (byte_in (machine_of terms.old run.now) slot) (turn_carry kind (tree_in terms.old run.now.held.cy))) result }
@@ -81,7 +81,7 @@ pub fn turned_term(terms: &mut Terms, run: &Run, kind: Rotate, slot: ByteSlot) -
     terms.turn(kind_number(kind), run.byte(slot), carry)
 }
 
-// The turns are counted in this order.
+// The rotations are counted in this order.
 fn kind_number(kind: Rotate) -> u8
     ensures number { result ≡ turn_kind kind }
     ensures small { result < 4 }

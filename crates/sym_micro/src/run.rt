@@ -21,7 +21,7 @@ pub struct Run {
     pub x: Term,
     /// What the last operation gave.
     pub result: Term,
-    /// What the last turn gave.
+    /// What the last rotation gave.
     pub turned: Term,
     /// The loads and stores so far.
     pub actions: Vec<Action>,

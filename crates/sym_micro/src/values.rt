@@ -122,7 +122,7 @@ fn start_term(terms: &mut Terms, known: bool, part: Part) -> Option<Term>
     }
 }
 
-// The carry of a turned word.
+// The carry of a rotated word.
 fn brought_back(terms: &mut Terms, word: Term) -> Option<Term>
     requires { IsGiven terms.old word }
     ensures { Makes terms.old terms.new 1 (brought_back (tree_in terms.old word)) result }
@@ -144,7 +144,7 @@ pub fn carry_term(terms: &mut Terms, run: &Run, op: Op) -> Option<Term>
     }
 }
 
-/// The carry that a turn takes.
+/// The carry that a rotation takes.
 pub fn turn_carry_term(terms: &mut Terms, run: &Run, kind: Rotate) -> Option<Term>
     requires { IsReady terms.old run.now }
     ensures { Makes terms.old terms.new 1 (turn_carry kind (tree_in terms.old run.now.held.cy)) result }

@@ -1,15 +1,14 @@
 -- Words that meet: joined of bytes that meet, taken apart, and summed.
 use Rattle.std.specs.Prelude.{◌&&◌, not}
-use Rattle.std.proofs.Common.{◌≡◌, ℕ, zero, suc, ◌+◌, ◌*◌, ◌/◌, ◌%◌, ◌<◌, ◌≤◌, ◌||◌, ◌⊎◌, inl, inr, Bool, true, false, cond, refl, sym, ap, ap₂, ◌∙◌, arith}
+use Rattle.std.proofs.Common.{◌≡◌, ℕ, zero, suc, ◌+◌, ◌*◌, ◌/◌, ◌%◌, ◌<◌, ◌||◌, ◌⊎◌, inl, inr, Bool, true, false, cond, refl, sym, ap, ap₂, ◌∙◌, arith}
 use Rattle.std.proofs.lemmas.Bool.{ltb-true}
 use Rattle.cells.specs.declared.Part.TheVariants.{Cy}
 use Rattle.i80.specs.declared.Op.TheVariants.{Add, Adc}
-use Rattle.sym_terms.specs.Term.{Term, Num, StartSp, Loaded16, Sum16, High, Low, Join, Turned, Unknown, is_byte, is_word, is_open, is_adjusted, same_term}
+use Rattle.sym_terms.specs.Term.{Term, Num, Sum16, High, Low, Join, Turned, Unknown, is_byte, is_open, is_adjusted, same_term}
 use Rattle.sym_terms.specs.Making.{sum16, sum_of, gathered, plus, high, low, join, carry_of}
 use Rattle.sym_terms.specs.Laws.{IsMadeAs}
 use Rattle.sym_terms.proofs.Equal.{both_true, same_term-true}
-use Rattle.sym_terms.proofs.Size.{size}
-use Rattle.sym_terms.proofs.Sorts.{first_false, second_false, plus_is}
+use Rattle.sym_terms.proofs.Sorts.{first_false, second_false}
 use Rattle.sym_blocks.specs.Agree.{has_unknown, agrees}
 use Rattle.sym_rows.specs.Meeting.{Meets, lost, same, WordsMeet, no_word, one_word, halves}
 use Rattle.sym_rows.proofs.Terms.{or_first, or_second, neither, agrees_self, meets_agree, meets_at, unknown_if, flags_meet, alus_meet, number_meets}
@@ -43,10 +42,6 @@ high_of_join (Num h) (Num l) m n =
     ap Num e
 high_of_join (High w) (Low w') m n = word_high (same_term w w' && not (is_adjusted w)) w w' m.0.2
 high_of_join h l m n = refl
-
--- a word that is joined of an unknown byte is a Join
-join_unknown : (l : Term) → join Unknown l ≡ Join Unknown l
-join_unknown l = refl
 
 join_to_unknown : (h : Term) → join h Unknown ≡ Join h Unknown
 join_to_unknown (Num n) = refl

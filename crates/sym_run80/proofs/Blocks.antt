@@ -1,9 +1,8 @@
 -- A block as far as it has come: what the instructions that are left do, is what the block does.
-use Rattle.std.proofs.Common.{◌≡◌, ◌∙◌, ℕ, zero, suc, ◌+◌, ◌-◌, ◌≤◌, false, List, [], ◌∷◌, length, Option, Some, None, is_some, IsSome, refl, sym, ap, subst, arith}
+use Rattle.std.proofs.Common.{◌≡◌, ◌∙◌, ℕ, zero, suc, ◌+◌, ◌-◌, ◌≤◌, false, List, [], ◌∷◌, length, Option, Some, None, IsSome, refl, sym, ap, subst, arith}
 use Rattle.i80.specs.declared.Instr80.{Instr80}
 use Rattle.i80.specs.Columns.{length80}
-use Rattle.asm80_program.specs.Program.{Program, instr_at, instr_of_placed}
-use Rattle.asm80_program.specs.declared.program.Placed.{Placed}
+use Rattle.asm80_program.specs.Program.{Program, instr_at}
 use Rattle.xlt_pool.specs.Contents.{Contents}
 use Rattle.sym_blocks.specs.Block80.{Symbolic80, start80, effect80, exit80, outcome80, outcome_from, before_more, instrs_from, IsBlock, block80}
 use Rattle.sym_micro.specs.declared.run.Run.{Run}
@@ -72,11 +71,6 @@ ended p first count at next s i old mid new r j a found d h e g w =
     (ends_by old mid new r j 3 a (λ m. as80 m ≡ effect80 s i) false x found g
     (subst (λ y. FindsExit mid new 3 y found) exit_is w)
     (ap (λ (y : Symbolic80). y.held) is) (ap (λ (y : Symbolic80). y.sp) is) (ap (λ (y : Symbolic80). y.trace.actions) is) refl)
-
--- whether an instruction starts there
-pub starts_is : (o : Option Placed) → is_some (instr_of_placed o) ≡ is_some o
-starts_is None = refl
-starts_is (Some x) = refl
 
 abbrev seen : Symbolic86 → Symbolic80
 seen s = record { held = s.held; sp = s.sp; trace = s.trace }

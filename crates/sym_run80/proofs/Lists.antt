@@ -54,16 +54,6 @@ with_reg_is m RegE q = refl
 with_reg_is m RegH q = refl
 with_reg_is m RegL q = refl
 
-memory_is : (op : Op) → gives_zero op Mem ≡ false
-memory_is Add = refl
-memory_is Adc = refl
-memory_is Sub = refl
-memory_is Sbb = refl
-memory_is Ana = refl
-memory_is Xra = refl
-memory_is Ora = refl
-memory_is Cmp = refl
-
 move_register_by : (m : Machine) (to : Register) (from : Register) → as80 (micros m ((Byte (slot_of to) (OfByte (slot_of from))) ∷ [])) ≡ effect80 (as80 m) (Mov (InReg to) (InReg from))
 move_register_by m to from = with_reg_is m to (byte_in m (slot_of from)) ∙ ap (λ q. with_held (as80 m) (with_reg m.held to q)) (reg_is m from)
 

@@ -1,5 +1,5 @@
--- The headline: a program and an image make the same system calls, with the same arguments and memory blocks, in the same
--- order, and the one ends when the other ends.
+-- The headline: a program and an image make the same system calls, with the same arguments and memory blocks, and ask the same of
+-- ports, in the same order, and the one ends when the other ends.
 use Rattle.std.specs.Prelude.{ℕ, ◌<◌, List, All, Option}
 use Rattle.cells.specs.declared.Rule.{Rule}
 use Rattle.dialogue.specs.declared.blocks.Block.{Block}

@@ -1,4 +1,5 @@
-// Laws: a text that matches its program makes the same system calls, in the same order, and ends where the program ends.
+// Laws: a text that matches its program makes the same system calls and asks the same of ports, in the same order, and ends where the
+// program ends.
 #![tactic(auto)]
 
 ghost use Rattle.sym_same.specs.Laws.{BlocksFollow, MatchesIsSame};

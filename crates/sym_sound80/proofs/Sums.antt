@@ -65,7 +65,7 @@ carry_is x y = by_low (carry8 (x % 256) (y % 256) 0) refl
     by_low true h = grind (arith, h)
     by_low false h = grind (arith, h)
 
--- 255 less a byte is its bits turned round
+-- 255 less a byte is its complement
 inverted_is : (n : ℕ) → n < 256 → bit_xor n 255 ≡ 255 - n
 inverted_is n lt = let s = xor_add_and n 255 in let m = and_mask n 8 in omega (arith, s, m, lt)
 

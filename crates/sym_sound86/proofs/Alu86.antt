@@ -32,15 +32,6 @@ pub bit_small : (b : Bool) → as_bit b < 2
 bit_small true = omega arith
 bit_small false = omega arith
 
--- the flag of a part
-abbrev pub flag86 : Flags86 → Part → Bool
-flag86 f S = f.sf
-flag86 f Z = f.zf
-flag86 f Ac = f.af
-flag86 f P = f.pf
-flag86 f Cy = f.cf
-flag86 f part = false
-
 -- the machine's flags are such as the operation's flags may be: a flag of it that is not known is either
 pub record MayHave (f : Flags) (g : Flags86) : Type 0 where
   pub s : MayBe f.s (as_bit g.sf)

@@ -23,7 +23,7 @@ use Rattle.base_arithmetic.specs.Operations.{flags_by as flags_by80, result_of, 
 use Rattle.cpu86_steps.specs.State.{State86, Flags86, reg8, reg16, with16, byte_of, bit_of, operand8 as operand86, with_operand8}
 use Rattle.cpu86_steps.specs.Flags.{flags_by, alu_flags, count8_flags, count16_flags, add16_flags, rotate8_result, rotate8_carry, rotate16_result, bit15, chosen_flags, flag_byte as flag_byte86, flags_of_byte}
 use Rattle.cpu86_steps.specs.Effect.{set8, with_flags, with_cf as with_cf86, or_cl as or_cl86, count8 as count8_86, count16 as count16_86, add16 as add16_86, rotate8 as rotate8_86, rotate16 as rotate16_86, daa as daa86}
-use Rattle.sym_terms.specs.Term.{Term, Num, Turn, Turned, Adjust, Unknown, is_byte, is_bit, is_word, leaves_flag, is_open}
+use Rattle.sym_terms.specs.Term.{Term, Num, Turn, Turned, Adjust, Unknown, is_bit, is_word, leaves_flag, is_open}
 use Rattle.sym_terms.specs.Making.{alu, flag, sum16, high, low, turn, adjust, carry_of}
 use Rattle.sym_terms.specs.Values80.{turn_result, turn_carry as turn_carry80, turn_flags}
 use Rattle.sym_terms.specs.Values86.{Env86, Load86, Number, Result as ResultOf, Adjusts, Val86}
@@ -46,10 +46,6 @@ sum_small x = omega arith
 difference_small : (x : ℕ) → difference8 x 1 0 < 256
 difference_small x = omega arith
 
--- a byte less itself
-nothing_left : (x : ℕ) → difference8 x x 0 ≡ 0
-nothing_left x = omega arith
-
 -- the carry out of the sum of two words is that of the halves
 carry_is : (x y : ℕ) → carry8 (x / 256) (y / 256) (as_bit (carry8 (x % 256) (y % 256) 0)) ≡ nat_lt 0xFFFF (x + y)
 carry_is x y = by_low (carry8 (x % 256) (y % 256) 0) refl
@@ -58,7 +54,7 @@ carry_is x y = by_low (carry8 (x % 256) (y % 256) 0) refl
     by_low true h = grind (arith, h)
     by_low false h = grind (arith, h)
 
--- 255 less a byte is its bits turned round
+-- 255 less a byte is its complement
 inverted_is : (n : ℕ) → n < 256 → bit_xor n 255 ≡ 255 - n
 inverted_is n lt = let s = xor_add_and n 255 in let m = and_mask n 8 in omega (arith, s, m, lt)
 
@@ -66,7 +62,7 @@ turned_round : (b : Bool) → bit_xor (as_bit b) 1 ≡ as_bit (not b)
 turned_round true = refl
 turned_round false = refl
 
--- bytes that are turned
+-- bytes that are rotated
 left_small : (n c : ℕ) → turned_left n c < 256
 left_small n c = omega arith
 
@@ -80,7 +76,7 @@ rotated_small Ror n c lt = right_small n (bit0 n) lt
 rotated_small Rcl n c lt = left_small n (as_bit c)
 rotated_small Rcr n c lt = right_small n c lt
 
--- words that are turned
+-- words that are rotated
 word_left_small : (n : ℕ) (b : Bool) → (2 * n + as_bit b) % 0x10000 < 0x10000
 word_left_small n b = omega arith
 
@@ -94,7 +90,7 @@ rotated16_small Ror n c lt = word_right_small n (bit0 n) lt
 rotated16_small Rcl n c lt = word_left_small n c
 rotated16_small Rcr n c lt = word_right_small n c lt
 
--- the carry that was turned in is the uppermost bit
+-- the carry that was rotated in is the uppermost bit
 uppermost : (n : ℕ) (b : Bool) → n < 0x10000 → (n / 2 + 0x8000 * as_bit b) / 0x8000 ≡ as_bit b
 uppermost n true lt = omega (arith, lt)
 uppermost n false lt = omega (arith, lt)

@@ -1,9 +1,7 @@
 -- Which statements stand at which place of a code, and the offsets of their labels.
-use Rattle.std.proofs.Common.{◌≡◌, ℕ, ◌+◌, ◌≤◌, ◌<◌, ⊎_elim, List, [], ◌∷◌, ◌++◌, length, Some, refl, ap, ◌∙◌, subst, arith, append_assoc, length-append, true, false, cond}
+use Rattle.std.proofs.Common.{◌≡◌, ℕ, ◌+◌, ◌<◌, List, [], ◌∷◌, ◌++◌, length, Some, refl, ap, ◌∙◌, subst, arith, append_assoc, length-append, true, false, cond}
 use Rattle.std.proofs.Math.Seq.{get_or-append_seam}
-use Rattle.std.specs.Prelude.{slice_get}
-use Rattle.std.proofs.lemmas.Option.{slice_get-get_or, slice_get_past}
-use Rattle.std.proofs.lemmas.Bool.{cases_lt}
+use Rattle.std.proofs.lemmas.Option.{slice_get-get_or}
 use Rattle.i86.specs.Code.{HasBytes}
 use Rattle.asm86_lines.specs.declared.line.Label.{Label}
 use Rattle.asm86_lines.specs.declared.line.Stmt86.{Stmt86}
@@ -58,28 +56,16 @@ stand_all code off at (x ∷ xs) h =
     let back = bytes_back code at (bytes_at off at x) (code_from off (at + size_of x) xs) h in
     (bytes_front code at (bytes_at off at x) _ h, stand_all code off (at + size_of x) xs (subst (λ n. HasBytes code (at + n) (code_from off (at + size_of x) xs)) (length-bytes_at off at x) back))
 
-pub stand_front : (code : List ℕ) (off : Label → ℕ) (at : ℕ) (xs ys : List Stmt86) → StandAll code off at (xs ++ ys) → StandAll code off at xs
-stand_front code off at [] ys h = tt
-stand_front code off at (x ∷ xs) ys h = (h.0, stand_front code off (at + size_of x) xs ys h.1)
-
 pub stand_back : (code : List ℕ) (off : Label → ℕ) (at : ℕ) (xs ys : List Stmt86) → StandAll code off at (xs ++ ys) → StandAll code off (at + sizes_of xs) ys
 stand_back code off at [] ys h = let e : at ≡ at + 0 = omega arith in subst (λ n. StandAll code off n ys) e h
 stand_back code off at (x ∷ xs) ys h =
     let e : at + size_of x + sizes_of xs ≡ at + (size_of x + sizes_of xs) = omega arith in
     subst (λ n. StandAll code off n ys) e (stand_back code off (at + size_of x) xs ys h.1)
 
--- what follows a label stands at its place
-pub past_mark : (code : List ℕ) (off : Label → ℕ) (at : ℕ) (l : Label) (xs : List Stmt86) → StandAll code off at (Mark l ∷ xs) → StandAll code off at xs
-past_mark code off at l xs h = let e : at + 0 ≡ at = omega arith in subst (λ n. StandAll code off n xs) e h.1
-
 -- no statement is this label
 abbrev pub MarksNot : Label → List Stmt86 → Type 0
 MarksNot l [] = Unit {0}
 MarksNot l (x ∷ xs) = (marks l x ≡ false) × MarksNot l xs
-
-pub marks_not-append : (l : Label) (xs ys : List Stmt86) → MarksNot l xs → MarksNot l ys → MarksNot l (xs ++ ys)
-marks_not-append l [] ys h g = g
-marks_not-append l (x ∷ xs) ys h g = (h.0, marks_not-append l xs ys h.1 g)
 
 -- a label that does not stand in a list is looked for behind it
 pub offset_past : (at : ℕ) (l : Label) (xs ys : List Stmt86) → MarksNot l xs → offset_from at (xs ++ ys) l ≡ offset_from (at + sizes_of xs) ys l
@@ -91,19 +77,6 @@ offset_past at l (x ∷ xs) ys h =
 -- a label that stands here has this offset
 pub offset_here : (at : ℕ) (l : Label) (x : Stmt86) (xs : List Stmt86) → marks l x ≡ true → offset_from at (x ∷ xs) l ≡ Some at
 offset_here at l x xs h = ap (λ b. cond b (Some at) (offset_from (at + size_of x) xs l)) h
-
-get_within : (code : List ℕ) (at b : ℕ) → slice_get code at ≡ Some b → at < length code
-get_within code at b h = ⊎_elim (λ lt. lt) (λ le. let n = slice_get_past code at le in absurd (cc)) (cases_lt at (length code))
-
--- what stands in the code is within it
-pub bytes_within : (code : List ℕ) (at b : ℕ) (bs : List ℕ) → HasBytes code at (b ∷ bs) → at + length (b ∷ bs) ≤ length code
-bytes_within code at b [] h = let lt = get_within code at b h.0 in omega (arith, lt)
-bytes_within code at b (c ∷ bs) h =
-    let le = bytes_within code (at + 1) c bs h.1 in omega (arith, le)
-
-pub length-code_from : (off : Label → ℕ) (at : ℕ) (xs : List Stmt86) → length (code_from off at xs) ≡ sizes_of xs
-length-code_from off at [] = refl
-length-code_from off at (x ∷ xs) = length-append (bytes_at off at x) (code_from off (at + size_of x) xs) ∙ ap (λ n. n + length (code_from off (at + size_of x) xs)) (length-bytes_at off at x) ∙ ap (λ n. size_of x + n) (length-code_from off (at + size_of x) xs)
 
 pub sizes_of-append : (xs ys : List Stmt86) → sizes_of (xs ++ ys) ≡ sizes_of xs + sizes_of ys
 sizes_of-append [] ys = let e : sizes_of ys ≡ 0 + sizes_of ys = omega arith in e

@@ -45,9 +45,6 @@ use Rattle.sym_sound86.proofs.Stepping.{past, keeps_ip, steps_as, steps_on}
 use Rattle.dialogue.proofs.Tried.{ok_is, err_is_not, then_is}
 use Rattle.sym_sound86.proofs.Walking.{has_sorts, cond_is, jump_is, end_is, jumps_where, stack_is, names, lands_small, jump_steps, short_steps, condition_steps, call_steps, return_steps, bx_steps, label_leads, return_leads, bx_leads, goes_on_next, system_back, call_leads, WayRuns, way_runs}
 
-word_sorted : (n : ℕ) → n < 0x10000 → IsMadeAs is_word (Num n)
-word_sorted n lt = (lt, Rattle.std.proofs.lemmas.Bool.lt-ltb n 0x10000 lt)
-
 -- a direct call has a function other than 0
 call_is_some : (d : Env86) (c : Term) (n : ℕ) → is_call c ≡ true → Val86 d c (Number n) → n ≢ 0
 call_is_some d (Num m) n h v z = let none : not (0 == 0) ≡ true = subst (λ k. not (k == 0) ≡ true) (sym v ∙ z) h in absurd (cc)

@@ -6,9 +6,6 @@ use Rattle.cpu80_steps.specs.Call.{is_just_below}
 use Rattle.cpu86_steps.specs.State.{wrap, back, put, put_word, word_at, word, put_bytes}
 use Rattle.cpu86_steps.specs.Call.{chosen_six, spoiled}
 
-pub wrap_small : (w : ℕ) → w < 0x10000 → wrap w ≡ w
-wrap_small w h = omega arith
-
 pub jump_lands : (from to : ℕ) → from < 0x10000 → to < 0x10000 → wrap (from + distance16 from to) ≡ to
 jump_lands from to h g = omega arith
 

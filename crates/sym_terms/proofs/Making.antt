@@ -143,7 +143,7 @@ or_true : (x y : Bool) → y ≡ true → (x || y) ≡ true
 or_true true y e = refl
 or_true false y e = e
 
--- a byte that is turned with a carry that is open
+-- a byte that is rotated with a carry that is open
 pub turn_open : (kind : ℕ) (a c : Term) → (kind ≡ 4 → ⊥) → is_open c ≡ true → turn_or_turned kind a c ≡ Unknown
 turn_open kind a c d o =
     ap (λ x. cond x (Turned c) (turn kind a c)) (not_equal kind 4 d)

@@ -97,7 +97,7 @@ bit b part = Bit b part
 abbrev pub turn : ℕ → Term → Term → Term
 turn kind a c = cond (is_open a || is_open c) Unknown (Turn kind a c)
 
--- kind 4 is a word that is turned right, the carry coming in
+-- kind 4 is a word that is rotated right, the carry coming in
 abbrev pub turn_or_turned : ℕ → Term → Term → Term
 turn_or_turned kind a c = cond (kind == 4) (Turned c) (turn kind a c)
 

@@ -11,8 +11,8 @@ use Rattle.sym_terms.specs.Numbers.{part_number, op_number}
 
 -- a number; what a part, or SP, held at the start; what the k-th load, counted from 0, brought, a byte or a word; an operation on
 -- two bytes and a carry; a flag that an operation leaves; the sum of two words; the high and the low byte of a word, and the word
--- of two bytes; the byte of five flags, and the bit of a byte that stands for a flag; a byte turned by 1 with a carry (kind 0 is
--- RLC, 1 RRC, 2 RAL, 3 RAR); a word turned right by 1, the carry coming in; a decimal adjustment; a half of a code address; and
+-- of two bytes; the byte of five flags, and the bit of a byte that stands for a flag; a byte rotated by 1 with a carry (kind 0
+-- is RLC, 1 RRC, 2 RAL, 3 RAR); a word rotated right by 1, the carry coming in; a decimal adjustment; a half of a code address; and
 -- what is not known
 pub data Term : Type 0 where
   Num : (number : ℕ) → Term
@@ -82,7 +82,7 @@ is_byte (Code q high) = true
 is_byte Unknown = true
 is_byte t = false
 
--- a word: a number, SP at the start, a loaded word, a sum, two bytes, or a turned word
+-- a word: a number, SP at the start, a loaded word, a sum, two bytes, or a rotated word
 abbrev pub is_word : Term → Bool
 is_word (Num n) = nat_lt n 0x10000
 is_word StartSp = true
@@ -97,7 +97,7 @@ abbrev pub is_carry : Part → Bool
 is_carry Cy = true
 is_carry part = false
 
--- an operation that leaves this flag: of a turn that is CY alone
+-- an operation that leaves this flag: of a rotation that is CY alone
 abbrev pub leaves_flag : Part → Term → Bool
 leaves_flag part (Alu op a b c) = is_flag part
 leaves_flag part (Turn kind a c) = is_carry part

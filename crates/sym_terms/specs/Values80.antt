@@ -43,7 +43,7 @@ flag_in f P = f.p
 flag_in f Cy = f.cy
 flag_in f part = None
 
--- a turn of a byte: 0 is RLC, 1 RRC, 2 RAL, 3 RAR; the bit that goes out is its carry
+-- a rotation of a byte: 0 is RLC, 1 RRC, 2 RAL, 3 RAR; the bit that goes out is its carry
 abbrev pub turn_result : ℕ → ℕ → Bool → ℕ
 turn_result zero x k = turned_left x (as_bit (bit7 x))
 turn_result (suc zero) x k = turned_right x (as_bit (bit0 x))

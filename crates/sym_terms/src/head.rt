@@ -31,9 +31,9 @@ pub enum Head {
     FlagByte(Term, Term, Term, Term, Term),
     /// The bit of a byte that stands for a flag.
     Bit(Term, Part),
-    /// A byte turned by 1 with a carry; 0 is RLC, 1 RRC, 2 RAL, 3 RAR.
+    /// A byte rotated by 1 with a carry; 0 is RLC, 1 RRC, 2 RAL, 3 RAR.
     Turn(u16, Term, Term),
-    /// A word turned right by 1, this carry coming in.
+    /// A word rotated right by 1, this carry coming in.
     Turned(Term),
     /// A decimal adjustment of a byte with AC and CY.
     Adjust(Term, Term, Term),

@@ -72,7 +72,7 @@ impl Terms {
         }
     }
 
-    /// A flag that an operation leaves: of a turn CY alone.
+    /// A flag that an operation leaves: of a rotation CY alone.
     pub fn flag(&mut self, part: Part, of: Term) -> Option<Term>
         requires { IsA (leaves_flag part) self.old of }
         ensures { Makes self.old self.new 1 (flag part (tree_in self.old of)) result }
@@ -225,13 +225,14 @@ impl Terms {
         }
     }
 
-    /// A byte turned by 1 with a carry: 0 is RLC, 1 RRC, 2 RAL, 3 RAR; or for 4 a word turned right, this carry coming in.
+    /// A byte rotated by 1 with a carry: 0 is RLC, 1 RRC, 2 RAL, 3 RAR; or for 4 a word rotated right, this carry coming in.
     pub fn turn(&mut self, kind: u8, a: Term, carry: Term) -> Option<Term>
         requires kind { kind ≤ 4 }
         requires a { kind < 4 → IsA is_byte self.old a }
         requires carry { IsA is_bit self.old carry }
         ensures { Makes self.old self.new 1 (turn_or_turned kind (tree_in self.old a) (tree_in self.old carry)) result }
     {
+        // asked of each kind, since it shows the carry's term to the proof
         let carry_open = self.is_open(carry);
         if kind == 4 {
             self.keep(Head::Turned(carry))

@@ -48,6 +48,7 @@ impl Terms {
         ensures mark { result.0 ≡ length self.now.nodes }
         ensures terms { AreTerms self.now }
     {
+        // a look at the pool, for what it keeps to
         let _terms = &self.pool;
         self.pool.mark()
     }
@@ -133,6 +134,7 @@ impl Terms {
         requires { All (IsA is_bit self.old) flags }
         ensures { Makes self.old self.new 2 (flag_byte_of (entries_of self.old.nodes) flags) result }
     {
+        // for its contract alone: the terms are terms
         let _mark = self.mark();
         let [s, z, ac, p, cy] = flags;
         self.flags(s, z, ac, p, cy)

@@ -1,13 +1,12 @@
 -- Actions that agree, one by one.
-use Rattle.std.proofs.Common.{◌≡◌, ℕ, ◌+◌, ◌/◌, ◌%◌, ◌<◌, ◌==◌, Bool, true, false, cond, List, [], ◌∷◌, ◌++◌, Option, refl, sym, ap, subst, ◌∙◌, arith, append_assoc}
-use Rattle.std.specs.Prelude.{◌||◌}
+use Rattle.std.proofs.Common.{◌≡◌, ℕ, ◌+◌, ◌/◌, ◌%◌, ◌<◌, ◌==◌, Bool, true, false, cond, List, [], ◌∷◌, ◌++◌, Option, sym, ap, subst, ◌∙◌, arith, append_assoc}
 use Rattle.std.proofs.lemmas.Bool.{and_parts}
 use Rattle.std.proofs.lemmas.List.{append-nil}
 use Rattle.cells.specs.declared.Place.{Place}
 use Rattle.cells.specs.declared.Cell.{Cell}
 use Rattle.cells.specs.declared.Cell.TheVariants.{Num as NumCell}
 use Rattle.asm80_program.specs.Program.{Program}
-use Rattle.cpu80_steps.specs.Memory.{is_closed, is_write_protected, put as put80}
+use Rattle.cpu80_steps.specs.Memory.{put as put80}
 use Rattle.cpu86_steps.specs.State.{word, wrap, put, put_word, word_at}
 use Rattle.sym_terms.specs.Term.{Term, is_word}
 use Rattle.sym_terms.specs.Values80.{Env80, Load80, LoadedByte, LoadedWord, word_of, Val80}
@@ -46,13 +45,6 @@ loads_snoc16 offset (LoadedWord x y ∷ xs) (LoadedByte86 m ∷ ys) p q w h s = 
 -- an address is one number
 same_address : (offset : Place → Option ℕ) (n m : ℕ) → WordStands offset (NumCell (n / 256)) (NumCell (n % 256)) m → m ≡ n
 same_address offset n m h = let high = h.0 in let low = h.1 in omega (arith, high, low)
-
-pub open_cell : (p : Program) (a : ℕ) → is_write_protected p a ≡ false → is_closed p a ≡ false
-open_cell p a h = left_false (is_closed p a) (a == 6 || a == 7) h
-  where
-    left_false : (b c : Bool) → (b || c) ≡ false → b ≡ false
-    left_false true c e = absurd (cc)
-    left_false false c e = refl
 
 module _ (p : Program) (offset : Place → Option ℕ) where
   -- a byte that is stored on both sides

@@ -1,6 +1,6 @@
 // The walk through a text.
 
-ghost use Rattle.std.specs.Prelude.{◌≡◌, ◌+◌, ◌*◌, ◌≤◌, length};
+ghost use Rattle.std.specs.Prelude.{◌≡◌, ◌+◌, ◌*◌, ◌≤◌, length, MatchOption, OnErr};
 ghost use Rattle.std.specs.Vec.{vec_capacity};
 ghost use Rattle.asm86_lines.specs.declared.line.Label.TheVariants.{At};
 ghost use Rattle.sym_terms.specs.Trees.{tree_in};
@@ -47,7 +47,8 @@ fn two_ways(
     label: Label,
 ) -> Option<Result<End, Reason>>
     requires { IsReady terms.old run.now }
-    ensures { WalksTo terms.old terms.new run.now 6 (two_ways (surroundings_of around.now) room rest.now (as86 (machine_of terms.old run.now)) jump label) result }
+    ensures walks { WalksTo terms.old terms.new run.now 6 (two_ways (surroundings_of around.now) room rest.now (as86 (machine_of terms.old run.now)) jump label) result }
+    ensures refused { MatchOption result (Unit {0}) (λ end. OnErr end (terms.new ≡ terms.old)) }
 {
     match both_from(around, room, rest, label) {
         Ok((straight, jumped)) => {

@@ -1,4 +1,4 @@
-// The 8086 statements that stand for each 8080 instruction, and the whole texts of a program.
+// The lean text of a program. The plain text and the templates, those of `templates_plain`, have their names here too.
 #![tactic(auto)]
 
 mod blocks;

@@ -1,5 +1,6 @@
-// Each type and call that the crates offer to one another, reached by the crate and the name that it has there, and called once
-// with ample memory. One program goes through all of them: it prints the letter A and ends.
+// The types and calls of the values and tables, the source language, texts, both machines, the host and the program, laws aside: each
+// reached by the crate and the name that it has there, and called once with ample memory. One program goes through all of them: it
+// prints the letter A and ends. The 8080 over plain bytes and the crates of disks, needs and terms have tests of their own.
 #![tactic(auto)]
 
 #[cfg(test)]

@@ -142,7 +142,7 @@ fn unknowns(terms: &mut Terms) -> Pairs {
     )
 }
 
-// Nor are the halves of a word that was turned, and a sum with it.
+// Nor are the halves of a word that was rotated, and a sum with it.
 fn turned_words(terms: &mut Terms) -> Pairs {
     let carry = terms.start(Part::Cy)?;
     let turned = terms.turn(4, carry, carry)?;

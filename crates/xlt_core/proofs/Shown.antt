@@ -1,20 +1,14 @@
 -- What is shown matches, and so means the same.
 use Rattle.std.proofs.Common.{◌≡◌, ℕ, List, Option, Some, None, refl}
 use Rattle.asm86_lines.specs.declared.line.Line86.{Line86}
-use Rattle.asm86_lines.specs.Image.{Assembles, image_of, statements}
-use Rattle.asm80_program.specs.Program.{Program, IsProgram}
+use Rattle.asm80_program.specs.Program.{Program}
 use Rattle.flow.specs.Blocks.{blocks}
 use Rattle.sym_blocks.specs.declared.reason.Reason.{Reason}
-use Rattle.sym_blocks.specs.Sorts.{StatementsAreCoded}
 use Rattle.sym_blocks.specs.BlockMatch.{Keeps}
 use Rattle.sym_cuts.specs.Cuts.{BlocksAreCuts, NeedsReturn}
-use Rattle.sym_texts.specs.Matches.{Matches, DataAreCoded, Finds, opening, runtime, cells, blocks as by_blocks}
+use Rattle.sym_texts.specs.Matches.{Matches, Finds, opening, runtime, cells, blocks as by_blocks}
 use Rattle.sym_texts.specs.Needed.{needed_by}
-use Rattle.sym_same.specs.Same.{Same}
 use Rattle.sym_same.specs.Laws.{MatchesIsSame}
-use Rattle.xlt_validation.specs.declared.finding.Finding.{Finding}
-use Rattle.xlt_validation.specs.declared.finding.Finding.TheVariants.{Shown, NotShown}
-use Rattle.xlt_validation.specs.Findings.{IsFinding, IfShown}
 use Rattle.xlt_core.specs.Validation.{ShownIsSame}
 
 no_reason : (x : ℕ × Reason) → Some x ≡ None → ⊥
@@ -36,7 +30,3 @@ shown_same same cuts returns p lines count is assembles coded data_coded f = sam
   returns = returns p f.needs f.are;
   matches = matched p lines (blocks p) (needed_by p f.needs) None f.finds refl;
 })
-
-pub if_shown_same : ShownIsSame → (p : Program) (lines : List Line86) (f : Finding) → IsProgram p → Assembles lines → StatementsAreCoded (statements lines) → DataAreCoded (statements lines) → IsFinding p lines f → IfShown f (Same p (image_of lines))
-if_shown_same law p lines (Shown count) is assembles coded data_coded f = law p lines count is assembles coded data_coded f
-if_shown_same law p lines (NotShown at reason) is assembles coded data_coded f = tt

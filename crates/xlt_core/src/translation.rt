@@ -52,8 +52,8 @@ fn lines_by(alloc: Global, program: &Program80, mode: Mode) -> Result<Vec<Line86
     }
 }
 
-/// The text of a program, which means the same as the program (`own_texts_are_same`). Its lines are numbered from 1, and it has fewer than
-/// 2^20.
+/// The text of a program, which means the same as the program (`own_texts_are_same`). Its lines are numbered from 1, and it has fewer
+/// than 2^20.
 pub fn translate(alloc: Global, program: &Program80, mode: Mode) -> Result<Vec<Line86>, CoreFault>
     ensures value { IfOk result (λ lines. IsText mode program.now lines.items) }
     ensures fits { IfOk result (λ lines. CodeFits lines.items) }

@@ -7,10 +7,6 @@ get_front [] x y k h = absurd (cc)
 get_front (z ∷ xs) x y zero h = h
 get_front (z ∷ xs) x y (suc k) h = get_front xs x y k h
 
-pub get_last : {X : Type 0} (xs : List X) (y : X) → slice_get (xs ++ y ∷ []) (length xs) ≡ Some y
-get_last [] y = refl
-get_last (z ∷ xs) y = get_last xs y
-
 pub get_push : {X : Type 0} (xs : List X) (x y : X) (k : ℕ) → slice_get (xs ++ y ∷ []) k ≡ Some x → (slice_get xs k ≡ Some x) ⊎ ((k ≡ length xs) × (y ≡ x))
 get_push [] x y zero h = inr (refl, cc)
 get_push [] x y (suc k) h = absurd (cc)

@@ -1,14 +1,10 @@
 -- What is found of a text by its parts.
-use Rattle.std.proofs.Common.{◌≡◌, ◌∙◌, ℕ, zero, suc, ◌+◌, ◌<◌, ◌≤◌, Bool, true, false, cond, List, [], ◌∷◌, length, Option, Some, None, refl, sym, ap, subst, arith}
-use Rattle.std.specs.Prelude.{map, IfNone, IsTrue}
-use Rattle.std.specs.List.Sorted.{IsStrictlyIncreasing}
-use Rattle.std.specs.Map.{keys_of}
+use Rattle.std.proofs.Common.{◌≡◌, ◌∙◌, ℕ, suc, ◌≤◌, Bool, true, false, cond, List, [], ◌∷◌, length, Option, Some, sym, ap, subst, arith}
+use Rattle.std.specs.Prelude.{IsTrue}
 use Rattle.std.proofs.lemmas.List.{length-map}
 use Rattle.asm86_lines.specs.declared.line.Line86.{Line86}
 use Rattle.asm86_lines.specs.declared.line.Stmt86.{Stmt86}
-use Rattle.asm86_lines.specs.Layout.{place_of}
-use Rattle.asm86_lines.specs.Image.{Image, image_of, statements}
-use Rattle.asm86_lines.specs.Cells.{CellsAreSorted}
+use Rattle.asm86_lines.specs.Image.{Image, statements}
 use Rattle.asm80_program.specs.declared.program.Placed.{Placed}
 use Rattle.asm80_program.specs.Program.{Program}
 use Rattle.flow.specs.Blocks.{blocks, leaders, cut_from, onto, extent}
@@ -20,8 +16,8 @@ use Rattle.text_parts.specs.Parts.{DataStandIn}
 use Rattle.sym_texts.specs.Matches.{HasOpening, DataStands, Finds, opening as no_opening, runtime as no_runtime, cells as no_cells, blocks as by_blocks, blocks_reason}
 use Rattle.sym_texts.specs.Needed.{needed_by}
 use Rattle.xlt_validation.specs.declared.finding.Finding.{Finding}
-use Rattle.xlt_validation.specs.declared.finding.Finding.TheVariants.{Shown, NotShown}
-use Rattle.xlt_validation.specs.Findings.{reason_in, Counts, IsFinding, IfShown, AreOf, HasFrame, Lacks, opening, runtime, cells}
+use Rattle.xlt_validation.specs.declared.finding.Finding.TheVariants.{NotShown}
+use Rattle.xlt_validation.specs.Findings.{reason_in, Counts, IsFinding, AreOf, HasFrame, Lacks, opening, runtime, cells}
 
 -- ---- there are not more blocks than instructions
 
@@ -77,18 +73,6 @@ module _ (p : Program) (text : List Stmt86) (image : Image) (lines : List Line86
     counts = counts;
   }
 
--- only what is shown has no reason
-pub if_shown : (f : Finding) (o : Option (ℕ × Reason)) (claim : Type 0) → reason_in f ≡ o → IfNone o claim → IfShown f claim
-if_shown (Shown count) None claim e h = h
-if_shown (Shown count) (Some x) claim e h = absurd (cc)
-if_shown (NotShown at r) o claim e h = tt
-
--- the addresses of an image's cells ascend
-pub cells_ascend : (text : List Stmt86) (image : Image) (lines : List Line86) → CellsAreSorted → AreOf text image lines → IsStrictlyIncreasing (keys_of image.cells)
-cells_ascend text image lines law same =
-    subst (λ (i : Image). IsStrictlyIncreasing (keys_of i.cells)) (sym same.made.is)
-    (law (place_of (statements lines)) (statements lines) same.made.assembles.order).0
-
 pub not_true : (b : Bool) → b ≡ false → IsTrue b → ⊥
 not_true b e h = cc
 
@@ -99,6 +83,3 @@ few_leaders p ls e few =
     let count = length-map (blocks p) (λ (b : ℕ × ℕ). b.0) in
     let most = length-blocks p in
     omega (arith, same, count, most, few)
-
-pub leaders_are : (p : Program) (ls : List ℕ) → ls ≡ leaders p → length ls ≡ length (blocks p)
-leaders_are p ls e = ap length e ∙ length-map (blocks p) (λ (b : ℕ × ℕ). b.0)

@@ -58,19 +58,12 @@ module _ (p : Program) (text : List Stmt86) (k : Keeps) (i leader count : ℕ) (
   not_shown reason e inv =
       sym (ap (blocks_reason p text k) at.rest ∙ ap (λ r. or_next leader r (blocks_reason p text k (drop (i + 1) (blocks p)))) (some_found (block_reason p text k leader count) reason e)) ∙ inv
 
-pub none_left : (p : Program) (text : List Stmt86) (k : Keeps) (i : ℕ) → length (blocks p) ≤ i → blocks_reason p text k (drop i (blocks p)) ≡ blocks_reason p text k (blocks p) → None ≡ blocks_reason p text k (blocks p)
-none_left p text k i le inv = sym (ap (blocks_reason p text k) (drop_all i (blocks p) le)) ∙ inv
-
 -- ---- the work that is left
 
 -- the last block is among those that are left; where none is left, the claim holds
 abbrev pub LastIs : List (ℕ × ℕ) → ℕ × ℕ → Type 0 → Type 0
 LastIs [] b claim = claim
 LastIs (c ∷ cs) b claim = last_of (c ∷ cs) ≡ Some b
-
-pub all_left : (bs : List (ℕ × ℕ)) (b : ℕ × ℕ) (claim : Type 0) → last_of bs ≡ Some b → LastIs bs b claim
-all_left [] b claim e = absurd (cc)
-all_left (c ∷ cs) b claim e = e
 
 last_step : (c : ℕ × ℕ) (rest : List (ℕ × ℕ)) (b : ℕ × ℕ) (claim : ℕ × ℕ → Type 0) → last_of (c ∷ rest) ≡ Some b → claim c → LastIs rest b (claim b)
 last_step c [] b claim e h = subst claim (some_is c b e) h

@@ -20,8 +20,8 @@ use sym_run::{Index86, Reason, Work};
 use text_parts::{data_stand, has_opening, has_runtime};
 
 /// What is found of a text, looked at in the order of the opening, the runtime, the data, and the blocks, ascending, by the solved
-/// graph of its program. The text and the image are of the same lines. It takes no memory, and leaves the work as the check of the last
-/// block leaves it.
+/// graph of its program. The text and the image are of the same lines. It takes no memory; after `Shown` the work is as the check of the
+/// last block leaves it.
 pub fn validate_in(
     work: &mut Work,
     program: &Program80,

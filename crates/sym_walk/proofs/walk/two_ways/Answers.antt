@@ -9,8 +9,8 @@ use Rattle.sym_walk.specs.Ends.{WalksTo}
 use Rattle.sym_walk.proofs.Steps.{two_is, exit_missing, exit_found}
 use Rattle.sym_walk.proofs.walk.two_ways.Goals as goal
 
-pub returns-in_err-exit-in-Ok : goal.returns-in_err-exit-in-Ok
-returns-in_err-exit-in-Ok c =
+pub returns-in_err-exit-in-Ok-clause-walks : goal.returns-in_err-exit-in-Ok-clause-walks
+returns-in_err-exit-in-Ok-clause-walks c =
     let old = c.args.terms.now in
     let new = c.two_exit.new.terms in
     let r = c.args.run.now in
@@ -22,8 +22,8 @@ returns-in_err-exit-in-Ok c =
     subst (λ x. WalksTo old new r 6 t x) (sym c.from_residual.ensures)
     (exit_missing old new 6 r exit t c.requires (c.in_err-exit-in-Ok.ensures two.here two.there two.straight two.jumped))
 
-pub returns-in_ok-exit-in-Ok : goal.returns-in_ok-exit-in-Ok
-returns-in_ok-exit-in-Ok c =
+pub returns-in_ok-exit-in-Ok-clause-walks : goal.returns-in_ok-exit-in-Ok-clause-walks
+returns-in_ok-exit-in-Ok-clause-walks c =
     let old = c.args.terms.now in
     let new = c.two_exit.new.terms in
     let r = c.args.run.now in
