@@ -70,17 +70,12 @@ fn the_plain_text_of_one_letter(rt: HostRuntime) -> Result<(), Fail> {
         0xF000,
     )?;
     let lines = plain_text(rt.alloc(), &program)?;
-    assert_eq!(rt; lines.len(), 31);
+    assert!(rt; lines.len() == 31);
     for (line, text) in lines.iter().zip(ONE_LETTER) {
-        assert_eq!(rt;
-            write_line(line.stmt).as_slice(),
-            text.as_bytes(),
-            "line {}",
-            line.line
-        );
+        assert!(rt; write_line(line.stmt).as_slice() == text.as_bytes());
     }
     assert!(rt; lines[30].line == 31 && lines[30].stmt == Stmt86::EndText);
-    assert_eq!(rt; code_size(&lines), 44);
+    assert!(rt; code_size(&lines) == 44);
     Ok(())
 }
 
@@ -112,14 +107,9 @@ fn runs_of_data(rt: HostRuntime) -> Result<(), Fail> {
         0x4000,
     )?;
     let lines = plain_text(rt.alloc(), &program)?;
-    assert_eq!(rt; lines.len(), 30);
+    assert!(rt; lines.len() == 30);
     for (line, text) in lines[22..27].iter().zip(DATA) {
-        assert_eq!(rt;
-            write_line(line.stmt).as_slice(),
-            text.as_bytes(),
-            "line {}",
-            line.line
-        );
+        assert!(rt; write_line(line.stmt).as_slice() == text.as_bytes());
     }
     Ok(())
 }
@@ -159,16 +149,11 @@ fn the_plain_text_of_ports(rt: HostRuntime) -> Result<(), Fail> {
         0xF000,
     )?;
     let lines = plain_text(rt.alloc(), &program)?;
-    assert_eq!(rt; lines.len(), 29);
+    assert!(rt; lines.len() == 29);
     for (line, text) in lines[8..14].iter().zip(PORTS) {
-        assert_eq!(rt;
-            write_line(line.stmt).as_slice(),
-            text.as_bytes(),
-            "line {}",
-            line.line
-        );
+        assert!(rt; write_line(line.stmt).as_slice() == text.as_bytes());
     }
-    assert_eq!(rt; code_size(&lines), 41);
+    assert!(rt; code_size(&lines) == 41);
     Ok(())
 }
 
@@ -197,9 +182,9 @@ fn the_lowest_and_the_highest_top(rt: HostRuntime) -> Result<(), Fail> {
         (&high, "\tMOV\tSI,0FF00H\r\n", "\tORG\t0FEFFH\r\n"),
     ] {
         let lines = plain_text(rt.alloc(), program)?;
-        assert_eq!(rt; lines.len(), 25);
-        assert_eq!(rt; write_line(lines[1].stmt).as_slice(), load.as_bytes());
-        assert_eq!(rt; write_line(lines[22].stmt).as_slice(), place.as_bytes());
+        assert!(rt; lines.len() == 25);
+        assert!(rt; write_line(lines[1].stmt).as_slice() == load.as_bytes());
+        assert!(rt; write_line(lines[22].stmt).as_slice() == place.as_bytes());
     }
     Ok(())
 }

@@ -26,10 +26,10 @@ fn reads_pieces(rt: HostRuntime) -> Result<(), Fail> {
         ("short", 1, Ok(2)),
         ("long", 0, Ok(4096)),
     ] {
-        assert_eq!(rt; host.read(name, at, &mut into), answer);
+        assert!(rt; host.read(name, at, &mut into) == answer);
     }
     assert!(rt; into[4095] == 7 && into[4096] == 0);
-    assert_eq!(rt; host.read("short", 1, &mut into[..1]), Ok(1));
+    assert!(rt; host.read("short", 1, &mut into[..1]) == Ok(1));
     assert!(rt; into[0] == b'b' && into[1] == 7);
     Ok(())
 }
@@ -39,10 +39,10 @@ fn writes_pieces(rt: HostRuntime) -> Result<(), Fail> {
     let mut host = host_failing_at(rt.alloc(), 0)?;
     let long: &[u8] = &[8; 5000];
     for (name, bytes, count) in [("long", long, 4096), ("new", b"xy", 2), ("new", b"z", 1)] {
-        assert_eq!(rt; host.append(name, bytes), Ok(count));
+        assert!(rt; host.append(name, bytes) == Ok(count));
     }
     for name in ["short", "newer"] {
-        assert_eq!(rt; host.begin(name), Ok(()));
+        assert!(rt; host.begin(name) == Ok(()));
     }
     let files: [(&str, Option<&[u8]>); 4] = [
         ("new", Some(b"xyz")),
@@ -53,11 +53,11 @@ fn writes_pieces(rt: HostRuntime) -> Result<(), Fail> {
     for (name, bytes) in files {
         assert!(rt; host.file(name) == bytes, "{name}");
     }
-    assert_eq!(rt; host.file("long").map(|bytes| bytes.len()), Some(9096));
+    assert!(rt; host.file("long").map(|bytes| bytes.len()) == Some(9096));
     for (bytes, count) in [(long, 4096), (b"!", 1)] {
-        assert_eq!(rt; host.say(bytes), Ok(count));
+        assert!(rt; host.say(bytes) == Ok(count));
     }
-    assert_eq!(rt; host.said().len(), 4097);
+    assert!(rt; host.said().len() == 4097);
     Ok(())
 }
 
@@ -71,18 +71,18 @@ fn fails_at_listed_calls(rt: HostRuntime) -> Result<(), Fail> {
         } else {
             Ok(3)
         };
-        assert_eq!(rt; host.read("short", 0, &mut into), wanted(1));
-        assert_eq!(rt; host.append("short", b"def"), wanted(2));
-        assert_eq!(rt; host.begin("long").map(|()| 3), wanted(3));
-        assert_eq!(rt; host.say(b"ghi"), wanted(4));
-        assert_eq!(rt; host.read("none", 0, &mut into), Err(HostFault::Failed));
-        assert_eq!(rt; host.say(b"jkl"), Ok(3));
+        assert!(rt; host.read("short", 0, &mut into) == wanted(1));
+        assert!(rt; host.append("short", b"def") == wanted(2));
+        assert!(rt; host.begin("long").map(|()| 3) == wanted(3));
+        assert!(rt; host.say(b"ghi") == wanted(4));
+        assert!(rt; host.read("none", 0, &mut into) == Err(HostFault::Failed));
+        assert!(rt; host.say(b"jkl") == Ok(3));
         let kept = if failing == 2 { 3 } else { 6 };
-        assert_eq!(rt; host.file("short").map(|bytes| bytes.len()), Some(kept));
+        assert!(rt; host.file("short").map(|bytes| bytes.len()) == Some(kept));
         let kept = if failing == 3 { 5000 } else { 0 };
-        assert_eq!(rt; host.file("long").map(|bytes| bytes.len()), Some(kept));
+        assert!(rt; host.file("long").map(|bytes| bytes.len()) == Some(kept));
         let said = if failing == 4 { 3 } else { 6 };
-        assert_eq!(rt; host.said().len(), said);
+        assert!(rt; host.said().len() == said);
     }
     Ok(())
 }
@@ -105,17 +105,17 @@ fn real_files(rt: HostRuntime) -> Result<(), Fail> {
     let nothing = host.read(name, 0, &mut into);
     let refused = host.append("", b"x");
     fs::remove_file(&rt, name)?;
-    assert_eq!(rt; missing, Err(HostFault::Failed));
-    assert_eq!(rt; begun, Ok(()));
-    assert_eq!(rt; written, Ok(5000));
-    assert_eq!(rt; added, Ok(3));
-    assert_eq!(rt; read, Ok(4));
+    assert!(rt; missing == Err(HostFault::Failed));
+    assert!(rt; begun == Ok(()));
+    assert!(rt; written == Ok(5000));
+    assert!(rt; added == Ok(3));
+    assert!(rt; read == Ok(4));
     assert!(rt; into == [7, b'e', b'n', b'd', 0, 0, 0, 0]);
     let text = text?;
-    assert_eq!(rt; text.get(..5000), Some([7; 5000].as_slice()));
-    assert_eq!(rt; text.get(5000..), Some(b"end".as_slice()));
-    assert_eq!(rt; emptied, Ok(()));
-    assert_eq!(rt; nothing, Ok(0));
-    assert_eq!(rt; refused, Err(HostFault::Failed));
+    assert!(rt; text.get(..5000) == Some([7; 5000].as_slice()));
+    assert!(rt; text.get(5000..) == Some(b"end".as_slice()));
+    assert!(rt; emptied == Ok(()));
+    assert!(rt; nothing == Ok(0));
+    assert!(rt; refused == Err(HostFault::Failed));
     Ok(())
 }

@@ -34,13 +34,13 @@ fn read_file<H: Host>(
 fn reads_whole_files(rt: HostRuntime) -> Result<(), Fail> {
     let mut host = host_failing_at(rt.alloc(), 0)?;
     let bytes = read_file(rt.alloc(), &mut host, "long", 5000)?;
-    assert_eq!(rt; bytes.as_slice(), [7; 5000].as_slice());
+    assert!(rt; bytes.as_slice() == [7; 5000].as_slice());
     for limit in [4999, 4096, 0] {
         let refused = read_file(rt.alloc(), &mut host, "long", limit).err();
-        assert_eq!(rt; refused, Some(ReadFault::TooLong));
+        assert!(rt; refused == Some(ReadFault::TooLong));
     }
     let missing = read_file(rt.alloc(), &mut host, "none", 5000).err();
-    assert_eq!(rt; missing, Some(ReadFault::Failed));
+    assert!(rt; missing == Some(ReadFault::Failed));
     Ok(())
 }
 
@@ -48,9 +48,9 @@ fn reads_whole_files(rt: HostRuntime) -> Result<(), Fail> {
 fn read_fails_at_second_piece(rt: HostRuntime) -> Result<(), Fail> {
     let mut host = host_failing_at(rt.alloc(), 2)?;
     let failed = read_file(rt.alloc(), &mut host, "long", 5000).err();
-    assert_eq!(rt; failed, Some(ReadFault::Failed));
+    assert!(rt; failed == Some(ReadFault::Failed));
     let bytes = read_file(rt.alloc(), &mut host, "long", 5000)?;
-    assert_eq!(rt; bytes.len(), 5000);
+    assert!(rt; bytes.len() == 5000);
     Ok(())
 }
 
@@ -71,17 +71,14 @@ fn lines() -> [Line86; 400] {
 #[test]
 fn writes_whole_text(rt: HostRuntime) -> Result<(), Fail> {
     let mut host = host_failing_at(rt.alloc(), 0)?;
-    assert_eq!(rt; write_out(&mut host, "long", &lines()), Ok(()));
-    assert_eq!(rt; write_out(&mut host, "none", &[]), Ok(()));
-    assert_eq!(rt; host.file("none").map(|bytes| bytes.len()), Some(0));
+    assert!(rt; write_out(&mut host, "long", &lines()) == Ok(()));
+    assert!(rt; write_out(&mut host, "none", &[]) == Ok(()));
+    assert!(rt; host.file("none").map(|bytes| bytes.len()) == Some(0));
     let text = host.file("long").unwrap_or(&[]);
-    assert_eq!(rt; text.len(), 4800);
-    assert_eq!(rt;
-        text.get(..24),
-        Some(b"\tRB\t00000H\r\n\tRB\t00001H\r\n".as_slice())
-    );
-    assert_eq!(rt; text.get(4092..4104), Some(b"\tRB\t00155H\r\n".as_slice()));
-    assert_eq!(rt; text.get(4788..), Some(b"\tRB\t0018FH\r\n".as_slice()));
+    assert!(rt; text.len() == 4800);
+    assert!(rt; text.get(..24) == Some(b"\tRB\t00000H\r\n\tRB\t00001H\r\n".as_slice()));
+    assert!(rt; text.get(4092..4104) == Some(b"\tRB\t00155H\r\n".as_slice()));
+    assert!(rt; text.get(4788..) == Some(b"\tRB\t0018FH\r\n".as_slice()));
     Ok(())
 }
 
@@ -89,13 +86,10 @@ fn writes_whole_text(rt: HostRuntime) -> Result<(), Fail> {
 fn write_fails(rt: HostRuntime) -> Result<(), Fail> {
     for (call, kept, first) in [(1, 5000, 7), (2, 0, 0), (3, 4096, b'\t')] {
         let mut host = host_failing_at(rt.alloc(), call)?;
-        assert_eq!(rt;
-            write_out(&mut host, "long", &lines()),
-            Err(HostFault::Failed)
-        );
+        assert!(rt; write_out(&mut host, "long", &lines()) == Err(HostFault::Failed));
         let held = host.file("long").unwrap_or(&[]);
-        assert_eq!(rt; held.len(), kept);
-        assert_eq!(rt; held.first().copied().unwrap_or(0), first);
+        assert!(rt; held.len() == kept);
+        assert!(rt; held.first().copied().unwrap_or(0) == first);
     }
     Ok(())
 }
@@ -103,32 +97,32 @@ fn write_fails(rt: HostRuntime) -> Result<(), Fail> {
 #[test]
 fn says_whole_lines(rt: HostRuntime) -> Result<(), Fail> {
     let mut host = host_failing_at(rt.alloc(), 3)?;
-    assert_eq!(rt; say_line(&mut host, &[9; 5000]), Ok(()));
-    assert_eq!(rt; say_line(&mut host, b"lost"), Err(HostFault::Failed));
-    assert_eq!(rt; say_line(&mut host, b"!\r\n"), Ok(()));
-    assert_eq!(rt; host.said().len(), 5003);
-    assert_eq!(rt; host.said().get(5000..), Some(b"!\r\n".as_slice()));
+    assert!(rt; say_line(&mut host, &[9; 5000]) == Ok(()));
+    assert!(rt; say_line(&mut host, b"lost") == Err(HostFault::Failed));
+    assert!(rt; say_line(&mut host, b"!\r\n") == Ok(()));
+    assert!(rt; host.said().len() == 5003);
+    assert!(rt; host.said().get(5000..) == Some(b"!\r\n".as_slice()));
     Ok(())
 }
 
 #[test]
 fn writes_whole_bytes(rt: HostRuntime) -> Result<(), Fail> {
     let mut host = host_failing_at(rt.alloc(), 0)?;
-    assert_eq!(rt; write_bytes(&mut host, "new", &[9; 5000]), Ok(()));
-    assert_eq!(rt; write_bytes(&mut host, "long", b"two"), Ok(()));
-    assert_eq!(rt; write_bytes(&mut host, "none", &[]), Ok(()));
+    assert!(rt; write_bytes(&mut host, "new", &[9; 5000]) == Ok(()));
+    assert!(rt; write_bytes(&mut host, "long", b"two") == Ok(()));
+    assert!(rt; write_bytes(&mut host, "none", &[]) == Ok(()));
     let new = host.file("new").unwrap_or(&[]);
-    assert_eq!(rt; new, [9; 5000].as_slice());
+    assert!(rt; new == [9; 5000].as_slice());
     let long = host.file("long").unwrap_or(&[]);
-    assert_eq!(rt; long, b"two".as_slice());
-    assert_eq!(rt; host.file("none").map(|bytes| bytes.len()), Some(0));
+    assert!(rt; long == b"two".as_slice());
+    assert!(rt; host.file("none").map(|bytes| bytes.len()) == Some(0));
     for (call, kept, first) in [(1, 5000, 7), (2, 0, 0), (3, 4096, 9)] {
         let mut host = host_failing_at(rt.alloc(), call)?;
         let written = write_bytes(&mut host, "long", &[9; 5000]);
-        assert_eq!(rt; written, Err(HostFault::Failed));
+        assert!(rt; written == Err(HostFault::Failed));
         let held = host.file("long").unwrap_or(&[]);
-        assert_eq!(rt; held.len(), kept);
-        assert_eq!(rt; held.first().copied().unwrap_or(0), first);
+        assert!(rt; held.len() == kept);
+        assert!(rt; held.first().copied().unwrap_or(0) == first);
     }
     Ok(())
 }
@@ -139,12 +133,12 @@ fn files_go_byte_by_byte(rt: HostRuntime) -> Result<(), Fail> {
         host: host_failing_at(rt.alloc(), 0)?,
     };
     let bytes = read_file(rt.alloc(), &mut host, "long", 5000)?;
-    assert_eq!(rt; bytes.as_slice(), [7; 5000].as_slice());
+    assert!(rt; bytes.as_slice() == [7; 5000].as_slice());
     let refused = read_file(rt.alloc(), &mut host, "long", 4999).err();
-    assert_eq!(rt; refused, Some(ReadFault::TooLong));
-    assert_eq!(rt; write_bytes(&mut host, "new", &[9; 5000]), Ok(()));
-    assert_eq!(rt; host.host.file("new"), Some([9; 5000].as_slice()));
-    assert_eq!(rt; say_line(&mut host, b"said\n"), Ok(()));
-    assert_eq!(rt; host.host.said(), b"said\n".as_slice());
+    assert!(rt; refused == Some(ReadFault::TooLong));
+    assert!(rt; write_bytes(&mut host, "new", &[9; 5000]) == Ok(()));
+    assert!(rt; host.host.file("new") == Some([9; 5000].as_slice()));
+    assert!(rt; say_line(&mut host, b"said\n") == Ok(()));
+    assert!(rt; host.host.said() == b"said\n".as_slice());
     Ok(())
 }

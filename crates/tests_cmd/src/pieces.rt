@@ -72,14 +72,14 @@ fn expect_said(
 ) -> Result<(), Fail> {
     let mut host = MemHost::new(alloc);
     host.put("P", file)?;
-    assert_eq!(rt; xlt(alloc, words_of(alloc, words)?, &mut host), 0);
-    assert_eq!(rt; host.said(), said);
+    assert!(rt; xlt(alloc, words_of(alloc, words)?, &mut host) == 0);
+    assert!(rt; host.said() == said);
     let mut host = Sparing {
         host: MemHost::new(alloc),
     };
     host.host.put("P", file)?;
-    assert_eq!(rt; xlt(alloc, words_of(alloc, words)?, &mut host), 0);
-    assert_eq!(rt; host.host.said(), said);
+    assert!(rt; xlt(alloc, words_of(alloc, words)?, &mut host) == 0);
+    assert!(rt; host.host.said() == said);
     Ok(())
 }
 
@@ -126,14 +126,14 @@ fn texts_are_written_by_bytes(rt: HostRuntime) -> Result<(), Fail> {
     let mut whole = MemHost::new(alloc);
     whole.put("P", &file)?;
     let words = words_of(alloc, "translate P OUT --plain")?;
-    assert_eq!(rt; xlt(alloc, words, &mut whole), 0);
+    assert!(rt; xlt(alloc, words, &mut whole) == 0);
     let mut sparing = Sparing {
         host: MemHost::new(alloc),
     };
     sparing.host.put("P", &file)?;
     let words = words_of(alloc, "translate P OUT --plain")?;
-    assert_eq!(rt; xlt(alloc, words, &mut sparing), 0);
-    assert_eq!(rt; whole.file("OUT").map(|text| text.len()), Some(5837));
-    assert_eq!(rt; sparing.host.file("OUT"), whole.file("OUT"));
+    assert!(rt; xlt(alloc, words, &mut sparing) == 0);
+    assert!(rt; whole.file("OUT").map(|text| text.len()) == Some(5837));
+    assert!(rt; sparing.host.file("OUT") == whole.file("OUT"));
     Ok(())
 }

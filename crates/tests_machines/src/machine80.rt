@@ -239,8 +239,8 @@ fn programs_run_to_their_ends(rt: HostRuntime) -> Result<(), Fail> {
         let mut said = Vec::new(alloc);
         let (step, ran, at) = run(alloc, program, &mut said)?;
         assert!(rt; step == *end && at == *place);
-        assert_eq!(rt; ran, *count);
-        assert_eq!(rt; said.first().copied(), *letter);
+        assert!(rt; ran == *count);
+        assert!(rt; said.first().copied() == *letter);
     }
     Ok(())
 }
@@ -364,7 +364,7 @@ fn ports_leave_the_dma_address_and_memory(rt: HostRuntime) -> Result<(), Fail> {
     let Event::Call(request) = event_of_step(alloc, &mut cpu, &program, 0)? else {
         return Err("a call")?;
     };
-    assert_eq!(rt; request.shape.function, 21);
+    assert!(rt; request.shape.function == 21);
     let [block, record] = request.blocks.as_slice() else {
         return Err("two blocks")?;
     };

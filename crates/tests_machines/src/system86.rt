@@ -24,7 +24,7 @@ fn assert_called(
     changed: &[Place],
 ) -> Result<(), AllocError> {
     let mut found = processor_with(alloc, before)?;
-    assert_eq!(rt; shape_called(rt, &mut found, ONE_TO_SIX).function, function);
+    assert!(rt; shape_called(rt, &mut found, ONE_TO_SIX).function == function);
     let mut wanted = processor_with(alloc, before)?;
     put_all(&mut wanted, &[Ip(0x0104)]);
     put_all(&mut wanted, changed);

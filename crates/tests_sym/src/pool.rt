@@ -18,11 +18,11 @@ fn numbered(a: u32) -> Node {
 fn one_place(rt: HostRuntime) -> Result<(), Fail> {
     let mut pool = Pool::new(rt.alloc(), 1)?;
     let start = pool.mark();
-    assert_eq!(rt; start.0, 0);
+    assert!(rt; start.0 == 0);
     assert!(rt; pool.intern(numbered(5)) == Some(Id(0)));
     assert!(rt; pool.intern(numbered(5)) == Some(Id(0)));
     assert!(rt; pool.intern(numbered(6)) == None);
-    assert_eq!(rt; pool.mark().0, 1);
+    assert!(rt; pool.mark().0 == 1);
     if start.0 <= pool.mark().0 {
         pool.reset(start);
     }
@@ -35,7 +35,7 @@ fn no_place(rt: HostRuntime) -> Result<(), Fail> {
     let mut pool = Pool::new(rt.alloc(), 0)?;
     assert!(rt; pool.intern(numbered(0)) == None);
     assert!(rt; pool.intern(numbered(0)) == None);
-    assert_eq!(rt; pool.mark().0, 0);
+    assert!(rt; pool.mark().0 == 0);
     Ok(())
 }
 
@@ -58,7 +58,7 @@ fn fields(rt: HostRuntime) -> Result<(), Fail> {
         assert!(rt; pool.intern(other) == Some(Id(place as u32)));
     }
     assert!(rt; pool.intern(node) == Some(Id(0)));
-    assert_eq!(rt; pool.mark().0, 6);
+    assert!(rt; pool.mark().0 == 6);
     Ok(())
 }
 

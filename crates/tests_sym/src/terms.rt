@@ -193,7 +193,7 @@ fn chains(rt: HostRuntime) -> Result<(), Fail> {
     let mut terms = Terms::new(rt.alloc(), 5002)?;
     let first = chain(&mut terms);
     assert!(rt; first != None);
-    assert_eq!(rt; terms.mark().0, 5002);
+    assert!(rt; terms.mark().0 == 5002);
     assert!(rt; chain(&mut terms) == first);
     Ok(())
 }
