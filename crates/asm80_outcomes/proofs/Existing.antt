@@ -2,7 +2,7 @@
 use Rattle.std.proofs.Common.{◌≡◌, ℕ, zero, suc, ◌+◌, ◌-◌, ◌%◌, ◌^◌, ◌<◌, ◌≤◌, ◌⊎◌, inl, inr, ◌&&◌, ◌||◌, Bool, true, false, cond, find, List, [], ◌∷◌, length, Option, Some, None, refl, sym, ap, ◌∙◌, arith}
 use Rattle.std.specs.List.{list_any, filter_map, flat_map, AllByRecursion}
 use Rattle.std.specs.Option.{option_or}
-use Rattle.std.proofs.lemmas.Bool.{cases_lt}
+use Rattle.std.proofs.lemmas.Bool.{cases_lt, or_parts}
 use Rattle.std.proofs.lemmas.Bool.Decides.{nat_tests}
 use Rattle.std.proofs.lemmas.Option.{none-some}
 use Rattle.cells.specs.declared.Cell.{Cell}
@@ -23,6 +23,7 @@ use Rattle.asm80_values.specs.Items.{IsItem, AreItems}
 use Rattle.asm80_values.specs.Programs.{placed_item, data_item}
 use Rattle.asm80_values.proofs.Sizes.{data_size}
 use Rattle.asm80_values.proofs.Sound.{are_sound}
+use Rattle.asm80_values.proofs.Chain.{or_none, line_none}
 use Rattle.asm80_values.proofs.Held.{lawful, held}
 use Rattle.asm80_values.proofs.Placing.{program_laid}
 use Rattle.asm80_outcomes.specs.Ranges.{AreInRange}
@@ -32,14 +33,6 @@ use Rattle.asm80_outcomes.proofs.Forms.{has_form}
 
 -- ---- of answers
 
-or_none : {X : Type 0} (a b : Option X) → option_or a b ≡ None → (a ≡ None) × (b ≡ None)
-or_none None b h = (refl, h)
-or_none (Some x) b h = absurd (none-some x (sym h))
-
-no_rule : (line : ℕ) (o : Option AsmRule) → with_line line o ≡ None → o ≡ None
-no_rule line None h = refl
-no_rule line (Some r) h = absurd (none-some (line, r) (sym h))
-
 no_row : (rule : AsmRule) (o : Option Row) → refused_at rule o ≡ None → o ≡ None
 no_row rule None h = refl
 no_row rule (Some r) h = absurd (none-some (r.statement.line, rule) (sym h))
@@ -48,20 +41,16 @@ not_found : {X : Type 0} (b : Bool) (x : X) (o : Option X) → cond b (Some x) o
 not_found true x o h = absurd (none-some x (sym h))
 not_found false x o h = (refl, h)
 
-both_false : (x y : Bool) → (x || y) ≡ false → (x ≡ false) × (y ≡ false)
-both_false true y h = absurd cc
-both_false false y h = (refl, h)
-
 -- ---- a statement whose cells are inside the area has fewer than 65,536
 
 each_inside : (top at n k : ℕ) → list_any (is_outside top) (counted_from at n) ≡ false → k < n → is_outside top ((at + k) % 0x10000) ≡ false
 each_inside top at zero k h less = absurd (omega arith)
 each_inside top at (suc n) zero h less =
     let same : (at + 0) % 0x10000 ≡ at % 0x10000 = omega arith in
-    ap (is_outside top) same ∙ (both_false (is_outside top (at % 0x10000)) (list_any (is_outside top) (counted_from (at + 1) n)) h).0
+    ap (is_outside top) same ∙ (or_parts (is_outside top (at % 0x10000)) (list_any (is_outside top) (counted_from (at + 1) n)) h).0
 each_inside top at (suc n) (suc k) h less =
     let same : (at + suc k) % 0x10000 ≡ (at + 1 + k) % 0x10000 = omega arith in
-    ap (is_outside top) same ∙ each_inside top (at + 1) n k (both_false (is_outside top (at % 0x10000)) (list_any (is_outside top) (counted_from (at + 1) n)) h).1 (omega arith)
+    ap (is_outside top) same ∙ each_inside top (at + 1) n k (or_parts (is_outside top (at % 0x10000)) (list_any (is_outside top) (counted_from (at + 1) n)) h).1 (omega arith)
 
 size_by : (top at n : ℕ) → at < 0x10000 → list_any (is_outside top) (counted_from at n) ≡ false → ((n < 0x10000) ⊎ (0x10000 ≤ n)) → n < 0x10000
 size_by top at n small h (inl less) = less
@@ -117,7 +106,7 @@ module _ (rs : List Row) (end : Walk) (top : ℕ) (end_word : IsWordWalk end) wh
   are_ready [] h none = tt
   are_ready (r ∷ xs) h none =
       let split = or_none (with_line r.statement.line (second_rule end r)) (second_fault end xs) none in
-      (record { word = h.0; accepted = no_rule r.statement.line (second_rule end r) split.0 }, are_ready xs h.1 split.1)
+      (record { word = h.0; accepted = line_none r.statement.line (second_rule end r) split.0 }, are_ready xs h.1 split.1)
 
 -- ---- the program
 

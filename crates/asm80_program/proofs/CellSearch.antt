@@ -1,5 +1,5 @@
 -- Looking an address up in data cells.
-use Rattle.std.proofs.Common.{◌≡◌, ℕ, zero, suc, ◌+◌, ◌<◌, ◌≤◌, ◌≢◌, eqb, false, List, [], ◌∷◌, length, get_or, Some, None, Ok, Err, refl, sym, inl, inr, arith}
+use Rattle.std.proofs.Common.{◌≡◌, ℕ, zero, suc, ◌+◌, ◌<◌, ◌≤◌, ◌≢◌, ◌==◌, eqb, false, cond, List, [], ◌∷◌, length, get_or, Some, None, Ok, Err, refl, sym, ap, ◌∙◌, inl, inr, arith}
 use Rattle.std.specs.List.Sorted.{IsBinarySearchResult, IsNonDecreasingBy}
 use Rattle.std.specs.Ordering.{nat_cmp, ordering_index}
 use Rattle.std.proofs.lemmas.Bool.{cases_lt}
@@ -38,6 +38,14 @@ cell_in-nowhere (c ∷ cs) a nowhere =
     let differs = nowhere 0 c (omega arith) in
     let rest = cell_in-nowhere cs a (λ k d lt. nowhere (suc k) d (omega arith)) in
     grind (arith, nat_tests)
+
+-- past the area there is none
+pub no_cell : (instrs : List Placed) (from limit a : ℕ) (cs : List (ℕ × Cell)) → CellsAreLaid instrs from limit cs → limit ≤ a → cell_in cs a ≡ None
+no_cell instrs from limit a [] h le = refl
+no_cell instrs from limit a (c ∷ cs) h le =
+    let lt : c.0 < limit = h.1 in
+    let ne : (c.0 == a) ≡ false = grind (arith, nat_tests) in
+    ap (λ b. cond b (Some c.1) (cell_in cs a)) ne ∙ no_cell instrs (c.0 + 1) limit a cs h.3 le
 
 -- what a search by halves finds
 module _ (xs : List Placed) (cs : List (ℕ × Cell)) (from limit a : ℕ) (laid : CellsAreLaid xs from limit cs) where

@@ -1,4 +1,4 @@
-mod Lookup
-mod CellSearch
-mod Marks
+pub mod Lookup
+pub mod CellSearch
+pub mod Marks
 pub mod Standing

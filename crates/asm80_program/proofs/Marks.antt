@@ -10,7 +10,7 @@ use Rattle.cells.specs.declared.Cell.{Cell}
 use Rattle.asm80_program.specs.declared.program.Placed.{Placed}
 use Rattle.asm80_program.specs.Taken.{place_placed, place_in_cell, is_taken}
 
-cons_option-one : {X : Type 0} (o : Option X) → cons_option o [] ≡ option_to_list o
+pub cons_option-one : {X : Type 0} (o : Option X) → cons_option o [] ≡ option_to_list o
 cons_option-one None = refl
 cons_option-one (Some x) = refl
 

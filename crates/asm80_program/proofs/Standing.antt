@@ -97,9 +97,14 @@ is_placed p a i g e =
     subst (IsPlaced p a) x.2 laid
 
 -- where an instruction starts, there is one
-start_has : (o : Option Placed) → is_some o ≡ true → (x : Placed) × (o ≡ Some x)
+pub start_has : (o : Option Placed) → is_some o ≡ true → (x : Placed) × (o ≡ Some x)
 start_has None e = absurd (cc)
 start_has (Some x) e = (x, refl)
+
+-- and where none does, there is none
+pub no_instr : (o : Option Placed) → is_some o ≡ false → instr_of_placed o ≡ None
+no_instr None h = refl
+no_instr (Some x) h = absurd (cc)
 
 -- an address at which an instruction starts
 pub start_range : (p : Program) (a : ℕ) → IsProgram p → is_start p a ≡ true → (0x100 ≤ a) × (a < 0x10000)

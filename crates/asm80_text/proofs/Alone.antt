@@ -6,7 +6,7 @@ use Rattle.asm80_tokens.specs.declared.token.Token.TheVariants.{Word, Comma, Col
 use Rattle.asm80_tokens.specs.Grammar.{Ends}
 use Rattle.asm80_tokens.proofs.Unambiguous.{one_expression}
 use Rattle.asm80_text.specs.Statement.{IsOperand, text, value, AreOperands, last, more, IsBody, nothing, bare, full, IsLabeled, unlabeled, labeled, with_colon, IsStatement, unnumbered, numbered, IsStatementOf, kept, AreStatements, none_left, next}
-use Rattle.asm80_text.proofs.Operands.{no_text, operand_shorter}
+use Rattle.asm80_text.proofs.Operands.{no_text, operand_shorter, no_comma}
 use Rattle.asm80_text.proofs.Bodies.{no_digits}
 
 record SameOperand (a b : Operand) (r s : List Token) : Type 0 where
@@ -18,9 +18,6 @@ one_operand text text x y = record { operands = refl; rests = refl }
 one_operand text (value u) x y = absurd (no_text u)
 one_operand (value u) text x y = absurd (no_text u)
 one_operand {ts} {r} {s} (value {e = e} u) (value {e = f} v) x y = let h = one_expression 5 ts r s e f (omega arith) u v x y in record { operands = ap Whole h.trees; rests = h.rests }
-
-no_comma : (r : List Token) → ◌≡◌ {A = List Token} [] (Comma ∷ r) → ⊥
-no_comma r e = cc
 
 comma_same : (r s : List Token) → ◌≡◌ {A = List Token} (Comma ∷ r) (Comma ∷ s) → r ≡ s
 comma_same r s e = cc

@@ -48,7 +48,7 @@ operand_shorter (value s) = spells_shorter s
 
 -- ---- the loop
 
-no_comma : (r : List Token) → ◌≡◌ {A = List Token} [] (Comma ∷ r) → ⊥
+pub no_comma : (r : List Token) → ◌≡◌ {A = List Token} [] (Comma ∷ r) → ⊥
 no_comma r e = cc
 
 tail_same : (r next : List Token) → ◌≡◌ {A = List Token} (Comma ∷ r) (Comma ∷ next) → r ≡ next

@@ -236,10 +236,10 @@ after_failed stream s b ne h =
 gives_from : (stream : List ℕ) (s : Reader) → After (stream ++ 26 ∷ []) s → StreamGives stream (map statement_of s.statements) s.fault
 gives_from stream s h = record { raw = h.raw; rest = h.rest; is_closed = h.is_closed; cut = h.cut; lines = h.lines }
 
-not_memory : (n : ℕ) (r : LineRule) → ◌≡◌ {A = Option ReadFault} (Some (Syntax n r)) (Some Memory) → ⊥
+pub not_memory : (n : ℕ) (r : LineRule) → ◌≡◌ {A = Option ReadFault} (Some (Syntax n r)) (Some Memory) → ⊥
 not_memory n r e = cc
 
-none_not_memory : ◌≡◌ {A = Option ReadFault} None (Some Memory) → ⊥
+pub none_not_memory : ◌≡◌ {A = Option ReadFault} None (Some Memory) → ⊥
 none_not_memory e = cc
 
 pub finish_fault : (stream : List ℕ) (s : Reader) (f : ReadFault) → s.fault ≡ Some f → (s.fault ≢ Some Memory → After (stream ++ 26 ∷ []) s) → Finishes stream (Err f)

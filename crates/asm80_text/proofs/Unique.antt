@@ -7,6 +7,7 @@ use Rattle.asm80_tokens.specs.declared.fault.ReadFault.{ReadFault}
 use Rattle.asm80_tokens.specs.declared.fault.ReadFault.TheVariants.{Syntax, Memory}
 use Rattle.asm80_tokens.specs.Tree.{Statement, statement_of}
 use Rattle.asm80_text.proofs.Once.{one_line}
+use Rattle.asm80_text.proofs.Steps.{not_memory, none_not_memory}
 use Rattle.base_lines.specs.Cut.{Cut, ended}
 use Rattle.base_lines.proofs.Cuts.{split_same, not_in, regroup, one_cut}
 use Rattle.asm80_text.specs.Stream.{IsPlain, IsStream, open_yet, closed, complete, LinesGive, none_left, next, fails, StreamGives, HoldsFault}
@@ -79,19 +80,13 @@ some_is f g e = cc
 no_some : (f : ReadFault) → ◌≡◌ {A = Option ReadFault} None (Some f) → ⊥
 no_some f e = cc
 
-syntax_not_memory : (n : ℕ) (r : LineRule) → ◌≡◌ {A = Option ReadFault} (Some (Syntax n r)) (Some Memory) → ⊥
-syntax_not_memory n r e = cc
-
-none_is_no_memory : ◌≡◌ {A = Option ReadFault} None (Some Memory) → ⊥
-none_is_no_memory e = cc
-
 found_by : (stream : List ℕ) (s : Reader) (n : ℕ) (rule : LineRule) (f : Option ReadFault) (r : Result (Unit {0}) ReadFault) → s.fault ≡ f → r ≡ answer_of f → (s.fault ≢ Some Memory → After stream s) → HoldsFault stream n rule → (r ≡ Err (Syntax n rule)) ⊎ (r ≡ Err Memory)
 found_by stream s n rule (Some Memory) r e q a b = inr q
 found_by stream s n rule (Some (Syntax m k)) r e q a b =
-    let same = sym e ∙ one_fault stream s n rule (a (λ x. syntax_not_memory m k (sym e ∙ x))) b in
+    let same = sym e ∙ one_fault stream s n rule (a (λ x. not_memory m k (sym e ∙ x))) b in
     inl (q ∙ ap (λ (x : ReadFault). Err x) (some_is (Syntax m k) (Syntax n rule) same))
 found_by stream s n rule None r e q a b =
-    let same = sym e ∙ one_fault stream s n rule (a (λ x. none_is_no_memory (sym e ∙ x))) b in absurd (no_some (Syntax n rule) same)
+    let same = sym e ∙ one_fault stream s n rule (a (λ x. none_not_memory (sym e ∙ x))) b in absurd (no_some (Syntax n rule) same)
 
 pub found_in : (stream : List ℕ) (s : Reader) (n : ℕ) (rule : LineRule) (r : Result (Unit {0}) ReadFault) → r ≡ answer_of s.fault → (s.fault ≢ Some Memory → After stream s) → HoldsFault stream n rule → (r ≡ Err (Syntax n rule)) ⊎ (r ≡ Err Memory)
 found_in stream s n rule r q a b = found_by stream s n rule s.fault r refl q a b

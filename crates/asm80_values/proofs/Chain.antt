@@ -16,11 +16,11 @@ use Rattle.asm80_values.proofs.SetAgain.{room_made, Stays, stays-refl, stays_mad
 
 -- ---- no fault
 
-or_none : {X : Type 0} (x y : Option X) → option_or x y ≡ None → (x ≡ None) × (y ≡ None)
+pub or_none : {X : Type 0} (x y : Option X) → option_or x y ≡ None → (x ≡ None) × (y ≡ None)
 or_none None y h = (refl, h)
 or_none (Some x) y h = absurd cc
 
-line_none : (line : ℕ) (o : Option AsmRule) → with_line line o ≡ None → o ≡ None
+pub line_none : (line : ℕ) (o : Option AsmRule) → with_line line o ≡ None → o ≡ None
 line_none line None h = refl
 line_none line (Some r) h = absurd cc
 

@@ -4,6 +4,7 @@ use Rattle.std.specs.Prelude.{option_map}
 use Rattle.std.specs.List.{list_any, filter_map, flat_map, cons_option}
 use Rattle.std.specs.List.Sorted.{IsPermutation}
 use Rattle.std.specs.Option.{option_or}
+use Rattle.std.proofs.lemmas.Bool.{or_parts}
 use Rattle.std.proofs.lemmas.Option.{none-some}
 use Rattle.std.proofs.lemmas.List.Sorted.{IsPermutation-sym, Contains-permutation}
 use Rattle.std.proofs.Math.Path.{fun_ext}
@@ -26,6 +27,7 @@ use Rattle.asm80_values.specs.declared.item.Item.{Item}
 use Rattle.asm80_values.specs.Items.{IsFormBy, IsItem, AreItems, overlap_from, breaks, refused_item, profile_fault}
 use Rattle.asm80_values.specs.Programs.{placed_by, placed_form, placed_item, data_form, data_item, is_instruction_form, starts_item, IsSound, NamesStarts, AreLawful}
 use Rattle.asm80_values.proofs.Breaches.{data_alone, no_start, faults_same}
+use Rattle.asm80_values.proofs.Chain.{or_none}
 use Rattle.asm80_values.proofs.Naming.{are_named, are_coded}
 
 -- ---- of an operation
@@ -73,14 +75,6 @@ taken_by : (t a b : Bool) → ((t && a) || (t && b)) ≡ true → t ≡ true
 taken_by true a b h = refl
 taken_by false a b h = h
 
-or_split : (x y : Bool) → (x || y) ≡ false → (x ≡ false) × (y ≡ false)
-or_split true y h = absurd (cc)
-or_split false y h = (refl, h)
-
-or_none : {X : Type 0} (a b : Option X) → option_or a b ≡ None → (a ≡ None) × (b ≡ None)
-or_none None b h = (refl, h)
-or_none (Some x) b h = absurd (none-some x (sym h))
-
 refused_none : (rule : AsmRule) (o : Option Item) → refused_item rule o ≡ None → o ≡ None
 refused_none rule None h = refl
 refused_none rule (Some i) h = absurd (none-some (i.line, rule) (sym h))
@@ -115,14 +109,14 @@ module _ (rs : List Row) (end : Walk) where
   placed_none : (r : Row) → fills_cells r ≡ false → placed_row rs end r ≡ None
   placed_none r fills =
       let by_test : Bool → Option Placed = λ b. option_map (λ (x : Instr80). record { at = address r; line = r.statement.line; instr = x }) (cond b (instruction_of rs end r) None) in
-      ap by_test (or_split (is_instruction r) (is_data r) fills).0
+      ap by_test (or_parts (is_instruction r) (is_data r) fills).0
 
   cells_none_by : (r : Row) (t : Bool) → (t && is_data_op (row_operation r)) ≡ false → laid_from (address r) (cond t (data_by (setting rs end r) r.statement.args (row_operation r)) []) ≡ []
   cells_none_by r true h = ap (laid_from (address r)) (no_cells (setting rs end r) r.statement.args (row_operation r) h)
   cells_none_by r false h = refl
 
   cells_none : (r : Row) → fills_cells r ≡ false → data_of_row rs end r ≡ []
-  cells_none r fills = cells_none_by r (row_is_taken r) (or_split (is_instruction r) (is_data r) fills).1
+  cells_none r fills = cells_none_by r (row_is_taken r) (or_parts (is_instruction r) (is_data r) fills).1
 
   -- ---- all rows
 

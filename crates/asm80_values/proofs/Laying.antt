@@ -1,15 +1,12 @@
 -- Instructions and data cells of items, one more.
-use Rattle.std.proofs.Common.{◌≡◌, ℕ, suc, ◌+◌, ◌%◌, ◌<◌, List, [], ◌∷◌, ◌++◌, length, get_or, take, Option, Some, None, refl, sym, ap, ◌∙◌, arith, add-zero, append_assoc}
-use Rattle.std.specs.List.{filter_map, cons_option}
+use Rattle.std.proofs.Common.{◌≡◌, ℕ, suc, ◌+◌, ◌%◌, ◌<◌, List, [], ◌∷◌, ◌++◌, length, get_or, take, Option, sym, ap, ◌∙◌, arith, add-zero, append_assoc}
+use Rattle.std.specs.List.{filter_map}
 use Rattle.std.specs.Option.{option_to_list}
 use Rattle.std.proofs.lemmas.List.{take_more, length-take-le}
 use Rattle.std.proofs.lemmas.List.Elements.{filter_map-append}
 use Rattle.cells.specs.declared.Cell.{Cell}
+use Rattle.asm80_program.proofs.Marks.{cons_option-one}
 use Rattle.asm80_source.specs.Items.{laid_from}
-
-pub cons_option-one : {X : Type 0} (o : Option X) → cons_option o [] ≡ option_to_list o
-cons_option-one None = refl
-cons_option-one (Some x) = refl
 
 pub found_more :
     {X Y : Type 0} (f : X → Option Y) (xs : List X) (i : ℕ) (x : X) (old new : List Y) → i < length xs → x ≡ get_or xs i x

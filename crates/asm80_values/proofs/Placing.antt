@@ -3,6 +3,7 @@ use Rattle.std.proofs.Common.{◌≡◌, ℕ, suc, ◌+◌, ◌-◌, ◌%◌, �
 use Rattle.std.specs.List.{list_any, filter_map, flat_map, cons_option}
 use Rattle.std.specs.List.Sorted.{IsPermutation, IsNonDecreasingBy}
 use Rattle.std.specs.Option.{option_to_list}
+use Rattle.std.proofs.lemmas.Bool.{or_parts}
 use Rattle.std.proofs.lemmas.Bool.Decides.{nat_tests}
 use Rattle.std.proofs.lemmas.List.Elements.{All-nil, All-head, All-tail, All-cons, All-append, All-weaker}
 use Rattle.std.proofs.lemmas.List.Folds.{list_any-append}
@@ -13,6 +14,7 @@ use Rattle.i80.specs.declared.Instr80.TheVariants.{Nop}
 use Rattle.i80.specs.Columns.{length80, is_well_formed}
 use Rattle.asm80_program.specs.declared.program.Placed.{Placed}
 use Rattle.asm80_program.specs.Program.{Program, covers, placed_in, is_start, cell_at, named_by, is_top, AreLaid, CellsAreLaid, IsLaid, NameStarts, IsCoded, AreCoded, IsProgram, program_of}
+use Rattle.asm80_program.proofs.Lookup.{top_range}
 use Rattle.asm80_operands.specs.Forms.{HoldsByte}
 use Rattle.asm80_operands.specs.declared.form.Form.{Form}
 use Rattle.asm80_operands.specs.declared.form.Form.TheVariants.{Nothing, Instruction, Data}
@@ -28,9 +30,6 @@ use Rattle.asm80_values.proofs.Halves.{all_found, IsHalf, are_data, halved_weake
 pub length80-positive : (i : Instr80) → 1 ≤ length80 i
 length80-positive Nop = omega arith
 length80-positive i = omega arith
-
-top_range : (t : ℕ) → is_top t ≡ true → (0x1000 ≤ t) × (t ≤ 0xFF00)
-top_range t h = (grind (arith, nat_tests), grind (arith, nat_tests))
 
 -- ---- nothing is found
 
@@ -158,10 +157,6 @@ one_or true true h = absurd (let e : true ≡ false = h refl in cc)
 one_or true false h = refl
 one_or false y h = omega arith
 
-or_split : (x y : Bool) → (x || y) ≡ false → (x ≡ false) × (y ≡ false)
-or_split true y h = absurd (cc)
-or_split false y h = (refl, h)
-
 apart_by : (filled cells : List ℕ) (b a : ℕ) → is_filled filled b ≡ false → (is_filled cells a ≡ true → is_filled filled a ≡ false) → (e : Bool) → (b == a) ≡ e → (e || is_filled cells a) ≡ true → is_filled filled a ≡ false
 apart_by filled cells b a here rest true same h = let is : b ≡ a = grind (arith, nat_tests) in ap (is_filled filled) (sym is) ∙ here
 apart_by filled cells b a here rest false differs h = rest h
@@ -170,7 +165,7 @@ apart_by filled cells b a here rest false differs h = rest h
 apart_at : (filled cells : List ℕ) (a : ℕ) → list_any (is_filled filled) cells ≡ false → is_filled cells a ≡ true → is_filled filled a ≡ false
 apart_at filled [] a apart h = absurd (cc)
 apart_at filled (b ∷ cells) a apart h =
-    let split : (is_filled filled b ≡ false) × (list_any (is_filled filled) cells ≡ false) = or_split (is_filled filled b) (list_any (is_filled filled) cells) apart in
+    let split : (is_filled filled b ≡ false) × (list_any (is_filled filled) cells ≡ false) = or_parts (is_filled filled b) (list_any (is_filled filled) cells) apart in
     apart_by filled cells b a split.0 (apart_at filled cells a split.1) (b == a) refl h
 
 -- what holds of the value that there is

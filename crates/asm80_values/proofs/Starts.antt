@@ -7,12 +7,12 @@ use Rattle.std.proofs.lemmas.List.Elements.{filter_map-append}
 use Rattle.std.proofs.lemmas.List.Folds.{list_any-append}
 use Rattle.asm80_tokens.specs.declared.stmt.Stmt80.{Stmt80}
 use Rattle.base_addresses.specs.Addresses.{is_among}
+use Rattle.asm80_program.proofs.Marks.{cons_option-one}
 use Rattle.asm80_walk.specs.declared.walked.Taken.{Taken}
 use Rattle.asm80_walk.specs.Walked.{Stand}
 use Rattle.asm80_source.specs.Walk.{Row, row_is_taken, row_operation}
 use Rattle.asm80_source.specs.Items.{is_instruction_op, is_instruction, address, starts_in}
 use Rattle.asm80_values.specs.Second.{start_of}
-use Rattle.asm80_values.proofs.Laying.{cons_option-one}
 
 or-comm : (x y : Bool) → (x || y) ≡ (y || x)
 or-comm true true = refl

@@ -7,8 +7,9 @@ use Rattle.asm86_lines.specs.declared.line.Stmt86.TheVariants.{Cseg, Dseg, Org, 
 use Rattle.asm86_lines.specs.declared.line.Line86.{Line86}
 use Rattle.asm86_lines.specs.Layout.{size_of, sizes_of, marked, bytes_at, code_from}
 use Rattle.asm86_lines.specs.Image.{statements, offset_in, IsDefinedOnce, labels_before, labels_from}
+use Rattle.asm86_lines.proofs.Sizes.{length_bytes, sizes_of-append}
 use Rattle.asm86_image.specs.Places.{IsLaid}
-use Rattle.asm86_image.proofs.Texts.{sizes_of-append, labels_from-append, code_from-append, offset_is, defined_more, defined_again, defined_still}
+use Rattle.asm86_image.proofs.Texts.{labels_from-append, code_from-append, offset_is, defined_more, defined_again, defined_still}
 
 -- the statements up to the one at a place, and those with it
 abbrev pub up_to : List Line86 → ℕ → List Stmt86
@@ -92,23 +93,6 @@ laid_other xs labels at x none h =
       size = omega (arith, joined, size);
       once = defined_still xs x none h.once;
     }
-
--- the bytes of a statement are as many as its size
-length_bytes : (off : Label → ℕ) (at : ℕ) (x : Stmt86) → length (bytes_at off at x) ≡ size_of x
-length_bytes off at Cseg = refl
-length_bytes off at Dseg = refl
-length_bytes off at (Org w) = refl
-length_bytes off at (Rb w) = refl
-length_bytes off at (Db n) = refl
-length_bytes off at (Dw v) = refl
-length_bytes off at (Mark k) = refl
-length_bytes off at (Run i) = refl
-length_bytes off at (MovOffset r k) = refl
-length_bytes off at (Jmp k) = refl
-length_bytes off at (Jmps k) = refl
-length_bytes off at (Jcc j k) = refl
-length_bytes off at (Call k) = refl
-length_bytes off at EndText = refl
 
 -- the bytes of the statements up to a place, with those of the one there
 pub record IsCode (off : Label → ℕ) (xs : List Stmt86) (code : List ℕ) : Type 0 where

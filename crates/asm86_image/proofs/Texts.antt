@@ -1,16 +1,13 @@
--- Statements one after the other: sizes, labels, offsets and bytes of two lists joined.
+-- Statements one after the other: labels, offsets and bytes of two lists joined.
 use Rattle.std.proofs.Common.{◌≡◌, ℕ, ◌+◌, ◌≤◌, Bool, true, false, cond, List, [], ◌∷◌, ◌++◌, Option, None, Some, is_some, unwrap_or, refl, sym, ap, subst, ◌∙◌, append_assoc, arith}
 use Rattle.asm86_lines.specs.declared.line.Label.{Label}
 use Rattle.asm86_lines.specs.declared.line.Stmt86.{Stmt86}
 use Rattle.asm86_lines.specs.declared.line.Stmt86.TheVariants.{Mark}
 use Rattle.asm86_lines.specs.Layout.{same_label, size_of, sizes_of, marked, is_label, marks, offset_from, offset_of, place_of, bytes_at, code_from}
 use Rattle.asm86_lines.specs.Image.{offset_in, count_marks, IsDefinedOnce, AllDefined, UsesDefined, used_in, short_reaches, AllReach, labels_before, labels_from}
+use Rattle.asm86_lines.proofs.Sizes.{count_marks-append}
 use Rattle.asm86_image.specs.Places.{place_in}
 use Rattle.asm86_image.proofs.Labels.{same_is_one, same_as_itself}
-
-pub sizes_of-append : (xs ys : List Stmt86) → sizes_of (xs ++ ys) ≡ sizes_of xs + sizes_of ys
-sizes_of-append [] ys = omega arith
-sizes_of-append (x ∷ xs) ys = let e = sizes_of-append xs ys in omega (arith, e)
 
 labels_before-append : (m : Option Label) (at : ℕ) (ys zs : List (Label × ℕ)) → labels_before m at (ys ++ zs) ≡ labels_before m at ys ++ zs
 labels_before-append None at ys zs = refl
@@ -77,10 +74,6 @@ present_step false at n a r h k = let e = k h in omega (arith, e)
 pub present : (at a : ℕ) (xs : List Stmt86) (l : Label) → offset_from at xs l ≡ Some a → 1 ≤ count_marks l xs
 present at a [] l h = cc
 present at a (x ∷ xs) l h = present_step (marks l x) at (count_marks l xs) a (offset_from (at + size_of x) xs l) h (present (at + size_of x) a xs l)
-
-pub count_marks-append : (l : Label) (xs ys : List Stmt86) → count_marks l (xs ++ ys) ≡ count_marks l xs + count_marks l ys
-count_marks-append l [] ys = omega arith
-count_marks-append l (x ∷ xs) ys = let e = count_marks-append l xs ys in omega (arith, e)
 
 -- a label that is not there may be defined
 pub defined_more : (xs : List Stmt86) (l : Label) → IsDefinedOnce xs → offset_from 0 xs l ≡ None → IsDefinedOnce (xs ++ Mark l ∷ [])

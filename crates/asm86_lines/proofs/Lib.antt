@@ -1,1 +1,3 @@
 pub mod Sorting
+pub mod Labels
+pub mod Sizes

@@ -6,7 +6,7 @@ use Rattle.std.specs.Map.{keys_of}
 use Rattle.std.specs.Ordering.{nat_cmp, MatchOrdering, match_ordering}
 use Rattle.std.specs.declared.cmp.Ordering.{Ordering}
 use Rattle.std.specs.declared.cmp.Ordering.TheVariants.{Less, Equal, Greater}
-use Rattle.std.proofs.lemmas.Bool.{eq-eqb, and_parts}
+use Rattle.std.proofs.lemmas.Bool.{eq-eqb, and_parts, or_parts}
 use Rattle.std.proofs.lemmas.Bool.Decides.{nat_tests}
 use Rattle.std.proofs.lemmas.Cmp.{ranked}
 use Rattle.std.proofs.lemmas.List.Sorted.{IsPermutation-refl, IsPermutation-sym, IsPermutation-trans, IsPermutation-cons, IsPermutation-middle, IsPermutation-append_right, list_any-IsPermutation}
@@ -112,10 +112,6 @@ ascending_stay cells h = stay_from [] cells (sorted_rising cells (sorted_from_st
 abbrev has : List (ℕ × ℕ) → ℕ → Bool
 has cells a = list_any (λ c. c.0 == a) cells
 
-either : (a b : Bool) → (a || b) ≡ false → (a ≡ false) × (b ≡ false)
-either true b e = cc
-either false b e = (refl, e)
-
 one_more_step : (c e : ℕ × ℕ) (es put : List (ℕ × ℕ)) (r : Ordering) → MatchOrdering r (c.0 < e.0) (c.0 ≡ e.0) (e.0 < c.0) → (e.0 == c.0) ≡ false → IsPermutation (c ∷ es) put → IsPermutation (c ∷ (e ∷ es)) (match_ordering r (c ∷ (e ∷ es)) ((e.0, c.1) ∷ es) (e ∷ put))
 one_more_step c e es put Less m n p = IsPermutation-refl (c ∷ (e ∷ es))
 one_more_step c e es put Equal m n p = absurd (true≢false (sym (eq-eqb e.0 c.0 (sym m)) ∙ n))
@@ -127,7 +123,7 @@ one_more_step c e es put Greater m n p =
 one_more : (es : List (ℕ × ℕ)) (c : ℕ × ℕ) → has es c.0 ≡ false → IsPermutation (c ∷ es) (put_cell es c)
 one_more [] c h = IsPermutation-refl (c ∷ [])
 one_more (e ∷ es) c h =
-    let apart = either (e.0 == c.0) (has es c.0) h in
+    let apart = or_parts (e.0 == c.0) (has es c.0) h in
     one_more_step c e es (put_cell es c) (nat_cmp c.0 e.0) (ranked c.0 e.0 (nat_cmp c.0 e.0) refl) apart.0 (one_more es c apart.1)
 
 has_put : (es : List (ℕ × ℕ)) (c : ℕ × ℕ) (a : ℕ) → has es c.0 ≡ false → has (put_cell es c) a ≡ ((c.0 == a) || has es a)
@@ -166,7 +162,7 @@ rest_stands r x xs h =
     let first = and_parts (may_stand r x) ((not (is_end x) || is_empty xs) && in_order (after r x) xs) h in
     (first.0, (and_parts (not (is_end x) || is_empty xs) (in_order (after r x) xs) first.1).1)
 
-or_swap : (a b c : Bool) → (a || (b || c)) ≡ (b || (a || c))
+pub or_swap : (a b c : Bool) → (a || (b || c)) ≡ (b || (a || c))
 or_swap true true c = refl
 or_swap true false c = refl
 or_swap false true c = refl

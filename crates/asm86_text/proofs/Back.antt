@@ -2,6 +2,7 @@
 use Rattle.std.proofs.Common.{◌≡◌, ℕ, suc, ◌-◌, ◌||◌, ◌&&◌, List, [], ◌∷◌, ◌++◌, length, map, Bool, true, false, not, Ok, refl, sym, ap, ◌∙◌, append_assoc, arith, inl, inr}
 use Rattle.std.specs.List.{flat_map, AllByRecursion}
 use Rattle.std.proofs.Math.Seq.{take-append_seam, get_or-append_seam}
+use Rattle.std.proofs.lemmas.Bool.{or_parts}
 use Rattle.std.proofs.lemmas.List.{append-nil, length-append, map-append}
 use Rattle.asm86_lines.specs.declared.line.Line86.{Line86}
 use Rattle.asm86_lines.specs.declared.line.Stmt86.{Stmt86}
@@ -103,10 +104,6 @@ or_true : (b : Bool) → (b || true) ≡ true
 or_true true = refl
 or_true false = refl
 
-or_is_false : (a b : Bool) → (a || b) ≡ false → (a ≡ false) × (b ≡ false)
-or_is_false true b h = absurd cc
-or_is_false false b h = (refl, h)
-
 no_lines : (xs : List Line86) → statements xs ≡ [] → xs ≡ []
 no_lines [] e = refl
 no_lines (x ∷ xs) e = absurd cc
@@ -118,7 +115,7 @@ end_comes (y ∷ before) x e = rw (end_comes before x e) (or_true (is_end y.stmt
 
 none_comes : (before : List Line86) (x : Line86) → has_end before ≡ false → is_end x.stmt ≡ false → has_end (before ++ x ∷ []) ≡ false
 none_comes [] x h e = rw e refl
-none_comes (y ∷ before) x h e = let k = or_is_false (is_end y.stmt) (has_end before) h in rw k.0 (none_comes before x k.1 e)
+none_comes (y ∷ before) x h e = let k = or_parts (is_end y.stmt) (has_end before) h in rw k.0 (none_comes before x k.1 e)
 
 last_ends : (n : ℕ) (before xs : List Line86) (x : Line86) (line : List ℕ) (lines : List (List ℕ)) → xs ≡ [] → Adds before n line (before ++ x ∷ []) → is_end x.stmt ≡ true → LinesGive n before (line ∷ lines) (before ++ x ∷ xs) Ended
 last_ends n before xs x line lines q a e = rw q (ends a (end_comes before x e))

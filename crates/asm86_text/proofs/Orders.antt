@@ -5,6 +5,7 @@ use Rattle.std.specs.List.{list_any}
 use Rattle.base_addresses.specs.Addresses.{has_address}
 use Rattle.asm86_lines.specs.declared.line.Stmt86.{Stmt86}
 use Rattle.asm86_lines.specs.Order.{Reading, after, at_start, in_order, is_end, is_empty, may_stand}
+use Rattle.asm86_lines.proofs.Sorting.{or_swap}
 use Rattle.asm86_text.specs.declared.order.Order.{Order}
 use Rattle.asm86_text.specs.declared.order.Group.TheVariants.{Neither}
 use Rattle.asm86_text.specs.Place.{IsAt, after_all, IsAfter}
@@ -62,19 +63,13 @@ moved old new xs x h i p e = record {
 }
 
 -- a word's second cell is the one above its first
-swapped : (a b c : Bool) → (a || (b || c)) ≡ (b || (a || c))
-swapped true true c = refl
-swapped true false c = refl
-swapped false true c = refl
-swapped false false c = refl
-
 pub two_cells : (order : Order) (r : Reading) → IsAt order (record r { at = (r.at + 1) + 1; filled = (r.at + 1) ∷ (r.at ∷ r.filled) }) → IsAt order (record r { at = r.at + 2; filled = r.at ∷ ((r.at + 1) ∷ r.filled) })
 two_cells order r h = record {
   group = h.group;
   code_came = h.code_came;
   data_came = h.data_came;
   at = h.at ∙ ap (λ (k : ℕ). min k 0x10000) (omega arith);
-  filled = λ a lt. h.filled a lt ∙ swapped (r.at + 1 == a) (r.at == a) (list_any (λ (b : ℕ). b == a) r.filled);
+  filled = λ a lt. h.filled a lt ∙ or_swap (r.at + 1 == a) (r.at == a) (list_any (λ (b : ℕ). b == a) r.filled);
 }
 
 pub at_first : (order : Order) → order.group ≡ Neither → order.code_came ≡ false → order.data_came ≡ false → order.at ≡ 0 → order.is_ended ≡ false → ((a : ℕ) → has_address order.filled a ≡ false) → IsAfter order []

@@ -22,7 +22,8 @@ use Rattle.cmd_run.specs.Keeping.{is_kept, kept_name, Keeps, KeepStops, DiskAlon
 use Rattle.cmd_run.specs.Runs80.{IsLineOf}
 use Rattle.cmd_run.specs.Runs86.{fill_by}
 use Rattle.cmd_run.proofs.Leaving.{end_has_line}
-use Rattle.cmd_run.proofs.Kept.{same_alone, alone_behind, alone_kept, alone_lost, closes_files}
+use Rattle.cmd_reports.proofs.Said.{closes_files}
+use Rattle.cmd_run.proofs.Kept.{same_alone, alone_behind, alone_kept, alone_lost}
 use Rattle.cmd_reports.specs.Lines.{both_line}
 use Rattle.cmd_inputs.proofs.Told.{done_files}
 use Rattle.cmd_both.specs.Lasts.{EndsBy}

@@ -2,7 +2,7 @@
 use Rattle.std.proofs.Common.{◌≡◌, ℕ, inl, inr, ⊎_elim, List, refl, sym, ap, ◌∙◌, subst, arith}
 use Rattle.std.specs.List.{concat}
 use Rattle.std.proofs.lemmas.List.{take_all}
-use Rattle.host.specs.Host.{HostState, SameFiles, OnlyReads, SameFaults, Says, said_more}
+use Rattle.host.specs.Host.{HostState, OnlyReads, SameFaults, Says, said_more}
 use Rattle.asm80_program.specs.Program.{Program}
 use Rattle.asm80_source.specs.Source.{IsSource, SourceRule, IsNoSource, OfLine, OfProgram}
 use Rattle.cmd_words.specs.Words.{Flags}
@@ -27,10 +27,6 @@ pub stop_reads : (c : Flags) (old new : HostState) (stop : Stop) → Stops c old
 stop_reads c old new stop (unread only s) = only
 stop_reads c old new stop (refused bytes w only same s) = only
 stop_reads c old new _ (no_room only) = only
-
-pub closes_files : (stop : Stop) (old new : HostState) (status : ℕ) → Closes stop old new status → SameFiles old new
-closes_files stop old new status (said e s) = s.only.files
-closes_files stop old new status (unsaid n e s) = s.only.files
 
 -- a refusal is told by its line and its rule
 pub record IsRefusal (bytes : List ℕ) (top : ℕ) (stop : Stop) : Type 0 where

@@ -4,12 +4,12 @@ use Rattle.std.specs.Prelude.{Result, Ok, Err, OnOk, OnErr}
 use Rattle.std.proofs.lemmas.List.{take_all}
 use Rattle.host.specs.declared.HostFault.{HostFault}
 use Rattle.host.specs.declared.HostFault.TheVariants.{Failed, Memory}
-use Rattle.host.specs.Host.{HostState, Says, OnlySays, SameFaults, WriteFailed}
+use Rattle.host.specs.Host.{HostState, SameFiles, Says, OnlySays, SameFaults, WriteFailed}
 use Rattle.cmd_files.specs.Transfer.{CutsLine}
 use Rattle.cmd_reports.specs.declared.stop.Stop.{Stop}
 use Rattle.cmd_reports.specs.declared.stop.Stop.TheVariants.{SourceLine, SourceProgram, ReadFailed, WriteFailed as Unwritten, OutOfMemory, LeftProfile, StepLimit, NotShown, InputEnded, TextLine, ShortJump, NoInstruction, StackSegment, OddCall, BadDisk, NoDrive, CodeTooLarge, FileTooLong}
 use Rattle.cmd_reports.specs.Lines.{status_of, line_of}
-use Rattle.cmd_reports.specs.Said.{SaysLast, IsDone, whole, failed, no_memory, said_status, Closes, said}
+use Rattle.cmd_reports.specs.Said.{SaysLast, IsDone, whole, failed, no_memory, said_status, Closes, said, unsaid}
 
 -- what saying a line answers is what a last line says
 pub said_last : (line : List ℕ) (old new : HostState) (result : Result Unit HostFault) → OnlySays old new →
@@ -45,6 +45,11 @@ pub closed : (stop : Stop) (line : List ℕ) (old new : HostState) (status given
     SaysLast line old new → Closes stop old new status
 closed stop line old new status given is_line is_given is_status last =
     said (is_given ∙ is_status) (subst (λ l. SaysLast l old new) is_line last)
+
+-- what is said last changes no file
+pub closes_files : (stop : Stop) (old new : HostState) (status : ℕ) → Closes stop old new status → SameFiles old new
+closes_files stop old new status (said e s) = s.only.files
+closes_files stop old new status (unsaid n e s) = s.only.files
 
 -- the line of a stop is not empty
 pub line_some : (stop : Stop) → 0 < length (line_of stop)

@@ -7,6 +7,7 @@ use Rattle.asm86_lines.specs.declared.line.Line86.{Line86}
 use Rattle.asm86_lines.specs.declared.line.TextRule.{TextRule}
 use Rattle.asm86_lines.specs.Image.{Image, IsImage}
 use Rattle.asm86_text.specs.Stream.{TextGives}
+use Rattle.asm86_text.proofs.Outcomes.{same_lines, same_fault, no_lines}
 use Rattle.asm86_image.specs.declared.fault.ImageFault.{ImageFault}
 use Rattle.asm86_image.specs.declared.fault.ImageFault.TheVariants.{Line}
 use Rattle.asm86_image.specs.Refusals.{ImageRefused, OneImage, OneRefusal, NotBoth}
@@ -40,18 +41,6 @@ use Rattle.cmd_run.proofs.Disks.{DiskLaw, one_supply, disk_or_none, one_bad}
 -- what is known of texts
 abbrev pub OneReading : Type 0
 OneReading = (text : List ℕ) (a b : Result (List Line86) (ℕ × TextRule)) → TextGives text a → TextGives text b → a ≡ b
-
-abbrev Same : Result (List Line86) (ℕ × TextRule) → Result (List Line86) (ℕ × TextRule) → Type 0
-Same a b = a ≡ b
-
-same_lines : (a b : List Line86) → Same (Ok a) (Ok b) → a ≡ b
-same_lines a b e = cc
-
-same_fault : (a b : ℕ × TextRule) → Same (Err a) (Err b) → a ≡ b
-same_fault a b e = cc
-
-no_lines : (a : List Line86) (b : ℕ × TextRule) → Same (Ok a) (Err b) → ⊥
-no_lines a b e = cc
 
 abbrev line_fault : ℕ × TextRule → ImageFault
 line_fault p = Line p.0 p.1

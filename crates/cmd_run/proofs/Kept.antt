@@ -7,6 +7,7 @@ use Rattle.cmd_reports.specs.declared.stop.Stop.{Stop}
 use Rattle.cmd_reports.specs.declared.stop.Stop.TheVariants.{OutOfMemory}
 use Rattle.cmd_reports.specs.Lines.{ended_line}
 use Rattle.cmd_reports.specs.Said.{Closes, said, unsaid}
+use Rattle.cmd_reports.proofs.Said.{closes_files}
 use Rattle.cmd_inputs.specs.Files.{NoneFailed}
 use Rattle.cmd_inputs.proofs.Told.{done_files}
 use Rattle.cmd_run.specs.Keeping.{named_if, Keeps, WriteStops, no_memory, failed, host_memory, KeepStops, DiskAlone}
@@ -67,10 +68,6 @@ module _ (old run mid new : HostState) (none : NoneFailed old new) (same : SameF
   lost_by_memory (Some name) d stop s = by_write name d stop s
 
 -- ---- what is said last
-
-pub closes_files : (stop : Stop) (old new : HostState) (status : ℕ) → Closes stop old new status → SameFiles old new
-closes_files stop old new status (said e s) = s.only.files
-closes_files stop old new status (unsaid n e s) = s.only.files
 
 pub closes_writes : (stop : Stop) (old new : HostState) (status : ℕ) → Closes stop old new status → old.write_faults ≤ new.write_faults
 closes_writes stop old new status (said e s) = s.only.writes

@@ -6,6 +6,7 @@ use Rattle.asm86_lines.specs.declared.line.Line86.{Line86}
 use Rattle.asm86_lines.specs.declared.line.TextRule.{TextRule}
 use Rattle.asm86_lines.specs.Image.{Assembles, image_of}
 use Rattle.asm86_text.specs.Stream.{TextGives}
+use Rattle.asm86_text.proofs.Outcomes.{same_lines, same_fault, no_lines}
 use Rattle.asm86_image.specs.declared.fault.ImageFault.{ImageFault}
 use Rattle.asm86_image.specs.declared.fault.ImageFault.TheVariants.{Line}
 use Rattle.asm86_image.specs.Refusals.{ImageRefused, OneRefusal, NotBoth}
@@ -35,18 +36,6 @@ pub record Laws : Type 0 where
   pub refuses : OneRefusal
   pub not_both : NotBoth
   pub finding : OneFinding
-
-abbrev Same : Result (List Line86) (ℕ × TextRule) → Result (List Line86) (ℕ × TextRule) → Type 0
-Same a b = a ≡ b
-
-same_lines : (a b : List Line86) → Same (Ok a) (Ok b) → a ≡ b
-same_lines a b e = cc
-
-same_fault : (a b : ℕ × TextRule) → Same (Err a) (Err b) → a ≡ b
-same_fault a b e = cc
-
-no_lines : (a : List Line86) (b : ℕ × TextRule) → Same (Ok a) (Err b) → ⊥
-no_lines a b e = cc
 
 module _ (law : Laws) (c : Check) where
   -- a text that has an image has no fault

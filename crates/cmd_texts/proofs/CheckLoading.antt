@@ -1,7 +1,7 @@
 -- From what was read to why it is not checked.
 use Rattle.std.proofs.Common.{◌∙◌, ℕ, ◌<◌, inl, inr, ⊎_elim, List, length, refl, sym, ap, subst, arith}
 use Rattle.std.specs.Prelude.{Ok}
-use Rattle.host.specs.Host.{HostState, IsFile, HasRisen, OnlyReads, SameFaults, SameFiles}
+use Rattle.host.specs.Host.{HostState, IsFile, HasRisen, OnlyReads, SameFaults}
 use Rattle.host.proofs.HostLemmas.{OnlyReads-trans}
 use Rattle.cmd_files.specs.Transfer.{IsLonger}
 use Rattle.asm86_lines.specs.declared.line.Line86.{Line86}
@@ -12,7 +12,6 @@ use Rattle.asm80_source.specs.Source.{IsSource}
 use Rattle.cmd_words.specs.Words.{Check}
 use Rattle.cmd_reports.specs.declared.stop.Stop.{Stop}
 use Rattle.cmd_reports.specs.Lines.{shown_line}
-use Rattle.cmd_reports.specs.Said.{Closes, said, unsaid}
 use Rattle.cmd_inputs.specs.Files.{IsWhole, ReadStops, failed, too_long, no_memory, input_limit, text_limit}
 use Rattle.cmd_inputs.specs.Texts.{unread, refused as image_refused, stop_of_image, LinesStop, breaks}
 use Rattle.cmd_texts.specs.Checks.{ImageStops, Reads, Stops, no_source, no_text, refused, no_image, unlike, out_of_memory}
@@ -55,10 +54,6 @@ stop_reads c old new stop (refused source text r s) = r.only
 stop_reads c old new stop (no_image source text p fault r is n e) = r.only
 stop_reads c old new stop (unlike p lines l s) = l.reads.only
 stop_reads c old new _ (out_of_memory only) = only
-
-pub closes_files : (stop : Stop) (old new : HostState) (status : ℕ) → Closes stop old new status → SameFiles old new
-closes_files stop old new status (said e s) = s.only.files
-closes_files stop old new status (unsaid n e s) = s.only.files
 
 -- ---- the line is not empty
 

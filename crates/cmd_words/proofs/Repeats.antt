@@ -3,7 +3,7 @@ use Rattle.std.proofs.Common.{◌≡◌, List, [], ◌∷◌, Bool, true, false,
 use Rattle.std.specs.Prelude.{option_and_then}
 use Rattle.std.specs.Option.{is_some}
 use Rattle.std.specs.Str.{bytes_eq}
-use Rattle.std.proofs.lemmas.Bool.{false≢true}
+use Rattle.std.proofs.lemmas.Bool.{false≢true, or_right}
 use Rattle.clap.specs.Words.{Row}
 use Rattle.clap.specs.Walk.{has_row}
 use Rattle.cmd_words.specs.declared.table.CommandName.{CommandName}
@@ -160,10 +160,6 @@ of_gathered Plain items = refl
 
 named_takes : (c : CommandName) (w : Word) (o : OptionName) → named_among (options_of c) w ≡ Some o → takes_option c o ≡ true
 named_takes c w o e = ap (λ p. is_some p || is_some (named_among (flags_of c) (option_word o))) (sym (ap (named_among (options_of c)) (named_word (options_of c) w o e)) ∙ e)
-
-or_right : (a b : Bool) → b ≡ true → (a || b) ≡ true
-or_right true b e = refl
-or_right false b e = e
 
 flag_takes : (c : CommandName) (w : Word) (f : OptionName) → named_among (flags_of c) w ≡ Some f → takes_option c f ≡ true
 flag_takes c w f e = or_right (is_some (named_among (options_of c) (option_word f))) _ (ap is_some (sym (ap (named_among (flags_of c)) (named_word (flags_of c) w f e)) ∙ e))

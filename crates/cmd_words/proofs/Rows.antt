@@ -3,6 +3,7 @@ use Rattle.std.proofs.Common.{◌≡◌, List, [], ◌∷◌, ◌++◌, Bool, tr
 use Rattle.std.specs.Prelude.{find, option_copied, option_map, unwrap_or, slice_get}
 use Rattle.std.specs.Borrow.{Bor}
 use Rattle.std.specs.Str.{bytes_eq}
+use Rattle.std.proofs.lemmas.Bool.{or_parts}
 use Rattle.std.proofs.lemmas.Slice.Eq.{bytes_eq-Decides}
 use Rattle.clap.specs.Words.{Row, Text, all_of, first_of, first_value, matched_of, one_of, one_text, raw_values, rows_of, read_as}
 use Rattle.clap.specs.Walk.{with_values, without, has_row}
@@ -65,28 +66,24 @@ rows_more id other how s values (r ∷ rs) = go _ refl (rows_more id other how s
     go true e rest = rw e (ap (λ n. bytes_eq n other || has_row other rs) (eq_of r.id id e) ∙ or_again (bytes_eq id other) (has_row other rs) ∙ ap (λ n. bytes_eq id other || (bytes_eq n other || has_row other rs)) (sym (eq_of r.id id e)))
     go false e rest = rw e (ap (λ b. bytes_eq r.id other || b) rest ∙ or_turn (bytes_eq r.id other) (bytes_eq id other) (has_row other rs))
 
-pub neither : (a b : Bool) → (a || b) ≡ false → (a ≡ false) × (b ≡ false)
-neither true b e = cc
-neither false b e = (refl, e)
-
 -- where an id has no row, none is taken away
 pub none_without : (id : Text) (rows : List Row) → has_row id rows ≡ false → without id rows ≡ rows
 none_without id [] none = refl
 none_without id (r ∷ rs) none =
-    let parts = neither (bytes_eq r.id id) (has_row id rs) none in
+    let parts = or_parts (bytes_eq r.id id) (has_row id rs) none in
     rw parts.0 (ap (λ xs. r ∷ xs) (none_without id rs parts.1))
 
 pub none_first : (id : Text) (rows : List Row) → has_row id rows ≡ false → first_of id rows ≡ None
 none_first id [] none = refl
 none_first id (r ∷ rs) none =
-    let parts = neither (bytes_eq r.id id) (has_row id rs) none in
+    let parts = or_parts (bytes_eq r.id id) (has_row id rs) none in
     rw parts.0 (none_first id rs parts.1)
 
 -- the first use of an id is what is read of it
 pub first_use : (id : Text) (how : Reading) (s : ValueSource) (text : Text) (rows : List Row) → has_row id rows ≡ false → first_of id (with_values id how s (text ∷ []) rows) ≡ Some text
 first_use id how s text [] none = rw (self_eq id) refl
 first_use id how s text (r ∷ rs) none =
-    let parts = neither (bytes_eq r.id id) (has_row id rs) none in
+    let parts = or_parts (bytes_eq r.id id) (has_row id rs) none in
     rw (parts.0, parts.0) (first_use id how s text rs parts.1)
 
 true_read : (how : Reading) → read_as how (codes "true") ≡ codes "true"

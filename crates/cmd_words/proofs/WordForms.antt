@@ -3,13 +3,12 @@ use Rattle.std.proofs.Common.{◌≡◌, ℕ, List, [], ◌∷◌, Bool, true, f
 use Rattle.std.specs.Prelude.{nat_lt}
 use Rattle.std.specs.List.{before_first, after_first, position_or_len}
 use Rattle.std.specs.Str.{bytes_eq}
-use Rattle.std.proofs.lemmas.Bool.{cases_lt, lt-ltb, le-ltb, eqb-true}
+use Rattle.std.proofs.lemmas.Bool.{cases_lt, lt-ltb, le-ltb, eqb-true, or_parts}
 use Rattle.clap.specs.Lexer.{has_byte}
 use Rattle.cmd_words.specs.Table.{Word}
 use Rattle.cmd_words.specs.Items.{mark}
 use Rattle.cmd_words.specs.Asked.{has_short, is_short}
 use Rattle.cmd_words.proofs.FirstItem.{is_equals, has_equals}
-use Rattle.cmd_words.proofs.Rows.{neither}
 use Rattle.cmd_words.proofs.Turns.{IsPlainWord}
 use Rattle.cmd_words.proofs.LongTurns.{double}
 
@@ -41,7 +40,7 @@ form_of (b ∷ ds) = by_first b ds (b == 0x2D) refl
 
 -- no word of one hyphen stands first, nor behind
 pub short_absent : (x : Word) (ws : List Word) → bytes_eq x mark ≡ false → has_short (x ∷ ws) ≡ false → (is_short x ≡ false) × (has_short ws ≡ false)
-short_absent x ws other none = neither (is_short x) (has_short ws) (rw other at none)
+short_absent x ws other none = or_parts (is_short x) (has_short ws) (rw other at none)
 
 -- ---- the first `=`
 
@@ -84,5 +83,5 @@ after_in_double z zs =
 pub whole_before : (b : List ℕ) → has_byte 0x3D b ≡ false → before_first (λ x. x == 0x3D) b ≡ b
 whole_before [] none = refl
 whole_before (y ∷ ys) none =
-    let parts = neither (y == 0x3D) (has_byte 0x3D ys) none in
+    let parts = or_parts (y == 0x3D) (has_byte 0x3D ys) none in
     rw parts.0 (take_more (position_or_len (λ x. x == 0x3D) ys) y ys ∙ ap (λ xs. y ∷ xs) (whole_before ys parts.1))

@@ -1,23 +1,16 @@
 -- The cells past 64K at the start: closed, and of none is anything known.
-use Rattle.std.proofs.Common.{◌≡◌, ℕ, ◌-◌, ◌<◌, ◌≤◌, ◌==◌, ◌+◌, List, [], ◌∷◌, ◌++◌, length, get_or, refl, ap, ◌∙◌, arith, true, false, cond, below_more, length-append, Some, None}
+use Rattle.std.proofs.Common.{◌≡◌, ℕ, ◌-◌, ◌<◌, ◌≤◌, ◌+◌, List, [], ◌∷◌, ◌++◌, length, get_or, ap, ◌∙◌, arith, true, below_more, length-append, None}
 use Rattle.std.proofs.lemmas.Bool.Decides.{nat_tests}
 use Rattle.std.proofs.lemmas.List.{get_or_append_left, get_or_push}
 use Rattle.cells.specs.declared.Cell.{Cell}
 use Rattle.cells.specs.declared.Cell.TheVariants.{Junk}
-use Rattle.asm80_program.specs.declared.program.Placed.{Placed}
-use Rattle.asm80_program.specs.Program.{Program, IsProgram, CellsAreLaid, cell_in, cell_at}
+use Rattle.asm80_program.specs.Program.{Program, IsProgram, cell_at}
+use Rattle.asm80_program.proofs.CellSearch.{no_cell}
 use Rattle.cpu80_steps.specs.Memory.{is_closed}
 use Rattle.cpu80_steps.specs.Start.{start_cell80, cell_or_junk}
 
 pub closed_past : (p : Program) (a : ℕ) → p.top ≤ a → is_closed p a ≡ true
 closed_past p a h = grind (arith, nat_tests)
-
-no_cell : (instrs : List Placed) (from limit a : ℕ) (cs : List (ℕ × Cell)) → CellsAreLaid instrs from limit cs → limit ≤ a → cell_in cs a ≡ None
-no_cell instrs from limit a [] h le = refl
-no_cell instrs from limit a (c ∷ cs) h le =
-    let lt : c.0 < limit = h.1 in
-    let ne : (c.0 == a) ≡ false = grind (arith, nat_tests) in
-    ap (λ b. cond b (Some c.1) (cell_in cs a)) ne ∙ no_cell instrs (c.0 + 1) limit a cs h.3 le
 
 pub start_past : (p : Program) (page : List ℕ) (a : ℕ) → IsProgram p → p.top ≤ 0xFF00 → 0x10000 ≤ a → start_cell80 p page a ≡ Junk
 start_past p page a h top le =

@@ -1,6 +1,7 @@
 -- Calls of a machine are turns of its run, whatever replies come later.
 use Rattle.std.proofs.Common.{◌≡◌, ℕ, suc, ◌+◌, Bool, true, false, cond, List, [], ◌∷◌, ◌++◌, Option, Some, None, refl, sym, ap, ◌∙◌, subst, arith, append_assoc}
 use Rattle.std.proofs.lemmas.List.{append-nil}
+use Rattle.std.proofs.lemmas.Option.{same_Some}
 use Rattle.dialogue.specs.declared.request.Reply.{Reply}
 use Rattle.dialogue.specs.declared.request.Event.{Event}
 use Rattle.dialogue.specs.declared.request.Event.TheVariants.{Call, In, Out, End}
@@ -49,9 +50,6 @@ taken p e o b y choice s z h g = taken_from p e (fits_event e y) b y choice s z 
 -- a run as it stands
 abbrev at_run : ByteState → Status Stop → List Event → List Reply → ℕ → Run ByteState Stop
 at_run s status d ys u = record { state = s; status = status; dialogue = d; replies = ys; used = u }
-
-same_event : (o : Option Event) (e e' : Event) → o ≡ Some e → o ≡ Some e' → e ≡ e'
-same_event o e e' h g = cc
 
 module _ (p : Program) (cs : List ℕ) (s0 : ByteState) where
   abbrev run_at : List Reply → ℕ → Run ByteState Stop
@@ -103,7 +101,7 @@ module _ (p : Program) (cs : List ℕ) (s0 : ByteState) where
           said,
           λ rest.
               turn_from (ys ++ rest) rest n u x.state d (Asks t.0 y.state) (b.1 rest) t.1.0
-              ∙ ap (λ (v : Event). take_reply (byte_machine p) cs (at_run y.state Going (d ++ v ∷ []) rest (suc u)) v rest) (same_event y.said t.0 e t.1.1 said),
+              ∙ ap (λ (v : Event). take_reply (byte_machine p) cs (at_run y.state Going (d ++ v ∷ []) rest (suc u)) v rest) (same_Some t.0 e (sym t.1.1 ∙ said)),
         ),
       )
   stands _ _ _ _ _ _ (took d ys n u x y reply before is) =

@@ -1,19 +1,11 @@
 -- Memory at the start, which is filled in order.
-use Rattle.std.proofs.Common.{◌≡◌, ℕ, ◌-◌, ◌<◌, ◌≤◌, ◌==◌, ◌+◌, List, [], ◌∷◌, ◌++◌, length, get_or, refl, ap, ◌∙◌, sym, arith, Bool, true, false, cond, below_more, length-append, Some, None, nat_lt}
+use Rattle.std.proofs.Common.{◌≡◌, ℕ, ◌-◌, ◌<◌, ◌≤◌, ◌+◌, List, [], ◌∷◌, ◌++◌, length, get_or, refl, ap, ◌∙◌, sym, arith, Bool, true, false, below_more, length-append, None, nat_lt}
 use mathlib.Core.Path.{fun_ext}
 use Rattle.std.proofs.lemmas.Bool.Decides.{nat_tests}
 use Rattle.std.proofs.lemmas.List.{get_or_append_left, get_or_push, get_or_past}
-use Rattle.cells.specs.declared.Cell.{Cell}
-use Rattle.asm80_program.specs.declared.program.Placed.{Placed}
-use Rattle.asm80_program.specs.Program.{Program, IsProgram, CellsAreLaid, cell_in, cell_at}
+use Rattle.asm80_program.specs.Program.{Program, IsProgram, cell_at}
+use Rattle.asm80_program.proofs.CellSearch.{no_cell}
 use Rattle.cpu80_bytes.specs.Start.{datum_or, start_byte}
-
-no_cell : (instrs : List Placed) (from limit a : ℕ) (cs : List (ℕ × Cell)) → CellsAreLaid instrs from limit cs → limit ≤ a → cell_in cs a ≡ None
-no_cell instrs from limit a [] h le = refl
-no_cell instrs from limit a (c ∷ cs) h le =
-    let lt : c.0 < limit = h.1 in
-    let ne : (c.0 == a) ≡ false = grind (arith, nat_tests) in
-    ap (λ b. cond b (Some c.1) (cell_in cs a)) ne ∙ no_cell instrs (c.0 + 1) limit a cs h.3 le
 
 -- past 64K there are zeros
 start_past : (p : Program) (page fill : List ℕ) (a : ℕ) → IsProgram p → p.top ≤ 0xFF00 → length fill ≡ 0x10000 → 0x10000 ≤ a → start_byte p page fill a ≡ 0

@@ -1,6 +1,7 @@
 -- Calls of a machine are turns of its run, whatever replies come later.
 use Rattle.std.proofs.Common.{◌≡◌, ℕ, suc, ◌+◌, Bool, true, false, cond, List, [], ◌∷◌, ◌++◌, Option, Some, None, refl, sym, ap, ◌∙◌, subst, arith, append_assoc}
 use Rattle.std.proofs.lemmas.List.{append-nil}
+use Rattle.std.proofs.lemmas.Option.{same_Some}
 use Rattle.i86.specs.declared.Instr86.{Instr86}
 use Rattle.dialogue.specs.declared.request.Reply.{Reply}
 use Rattle.dialogue.specs.declared.request.Event.{Event}
@@ -26,9 +27,6 @@ stop_told : (a : Answer State86 Stop) (why : Stop) (s : State86) (y : Standing) 
 stop_told a (NoInstruction ip) s y h = h
 stop_told a (StackSegment ip) s y h = h
 stop_told a (OddCall function) s y h = h
-
-same_event : (o : Option Event) (e e' : Event) → o ≡ Some e → o ≡ Some e' → e ≡ e'
-same_event o e e' h g = cc
 
 module _ (fetch : ℕ → Option Instr86) (cs : List ℕ) (s0 : State86) where
   abbrev run_at : List Reply → ℕ → Run State86 Stop
@@ -80,7 +78,7 @@ module _ (fetch : ℕ → Option Instr86) (cs : List ℕ) (s0 : State86) where
           said,
           λ rest.
               turn_from (ys ++ rest) rest n u x.state d (Asks t.0 y.state) (b.1 rest) t.1.0
-              ∙ ap (λ (v : Event). take_reply (machine86 fetch) cs (at_run y.state Going (d ++ v ∷ []) rest (suc u)) v rest) (same_event y.said t.0 e t.1.1 said),
+              ∙ ap (λ (v : Event). take_reply (machine86 fetch) cs (at_run y.state Going (d ++ v ∷ []) rest (suc u)) v rest) (same_Some t.0 e (sym t.1.1 ∙ said)),
         ),
       )
   stands _ _ _ _ _ _ (took d ys n u x y reply before is) =

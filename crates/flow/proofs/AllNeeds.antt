@@ -1,6 +1,6 @@
 -- What is needed at each place is a set of parts.
-use Rattle.std.proofs.Common.{◌≡◌, ◌⊎◌, inl, inr, ℕ, Bool, true, false, List, length, Option, Some, None, refl, subst, arith}
-use Rattle.std.specs.Prelude.{is_some, IsTrue, ◌==◌}
+use Rattle.std.proofs.Common.{◌≡◌, ◌⊎◌, inl, inr, ℕ, Bool, true, false, List, length, Option, None, refl, subst, arith}
+use Rattle.std.specs.Prelude.{IsTrue, ◌==◌}
 use Rattle.std.specs.List.{Contains}
 use Rattle.std.proofs.lemmas.Bool.{eqb-true}
 use Rattle.cells.specs.declared.Part.{Part}
@@ -8,8 +8,8 @@ use Rattle.cells.specs.declared.Part.TheVariants.{A, B, C, D, E, H, L, S, Z, Ac,
 use Rattle.cells.specs.Parts.{Parts, nothing, has}
 use Rattle.i80.specs.declared.Instr80.{Instr80}
 use Rattle.i80.specs.Columns.{uses80}
-use Rattle.asm80_program.specs.declared.program.Placed.{Placed}
-use Rattle.asm80_program.specs.Program.{Program, placed_in, instr_of_placed, instr_at, is_start, starts}
+use Rattle.asm80_program.specs.Program.{Program, placed_in, instr_at, is_start, starts}
+use Rattle.asm80_program.proofs.Standing.{no_instr}
 use Rattle.flow.specs.declared.node.Node.{Node}
 use Rattle.flow.specs.declared.node.Node.TheVariants.{Start, Return}
 use Rattle.flow.specs.declared.search.Vertex.{Vertex}
@@ -35,10 +35,6 @@ nothing_has Z = refl
 nothing_has Ac = refl
 nothing_has P = refl
 nothing_has Cy = refl
-
-no_instr : (o : Option Placed) → is_some o ≡ false → instr_of_placed o ≡ None
-no_instr None h = refl
-no_instr (Some x) h = absurd (cc)
 
 no_need : (p : Program) (a : ℕ) (x : Part) → instr_at p a ≡ None → (has (uses_at p (Start a)) x ≡ true) ⊎ ((r : Node) × IsEdge p (Start a) r × (has (defines_at p (Start a)) x ≡ false) × Need p r x) → ⊥
 no_need p a x e (inl u) =

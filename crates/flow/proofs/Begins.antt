@@ -9,6 +9,7 @@ use Rattle.i80.specs.declared.Instr80.TheVariants.{Nop}
 use Rattle.i80.specs.Columns.{uses80, defs80}
 use Rattle.asm80_program.specs.declared.program.Placed.{Placed}
 use Rattle.asm80_program.specs.Program.{Program, IsProgram}
+use Rattle.asm80_program.proofs.Lookup.{length-starts}
 use Rattle.flow.specs.declared.node.Node.TheVariants.{Return}
 use Rattle.flow.specs.declared.search.Vertex.{Vertex}
 use Rattle.flow.specs.Begin.{vertex_placed, vertex_return, first_vertices}
@@ -16,7 +17,6 @@ use Rattle.flow.specs.Graph.{nodes}
 use Rattle.flow.specs.Need.{uses_at, defines_at, parts_of}
 use Rattle.flow.specs.Search.{vertex, no_vertex, node_at, row, AreOf, IsPassedOn, IsQueue}
 use Rattle.flow.specs.Wiring.{IsWired}
-use Rattle.flow.proofs.Laid.{length-starts}
 use Rattle.flow.proofs.Needs.{need_here}
 use Rattle.flow.proofs.Numbers.{length-nodes, node_at-return}
 use Rattle.flow.proofs.Queue.{one_if}

@@ -12,10 +12,11 @@ use Rattle.i80.specs.Columns.{length80, ends80}
 use Rattle.asm80_program.specs.declared.program.Placed.{Placed}
 use Rattle.asm80_program.specs.Program.{Program, IsProgram, instr_at, is_start}
 use Rattle.asm80_program.specs.Taken.{taken}
+use Rattle.asm80_program.proofs.Lookup.{above-laid, rising-laid}
 use Rattle.flow.specs.Blocks.{is_cut, is_entered, cut_from, extent, blocks, leader_of, count_in, block_at, end_of, target_of, targets, place_after, IsBlockOf, IsLeader, IsStraight, IsBehindNone, BlocksCut, Cause, First, Target, Taken, BehindEnd, BehindNone, BehindSixteen}
 use Rattle.flow.proofs.Cuts.{flat-cut, offset, block, within_flat, at_flat, Located, locate, one_location, joined_block, uncut_inside, sized_block, leader-first, next_block, ended_block, offset-zero}
 use Rattle.flow.proofs.Entries.{target_named, entered_target, entered_taken, cut_entered, cut_ended, cut_apart, target_among, contained}
-use Rattle.flow.proofs.Laid.{above, rising, strictly, length80-positive, behind_each, one_place, next_place, found_start, at_place}
+use Rattle.flow.proofs.Laid.{strictly, length80-positive, behind_each, one_place, next_place, found_start, at_place}
 use Rattle.flow.proofs.Straight.{straight, after_some, after_end}
 use Rattle.flow.proofs.Wires.{placed_at, named_start, instr_among, taken_are}
 
@@ -172,8 +173,8 @@ module _ (p : Program) (is : IsProgram p) where
   first_at =
       let at = found_start p.instrs 0x100 is.first in
       let some : 0 < length p.instrs = omega (arith, at.1) in
-      let low = above p.instrs 0x100 (p.top - 2) 0 is.instrs some in
-      let high = rising p.instrs 0x100 (p.top - 2) 0 at.0 is.instrs (omega arith) at.1 in
+      let low = above-laid p.instrs 0x100 (p.top - 2) 0 is.instrs some in
+      let high = rising-laid p.instrs 0x100 (p.top - 2) 0 at.0 is.instrs (omega arith) at.1 in
       (some, omega (arith, low, high, at.2, at_place p.instrs 0 no_placed some))
 
   first : IsLeader p 0x100
@@ -265,10 +266,10 @@ module _ (p : Program) (is : IsProgram p) where
       (λ before.
       let next = behind_each p.instrs 0x100 (p.top - 2) at.0 no_placed is.instrs (omega (arith, before, lt)) in
       let later = strictly p.instrs 0x100 (p.top - 2) h (suc h) no_placed is.instrs (omega arith) lt in
-      let between = rising p.instrs 0x100 (p.top - 2) (suc at.0) h is.instrs before (omega (arith, lt)) in
+      let between = rising-laid p.instrs 0x100 (p.top - 2) (suc at.0) h is.instrs before (omega (arith, lt)) in
       omega (arith, next, later, between, place, start))
       (λ ge. ⊎_elim
-      (λ past. omega (arith, strictly p.instrs 0x100 (p.top - 2) h at.0 no_placed is.instrs past at.1, rising p.instrs 0x100 (p.top - 2) (suc h) at.0 is.instrs past at.1, place, start, here', longer))
+      (λ past. omega (arith, strictly p.instrs 0x100 (p.top - 2) h at.0 no_placed is.instrs past at.1, rising-laid p.instrs 0x100 (p.top - 2) (suc h) at.0 is.instrs past at.1, place, start, here', longer))
       (λ le. let same : at.0 ≡ h = omega (arith, ge, le) in apart (ap (λ g. end_of (placed p g)) (sym same) ∙ place))
       (cases_lt h at.0))
       (cases_lt at.0 h)

@@ -2,37 +2,25 @@
 use Rattle.std.proofs.Common.{◌≡◌, ℕ, zero, suc, ◌+◌, ◌<◌, ◌≤◌, Bool, true, false, eqb, List, [], ◌∷◌, length, get_or, Some, refl, ⊎_elim, arith}
 use Rattle.std.specs.Prelude.{is_some}
 use Rattle.std.proofs.lemmas.Bool.{eqb-true, eq-eqb, ne_eqb, cases_lt}
-use Rattle.std.proofs.lemmas.List.{length-map, get_or-map}
+use Rattle.std.proofs.lemmas.List.{get_or-map}
 use Rattle.i80.specs.declared.Instr80.{Instr80}
 use Rattle.i80.specs.declared.Instr80.TheVariants.{Nop}
 use Rattle.i80.specs.Columns.{length80}
 use Rattle.asm80_program.specs.declared.program.Placed.{Placed}
 use Rattle.asm80_program.specs.Program.{AreLaid, starts_of, placed_in}
+use Rattle.asm80_program.proofs.Lookup.{above-laid, rising-laid}
 use Rattle.flow.specs.Blocks.{end_of}
 
 pub length80-positive : (i : Instr80) → 1 ≤ length80 i
 length80-positive Nop = omega arith
 length80-positive i = omega arith
 
--- the addresses rise
-pub above : (xs : List Placed) (from limit j : ℕ) → AreLaid from limit xs → j < length xs → from ≤ get_or (starts_of xs) j 0
-above [] from limit j laid lt = absurd (omega arith)
-above (x ∷ xs) from limit zero laid lt = laid.0
-above (x ∷ xs) from limit (suc j) laid lt = omega (arith, laid.0, above xs (x.at + length80 x.instr) limit j laid.3 (omega arith))
-
-pub rising : (xs : List Placed) (from limit i j : ℕ) → AreLaid from limit xs → i ≤ j → j < length xs → get_or (starts_of xs) i 0 ≤ get_or (starts_of xs) j 0
-rising [] from limit i j laid le lt = absurd (omega arith)
-rising (x ∷ xs) from limit zero zero laid le lt = omega arith
-rising (x ∷ xs) from limit zero (suc j) laid le lt = omega (arith, above xs (x.at + length80 x.instr) limit j laid.3 (omega arith))
-rising (x ∷ xs) from limit (suc i) zero laid le lt = absurd (omega arith)
-rising (x ∷ xs) from limit (suc i) (suc j) laid le lt = rising xs (x.at + length80 x.instr) limit i j laid.3 (omega arith) (omega arith)
-
 -- an instruction is found at its address
 pub found_here : (xs : List Placed) (from limit k : ℕ) (d : Placed) → AreLaid from limit xs → k < length xs → placed_in xs (get_or xs k d).at ≡ Some (get_or xs k d)
 found_here [] from limit k d laid lt = absurd (omega arith)
 found_here (x ∷ xs) from limit zero d laid lt = let same : eqb x.at x.at ≡ true = eq-eqb x.at x.at refl in rw same
 found_here (x ∷ xs) from limit (suc k) d laid lt =
-    let past : x.at + length80 x.instr ≤ get_or (starts_of xs) k 0 = above xs (x.at + length80 x.instr) limit k laid.3 (omega arith) in
+    let past : x.at + length80 x.instr ≤ get_or (starts_of xs) k 0 = above-laid xs (x.at + length80 x.instr) limit k laid.3 (omega arith) in
     let at : get_or (starts_of xs) k 0 ≡ (get_or xs k d).at = get_or-map (λ (y : Placed). y.at) xs k d 0 (omega arith) in
     let longer : 1 ≤ length80 x.instr = length80-positive x.instr in
     let differs : eqb x.at (get_or xs k d).at ≡ false = ne_eqb x.at (get_or xs k d).at (λ same. omega arith) in
@@ -59,13 +47,10 @@ pub found_start : (xs : List Placed) (a : ℕ) → is_some (placed_in xs a) ≡ 
 found_start [] a h = absurd (cc)
 found_start (x ∷ xs) a h = found_step x xs a (eqb x.at a) refl (found_start xs a) h
 
-pub length-starts : (xs : List Placed) → length (starts_of xs) ≡ length xs
-length-starts xs = length-map xs (λ (x : Placed). x.at)
-
 -- each starts behind the end of the one before
 pub behind_each : (xs : List Placed) (from limit k : ℕ) (d : Placed) → AreLaid from limit xs → suc k < length xs → end_of (get_or xs k d) ≤ get_or (starts_of xs) (suc k) 0
 behind_each [] from limit k d laid lt = absurd (omega arith)
-behind_each (x ∷ xs) from limit zero d laid lt = above xs (x.at + length80 x.instr) limit 0 laid.3 (omega arith)
+behind_each (x ∷ xs) from limit zero d laid lt = above-laid xs (x.at + length80 x.instr) limit 0 laid.3 (omega arith)
 behind_each (x ∷ xs) from limit (suc k) d laid lt = behind_each xs (x.at + length80 x.instr) limit k d laid.3 (omega arith)
 
 pub at_place : (xs : List Placed) (k : ℕ) (d : Placed) → k < length xs → get_or (starts_of xs) k 0 ≡ (get_or xs k d).at
@@ -74,7 +59,7 @@ at_place xs k d lt = get_or-map (λ (x : Placed). x.at) xs k d 0 lt
 pub strictly : (xs : List Placed) (from limit i j : ℕ) (d : Placed) → AreLaid from limit xs → i < j → j < length xs → get_or (starts_of xs) i 0 < get_or (starts_of xs) j 0
 strictly xs from limit i j d laid lt within =
     let next = behind_each xs from limit i d laid (omega (arith, lt, within)) in
-    let later = rising xs from limit (suc i) j laid lt within in
+    let later = rising-laid xs from limit (suc i) j laid lt within in
     omega (arith, next, later, at_place xs i d (omega (arith, lt, within)), length80-positive (get_or xs i d).instr)
 
 -- no two start at one address
@@ -91,6 +76,6 @@ next_place xs from limit k d laid lt start =
     let at = found_start xs (end_of (get_or xs k d)) start in
     let here = at_place xs k d lt in
     let longer = length80-positive (get_or xs k d).instr in
-    let past : k < at.0 = ⊎_elim (λ h. h) (λ le. absurd (omega (arith, rising xs from limit at.0 k laid le lt, at.2, here, longer))) (cases_lt k at.0) in
+    let past : k < at.0 = ⊎_elim (λ h. h) (λ le. absurd (omega (arith, rising-laid xs from limit at.0 k laid le lt, at.2, here, longer))) (cases_lt k at.0) in
     let within : suc k < length xs = omega (arith, past, at.1) in
-    (within, omega (arith, behind_each xs from limit k d laid within, rising xs from limit (suc k) at.0 laid past at.1, at.2))
+    (within, omega (arith, behind_each xs from limit k d laid within, rising-laid xs from limit (suc k) at.0 laid past at.1, at.2))

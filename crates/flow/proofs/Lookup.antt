@@ -6,10 +6,11 @@ use Rattle.std.proofs.lemmas.Bool.{cases_lt, eqb-true}
 use Rattle.std.proofs.lemmas.List.{length-map, get_or-map}
 use Rattle.std.proofs.lemmas.List.Sorted.{searched}
 use Rattle.asm80_program.specs.Program.{Program, IsProgram}
+use Rattle.asm80_program.proofs.Lookup.{rising-laid}
 use Rattle.flow.specs.Blocks.{extent, blocks, leaders, leader_of, count_in, block_at}
 use Rattle.flow.proofs.Cuts.{offset, offset-rises, block}
 use Rattle.flow.proofs.Extents.{cut, no_placed, leader_placed, block_found}
-use Rattle.flow.proofs.Laid.{rising, at_place}
+use Rattle.flow.proofs.Laid.{at_place}
 
 length-leaders : (p : Program) → length (leaders p) ≡ length (cut p)
 length-leaders p = length-map (blocks p) (λ (b : ℕ × ℕ). b.0) ∙ length-map (cut p) extent
@@ -26,7 +27,7 @@ leaders_rise p is i j le lt =
     let lti : i < length (cut p) = omega (arith, ltj, le) in
     let x = leader_placed p is i lti in
     let y = leader_placed p is j ltj in
-    let higher = rising p.instrs 0x100 (p.top - 2) (offset (cut p) i) (offset (cut p) j) is.instrs (offset-rises (cut p) i j le) y.0 in
+    let higher = rising-laid p.instrs 0x100 (p.top - 2) (offset (cut p) i) (offset (cut p) j) is.instrs (offset-rises (cut p) i j le) y.0 in
     omega (arith, higher, leader_at p i lti, leader_at p j ltj, x.1, y.1, at_place p.instrs (offset (cut p) i) no_placed x.0, at_place p.instrs (offset (cut p) j) no_placed y.0)
 
 count_step : (b : ℕ × ℕ) (bs : List (ℕ × ℕ)) (a : ℕ) (t : Bool) → eqb b.0 a ≡ t → (b.0 ≡ a → ⊥) → count_in bs a ≡ None → count_in (b ∷ bs) a ≡ None

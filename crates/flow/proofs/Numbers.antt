@@ -9,12 +9,12 @@ use Rattle.std.proofs.lemmas.List.{length-map, get_or-map, get_or_append_left, g
 use Rattle.std.proofs.lemmas.List.Elements.{Contains-push_cases}
 use Rattle.std.proofs.lemmas.List.Sorted.{searched}
 use Rattle.asm80_program.specs.Program.{Program, IsProgram, starts}
+use Rattle.asm80_program.proofs.Lookup.{rising-laid, length-starts}
 use Rattle.flow.specs.declared.node.Node.{Node}
 use Rattle.flow.specs.declared.node.Node.TheVariants.{Start, Return}
 use Rattle.flow.specs.Graph.{nodes}
 use Rattle.flow.specs.Search.{node_at}
 use Rattle.flow.specs.Wiring.{IsNumber}
-use Rattle.flow.proofs.Laid.{rising, length-starts}
 
 abbrev pub start_nodes : List ℕ → List Node
 start_nodes xs = map (λ (a : ℕ). Start a) xs
@@ -56,7 +56,7 @@ pub number_searched : (p : Program) → IsProgram p → (a : ℕ) (r : Result �
 number_searched p is a r found = by_result r (searched (starts p) a r found rises)
   where
     rises : (i j : ℕ) → i ≤ j → j < length (starts p) → get_or (starts p) i 0 ≤ get_or (starts p) j 0
-    rises i j le lt = rising p.instrs 0x100 _ i j is.instrs le (omega (arith, lt, length-starts p.instrs))
+    rises i j le lt = rising-laid p.instrs 0x100 _ i j is.instrs le (omega (arith, lt, length-starts p.instrs))
 
     by_result : (r : Result ℕ ℕ) → MatchResult r (λ i. (i < length (starts p)) × (get_or (starts p) i 0 ≡ a)) (λ i. (i ≤ length (starts p)) × ((k : ℕ) → k < i → get_or (starts p) k 0 < a) × ((k : ℕ) → i ≤ k → k < length (starts p) → a < get_or (starts p) k 0)) → MatchOption (result_ok r) (Contains (nodes p) (Start a) → ⊥) (λ k. IsNumber p k (Start a))
     by_result (Ok k) h = number_of_start p k a h.0 h.1

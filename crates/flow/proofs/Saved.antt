@@ -1,14 +1,13 @@
 -- The flags that have to be saved.
-use Rattle.std.proofs.Common.{◌≡◌, ℕ, ◌+◌, false, ◌&&◌, Option, Some, None, refl, sym, ap, subst, ◌∙◌, ⊎_elim, arith}
-use Rattle.std.specs.Prelude.{is_some}
+use Rattle.std.proofs.Common.{◌≡◌, ℕ, ◌+◌, false, ◌&&◌, Some, None, sym, ap, subst, ◌∙◌, ⊎_elim, arith}
 use Rattle.std.specs.List.{Contains}
 use Rattle.std.proofs.lemmas.Bool.{and_parts, and_from, both_ways}
 use Rattle.cells.specs.declared.Part.{Part}
 use Rattle.cells.specs.Parts.{Parts, nothing, has}
 use Rattle.i80.specs.declared.Instr80.{Instr80}
 use Rattle.i80.specs.Columns.{length80, uses80}
-use Rattle.asm80_program.specs.declared.program.Placed.{Placed}
-use Rattle.asm80_program.specs.Program.{Program, instr_at, instr_of_placed, placed_in, is_start}
+use Rattle.asm80_program.specs.Program.{Program, instr_at, placed_in, is_start}
+use Rattle.asm80_program.proofs.Standing.{no_instr}
 use Rattle.flow.specs.declared.node.Node.TheVariants.{Start}
 use Rattle.flow.specs.Blocks.{behind}
 use Rattle.flow.specs.Graph.{edges_at}
@@ -24,10 +23,6 @@ saves_some p a i need kept here needs is x =
       λ h. let both = and_parts (has need x) (is_saved x) (sym (is x) ∙ h) in (both.1, subst (λ b. Need p (Start b) x) (sym place) ((needs x).0 both.0)),
       λ h. is x ∙ and_from (has need x) (is_saved x) ((needs x).1 (subst (λ b. Need p (Start b) x) place h.1)) h.0,
     )
-
-no_instr : (o : Option Placed) → is_some o ≡ false → instr_of_placed o ≡ None
-no_instr None h = refl
-no_instr (Some x) h = absurd (cc)
 
 -- where no instruction starts, nothing is needed
 no_need : (p : Program) (b : ℕ) (x : Part) → is_start p b ≡ false → Need p (Start b) x → ⊥

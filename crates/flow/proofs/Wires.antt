@@ -13,12 +13,13 @@ use Rattle.i80.specs.Columns.{length80}
 use Rattle.asm80_program.specs.declared.program.Placed.{Placed}
 use Rattle.asm80_program.specs.Program.{Program, IsProgram, NameStarts, is_start, starts, instr_at, instr_of_placed, placed_in, named_by}
 use Rattle.asm80_program.specs.Taken.{taken, takes}
+use Rattle.asm80_program.proofs.Lookup.{length-starts}
 use Rattle.flow.specs.declared.node.Node.{Node}
 use Rattle.flow.specs.declared.node.Node.TheVariants.{Start, Return}
 use Rattle.flow.specs.Graph.{nodes, edges, edge_to, edges_at, successors, IsEdge}
 use Rattle.flow.specs.Search.{node_at, row}
 use Rattle.flow.specs.Wiring.{IsNumber, IsKept, IsWiredTo, IsWired, edge_if_node, edges_if}
-use Rattle.flow.proofs.Laid.{start_found, found_start, found_here, length-starts}
+use Rattle.flow.proofs.Laid.{start_found, found_start, found_here}
 use Rattle.flow.proofs.Numbers.{start_nodes, start_is_node, number_of_start, number_of_return, node_at-start}
 
 pub number_contained : (p : Program) (k : ℕ) (q : Node) → IsNumber p k q → Contains (nodes p) q

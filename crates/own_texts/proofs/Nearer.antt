@@ -12,10 +12,11 @@ use Rattle.asm86_lines.specs.declared.line.Stmt86.{Stmt86}
 use Rattle.asm86_lines.specs.declared.line.Stmt86.TheVariants.{Mark, Jmp, Jcc}
 use Rattle.asm86_lines.specs.Layout.{size_of, sizes_of, marks, same_label, offset_from, offset_of, place_of}
 use Rattle.asm86_lines.specs.Image.{count_marks, IsDefinedOnce, reaches as reaches_86}
+use Rattle.asm86_lines.proofs.Sizes.{sizes_of-append, count_marks-append}
 use Rattle.templates_plain.specs.Template.{label_of}
 use Rattle.templates.specs.Lean.{reaches}
 use Rattle.own_texts.specs.Reach.{ShortenedReach}
-use Rattle.asm86_image.proofs.Texts.{sizes_of-append, count_marks-append, absent}
+use Rattle.asm86_image.proofs.Texts.{absent}
 use Rattle.own_texts.proofs.Statements.{Each, MarksNot, offset_past, eq_true}
 use Rattle.own_texts.proofs.Jumps.{IsLong, not_shortened}
 

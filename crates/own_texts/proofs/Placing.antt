@@ -10,13 +10,14 @@ use Rattle.asm86_lines.specs.declared.line.Stmt86.{Stmt86}
 use Rattle.asm86_lines.specs.declared.line.Stmt86.TheVariants.{Mark}
 use Rattle.asm86_lines.specs.Layout.{offset_from, marks, same_label}
 use Rattle.asm86_lines.specs.Image.{count_marks}
+use Rattle.asm86_lines.proofs.Sizes.{count_marks-append}
 use Rattle.asm80_program.specs.declared.program.Placed.{Placed}
 use Rattle.asm80_program.specs.Program.{placed_in, AreLaid}
+use Rattle.asm80_program.proofs.Lookup.{above-laid}
 use Rattle.flow.specs.Blocks.{extent}
 use Rattle.flow.proofs.Cuts.{flat}
-use Rattle.flow.proofs.Laid.{length80-positive, above, found_start}
+use Rattle.flow.proofs.Laid.{length80-positive, found_start}
 use Rattle.templates.specs.Style.{Style, block_from, block_of, blocks_of}
-use Rattle.asm86_image.proofs.Texts.{count_marks-append}
 use Rattle.own_texts.proofs.Statements.{MarksNot, marks_not-append, stands_behind, eq_true, eq_false}
 use Rattle.own_texts.proofs.Shapes.{HasShape, straight, past, short, step_marks_not, steps_mark_not, shape_marks_not}
 use Rattle.own_texts.proofs.Body.{IsGroup, marked, bare, IsBody, none, more}
@@ -50,7 +51,7 @@ blocks_open s ((y ∷ ys) ∷ bs) x xs h =
 pub start_above : (xs : List Placed) (from limit a : ℕ) → AreLaid from limit xs → is_some (placed_in xs a) ≡ true → from ≤ a
 start_above xs from limit a laid h =
     let at = found_start xs a h in
-    let le = above xs from limit at.0 laid at.1 in
+    let le = above-laid xs from limit at.0 laid at.1 in
     omega (arith, le, at.2)
 
 -- and below the limit

@@ -16,7 +16,7 @@ use Rattle.asm86_lines.specs.declared.line.Stmt86.{Stmt86}
 use Rattle.asm86_lines.specs.declared.line.Stmt86.TheVariants.{Dseg, Mark, Org}
 use Rattle.asm86_lines.specs.Layout.{sizes_of}
 use Rattle.asm86_lines.specs.Image.{statements}
-use Rattle.asm86_image.proofs.Texts.{sizes_of-append}
+use Rattle.asm86_lines.proofs.Sizes.{sizes_of-append}
 use Rattle.asm80_program.specs.declared.program.Placed.{Placed}
 use Rattle.asm80_program.specs.Program.{Program}
 use Rattle.flow.specs.Blocks.{cut_from}

@@ -1,7 +1,7 @@
 -- The ways of templates agree with those of their instructions.
 use Rattle.std.proofs.Common.{◌≡◌, ℕ, ◌==◌, ◌||◌, Bool, true, false, cond, List, Some, refl, sym, ap, ◌∙◌}
 use Rattle.std.specs.Prelude.{not, ◌&&◌}
-use Rattle.std.proofs.lemmas.Bool.{eq-eqb}
+use Rattle.std.proofs.lemmas.Bool.{eq-eqb, or_right}
 use Rattle.cells.specs.declared.Part.{Part}
 use Rattle.cells.specs.declared.Part.TheVariants.{S, Z, P, Cy}
 use Rattle.cells.specs.declared.Cond.{Cond}
@@ -28,7 +28,7 @@ use Rattle.sym_blocks.specs.Symbolic86.{Symbolic86, next_word as next_word86}
 use Rattle.sym_blocks.specs.Walk86.{Surroundings, way_to, follows, comes_next, back_from_call, back_from_system, return_way, flag_of_jump, jumps_at}
 use Rattle.sym_blocks.specs.Agree.{agrees, way_agrees, ways_agree, exit_agrees}
 use Rattle.sym_rows.specs.Meeting.{Meets, Among, Agree}
-use Rattle.sym_rows.proofs.Terms.{or_first, or_second, meets_agree}
+use Rattle.sym_rows.proofs.Terms.{or_first, meets_agree}
 use Rattle.sym_rows.proofs.Words.{highs_meet, lows_meet}
 use Rattle.sym_rows.proofs.Moves.{next_words_meet}
 use Rattle.sym_exits.specs.Exits.{EndsBehind, JumpsWhere}
@@ -78,7 +78,7 @@ module _ (p : Program) (w : Surroundings) (rest : List Stmt86) (g : w.goes_on �
     where
       by_going : (y : Bool) → w.goes_on ≡ y → (z || not w.goes_on) ≡ true
       by_going true e = or_first z (not w.goes_on) (f e)
-      by_going false e = or_second z (not w.goes_on) (ap not e)
+      by_going false e = or_right z (not w.goes_on) (ap not e)
 
   pub may_follow : (comes_next w rest || not w.goes_on) ≡ true
   may_follow = or_none (comes_next w rest) (λ e. label_follows (sym g ∙ e))

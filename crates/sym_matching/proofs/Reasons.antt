@@ -2,6 +2,7 @@
 use Rattle.std.proofs.Common.{◌≡◌, Bool, true, false, cond, not, ◌&&◌, ◌||◌, Option, Some, None, refl, ap, ◌∙◌}
 use Rattle.std.specs.Prelude.{Result, Ok, Err}
 use Rattle.std.specs.List.{find}
+use Rattle.std.proofs.lemmas.Bool.{or_parts, or_right}
 use Rattle.cells.specs.declared.Part.{Part}
 use Rattle.cells.specs.declared.Part.TheVariants.{A, B, C, D, E, H, L, S, Z, Ac, P, Cy}
 use Rattle.cells.specs.Parts.{Parts, has, union}
@@ -82,10 +83,6 @@ walk_matches k x (Ok y) e = (y, refl, outcomes_match k x y e)
 
 -- what is not bad: it is not lost, and agrees where it is kept
 
-not_first : (a b : Bool) → (a || b) ≡ false → (a ≡ false) × (b ≡ false)
-not_first true b e = absurd (cc)
-not_first false b e = (refl, e)
-
 agrees_if : (a b : Bool) → (a && not b) ≡ false → a ≡ true → b ≡ true
 agrees_if true true e h = refl
 agrees_if true false e h = absurd (cc)
@@ -96,10 +93,10 @@ lost_if true b e h = e
 lost_if false b e h = absurd (cc)
 
 pub kept_agrees : (k : Keeps) (x y : Outcome) (q : Part) → is_bad k x y q ≡ false → has (kept_by_exit k x.exit) q ≡ true → agrees (part_of x.held q) (part_of y.held q) ≡ true
-kept_agrees k x y q e h = agrees_if (has (kept_by_exit k x.exit) q) (agrees (part_of x.held q) (part_of y.held q)) (not_first (y.direct && has (lost_by k x.exit) q) _ e).1 h
+kept_agrees k x y q e h = agrees_if (has (kept_by_exit k x.exit) q) (agrees (part_of x.held q) (part_of y.held q)) (or_parts (y.direct && has (lost_by k x.exit) q) _ e).1 h
 
 pub none_lost : (k : Keeps) (x y : Outcome) (q : Part) → is_bad k x y q ≡ false → y.direct ≡ true → has (lost_by k x.exit) q ≡ false
-none_lost k x y q e h = lost_if y.direct (has (lost_by k x.exit) q) (not_first (y.direct && has (lost_by k x.exit) q) _ e).0 h
+none_lost k x y q e h = lost_if y.direct (has (lost_by k x.exit) q) (or_parts (y.direct && has (lost_by k x.exit) q) _ e).0 h
 
 -- the parts of two sets
 
@@ -116,10 +113,6 @@ has_union a b Z = refl
 has_union a b Ac = refl
 has_union a b P = refl
 has_union a b Cy = refl
-
-or_right : (a b : Bool) → b ≡ true → (a || b) ≡ true
-or_right true b e = refl
-or_right false b e = e
 
 pub in_first : (a b : Parts) (q : Part) → has a q ≡ true → has (union a b) q ≡ true
 in_first a b q h = has_union a b q ∙ ap (λ z. z || has b q) h

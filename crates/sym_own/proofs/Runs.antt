@@ -3,6 +3,7 @@
 use Rattle.std.proofs.Common.{◌≡◌, ◌≢◌, ℕ, zero, suc, ◌+◌, ◌-◌, ◌<◌, ◌≤◌, ◌==◌, true, false, cond, List, [], ◌∷◌, ◌++◌, length, Some, refl, sym, ap, subst, ◌∙◌, arith, append_assoc}
 use Rattle.std.specs.Prelude.{map}
 use Rattle.std.specs.List.{list_any}
+use Rattle.std.proofs.lemmas.Bool.{or_right}
 use Rattle.i80.specs.declared.Instr80.{Instr80}
 use Rattle.i80.specs.Columns.{length80, ends80, is_well_formed}
 use Rattle.asm86_lines.specs.declared.line.Label.TheVariants.{At}
@@ -14,7 +15,7 @@ use Rattle.flow.proofs.Straight.{uncut}
 use Rattle.flow.proofs.Extents.{numbered}
 use Rattle.sym_blocks.specs.Block80.{instrs_from, before_more, address_after, addresses_from}
 use Rattle.sym_blocks.specs.Walk86.{Surroundings, is_passed}
-use Rattle.sym_rows.proofs.Terms.{or_first, or_second, neither}
+use Rattle.sym_rows.proofs.Terms.{or_first, neither}
 use Rattle.sym_plain.proofs.Laid.{length80-some}
 use Rattle.sym_plain.proofs.Standing.{same_number, other_number, not_here}
 
@@ -125,7 +126,7 @@ pub all_passed_by : (w : Surroundings) (xs : List Placed) → ((a : ℕ) → lis
 all_passed_by w [] f = tt
 all_passed_by w (x ∷ xs) f = (
   f x.at (or_first (x.at == x.at) (list_any (λ b. b == x.at) (places_of xs)) (same_number x.at)),
-  all_passed_by w xs (λ a h. f a (or_second (x.at == a) (list_any (λ b. b == a) (places_of xs)) h)),
+  all_passed_by w xs (λ a h. f a (or_right (x.at == a) (list_any (λ b. b == a) (places_of xs)) h)),
 )
 
 -- an address behind instructions is that of none of them

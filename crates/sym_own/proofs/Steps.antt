@@ -1,7 +1,7 @@
 -- One instruction inside a block: the terms of both machines agree behind it on what is needed there.
 use Rattle.std.proofs.Common.{◌≡◌, ℕ, ◌+◌, ◌-◌, ◌≤◌, Bool, true, false, List, ◌++◌, drop, length, inl, inr, ◌⊎◌, refl, sym, ap, ◌∙◌, subst, arith}
 use Rattle.std.specs.Prelude.{◌||◌}
-use Rattle.std.proofs.lemmas.Bool.{and_parts}
+use Rattle.std.proofs.lemmas.Bool.{and_parts, or_right}
 use Rattle.cells.specs.declared.Part.{Part}
 use Rattle.cells.specs.declared.Part.TheVariants.{S, Z, Ac, P}
 use Rattle.cells.specs.Parts.{Parts, has}
@@ -25,7 +25,7 @@ use Rattle.sym_blocks.specs.Walk86.{Surroundings, met, walk_from}
 use Rattle.sym_blocks.specs.Sorts.{AreSorted80, AreSorted86, StepsKeepSorts}
 use Rattle.sym_rows.specs.Meeting.{Among, Agree}
 use Rattle.sym_rows.specs.Rows.{all_passed, unsaved, loses, Behind, RowsAgree, RowsKeepSorts, PairsMayGo}
-use Rattle.sym_rows.proofs.Terms.{or_first, or_second}
+use Rattle.sym_rows.proofs.Terms.{or_first}
 use Rattle.sym_rows.proofs.Moves.{has_nothing}
 use Rattle.sym_exits.specs.Exits.{AreStraight, room_for, StatementsArePassed}
 use Rattle.sym_plain.proofs.Matching.{nothing_lost, room_is}
@@ -37,9 +37,9 @@ use Rattle.sym_own.proofs.Written.{coded_as, sum_saves, ahead, sahf_later}
 -- none of the four flags
 unsaved_not : (k : Parts) → (has_saved_flag k ≡ true → ⊥) → (q : Part) → Among k q → has unsaved q ≡ false
 unsaved_not k none S c = absurd (none (or_first (has k S) (has k Z || (has k Ac || has k P)) c))
-unsaved_not k none Z c = absurd (none (or_second (has k S) (has k Z || (has k Ac || has k P)) (or_first (has k Z) (has k Ac || has k P) c)))
-unsaved_not k none Ac c = absurd (none (or_second (has k S) (has k Z || (has k Ac || has k P)) (or_second (has k Z) (has k Ac || has k P) (or_first (has k Ac) (has k P) c))))
-unsaved_not k none P c = absurd (none (or_second (has k S) (has k Z || (has k Ac || has k P)) (or_second (has k Z) (has k Ac || has k P) (or_second (has k Ac) (has k P) c))))
+unsaved_not k none Z c = absurd (none (or_right (has k S) (has k Z || (has k Ac || has k P)) (or_first (has k Z) (has k Ac || has k P) c)))
+unsaved_not k none Ac c = absurd (none (or_right (has k S) (has k Z || (has k Ac || has k P)) (or_right (has k Z) (has k Ac || has k P) (or_first (has k Ac) (has k P) c))))
+unsaved_not k none P c = absurd (none (or_right (has k S) (has k Z || (has k Ac || has k P)) (or_right (has k Z) (has k Ac || has k P) (or_right (has k Ac) (has k P) c))))
 unsaved_not k none q c = refl
 
 -- a template without a save loses nothing that is needed

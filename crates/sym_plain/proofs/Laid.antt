@@ -1,6 +1,5 @@
 -- The instructions of a program, found at their addresses.
-use Rattle.std.proofs.Common.{◌≡◌, ℕ, ◌+◌, ◌≤◌, List, [], ◌∷◌, Option, Some, None, refl, subst, arith, Bool, true, false, cond, ◌==◌}
-use Rattle.std.specs.Prelude.{is_some}
+use Rattle.std.proofs.Common.{◌≡◌, ℕ, ◌+◌, ◌≤◌, List, [], ◌∷◌, Some, refl, subst, arith, Bool, true, false, cond, ◌==◌}
 use Rattle.std.proofs.lemmas.Bool.Decides.{nat_tests}
 use Rattle.i80.specs.declared.Instr80.{Instr80}
 use Rattle.i80.specs.declared.Instr80.TheVariants.{Nop}
@@ -11,11 +10,6 @@ use Rattle.asm80_program.specs.Program.{placed_in, AreLaid}
 pub length80-some : (i : Instr80) → 1 ≤ length80 i
 length80-some Nop = omega arith
 length80-some i = omega arith
-
--- what starts at an address
-pub started : (o : Option Placed) → is_some o ≡ true → (x : Placed) × (o ≡ Some x)
-started None e = absurd (cc)
-started (Some x) e = (x, refl)
 
 -- what is found at an address stands there
 pub found_at : (xs : List Placed) (a : ℕ) (x : Placed) → placed_in xs a ≡ Some x → x.at ≡ a

@@ -11,6 +11,7 @@ use Rattle.asm86_lines.specs.declared.line.Stmt86.{Stmt86}
 use Rattle.asm86_lines.specs.declared.line.Stmt86.TheVariants.{Dseg, Mark}
 use Rattle.asm80_program.specs.declared.program.Placed.{Placed}
 use Rattle.asm80_program.specs.Program.{Program, IsProgram, placed_in, is_start, instr_of_placed}
+use Rattle.asm80_program.proofs.Standing.{start_has}
 use Rattle.templates_plain.specs.Template.{template}
 use Rattle.templates_plain.specs.Plain.{call_code, end_code, data_from, ending, body, plain_statements}
 use Rattle.sym_blocks.specs.Outcome.{Way, Outcome}
@@ -24,7 +25,7 @@ use Rattle.sym_rows.specs.Rows.{all_passed, loses, RowsAgree}
 use Rattle.sym_rows.proofs.Moves.{has_nothing, agree_on}
 use Rattle.sym_exits.specs.Exits.{room_for, StatementsArePassed, TemplatesAreWalked, EndsBehind, SkipsTo, Ends, ExitsAgree}
 use Rattle.sym_plain.specs.Plain.{PlainBlocksMatch}
-use Rattle.sym_plain.proofs.Laid.{started, found_at, laid_good}
+use Rattle.sym_plain.proofs.Laid.{found_at, laid_good}
 use Rattle.sym_plain.proofs.Standing.{SkipIs, Stands, each_stands}
 use Rattle.sym_plain.proofs.Reasons.{in_everything, no_reason, starts_agree}
 
@@ -149,7 +150,7 @@ module _ (sorts : StepsKeepSorts) (rows : RowsAgree) (passed : StatementsArePass
 
   pub matches : PlainBlocksMatch
   matches p keeps good all a e =
-      let y = started (placed_in p.instrs a) e in
+      let y = start_has (placed_in p.instrs a) e in
       let at = found_at p.instrs a y.0 y.1 in
       subst (λ n. block_reason p (plain_statements p) keeps n 1 ≡ None) at
       (matches_one p keeps y.0 good (λ q. all y.0.at (subst (λ n. is_start p n ≡ true) (sym at) e) q) (ap (placed_in p.instrs) at ∙ y.1))

@@ -1,6 +1,7 @@
 -- States that agree on what is kept, and exits that agree, leave no reason.
 use Rattle.std.proofs.Common.{◌≡◌, Bool, true, false, cond, not, ◌&&◌, ◌||◌, List, [], ◌∷◌, Some, None, refl, ap, ap₂, ◌∙◌}
 use Rattle.std.specs.List.{find}
+use Rattle.std.proofs.lemmas.Bool.{or_right}
 use Rattle.cells.specs.declared.Part.{Part}
 use Rattle.cells.specs.declared.Part.TheVariants.{A, B, C, D, E, H, L, S, Z, Ac, P, Cy}
 use Rattle.cells.specs.Parts.{Parts, has, everything}
@@ -13,7 +14,7 @@ use Rattle.sym_blocks.specs.Walk86.{outcome86}
 use Rattle.sym_blocks.specs.Agree.{agrees, exit_agrees}
 use Rattle.sym_blocks.specs.BlockMatch.{Keeps, kept_by_exit, lost_by, is_bad, is_end, all_parts, kept_reason, outcome_reason}
 use Rattle.sym_rows.specs.Meeting.{Meets, same, one_word, Among, Agree}
-use Rattle.sym_rows.proofs.Terms.{or_second, meets_agree}
+use Rattle.sym_rows.proofs.Terms.{meets_agree}
 use Rattle.sym_rows.proofs.Words.{words_agree}
 
 pub in_everything : (q : Part) → Among everything q
@@ -35,7 +36,7 @@ no_reason kept k s t direct exit exit' a e f lost =
     ap (λ b. cond b (cond (exit_agrees exit exit') (kept_reason x y (find (is_bad k x y) all_parts)) (Some Exits)) (Some Actions)) a.actions
     ∙ ap (λ b. cond b (kept_reason x y (find (is_bad k x y) all_parts)) (Some Exits)) e
     ∙ ap (kept_reason x y) (none_found (is_bad k x y) all_parts good)
-    ∙ ap (λ b. cond b None (Some KeptSp)) (or_second (is_end exit) (agrees s.sp t.sp) (words_agree s.sp t.sp a.sp))
+    ∙ ap (λ b. cond b None (Some KeptSp)) (or_right (is_end exit) (agrees s.sp t.sp) (words_agree s.sp t.sp a.sp))
   where
     x : Outcome
     x = outcome80 s exit

@@ -19,11 +19,12 @@ use Rattle.asm86_lines.specs.declared.line.Stmt86.TheVariants.{Mark}
 use Rattle.asm86_lines.specs.Layout.{same_label, marks}
 use Rattle.asm80_program.specs.declared.program.Placed.{Placed}
 use Rattle.asm80_program.specs.Program.{placed_in, AreLaid}
+use Rattle.asm80_program.proofs.Standing.{start_has}
 use Rattle.templates_plain.specs.Template.{template}
 use Rattle.templates_plain.specs.Plain.{body}
 use Rattle.sym_blocks.specs.Outcome.{Way, Goto, SysReturn}
 use Rattle.sym_blocks.specs.Walk86.{behind, way_to}
-use Rattle.sym_plain.proofs.Laid.{length80-some, started, found_at, laid_above}
+use Rattle.sym_plain.proofs.Laid.{length80-some, found_at, laid_above}
 
 -- labels
 
@@ -143,7 +144,7 @@ first_is (z ∷ zs) from limit laid e = by_test (z.at == from) refl e
     by_test : (t : Bool) → (z.at == from) ≡ t → is_some (cond t (Some z) (placed_in zs from)) ≡ true → Line z.at ≡ Line from
     by_test true q f = let k : z.at ≡ from = grind (arith, nat_tests) in ap Line k
     by_test false q f =
-        let y = started (placed_in zs from) f in
+        let y = start_has (placed_in zs from) f in
         let up = laid_above zs (z.at + length80 z.instr) limit from y.0 laid.3 y.1 in
         let some = length80-some z.instr in
         let above = laid.0 in

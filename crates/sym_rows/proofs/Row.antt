@@ -1,5 +1,6 @@
 -- What is to be shown of one instruction, and its operands.
 use Rattle.std.proofs.Common.{◌≡◌, ℕ, Bool, true, false, refl, ◌∙◌}
+use Rattle.std.proofs.lemmas.Bool.{or_right}
 use Rattle.cells.specs.declared.Part.{Part}
 use Rattle.cells.specs.declared.Part.TheVariants.{H, L}
 use Rattle.cells.specs.Parts.{Parts, has, only, union}
@@ -16,7 +17,7 @@ use Rattle.sym_blocks.specs.Sorts.{AreSorted80, AreSorted86}
 use Rattle.sym_blocks.specs.Agree.{agrees}
 use Rattle.sym_rows.specs.Meeting.{Among, Agree}
 use Rattle.sym_rows.specs.Rows.{all_passed}
-use Rattle.sym_rows.proofs.Terms.{or_first, or_second}
+use Rattle.sym_rows.proofs.Terms.{or_first}
 use Rattle.sym_rows.proofs.Words.{words_agree}
 use Rattle.sym_rows.proofs.Moves.{Adding, has_union, pair_meets}
 
@@ -32,7 +33,7 @@ pub in_first : (a b : Parts) (q : Part) → Among a q → Among (union a b) q
 in_first a b q c = has_union a b q ∙ or_first (has a q) (has b q) c
 
 pub in_second : (a b : Parts) (q : Part) → Among b q → Among (union a b) q
-in_second a b q c = has_union a b q ∙ or_second (has a q) (has b q) c
+in_second a b q c = has_union a b q ∙ or_right (has a q) (has b q) c
 
 pub itself : (r : Register) → Among (only (part_of_reg r)) (part_of_reg r)
 itself RegA = refl

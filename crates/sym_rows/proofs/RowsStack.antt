@@ -1,5 +1,6 @@
 -- The rows of the stack.
 use Rattle.std.proofs.Common.{◌≡◌, ℕ, Bool, true, false, refl, sym, ap, ◌∙◌, subst}
+use Rattle.std.proofs.lemmas.Bool.{or_right}
 use Rattle.cells.specs.declared.Part.{Part}
 use Rattle.cells.specs.declared.Part.TheVariants.{A, H, L, S, Z, Ac, P, Cy}
 use Rattle.cells.specs.Parts.{Parts, only, union}
@@ -17,7 +18,7 @@ use Rattle.sym_blocks.specs.Symbolic86.{Symbolic86, next_word as next_word86}
 use Rattle.sym_blocks.specs.Sorts.{AreSorted80, AreSorted86}
 use Rattle.sym_blocks.specs.Agree.{agrees, same_known}
 use Rattle.sym_rows.specs.Meeting.{Meets, same, WordsMeet, no_word, one_word, halves, Among, Agree}
-use Rattle.sym_rows.proofs.Terms.{or_second, meets_agree}
+use Rattle.sym_rows.proofs.Terms.{meets_agree}
 use Rattle.sym_rows.proofs.Words.{words_agree, sums_meet, number_words_meet}
 use Rattle.sym_rows.proofs.Moves.{Adding, PartsMeet, old, agree_none, agree_pair, pair_meets, agree_sp, agree_beside, agree_load16, agree_store16, next_words_meet}
 use Rattle.sym_rows.proofs.Row.{Given, Row, address}
@@ -31,9 +32,9 @@ psw_agrees : (x y : Held) → Meets x.a y.a → Meets x.s y.s → Meets x.z y.z 
 psw_agrees x y a s z ac p cy =
     ap (λ w. agrees w (join y.a (flag_byte y))) (join_flag_byte x.a x.s x.z x.ac x.p x.cy)
     ∙ ap (λ w. agrees (Join x.a (flag_byte x)) w) (join_flag_byte y.a y.s y.z y.ac y.p y.cy)
-    ∙ or_second (same_known (Join x.a (flag_byte x)) (Join y.a (flag_byte y))) _
+    ∙ or_right (same_known (Join x.a (flag_byte x)) (Join y.a (flag_byte y))) _
     (both_true (agrees x.a y.a) _ (meets_agree _ _ a)
-    (or_second (same_known (flag_byte x) (flag_byte y)) _
+    (or_right (same_known (flag_byte x) (flag_byte y)) _
     (both_true (agrees x.s y.s) _ (meets_agree _ _ s)
     (both_true (agrees x.z y.z) _ (meets_agree _ _ z)
     (both_true (agrees x.ac y.ac) _ (meets_agree _ _ ac)

@@ -1,6 +1,7 @@
 -- Bytes and flags that meet: they agree, and what is made of them meets.
 use Rattle.std.specs.Prelude.{not}
 use Rattle.std.proofs.Common.{◌≡◌, ℕ, ◌||◌, Bool, true, false, cond, refl, sym, ap, ap₂, ◌∙◌}
+use Rattle.std.proofs.lemmas.Bool.{or_right}
 use Rattle.cells.specs.declared.Part.{Part}
 use Rattle.cells.specs.declared.Part.TheVariants.{Ac, Cy}
 use Rattle.i80.specs.declared.Op.{Op}
@@ -15,10 +16,6 @@ use Rattle.sym_rows.specs.Meeting.{Meets, lost, same}
 pub or_first : (a b : Bool) → a ≡ true → (a || b) ≡ true
 or_first true b e = refl
 or_first false b e = absurd (cc)
-
-pub or_second : (a b : Bool) → b ≡ true → (a || b) ≡ true
-or_second true b e = refl
-or_second false b e = e
 
 pub neither : (a b : Bool) → a ≡ false → b ≡ false → (a || b) ≡ false
 neither false b p q = q
@@ -84,23 +81,23 @@ flags_meet part r r' (same e k) = meets_at (flag part r) (flag part r) _ _ refl 
 
 pub alus_meet : (op : Op) (a a' b b' c c' : Term) → Meets a a' → Meets b b' → Meets c c' → Meets (alu op a b c) (alu op a' b' c')
 alus_meet op a a' b b' c c' (lost e) mb mc = lost (unknown_if _ (Alu op a b c) (or_first (is_open a) (is_open b || is_open c) (ap is_open e)))
-alus_meet op a a' b b' c c' (same ea ka) (lost e) mc = lost (unknown_if _ (Alu op a b c) (or_second (is_open a) (is_open b || is_open c) (or_first (is_open b) (is_open c) (ap is_open e))))
-alus_meet op a a' b b' c c' (same ea ka) (same eb kb) (lost e) = lost (unknown_if _ (Alu op a b c) (or_second (is_open a) (is_open b || is_open c) (or_second (is_open b) (is_open c) (ap is_open e))))
+alus_meet op a a' b b' c c' (same ea ka) (lost e) mc = lost (unknown_if _ (Alu op a b c) (or_right (is_open a) (is_open b || is_open c) (or_first (is_open b) (is_open c) (ap is_open e))))
+alus_meet op a a' b b' c c' (same ea ka) (same eb kb) (lost e) = lost (unknown_if _ (Alu op a b c) (or_right (is_open a) (is_open b || is_open c) (or_right (is_open b) (is_open c) (ap is_open e))))
 alus_meet op a a' b b' c c' (same ea ka) (same eb kb) (same ec kc) =
     meets_at (alu op a b c) (alu op a b c) _ _ refl (ap₂ (λ x y. alu op x y c') ea eb ∙ ap (alu op a b) ec)
     (self_if (is_open a || (is_open b || is_open c)) (Alu op a b c) (same refl (neither (has_unknown a) _ ka (neither (has_unknown b) (has_unknown c) kb kc))))
 
 pub turns_meet : (kind : ℕ) (a a' c c' : Term) → Meets a a' → Meets c c' → Meets (turn kind a c) (turn kind a' c')
 turns_meet kind a a' c c' (lost e) mc = lost (unknown_if _ (Turn kind a c) (or_first (is_open a) (is_open c) (ap is_open e)))
-turns_meet kind a a' c c' (same ea ka) (lost e) = lost (unknown_if _ (Turn kind a c) (or_second (is_open a) (is_open c) (ap is_open e)))
+turns_meet kind a a' c c' (same ea ka) (lost e) = lost (unknown_if _ (Turn kind a c) (or_right (is_open a) (is_open c) (ap is_open e)))
 turns_meet kind a a' c c' (same ea ka) (same ec kc) =
     meets_at (turn kind a c) (turn kind a c) _ _ refl (ap₂ (turn kind) ea ec)
     (self_if (is_open a || is_open c) (Turn kind a c) (same refl (neither (has_unknown a) (has_unknown c) ka kc)))
 
 pub adjusts_meet : (a a' b b' c c' : Term) → Meets a a' → Meets b b' → Meets c c' → Meets (adjust a b c) (adjust a' b' c')
 adjusts_meet a a' b b' c c' (lost e) mb mc = lost (unknown_if _ (Adjust a b c) (or_first (is_open a) (is_open b || is_open c) (ap is_open e)))
-adjusts_meet a a' b b' c c' (same ea ka) (lost e) mc = lost (unknown_if _ (Adjust a b c) (or_second (is_open a) (is_open b || is_open c) (or_first (is_open b) (is_open c) (ap is_open e))))
-adjusts_meet a a' b b' c c' (same ea ka) (same eb kb) (lost e) = lost (unknown_if _ (Adjust a b c) (or_second (is_open a) (is_open b || is_open c) (or_second (is_open b) (is_open c) (ap is_open e))))
+adjusts_meet a a' b b' c c' (same ea ka) (lost e) mc = lost (unknown_if _ (Adjust a b c) (or_right (is_open a) (is_open b || is_open c) (or_first (is_open b) (is_open c) (ap is_open e))))
+adjusts_meet a a' b b' c c' (same ea ka) (same eb kb) (lost e) = lost (unknown_if _ (Adjust a b c) (or_right (is_open a) (is_open b || is_open c) (or_right (is_open b) (is_open c) (ap is_open e))))
 adjusts_meet a a' b b' c c' (same ea ka) (same eb kb) (same ec kc) =
     meets_at (adjust a b c) (adjust a b c) _ _ refl (ap₂ (λ x y. adjust x y c') ea eb ∙ ap (adjust a b) ec)
     (self_if (is_open a || (is_open b || is_open c)) (Adjust a b c) (same refl (neither (has_unknown a) _ ka (neither (has_unknown b) (has_unknown c) kb kc))))

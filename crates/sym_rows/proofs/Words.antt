@@ -1,7 +1,7 @@
 -- Words that meet: joined of bytes that meet, taken apart, and summed.
 use Rattle.std.specs.Prelude.{◌&&◌, not}
 use Rattle.std.proofs.Common.{◌≡◌, ℕ, zero, suc, ◌+◌, ◌*◌, ◌/◌, ◌%◌, ◌<◌, ◌||◌, ◌⊎◌, inl, inr, Bool, true, false, cond, refl, sym, ap, ap₂, ◌∙◌, arith}
-use Rattle.std.proofs.lemmas.Bool.{ltb-true}
+use Rattle.std.proofs.lemmas.Bool.{ltb-true, or_right}
 use Rattle.cells.specs.declared.Part.TheVariants.{Cy}
 use Rattle.i80.specs.declared.Op.TheVariants.{Add, Adc}
 use Rattle.sym_terms.specs.Term.{Term, Num, Sum16, High, Low, Join, Turned, Unknown, is_byte, is_open, is_adjusted, same_term}
@@ -11,7 +11,7 @@ use Rattle.sym_terms.proofs.Equal.{both_true, same_term-true}
 use Rattle.sym_terms.proofs.Sorts.{first_false, second_false}
 use Rattle.sym_blocks.specs.Agree.{has_unknown, agrees}
 use Rattle.sym_rows.specs.Meeting.{Meets, lost, same, WordsMeet, no_word, one_word, halves}
-use Rattle.sym_rows.proofs.Terms.{or_first, or_second, neither, agrees_self, meets_agree, meets_at, unknown_if, flags_meet, alus_meet, number_meets}
+use Rattle.sym_rows.proofs.Terms.{or_first, neither, agrees_self, meets_agree, meets_at, unknown_if, flags_meet, alus_meet, number_meets}
 
 -- the halves of bytes that were joined
 
@@ -64,7 +64,7 @@ joins_meet h h' l l' mh ml ml' (lost eh) m =
     halves h l (ap (λ x. join x l) eh ∙ ap (λ x. Join x l) (sym eh)) (ap (λ x. is_open (join x l)) eh) (lost eh) (meets_at l l' l (low (join h' l')) refl (low_of_join h' l' ml') m)
 joins_meet h h' l l' mh ml ml' (same eh kh) (lost el) =
     halves h l (ap (λ x. join h x) el ∙ join_to_unknown h ∙ ap (λ x. Join h x) (sym el))
-    (ap (λ x. is_open (join h x)) el ∙ ap is_open (join_to_unknown h) ∙ or_second (is_open h) true refl)
+    (ap (λ x. is_open (join h x)) el ∙ ap is_open (join_to_unknown h) ∙ or_right (is_open h) true refl)
     (same (ap (λ x. high (join x l')) eh ∙ high_of_join h l' mh ml') kh)
     (lost el)
 
@@ -98,7 +98,7 @@ lows_meet s t (halves h l e o mh ml) = meets_at l (low t) _ _ (ap low e) refl ml
 pub words_agree : (s t : Term) → WordsMeet s t → agrees s t ≡ true
 words_agree s t (no_word e) = ap (λ x. agrees x t) e
 words_agree s t (one_word e k) = ap (λ x. agrees s x) e ∙ agrees_self s k
-words_agree s t (halves h l e o mh ml) = ap (λ x. agrees x t) e ∙ or_second _ _ (both_true (agrees h (high t)) (agrees l (low t)) (meets_agree h (high t) mh) (meets_agree l (low t) ml))
+words_agree s t (halves h l e o mh ml) = ap (λ x. agrees x t) e ∙ or_right _ _ (both_true (agrees h (high t)) (agrees l (low t)) (meets_agree h (high t) mh) (meets_agree l (low t) ml))
 
 -- sums
 
@@ -129,7 +129,7 @@ sums_meet a a' b b' m n = by_first (open_or_one a a' m) (open_or_one b b' n)
   where
     by_first : (is_open a ≡ true) ⊎ ((a' ≡ a) × (has_unknown a ≡ false)) → (is_open b ≡ true) ⊎ ((b' ≡ b) × (has_unknown b ≡ false)) → WordsMeet (sum16 a b) (sum16 a' b')
     by_first (inl o) q = no_word (unknown_if (is_open a || is_open b) (sum_of a b) (or_first (is_open a) (is_open b) o))
-    by_first (inr p) (inl o) = no_word (unknown_if (is_open a || is_open b) (sum_of a b) (or_second (is_open a) (is_open b) o))
+    by_first (inr p) (inl o) = no_word (unknown_if (is_open a || is_open b) (sum_of a b) (or_right (is_open a) (is_open b) o))
     by_first (inr p) (inr q) = word_if (is_open a || is_open b) (sum_of a b) (sum16 a' b') (ap₂ sum16 p.0 q.0) (sum_known a b p.1 q.1)
 
 pub number_words_meet : (n : ℕ) → WordsMeet (Num n) (Num n)

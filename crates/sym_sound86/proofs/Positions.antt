@@ -10,10 +10,11 @@ use Rattle.asm86_lines.specs.declared.line.Stmt86.TheVariants.{Cseg, Dseg, Org, 
 use Rattle.asm86_lines.specs.declared.line.Line86.{Line86}
 use Rattle.asm86_lines.specs.Layout.{same_label, size_of, sizes_of, marked, is_label, marks, offset_from, offset_of, place_of, bytes_at, code_of}
 use Rattle.asm86_lines.specs.Image.{statements, offset_in, labels_before, labels_from, count_marks, IsDefinedOnce, AllDefined, UsesDefined, used_in, short_reaches, AllReach}
+use Rattle.asm86_lines.proofs.Sizes.{sizes_of-append, count_marks-append}
 use Rattle.sym_blocks.specs.Walk86.{Surroundings, behind, is_passed, Met, EndsAt, Instruction, Nothing, met_label, met, follows}
 use Rattle.sym_blocks.specs.Sorts.{StatementIsCoded, StatementsAreCoded}
 use Rattle.sym_runs.specs.Runs86.{offsets_of}
-use Rattle.sym_sound86.proofs.Standing.{StandAll, bytes_all, stand_all, stand_back, MarksNot, offset_past, offset_here, sizes_of-append}
+use Rattle.sym_sound86.proofs.Standing.{StandAll, bytes_all, stand_all, stand_back, MarksNot, offset_past, offset_here}
 
 -- these statements stand behind a position of a text, at an offset
 pub record Position (text xs : List Stmt86) (at : ℕ) : Type 0 where
@@ -79,15 +80,11 @@ not_marked l (x ∷ xs) e = by_mark (marks l x) refl (not_marked l xs)
     by_mark true h f = let one = once_is (marks l x) true h in absurd (omega (arith, e, one))
     by_mark false h f = let none = once_is (marks l x) false h in (h, f (omega (arith, e, none)))
 
-count-append : (l : Label) (xs ys : List Stmt86) → count_marks l (xs ++ ys) ≡ count_marks l xs + count_marks l ys
-count-append l [] ys = let e : count_marks l ys ≡ 0 + count_marks l ys = omega arith in e
-count-append l (x ∷ xs) ys = let e = count-append l xs ys in omega (arith, e)
-
 -- a label that stands at a position has its offset
 pub label_here : (text xs : List Stmt86) (l : Label) (at : ℕ) → IsDefinedOnce text → Position text (Mark l ∷ xs) at → offset_of text l ≡ Some at
 label_here text xs l at once p =
     let here : marks l (Mark l) ≡ true = same_label_self l in
-    let counted : count_marks l text ≡ count_marks l p.before + count_marks l (Mark l ∷ xs) = ap (count_marks l) p.is ∙ count-append l p.before (Mark l ∷ xs) in
+    let counted : count_marks l text ≡ count_marks l p.before + count_marks l (Mark l ∷ xs) = ap (count_marks l) p.is ∙ count_marks-append l p.before (Mark l ∷ xs) in
     let one = once_is (marks l (Mark l)) true here in
     let most = once l in
     let none : count_marks l p.before ≡ 0 = omega (arith, counted, one, most) in

@@ -1,12 +1,12 @@
 -- Which statements stand at which place of a code, and the offsets of their labels.
-use Rattle.std.proofs.Common.{◌≡◌, ℕ, ◌+◌, ◌<◌, List, [], ◌∷◌, ◌++◌, length, Some, refl, ap, ◌∙◌, subst, arith, append_assoc, length-append, true, false, cond}
+use Rattle.std.proofs.Common.{◌≡◌, ℕ, ◌+◌, ◌<◌, List, [], ◌∷◌, ◌++◌, length, Some, ap, ◌∙◌, subst, arith, append_assoc, length-append, true, false, cond}
 use Rattle.std.proofs.Math.Seq.{get_or-append_seam}
 use Rattle.std.proofs.lemmas.Option.{slice_get-get_or}
 use Rattle.i86.specs.Code.{HasBytes}
 use Rattle.asm86_lines.specs.declared.line.Label.{Label}
 use Rattle.asm86_lines.specs.declared.line.Stmt86.{Stmt86}
-use Rattle.asm86_lines.specs.declared.line.Stmt86.TheVariants.{Cseg, Dseg, Org, Rb, Db, Dw, Mark, Run, MovOffset, Jmp, Jmps, Jcc as JccTo, Call, EndText}
 use Rattle.asm86_lines.specs.Layout.{size_of, sizes_of, marks, offset_from, bytes_at, code_from}
+use Rattle.asm86_lines.proofs.Sizes.{length_bytes}
 
 pub bytes_front : (code : List ℕ) (at : ℕ) (a b : List ℕ) → HasBytes code at (a ++ b) → HasBytes code at a
 bytes_front code at [] b h = tt
@@ -34,27 +34,11 @@ abbrev pub StandAll : List ℕ → (Label → ℕ) → ℕ → List Stmt86 → T
 StandAll code off at [] = Unit {0}
 StandAll code off at (x ∷ xs) = HasBytes code at (bytes_at off at x) × StandAll code off (at + size_of x) xs
 
-length-bytes_at : (off : Label → ℕ) (at : ℕ) (x : Stmt86) → length (bytes_at off at x) ≡ size_of x
-length-bytes_at off at Cseg = refl
-length-bytes_at off at Dseg = refl
-length-bytes_at off at (Org w) = refl
-length-bytes_at off at (Rb w) = refl
-length-bytes_at off at (Db n) = refl
-length-bytes_at off at (Dw v) = refl
-length-bytes_at off at (Mark l) = refl
-length-bytes_at off at (Run i) = refl
-length-bytes_at off at (MovOffset r l) = refl
-length-bytes_at off at (Jmp l) = refl
-length-bytes_at off at (Jmps l) = refl
-length-bytes_at off at (JccTo j l) = refl
-length-bytes_at off at (Call l) = refl
-length-bytes_at off at EndText = refl
-
 pub stand_all : (code : List ℕ) (off : Label → ℕ) (at : ℕ) (xs : List Stmt86) → HasBytes code at (code_from off at xs) → StandAll code off at xs
 stand_all code off at [] h = tt
 stand_all code off at (x ∷ xs) h =
     let back = bytes_back code at (bytes_at off at x) (code_from off (at + size_of x) xs) h in
-    (bytes_front code at (bytes_at off at x) _ h, stand_all code off (at + size_of x) xs (subst (λ n. HasBytes code (at + n) (code_from off (at + size_of x) xs)) (length-bytes_at off at x) back))
+    (bytes_front code at (bytes_at off at x) _ h, stand_all code off (at + size_of x) xs (subst (λ n. HasBytes code (at + n) (code_from off (at + size_of x) xs)) (length_bytes off at x) back))
 
 pub stand_back : (code : List ℕ) (off : Label → ℕ) (at : ℕ) (xs ys : List Stmt86) → StandAll code off at (xs ++ ys) → StandAll code off (at + sizes_of xs) ys
 stand_back code off at [] ys h = let e : at ≡ at + 0 = omega arith in subst (λ n. StandAll code off n ys) e h
@@ -77,7 +61,3 @@ offset_past at l (x ∷ xs) ys h =
 -- a label that stands here has this offset
 pub offset_here : (at : ℕ) (l : Label) (x : Stmt86) (xs : List Stmt86) → marks l x ≡ true → offset_from at (x ∷ xs) l ≡ Some at
 offset_here at l x xs h = ap (λ b. cond b (Some at) (offset_from (at + size_of x) xs l)) h
-
-pub sizes_of-append : (xs ys : List Stmt86) → sizes_of (xs ++ ys) ≡ sizes_of xs + sizes_of ys
-sizes_of-append [] ys = let e : sizes_of ys ≡ 0 + sizes_of ys = omega arith in e
-sizes_of-append (x ∷ xs) ys = ap (λ n. size_of x + n) (sizes_of-append xs ys) ∙ (let e : size_of x + (sizes_of xs + sizes_of ys) ≡ size_of x + sizes_of xs + sizes_of ys = omega arith in e)

@@ -1,6 +1,7 @@
 -- One term, in which nothing is unknown, on both machines.
 use Rattle.std.proofs.Common.{◌≡◌, ℕ, zero, suc, ◌+◌, ◌/◌, ◌%◌, ◌<◌, ◌||◌, Bool, true, false, List, [], ◌∷◌, Option, Some, None, refl, sym, ap, subst, ◌∙◌, arith}
 use Rattle.std.specs.Prelude.{slice_get}
+use Rattle.std.proofs.lemmas.Bool.{or_parts}
 use Rattle.cells.specs.declared.Place.{Place}
 use Rattle.cells.specs.declared.Flags.{Flags}
 use Rattle.cells.specs.declared.Cell.{Cell}
@@ -163,10 +164,6 @@ flag_of_cell offset (Lo q) n part k h e = subst (λ o. MayBe o (as_bit k)) (sym 
 flag_of_cell offset (Hi q) n part k h e = subst (λ o. MayBe o (as_bit k)) (sym (none_is part)) (bit_small k)
 flag_of_cell offset Junk n part k h e = subst (λ o. MayBe o (as_bit k)) (sym (none_is part)) (bit_small k)
 
-or_false : (a b : Bool) → (a || b) ≡ false → (a ≡ false) × (b ≡ false)
-or_false true b e = absurd (cc)
-or_false false b e = (refl, e)
-
 module _ (offset : Place → Option ℕ) (e : Env80) (d : Env86) (envs : EnvsStand offset e d) where
   -- an operation by its number and flags
   of_result : (t : Term) → ((n m : ℕ) (f g : Flags) → Val80 e t (Result n f) → Val86 d t (Result86 m g) → (m ≡ n) × (g ≡ f)) → ((c : Cell) → Val80 e t (Byte c) → (n : ℕ) × (f : Flags) × Val80 e t (Result n f) × (c ≡ NumCell n)) → ((o : Option Bool) → Val80 e t (OneBit o) → (b : Bool) × (f : Flags) × Val80 e t (Result (as_bit b) f) × (o ≡ Some b)) → ((n : ℕ) → Val86 d t (Number n) → (g : Flags) × Val86 d t (Result86 n g)) → ((h l : Cell) → Val80 e t (Word h l) → ⊥) → SameStands offset e d t
@@ -239,8 +236,8 @@ module _ (offset : Place → Option ℕ) (e : Env80) (d : Env86) (envs : EnvsSta
       (λ h l n v w. let s = nth_load16 offset e.loads d.loads k h l n envs.loads v w in (stands_is_for offset h (n / 256) s.0, stands_is_for offset l (n % 256) s.1))
       (λ c v. v) (λ o v. v) (λ n f v. v)
   same_stands (Alu op a b c) u =
-      let ua = or_false (has_unknown a) (has_unknown b || has_unknown c) u in
-      let ub = or_false (has_unknown b) (has_unknown c) ua.1 in
+      let ua = or_parts (has_unknown a) (has_unknown b || has_unknown c) u in
+      let ub = or_parts (has_unknown b) (has_unknown c) ua.1 in
       let sa = same_stands a ua.0 in
       let sb = same_stands b ub.0 in
       let sc = same_stands c ub.1 in
@@ -259,7 +256,7 @@ module _ (offset : Place → Option ℕ) (e : Env80) (d : Env86) (envs : EnvsSta
       (λ o i v w. let same = s.result v.0 w.0 v.1 w.1 v.2 w.2 in subst (λ x. MayBe x i) (sym v.3) (subst (λ (f : Flags). MayBe (flag_in f part) i) same.1 w.3))
       (λ c v. v) (λ h l v. v) (λ n f v. v)
   same_stands (Sum16 a b) u =
-      let ua = or_false (has_unknown a) (has_unknown b) u in
+      let ua = or_parts (has_unknown a) (has_unknown b) u in
       let sa = same_stands a ua.0 in
       let sb = same_stands b ua.1 in
       of_word (Sum16 a b)
@@ -278,7 +275,7 @@ module _ (offset : Place → Option ℕ) (e : Env80) (d : Env86) (envs : EnvsSta
       let s = same_stands x u in
       of_byte (Low x) (λ c n v w. subst (λ q. IsFor offset c q) (sym w.2) (s.word v.0 c w.0 v.1 w.1).1) (λ h l v. v) (λ o v. v) (λ n f v. v)
   same_stands (Join x y) u =
-      let ua = or_false (has_unknown x) (has_unknown y) u in
+      let ua = or_parts (has_unknown x) (has_unknown y) u in
       let sx = same_stands x ua.0 in
       let sy = same_stands y ua.1 in
       of_word (Join x y)
@@ -291,10 +288,10 @@ module _ (offset : Place → Option ℕ) (e : Env80) (d : Env86) (envs : EnvsSta
       (subst (λ q. IsFor offset h q) high (sx.byte h w.0 v.0 w.4), subst (λ q. IsFor offset l q) low (sy.byte l w.1 v.1 w.5)))
       (λ c v. v) (λ o v. v) (λ n f v. v)
   same_stands (FlagByte s z ac p cy) u =
-      let us = or_false (has_unknown s) (has_unknown z || (has_unknown ac || (has_unknown p || has_unknown cy))) u in
-      let uz = or_false (has_unknown z) (has_unknown ac || (has_unknown p || has_unknown cy)) us.1 in
-      let ua = or_false (has_unknown ac) (has_unknown p || has_unknown cy) uz.1 in
-      let up = or_false (has_unknown p) (has_unknown cy) ua.1 in
+      let us = or_parts (has_unknown s) (has_unknown z || (has_unknown ac || (has_unknown p || has_unknown cy))) u in
+      let uz = or_parts (has_unknown z) (has_unknown ac || (has_unknown p || has_unknown cy)) us.1 in
+      let ua = or_parts (has_unknown ac) (has_unknown p || has_unknown cy) uz.1 in
+      let up = or_parts (has_unknown p) (has_unknown cy) ua.1 in
       let ss = same_stands s us.0 in
       let sz = same_stands z uz.0 in
       let sa = same_stands ac ua.0 in
@@ -318,7 +315,7 @@ module _ (offset : Place → Option ℕ) (e : Env80) (d : Env86) (envs : EnvsSta
       (λ o i v w. subst (λ x. MayBe x i) (sym v.2) (subst (λ x. MayBe (flag_in (flags_in v.0) part) x) (sym w.4) (flag_of_cell offset v.0 w.0 part w.1 (s.byte v.0 w.0 v.1 w.2) w.3)))
       (λ c v. v) (λ h l v. v) (λ n f v. v)
   same_stands (Turn kind a c) u =
-      let ua = or_false (has_unknown a) (has_unknown c) u in
+      let ua = or_parts (has_unknown a) (has_unknown c) u in
       let sa = same_stands a ua.0 in
       let sc = same_stands c ua.1 in
       of_result (Turn kind a c)
@@ -336,8 +333,8 @@ module _ (offset : Place → Option ℕ) (e : Env80) (d : Env86) (envs : EnvsSta
     result = λ n m f g v w. absurd v;
   }
   same_stands (Adjust a ac cy) u =
-      let ua = or_false (has_unknown a) (has_unknown ac || has_unknown cy) u in
-      let uh = or_false (has_unknown ac) (has_unknown cy) ua.1 in
+      let ua = or_parts (has_unknown a) (has_unknown ac || has_unknown cy) u in
+      let uh = or_parts (has_unknown ac) (has_unknown cy) ua.1 in
       let sa = same_stands a ua.0 in
       let sh = same_stands ac uh.0 in
       let sk = same_stands cy uh.1 in

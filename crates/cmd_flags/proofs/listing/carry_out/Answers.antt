@@ -7,7 +7,8 @@ use Rattle.cmd_reports.specs.Said.{IsDone}
 use Rattle.cmd_inputs.proofs.Told.{done_files}
 use Rattle.cmd_flags.specs.Listing.{reported, stopped}
 use Rattle.cmd_flags.proofs.Gathering.{lines_some}
-use Rattle.cmd_flags.proofs.Finish.{stop_reads, closes_files}
+use Rattle.cmd_reports.proofs.Said.{closes_files}
+use Rattle.cmd_flags.proofs.Finish.{stop_reads}
 use Rattle.cmd_flags.proofs.listing.carry_out.Goals as goal
 
 pub say_report-requires : goal.say_report-requires

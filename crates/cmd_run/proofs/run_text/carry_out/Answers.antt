@@ -3,7 +3,8 @@ use Rattle.cmd_words.specs.ReadCommands.{run86_read}
 use Rattle.bdos_talk.specs.declared.fault.TalkFault.TheVariants.{Unsaid}
 use Rattle.cmd_run.specs.Lasts.{came_of}
 use Rattle.cmd_run.specs.Runs86.{IsHalted, ran, unsaid, stopped}
-use Rattle.cmd_run.proofs.Kept.{same_alone, alone_then, ending_files, closes_files}
+use Rattle.cmd_reports.proofs.Said.{closes_files}
+use Rattle.cmd_run.proofs.Kept.{same_alone, alone_then, ending_files}
 use Rattle.cmd_run.proofs.Working.{come_alone, cut_files, stops_alone}
 use Rattle.cmd_run.proofs.run_text.carry_out.Goals as goal
 

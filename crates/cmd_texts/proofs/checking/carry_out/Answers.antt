@@ -4,7 +4,8 @@ use Rattle.cmd_words.specs.ReadCommands.{check_read}
 use Rattle.cmd_reports.specs.Said.{IsDone}
 use Rattle.cmd_inputs.proofs.Told.{done_files}
 use Rattle.cmd_texts.specs.Checks.{shown, stopped}
-use Rattle.cmd_texts.proofs.CheckLoading.{line_some, stop_reads, closes_files}
+use Rattle.cmd_reports.proofs.Said.{closes_files}
+use Rattle.cmd_texts.proofs.CheckLoading.{line_some, stop_reads}
 use Rattle.cmd_texts.proofs.checking.carry_out.Goals as goal
 
 pub say_done-requires : goal.say_done-requires

@@ -4,7 +4,7 @@ use Rattle.asm86_lines.specs.Image.{offset_in}
 use Rattle.std.specs.Map.{lookup}
 use Rattle.asm86_lines.specs.contracts.line.LabelPartialEq.TheImpl.{eq-value}
 use Rattle.indexmap.proofs.CallerLemmas.{insert_entry-new}
-use Rattle.asm86_image.proofs.Labels.{lookup_is}
+use Rattle.asm86_lines.proofs.Labels.{lookup_is}
 use Rattle.asm86_image.proofs.offsets.Offsets.define.Goals as goal
 
 -- what the map held for the label, as its offset

@@ -1,6 +1,6 @@
 use Rattle.std.proofs.Common.{◌∙◌, ap}
 use Rattle.asm86_lines.specs.Image.{offset_in}
-use Rattle.asm86_image.proofs.Labels.{lookup_is}
+use Rattle.asm86_lines.proofs.Labels.{lookup_is}
 use Rattle.asm86_image.proofs.offsets.Offsets.get.Goals as goal
 
 pub returns : goal.returns

@@ -2,7 +2,7 @@ use Rattle.std.proofs.Common.{◌≡◌, ◌∙◌, subst, sym}
 use Rattle.asm86_lines.specs.Image.{offset_in}
 use Rattle.sym_blocks.specs.Walk86.{behind}
 use Rattle.sym_index.specs.Places.{IsPlace}
-use Rattle.sym_index.proofs.Labels.{lookup_is}
+use Rattle.asm86_lines.proofs.Labels.{lookup_is}
 use Rattle.sym_index.proofs.index.Index86.behind.Goals as goal
 
 pub returns : goal.returns
