@@ -6,6 +6,7 @@ use Rattle.std.proofs.lemmas.Bool.{cases_lt, or_parts}
 use Rattle.std.proofs.lemmas.Bool.Decides.{nat_tests}
 use Rattle.std.proofs.lemmas.Option.{none-some}
 use Rattle.cells.specs.declared.Cell.{Cell}
+use Rattle.cells.proofs.Options.{if_none}
 use Rattle.asm80_program.specs.declared.program.Placed.{Placed}
 use Rattle.asm80_program.specs.Program.{Program, program_of, is_top}
 use Rattle.asm80_tokens.specs.Tree.{Statement}
@@ -36,10 +37,6 @@ use Rattle.asm80_outcomes.proofs.Forms.{has_form}
 no_row : (rule : AsmRule) (o : Option Row) → refused_at rule o ≡ None → o ≡ None
 no_row rule None h = refl
 no_row rule (Some r) h = absurd (none-some (r.statement.line, rule) (sym h))
-
-not_found : {X : Type 0} (b : Bool) (x : X) (o : Option X) → cond b (Some x) o ≡ None → (b ≡ false) × (o ≡ None)
-not_found true x o h = absurd (none-some x (sym h))
-not_found false x o h = (refl, h)
 
 -- ---- a statement whose cells are inside the area has fewer than 65,536
 
@@ -96,7 +93,7 @@ module _ (rs : List Row) (end : Walk) (top : ℕ) (end_word : IsWordWalk end) wh
       by : (b : Bool) → fills_cells r ≡ b → find (stands_outside top) (cond b (r ∷ items xs) (items xs)) ≡ None
           → (find (stands_outside top) (items xs) ≡ None → (is : List Item) × AreItems rs end is (items xs)) → (is : List Item) × AreItems rs end is (cond b (r ∷ items xs) (items xs))
       by true fills none later =
-          let split = not_found (stands_outside top r) r (find (stands_outside top) (items xs)) none in
+          let split = if_none (stands_outside top r) r (find (stands_outside top) (items xs)) none in
           let here = row_item r h.0 fills split.0 in
           let rest = later split.1 in
           (here.0 ∷ rest.0, (here.1, rest.1))

@@ -1,6 +1,7 @@
 -- What the operands of each row see, along the second walk.
 use Rattle.std.proofs.Common.{◌≡◌, ℕ, ◌≤◌, Bool, true, false, cond, List, [], ◌∷◌, length, filter, Option, Some, None, option_map, refl, sym, ap, subst, ◌∙◌, arith}
 use Rattle.std.specs.Option.{option_or}
+use Rattle.cells.proofs.Options.{if_none}
 use Rattle.asm80_tokens.specs.Tree.{Statement}
 use Rattle.asm80_source.specs.declared.operation.Operation.{Operation}
 use Rattle.asm80_source.specs.declared.operation.Operation.TheVariants.{Equ, Set}
@@ -23,10 +24,6 @@ or_none (Some x) y h = absurd cc
 pub line_none : (line : ℕ) (o : Option AsmRule) → with_line line o ≡ None → o ≡ None
 line_none line None h = refl
 line_none line (Some r) h = absurd cc
-
-if_none : {X : Type 0} (b : Bool) (x : X) (o : Option X) → cond b (Some x) o ≡ None → (b ≡ false) × (o ≡ None)
-if_none true x o h = absurd cc
-if_none false x o h = (refl, h)
 
 abbrev pub LabelIsGood : Walk → Statement → Option (List ℕ) → Type 0
 LabelIsGood w s o = (label_clashes w s o ≡ false) × (label_overflows w s o ≡ false)

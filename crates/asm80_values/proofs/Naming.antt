@@ -5,6 +5,7 @@ use Rattle.std.specs.List.{list_any, flat_map}
 use Rattle.std.proofs.lemmas.Bool.{and_parts}
 use Rattle.std.proofs.lemmas.List.Elements.{All-nil, All-cons}
 use Rattle.cells.specs.declared.Cell.{Cell}
+use Rattle.cells.proofs.Options.{if_none}
 use Rattle.i80.specs.declared.Src.{Src}
 use Rattle.i80.specs.declared.Pair.{Pair}
 use Rattle.i80.specs.declared.Pair.TheVariants as pairs
@@ -189,13 +190,9 @@ are_coded rs end (i ∷ is) [] h = absurd h
 are_coded rs end (i ∷ is) (q ∷ qs) h =
     All-cons HoldsNumbers i is (form_coded (setting rs end q) q.statement (row_operation q) i.form refl h.0.form) (are_coded rs end is qs h.1)
 
-hits_by : {X : Type 0} (b : Bool) (x : X) (o : Option X) → cond b (Some x) o ≡ None → (b ≡ false) × (o ≡ None)
-hits_by true x o h = absurd cc
-hits_by false x o h = (refl, h)
-
 pub are_named : (rs : List Row) (end : Walk) (top : ℕ) (is : List Item) (qs : List Row) → AreItems rs end is qs → find (breaks top S2) is ≡ None → All (NamesStarts (starts_at (starts_in rs))) is
 are_named rs end top [] qs h hits = All-nil (NamesStarts (starts_at (starts_in rs)))
 are_named rs end top (i ∷ is) [] h hits = absurd h
 are_named rs end top (i ∷ is) (q ∷ qs) h hits =
-    let split = hits_by (form_breaks S2 i.form) i (find (breaks top S2) is) hits in
+    let split = if_none (form_breaks S2 i.form) i (find (breaks top S2) is) hits in
     All-cons (NamesStarts (starts_at (starts_in rs))) i is (form_named (setting rs end q) q.statement (row_operation q) i.form refl h.0.form split.0) (are_named rs end top is qs h.1 split.1)

@@ -9,6 +9,7 @@ use Rattle.std.proofs.lemmas.List.Elements.{All-nil, All-head, All-tail, All-con
 use Rattle.std.proofs.lemmas.List.Folds.{list_any-append}
 use Rattle.std.proofs.lemmas.List.Sorted.{All-permutation, list_any-IsPermutation, IsPermutation-sym}
 use Rattle.cells.specs.declared.Cell.{Cell}
+use Rattle.cells.proofs.Options.{if_none}
 use Rattle.i80.specs.declared.Instr80.{Instr80}
 use Rattle.i80.specs.declared.Instr80.TheVariants.{Nop}
 use Rattle.i80.specs.Columns.{length80, is_well_formed}
@@ -30,12 +31,6 @@ use Rattle.asm80_values.proofs.Halves.{all_found, IsHalf, are_data, halved_weake
 pub length80-positive : (i : Instr80) → 1 ≤ length80 i
 length80-positive Nop = omega arith
 length80-positive i = omega arith
-
--- ---- nothing is found
-
-none_by : {X : Type 0} (b : Bool) (x : X) (o : Option X) → cond b (Some x) o ≡ None → (b ≡ false) × (o ≡ None)
-none_by true x o h = absurd (cc)
-none_by false x o h = (refl, h)
 
 -- ---- in ascending order
 
@@ -183,8 +178,8 @@ module _ (top : ℕ) (low : top ≤ 0xFF00) where
       → covered_times a (filter_map placed_item is) + held_times a (flat_map data_item is) + one (is_filled filled a) ≤ 1
   times [] filled sound apart within a = omega (arith, one-le (is_filled filled a))
   times (i ∷ is) filled sound apart within a =
-      let split = none_by (list_any (is_filled filled) (cells_of_item i)) i (overlap_from (cells_of_item i ++ filled) is) apart in
-      let area = none_by (stands_outside top i) i (find (breaks top S7) is) within in
+      let split = if_none (list_any (is_filled filled) (cells_of_item i)) i (overlap_from (cells_of_item i ++ filled) is) apart in
+      let area = if_none (stands_outside top i) i (find (breaks top S7) is) within in
       let rest = times is (cells_of_item i ++ filled) (All-tail IsSound i is sound) split.1 area.1 a in
       let mine = form_times top i.at i.size i.line i.form low (All-head IsSound i is sound) (within_by top i.at i.size area.0) a in
       let both : is_filled (cells_of_item i ++ filled) a ≡ (is_filled (cells_of_item i) a || is_filled filled a) = list_any-append (λ b. b == a) (cells_of_item i) filled in
@@ -194,13 +189,13 @@ module _ (top : ℕ) (low : top ≤ 0xFF00) where
   all_laid : (is : List Item) → All IsSound is → find (breaks top S7) is ≡ None → All (IsLaid 0x100 (top - 2)) (filter_map placed_item is)
   all_laid [] sound within = λ k d lt. absurd (omega arith)
   all_laid (i ∷ is) sound within =
-      let area = none_by (stands_outside top i) i (find (breaks top S7) is) within in
+      let area = if_none (stands_outside top i) i (find (breaks top S7) is) within in
       found-cons (IsLaid 0x100 (top - 2)) (placed_item i) (filter_map placed_item is) (form_laid top i.at i.size i.line i.form (All-head IsSound i is sound) (within_by top i.at i.size area.0)) (all_laid is (All-tail IsSound i is sound) area.1)
 
   all_within : (is : List Item) → All IsSound is → find (breaks top S7) is ≡ None → All (λ c. (0x100 ≤ c.0) × (c.0 < top - 2)) (flat_map data_item is)
   all_within [] sound within = λ k d lt. absurd (omega arith)
   all_within (i ∷ is) sound within =
-      let area = none_by (stands_outside top i) i (find (breaks top S7) is) within in
+      let area = if_none (stands_outside top i) i (find (breaks top S7) is) within in
       All-append (λ (c : ℕ × Cell). (0x100 ≤ c.0) × (c.0 < top - 2)) (data_item i) (flat_map data_item is) (form_within top i.at i.size i.form low (All-head IsSound i is sound) (within_by top i.at i.size area.0)) (all_within is (All-tail IsSound i is sound) area.1)
 
 -- ---- the first instruction
@@ -235,7 +230,7 @@ start_cons a (Some x) xs false rest here later h = rw (later h) (or-true (x.at =
 start_all : (top a : ℕ) (is : List Item) → All IsSound is → find (breaks top S1) is ≡ None → list_any (starts_item a) is ≡ true → list_any (λ (x : Placed). x.at == a) (filter_map placed_item is) ≡ true
 start_all top a [] sound native h = absurd (cc)
 start_all top a (i ∷ is) sound native h =
-    let split = none_by (form_breaks S1 i.form) i (find (breaks top S1) is) native in
+    let split = if_none (form_breaks S1 i.form) i (find (breaks top S1) is) native in
     start_cons a (placed_item i) (filter_map placed_item is) (starts_item a i) (list_any (starts_item a) is)
     (start_form i.at i.line i.size a i.form (All-head IsSound i is sound) split.0)
     (start_all top a is (All-tail IsSound i is sound) split.1) h
@@ -323,7 +318,7 @@ module _ (p : Program) (top : ℕ) (low : top ≤ 0xFF00) where
       → All (λ (c : ℕ × Cell). cell_at p c.0 ≡ Some c.1) (flat_map data_item is) → All (λ (c : ℕ × Cell). IsHalf p c.0 c.1) (flat_map data_item is)
   all_halves [] sound within named found = All-nil (λ (c : ℕ × Cell). IsHalf p c.0 c.1)
   all_halves (i ∷ is) sound within named found =
-      let area = none_by (stands_outside top i) i (find (breaks top S7) is) within in
+      let area = if_none (stands_outside top i) i (find (breaks top S7) is) within in
       All-append (λ (c : ℕ × Cell). IsHalf p c.0 c.1) (data_item i) (flat_map data_item is)
       (form_halves i.at i.size i.form (All-head IsSound i is sound) (within_by top i.at i.size area.0) (All-head (NamesStarts (is_start p)) i is named)
       (front (λ (c : ℕ × Cell). cell_at p c.0 ≡ Some c.1) (data_item i) (flat_map data_item is) found))

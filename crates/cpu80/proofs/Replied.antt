@@ -1,6 +1,7 @@
 -- What a reply finds and leaves.
 use Rattle.std.proofs.Common.{◌≡◌, ℕ, ◌+◌, ◌≤◌, ◌==◌, ◌&&◌, nat_lt, Bool, true, false, cond, List, [], ◌∷◌, length, Option, Some, None, Result, Ok, Err, refl, sym, ap, ◌∙◌, subst, arith}
 use Rattle.std.specs.List.{All}
+use Rattle.std.proofs.lemmas.Bool.{and_parts}
 use Rattle.std.proofs.lemmas.Bool.Decides.{nat_tests}
 use Rattle.std.proofs.lemmas.List.Elements.{All-cons, All-nil, All-tail}
 use Rattle.cells.specs.declared.Rule.{Rule}
@@ -156,18 +157,10 @@ port_taken p c after kept e y closed on w fit same runs place state =
 abbrev Ends : Range → Type 0
 Ends r = r.at + r.len ≤ 0x10000
 
-and_left : (a b : Bool) → (a && b) ≡ true → a ≡ true
-and_left true b e = refl
-and_left false b e = e
-
-and_right : (a b : Bool) → (a && b) ≡ true → b ≡ true
-and_right true b e = e
-and_right false b e = cc
-
 filled : (r : Range) (b : Block) → Ends r → fills r b ≡ true → Fits b
 filled r b h e =
-    let at : (b.at == r.at) ≡ true = and_left (b.at == r.at) (length b.bytes == r.len) e in
-    let len : (length b.bytes == r.len) ≡ true = and_right (b.at == r.at) (length b.bytes == r.len) e in
+    let at : (b.at == r.at) ≡ true = (and_parts (b.at == r.at) (length b.bytes == r.len) e).0 in
+    let len : (length b.bytes == r.len) ≡ true = (and_parts (b.at == r.at) (length b.bytes == r.len) e).1 in
     grind (arith, nat_tests)
 
 writes_within : (rs : List Range) (bs : List Block) → All Ends rs → writes_fit rs bs ≡ true → All Fits bs
@@ -183,16 +176,16 @@ writes_within (r ∷ rs) (b ∷ bs) h e =
 line_within_bytes : (room : ℕ) (bytes : List ℕ) → line_bytes_fit room bytes ≡ true → length bytes ≤ room
 line_within_bytes room [] e = cc
 line_within_bytes room (k ∷ bytes) e =
-    let lt : nat_lt k room ≡ true = and_left (nat_lt k room) (length bytes == k) e in
-    let len : (length bytes == k) ≡ true = and_right (nat_lt k room) (length bytes == k) e in
+    let lt : nat_lt k room ≡ true = (and_parts (nat_lt k room) (length bytes == k) e).0 in
+    let len : (length bytes == k) ≡ true = (and_parts (nat_lt k room) (length bytes == k) e).1 in
     grind (arith, nat_tests)
 
 line_within : (rs : List Range) (bs : List Block) → All Ends rs → line_fits rs bs ≡ true → All Fits bs
 line_within [] bs h e = cc
 line_within (r ∷ rs) [] h e = cc
 line_within (r ∷ rs) (b ∷ []) h e =
-    let at : (b.at == r.at) ≡ true = and_left (b.at == r.at) (line_bytes_fit r.len b.bytes) e in
-    let len = line_within_bytes r.len b.bytes (and_right (b.at == r.at) (line_bytes_fit r.len b.bytes) e) in
+    let at : (b.at == r.at) ≡ true = (and_parts (b.at == r.at) (line_bytes_fit r.len b.bytes) e).0 in
+    let len = line_within_bytes r.len b.bytes (and_parts (b.at == r.at) (line_bytes_fit r.len b.bytes) e).1 in
     let ends : Ends r = h 0 r (omega arith) in
     let fit : Fits b = grind (arith, nat_tests) in
     All-cons Fits b [] fit (All-nil Fits)
@@ -200,7 +193,7 @@ line_within (r ∷ rs) (b ∷ (c ∷ bs)) h e = cc
 
 row_within : (o : Option Row) (q : Request) (y : Reply) → All Ends (ranges q.shape.writes) → fits_row o q y ≡ true → All Fits y.writes
 row_within None q y h e = cc
-row_within (Some row) q y h e = by_line (q.shape.function == 10) (and_right (answer_fits (kind_by row.answer q.shape.arg) y.answer) _ e)
+row_within (Some row) q y h e = by_line (q.shape.function == 10) (and_parts (answer_fits (kind_by row.answer q.shape.arg) y.answer) _ e).1
   where
     by_line : (t : Bool) → cond t (line_fits (ranges q.shape.writes) y.writes) (writes_fit (ranges q.shape.writes) y.writes) ≡ true → All Fits y.writes
     by_line true g = line_within (ranges q.shape.writes) y.writes h g

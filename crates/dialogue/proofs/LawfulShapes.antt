@@ -3,7 +3,7 @@ use Rattle.std.proofs.Common.{◌≡◌, ◌≢◌, refl, sym, ◌∙◌, ap, su
 use Rattle.std.proofs.lemmas.Bool.{leb-true, eqb-true, and_parts}
 use Rattle.std.proofs.lemmas.List.{map-append}
 use Rattle.std.proofs.lemmas.List.Elements.{All-nil, All-cons, All-head, All-tail}
-use Rattle.std.specs.Prelude.{Option, Some, None, Result, Ok, Err, map, unwrap_or, slice_index_or, IfSome, IsTrue, ◌==◌, ◌&&◌, ◌||◌, nat_le, not}
+use Rattle.std.specs.Prelude.{Option, Some, None, Ok, Err, map, unwrap_or, slice_index_or, IfSome, IsTrue, ◌==◌, ◌&&◌, ◌||◌, nat_le, not}
 use Rattle.std.specs.List.{All}
 use Rattle.cells.specs.declared.Rule.{Rule}
 use Rattle.cells.specs.declared.Rule.TheVariants.{P10, P11}
@@ -12,34 +12,22 @@ use Rattle.dialogue.specs.declared.request.ArgWord.{ArgWord}
 use Rattle.dialogue.specs.declared.request.ArgWord.TheVariants.{Byte}
 use Rattle.dialogue.specs.declared.request.Range.{Range}
 use Rattle.dialogue.specs.declared.request.Shape.{Shape}
-use Rattle.dialogue.specs.Tried.{try_then}
 use Rattle.dialogue.specs.Table.{Argument, NoArgument, InE, DirectInE, InDE, Extent, F, Dma, Text, Line, Row, call_table, row_of, padded}
 use Rattle.dialogue.specs.Shape.{Seen, argument_of, address_of, is_readable, line_room, text_length, text_range, range_of, is_within, range_within, ranges_within, has_room, ranges, bytes_in, block_of, request_of, shape_by, shape_in, shape_of}
 use Rattle.dialogue.specs.Places.{room_at}
 use Rattle.dialogue.specs.Lawful.{IsShapeOver, is_argument, IsRangeOf, AreRangesOf, first_byte, range_of_block, IsLawful}
 use Rattle.dialogue.proofs.Rows.{rows_have_places, entry_at-passes, fits_in_places, has_room-padded}
+use Rattle.dialogue.proofs.Tried.{ok_is, then_is, cond_ok}
 
 -- a range ends within memory
 abbrev pub Ends : Range → Type 0
 Ends r = r.at + r.len ≤ 0x10000
 
--- what an answer after a step tells of the step
-try_then-ok : {X Y R : Type 0} (r : Result X R) (f : X → Result Y R) (y : Y) → try_then r f ≡ Ok y → (x : X) × (r ≡ Ok x) × (f x ≡ Ok y)
-try_then-ok (Ok x) f y h = (x, refl, h)
-try_then-ok (Err e) f y h = cc
-
-ok_same : {X R : Type 0} (x y : X) → ◌≡◌ {A = Result X R} (Ok x) (Ok y) → x ≡ y
-ok_same x y h = cc
-
-cond-ok : {X R : Type 0} (b : Bool) (x y : X) (e : R) → cond b (Ok x) (Err e) ≡ Ok y → (b ≡ true) × (x ≡ y)
-cond-ok true x y e h = (refl, cc)
-cond-ok false x y e h = cc
-
 -- a range that an extent gives, and that ends within memory
 range_within-ok : (passes : ℕ → Bool) (rule : Rule) (o : Option Range) (r : Range) → range_within passes rule o ≡ Ok r → (o ≡ Some r) × Ends r
 range_within-ok passes rule None r h = cc
 range_within-ok passes rule (Some q) r h =
-    let told = cond-ok (is_within passes q) q r rule h in
+    let told = cond_ok (is_within passes q) q r rule h in
     let ends = leb-true _ _ (and_parts (nat_le (q.at + q.len) 0x10000) _ told.0).0 in
     (ap Some told.1, subst Ends told.1 ends)
 
@@ -75,8 +63,8 @@ ranges_within-placed passes rule seen de dma [] rs h =
       are = λ k le. rw none (ranges-padded k [] (omega arith));
     }
 ranges_within-placed passes rule seen de dma (x ∷ xs) rs h =
-    let first = try_then-ok (range_within passes rule (range_of seen de dma x)) _ rs h in
-    let rest = try_then-ok (ranges_within passes rule seen de dma xs) _ rs first.2 in
+    let first = then_is (range_within passes rule (range_of seen de dma x)) _ rs h in
+    let rest = then_is (ranges_within passes rule seen de dma xs) _ rs first.2 in
     let placed = ranges_within-placed passes rule seen de dma xs rest.0 rest.1 in
     let range = range_within-ok passes rule (range_of seen de dma x) first.0 first.1 in
     let whole : first.0 ∷ rest.0 ≡ rs = cc in
@@ -144,18 +132,18 @@ Ends-drop ps i lt ends = ends_at (slice_index_or ps i None) (ranges (drop (i + 1
 
 -- the argument that a row takes
 argument_of-ok : (a : Argument) (d e : Option ℕ) (arg : ArgWord) → argument_of a d e ≡ Ok arg → IsTrue (is_argument a arg)
-argument_of-ok NoArgument d e arg h = subst (λ (w : ArgWord). IsTrue (is_argument NoArgument w)) (ok_same _ _ h) refl
+argument_of-ok NoArgument d e arg h = subst (λ (w : ArgWord). IsTrue (is_argument NoArgument w)) (ok_is _ _ h) refl
 argument_of-ok InE d None arg h = cc
-argument_of-ok InE d (Some e) arg h = subst (λ (w : ArgWord). IsTrue (is_argument InE w)) (ok_same _ _ h) refl
+argument_of-ok InE d (Some e) arg h = subst (λ (w : ArgWord). IsTrue (is_argument InE w)) (ok_is _ _ h) refl
 argument_of-ok DirectInE d None arg h = cc
 argument_of-ok DirectInE d (Some e) arg h = by_test (e == 0xFE) refl h
   where
     by_test : (b : Bool) → (e == 0xFE) ≡ b → cond b (Err P10) (Ok (Byte e)) ≡ Ok arg → IsTrue (is_argument DirectInE arg)
     by_test true t h = absurd (cc)
-    by_test false t h = subst (λ (w : ArgWord). IsTrue (is_argument DirectInE w)) (ok_same _ _ h) (ap not t)
+    by_test false t h = subst (λ (w : ArgWord). IsTrue (is_argument DirectInE w)) (ok_is _ _ h) (ap not t)
 argument_of-ok InDE None e arg h = cc
 argument_of-ok InDE (Some d) None arg h = cc
-argument_of-ok InDE (Some d) (Some e) arg h = subst (λ (w : ArgWord). IsTrue (is_argument InDE w)) (ok_same _ _ h) refl
+argument_of-ok InDE (Some d) (Some e) arg h = subst (λ (w : ArgWord). IsTrue (is_argument InDE w)) (ok_is _ _ h) refl
 
 -- mx is read where a line is written: the buffer's first cell is the first range
 abbrev pub is_first_cell : List Extent → Bool
@@ -261,16 +249,16 @@ pub record Made (seen : Seen) (shape : Shape) : Type 0 where
 made_by_row : (seen : Seen) (function : ℕ) (row : Row) (d e : Option ℕ) (dma : ℕ) (shape : Shape) → row_of function ≡ Some row →
     shape_by function row d e dma seen ≡ Ok shape → Made seen shape
 made_by_row seen function row d e dma shape found given =
-    let a = try_then-ok (argument_of row.argument d e) _ shape given in
+    let a = then_is (argument_of row.argument d e) _ shape given in
     let de = address_of a.0 in
-    let r = try_then-ok (ranges_within (is_readable seen) P10 seen de dma row.reads) _ shape a.2 in
-    let x = try_then-ok (has_room seen de row.writes) _ shape r.2 in
-    let w = try_then-ok (ranges_within seen.writable P11 seen de dma x.0) _ shape x.2 in
-    let room = cond-ok (room_at seen de (padded 2 row.writes)) row.writes x.0 P10 (sym (has_room-padded seen de 1 row.writes) ∙ x.1) in
+    let r = then_is (ranges_within (is_readable seen) P10 seen de dma row.reads) _ shape a.2 in
+    let x = then_is (has_room seen de row.writes) _ shape r.2 in
+    let w = then_is (ranges_within seen.writable P11 seen de dma x.0) _ shape x.2 in
+    let room = cond_ok (room_at seen de (padded 2 row.writes)) row.writes x.0 P10 (sym (has_room-padded seen de 1 row.writes) ∙ x.1) in
     let writes : ranges_within seen.writable P11 seen de dma row.writes ≡ Ok w.0 =
     ap (λ xs. ranges_within seen.writable P11 seen de dma xs) room.1 ∙ w.1 in
     let P : Shape → Type 0 = Made seen in
-    subst P (ok_same _ _ w.2) (record {
+    subst P (ok_is _ _ w.2) (record {
       row = row;
       found = found;
       argument = argument_of-ok row.argument d e a.0 a.1;

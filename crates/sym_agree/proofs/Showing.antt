@@ -1,6 +1,6 @@
 -- What is unknown in a made term shows.
 use Rattle.std.proofs.Common.{◌≡◌, ◌∙◌, ◌&&◌, ◌||◌, ◌==◌, not, Bool, true, false, refl, sym, ap}
-use Rattle.std.proofs.lemmas.Bool.{eq-eqb}
+use Rattle.std.proofs.lemmas.Bool.{eq-eqb, or_from, or_parts}
 use Rattle.xlt_pool.specs.Contents.{Contents}
 use Rattle.sym_terms.specs.declared.head.Term.{Term as TermId}
 use Rattle.sym_terms.specs.Heads.{number_of}
@@ -13,18 +13,6 @@ use Rattle.sym_terms.proofs.Making.{same_ids}
 use Rattle.sym_blocks.specs.Agree.{has_unknown, agrees}
 use Rattle.sym_agree.specs.Five.{is_flag_byte, is_plain}
 
-first_false : (a b : Bool) → (a || b) ≡ false → a ≡ false
-first_false true b h = absurd (cc)
-first_false false b h = refl
-
-second_false : (a b : Bool) → (a || b) ≡ false → b ≡ false
-second_false true b h = absurd (cc)
-second_false false b h = h
-
-none : (a b : Bool) → a ≡ false → b ≡ false → (a || b) ≡ false
-none true b h k = absurd (cc)
-none false b h k = k
-
 -- where nothing is open, nothing is unknown
 closed_knows : (t : Term) → is_open t ≡ false → has_unknown t ≡ false
 closed_knows (Num n) h = refl
@@ -33,22 +21,22 @@ closed_knows StartSp h = refl
 closed_knows (Loaded8 k) h = refl
 closed_knows (Loaded16 k) h = refl
 closed_knows (Alu op a b c) h =
-    let rest = second_false (is_open a) (is_open b || is_open c) h in
-    none (has_unknown a) (has_unknown b || has_unknown c) (closed_knows a (first_false (is_open a) (is_open b || is_open c) h))
-    (none (has_unknown b) (has_unknown c) (closed_knows b (first_false (is_open b) (is_open c) rest)) (closed_knows c (second_false (is_open b) (is_open c) rest)))
+    let rest = (or_parts (is_open a) (is_open b || is_open c) h).1 in
+    or_from (has_unknown a) (has_unknown b || has_unknown c) (closed_knows a (or_parts (is_open a) (is_open b || is_open c) h).0)
+    (or_from (has_unknown b) (has_unknown c) (closed_knows b (or_parts (is_open b) (is_open c) rest).0) (closed_knows c (or_parts (is_open b) (is_open c) rest).1))
 closed_knows (Flag part r) h = closed_knows r h
-closed_knows (Sum16 a b) h = none (has_unknown a) (has_unknown b) (closed_knows a (first_false (is_open a) (is_open b) h)) (closed_knows b (second_false (is_open a) (is_open b) h))
+closed_knows (Sum16 a b) h = or_from (has_unknown a) (has_unknown b) (closed_knows a (or_parts (is_open a) (is_open b) h).0) (closed_knows b (or_parts (is_open a) (is_open b) h).1)
 closed_knows (High w) h = closed_knows w h
 closed_knows (Low w) h = closed_knows w h
-closed_knows (Join a b) h = none (has_unknown a) (has_unknown b) (closed_knows a (first_false (is_open a) (is_open b) h)) (closed_knows b (second_false (is_open a) (is_open b) h))
+closed_knows (Join a b) h = or_from (has_unknown a) (has_unknown b) (closed_knows a (or_parts (is_open a) (is_open b) h).0) (closed_knows b (or_parts (is_open a) (is_open b) h).1)
 closed_knows (FlagByte s z ac p cy) h = absurd (cc)
 closed_knows (Bit b part) h = closed_knows b h
-closed_knows (Turn kind a b) h = none (has_unknown a) (has_unknown b) (closed_knows a (first_false (is_open a) (is_open b) h)) (closed_knows b (second_false (is_open a) (is_open b) h))
+closed_knows (Turn kind a b) h = or_from (has_unknown a) (has_unknown b) (closed_knows a (or_parts (is_open a) (is_open b) h).0) (closed_knows b (or_parts (is_open a) (is_open b) h).1)
 closed_knows (Turned c) h = absurd (cc)
 closed_knows (Adjust a b c) h =
-    let rest = second_false (is_open a) (is_open b || is_open c) h in
-    none (has_unknown a) (has_unknown b || has_unknown c) (closed_knows a (first_false (is_open a) (is_open b || is_open c) h))
-    (none (has_unknown b) (has_unknown c) (closed_knows b (first_false (is_open b) (is_open c) rest)) (closed_knows c (second_false (is_open b) (is_open c) rest)))
+    let rest = (or_parts (is_open a) (is_open b || is_open c) h).1 in
+    or_from (has_unknown a) (has_unknown b || has_unknown c) (closed_knows a (or_parts (is_open a) (is_open b || is_open c) h).0)
+    (or_from (has_unknown b) (has_unknown c) (closed_knows b (or_parts (is_open b) (is_open c) rest).0) (closed_knows c (or_parts (is_open b) (is_open c) rest).1))
 closed_knows (Code q high) h = refl
 closed_knows Unknown h = absurd (cc)
 

@@ -1,6 +1,6 @@
 -- The shape and the request of a call, by two sights of memory.
 use Rattle.std.proofs.Common.{◌≡◌, refl, sym, ◌∙◌, ap, subst, ℕ, zero, suc, ◌+◌, ◌-◌, ◌≤◌, ◌<◌, Bool, true, false, cond, List, [], ◌∷◌, drop, arith}
-use Rattle.std.proofs.lemmas.Bool.{leb-true, and_parts}
+use Rattle.std.proofs.lemmas.Bool.{leb-true, and_from, and_parts}
 use Rattle.std.specs.Prelude.{Option, Some, None, Result, Ok, Err, map, unwrap_or, is_some, ◌==◌, ◌&&◌, nat_le, not}
 use Rattle.cells.specs.declared.Rule.{Rule}
 use Rattle.cells.specs.declared.Rule.TheVariants.{P10, P11}
@@ -16,21 +16,11 @@ use Rattle.dialogue.specs.declared.table.Extent.TheVariants.{F, Dma, Text, Line}
 use Rattle.dialogue.specs.Table.{Row, call_table, row_of, padded}
 use Rattle.dialogue.specs.Shape.{Seen, argument_of, address_of, is_readable, line_room, text_length, text_length_by, text_range, range_of, all_cells, is_within, range_within, ranges_within, has_room, ranges, bytes_in, block_of, request_of, shape_by, shape_in}
 use Rattle.dialogue.proofs.Rows.{entry_at-passes}
+use Rattle.dialogue.proofs.Tried.{ok_is, then_is, cond_ok}
 use Rattle.sym_calls.specs.Sight.{SeesMore, KnowsMore, WhoSeesMoreAsksTheSame}
 
-then_ok : {X Y R : Type 0} (r : Result X R) (f : X → Result Y R) (y : Y) → try_then r f ≡ Ok y → (x : X) × (r ≡ Ok x) × (f x ≡ Ok y)
-then_ok (Ok x) f y h = (x, refl, h)
-then_ok (Err e) f y h = cc
-
-then_is : {X Y R : Type 0} (r : Result X R) (f : X → Result Y R) (x : X) (y : Y) → r ≡ Ok x → f x ≡ Ok y → try_then r f ≡ Ok y
-then_is r f x y e h = ap (λ z. try_then z f) e ∙ h
-
-cond_ok : {X R : Type 0} (b : Bool) (x y : X) (e : R) → cond b (Ok x) (Err e) ≡ Ok y → (b ≡ true) × (x ≡ y)
-cond_ok true x y e h = (refl, cc)
-cond_ok false x y e h = cc
-
-and_both : (a b : Bool) → a ≡ true → b ≡ true → (a && b) ≡ true
-and_both a b e h = ap (λ z. z && b) e ∙ h
+then_from : {X Y R : Type 0} (r : Result X R) (f : X → Result Y R) (x : X) (y : Y) → r ≡ Ok x → f x ≡ Ok y → try_then r f ≡ Ok y
+then_from r f x y e h = ap (λ z. try_then z f) e ∙ h
 
 -- a line buffer's extent, which is the first of those written alone
 abbrev has_line : List Extent → Bool
@@ -64,25 +54,22 @@ arg_same InDE (Some m) None d' e' arg kd ke h = absurd (cc)
 arg_same InDE (Some m) (Some n) d' e' arg kd ke h =
     subst (λ o. argument_of InDE o e' ≡ Ok arg) (sym (kd m refl).1) (subst (λ o. argument_of InDE (Some m) o ≡ Ok arg) (sym (ke n refl).1) h)
 
-ok_same : {X R : Type 0} (x y : X) → ◌≡◌ {A = Result X R} (Ok x) (Ok y) → x ≡ y
-ok_same x y h = cc
-
 arg_small : (k : Argument) (d e d' e' : Option ℕ) (arg : ArgWord) → KnowsMore d d' → KnowsMore e e' → argument_of k d e ≡ Ok arg → address_of arg < 0x10000
-arg_small NoArgument d e d' e' arg kd ke h = subst (λ w. address_of w < 0x10000) (ok_same _ arg h) (omega arith)
+arg_small NoArgument d e d' e' arg kd ke h = subst (λ w. address_of w < 0x10000) (ok_is _ arg h) (omega arith)
 arg_small InE d None d' e' arg kd ke h = absurd (cc)
-arg_small InE d (Some n) d' e' arg kd ke h = subst (λ w. address_of w < 0x10000) (ok_same _ arg h) (omega arith)
+arg_small InE d (Some n) d' e' arg kd ke h = subst (λ w. address_of w < 0x10000) (ok_is _ arg h) (omega arith)
 arg_small DirectInE d None d' e' arg kd ke h = absurd (cc)
 arg_small DirectInE d (Some n) d' e' arg kd ke h = by_byte (n == 0xFE) h
   where
     by_byte : (b : Bool) → cond b (Err P10) (Ok (Byte n)) ≡ Ok arg → address_of arg < 0x10000
     by_byte true h = absurd (cc)
-    by_byte false h = subst (λ w. address_of w < 0x10000) (ok_same _ arg h) (omega arith)
+    by_byte false h = subst (λ w. address_of w < 0x10000) (ok_is _ arg h) (omega arith)
 arg_small InDE None e d' e' arg kd ke h = absurd (cc)
 arg_small InDE (Some m) None d' e' arg kd ke h = absurd (cc)
 arg_small InDE (Some m) (Some n) d' e' arg kd ke h =
     let hm = (kd m refl).0 in
     let hn = (ke n refl).0 in
-    subst (λ w. address_of w < 0x10000) (ok_same _ arg h) (omega (arith, hm, hn))
+    subst (λ w. address_of w < 0x10000) (ok_is _ arg h) (omega (arith, hm, hn))
 
 module _ (s t : Seen) (more : SeesMore s t) where
   -- cells that pass
@@ -91,7 +78,7 @@ module _ (s t : Seen) (more : SeesMore s t) where
   all_same P Q each zero at le h = refl
   all_same P Q each (suc k) at le h =
       let p = and_parts (P at) (all_cells P k (at + 1)) h in
-      and_both (Q at) (all_cells Q k (at + 1)) (each at (omega (arith, le)) p.0) (all_same P Q each k (at + 1) (omega (arith, le)) p.1)
+      and_from (Q at) (all_cells Q k (at + 1)) (each at (omega (arith, le)) p.0) (all_same P Q each k (at + 1) (omega (arith, le)) p.1)
 
   readable_same : (a : ℕ) → a < 0x10000 → is_readable s a ≡ true → is_readable t a ≡ true
   readable_same a lt h = by_byte (s.byte a) refl h
@@ -106,7 +93,7 @@ module _ (s t : Seen) (more : SeesMore s t) where
   within_same : (P Q : ℕ → Bool) → ((a : ℕ) → a < 0x10000 → P a ≡ true → Q a ≡ true) → (r : Range) → is_within P r ≡ true → is_within Q r ≡ true
   within_same P Q each r h =
       let p = and_parts (nat_le (r.at + r.len) 0x10000) (all_cells P r.len r.at) h in
-      and_both _ _ p.0 (all_same P Q each r.len r.at (within_end P r h) p.1)
+      and_from _ _ p.0 (all_same P Q each r.len r.at (within_end P r h) p.1)
 
   -- the bytes of cells that are read
   bytes_same : (k at : ℕ) → at + k ≤ 0x10000 → all_cells (is_readable s) k at ≡ true → bytes_in t k at ≡ bytes_in s k at
@@ -192,14 +179,14 @@ module _ (s t : Seen) (more : SeesMore s t) where
     tail_line Line xs h = refl
 
     ranges_same : (P Q : ℕ → Bool) (rule : Rule) → ((a : ℕ) → a < 0x10000 → P a ≡ true → Q a ≡ true) → (xs : List Extent) (rs : List Range) → (has_line xs ≡ true → Room) → ranges_within P rule s de dma xs ≡ Ok rs → (ranges_within Q rule t de dma xs ≡ Ok rs) × AllWithin P rs
-    ranges_same P Q rule each [] rs room h = (h, subst (AllWithin P) (ok_same [] rs h) tt)
+    ranges_same P Q rule each [] rs room h = (h, subst (AllWithin P) (ok_is [] rs h) tt)
     ranges_same P Q rule each (x ∷ xs) rs room h =
-        let a = then_ok (range_within P rule (range_of s de dma x)) _ rs h in
-        let b = then_ok (ranges_within P rule s de dma xs) _ rs a.2 in
+        let a = then_is (range_within P rule (range_of s de dma x)) _ rs h in
+        let b = then_is (ranges_within P rule s de dma xs) _ rs a.2 in
         let first = within_range P Q rule each x a.0 (λ g. room (head_line x xs g)) a.1 in
         let rest = ranges_same P Q rule each xs b.0 (λ g. room (tail_line x xs g)) b.1 in (
-          then_is (range_within Q rule (range_of t de dma x)) _ a.0 rs first.0 (then_is (ranges_within Q rule t de dma xs) _ b.0 rs rest.0 b.2),
-          subst (AllWithin P) (ok_same (a.0 ∷ b.0) rs b.2) (first.1, rest.1),
+          then_from (range_within Q rule (range_of t de dma x)) _ a.0 rs first.0 (then_from (ranges_within Q rule t de dma xs) _ b.0 rs rest.0 b.2),
+          subst (AllWithin P) (ok_is (a.0 ∷ b.0) rs b.2) (first.1, rest.1),
         )
 
     -- the blocks that are read
@@ -214,10 +201,10 @@ module _ (s t : Seen) (more : SeesMore s t) where
     -- room for a line
 
     room_same : (xs ys : List Extent) → has_room s de xs ≡ Ok ys → not (has_line (drop 1 xs)) ≡ true → (has_room t de xs ≡ Ok ys) × (has_line ys ≡ true → Room)
-    room_same [] ys h first = (h, λ g. absurd (not_true (has_line []) refl (ap has_line (ok_same [] ys h) ∙ g)))
-    room_same (F i k ∷ xs) ys h first = (h, λ g. absurd (not_true (has_line xs) first (ap has_line (ok_same (F i k ∷ xs) ys h) ∙ g)))
-    room_same (Dma ∷ xs) ys h first = (h, λ g. absurd (not_true (has_line xs) first (ap has_line (ok_same (Dma ∷ xs) ys h) ∙ g)))
-    room_same (Text ∷ xs) ys h first = (h, λ g. absurd (not_true (has_line xs) first (ap has_line (ok_same (Text ∷ xs) ys h) ∙ g)))
+    room_same [] ys h first = (h, λ g. absurd (not_true (has_line []) refl (ap has_line (ok_is [] ys h) ∙ g)))
+    room_same (F i k ∷ xs) ys h first = (h, λ g. absurd (not_true (has_line xs) first (ap has_line (ok_is (F i k ∷ xs) ys h) ∙ g)))
+    room_same (Dma ∷ xs) ys h first = (h, λ g. absurd (not_true (has_line xs) first (ap has_line (ok_is (Dma ∷ xs) ys h) ∙ g)))
+    room_same (Text ∷ xs) ys h first = (h, λ g. absurd (not_true (has_line xs) first (ap has_line (ok_is (Text ∷ xs) ys h) ∙ g)))
     room_same (Line ∷ xs) ys h first = by_byte (s.byte de) refl h
       where
         by_byte : (o : Option ℕ) → s.byte de ≡ o → cond (unwrap_or o 0 == 0) (Err P10) (Ok (Line ∷ xs)) ≡ Ok ys → (has_room t de (Line ∷ xs) ≡ Ok ys) × (has_line ys ≡ true → Room)
@@ -229,20 +216,20 @@ module _ (s t : Seen) (more : SeesMore s t) where
 shape_same : (function dma : ℕ) (row : Row) (d e d' e' : Option ℕ) (s t : Seen) (shape : Shape) → line_is_first row ≡ true → SeesMore s t → KnowsMore d d' → KnowsMore e e' → shape_by function row d e dma s ≡ Ok shape → (shape_by function row d' e' dma t ≡ Ok shape) × (request_of shape t ≡ request_of shape s)
 shape_same function dma row d e d' e' s t shape first more kd ke h =
     let f = and_parts (not (has_line row.reads)) (not (has_line (drop 1 row.writes))) first in
-    let a = then_ok (argument_of row.argument d e) _ shape h in
+    let a = then_is (argument_of row.argument d e) _ shape h in
     let de = address_of a.0 in
     let small = arg_small row.argument d e d' e' a.0 kd ke a.1 in
-    let b = then_ok (ranges_within (is_readable s) P10 s de dma row.reads) _ shape a.2 in
+    let b = then_is (ranges_within (is_readable s) P10 s de dma row.reads) _ shape a.2 in
     let reads = ranges_same s t more de dma small (is_readable s) (is_readable t) P10 (readable_same s t more) row.reads b.0 (λ g. absurd (not_true (has_line row.reads) f.0 g)) b.1 in
-    let c = then_ok (has_room s de row.writes) _ shape b.2 in
+    let c = then_is (has_room s de row.writes) _ shape b.2 in
     let room = room_same s t more de dma small row.writes c.0 c.1 f.1 in
-    let w = then_ok (ranges_within s.writable P11 s de dma c.0) _ shape c.2 in
+    let w = then_is (ranges_within s.writable P11 s de dma c.0) _ shape c.2 in
     let writes = ranges_same s t more de dma small s.writable t.writable P11 more.writable c.0 w.0 room.1 w.1 in (
-      then_is (argument_of row.argument d' e') _ a.0 shape (arg_same row.argument d e d' e' a.0 kd ke a.1)
-          (then_is (ranges_within (is_readable t) P10 t de dma row.reads) _ b.0 shape reads.0
-          (then_is (has_room t de row.writes) _ c.0 shape room.0
-          (then_is (ranges_within t.writable P11 t de dma c.0) _ w.0 shape writes.0 w.2))),
-      subst (λ z. request_of z t ≡ request_of z s) (ok_same _ shape w.2)
+      then_from (argument_of row.argument d' e') _ a.0 shape (arg_same row.argument d e d' e' a.0 kd ke a.1)
+          (then_from (ranges_within (is_readable t) P10 t de dma row.reads) _ b.0 shape reads.0
+          (then_from (has_room t de row.writes) _ c.0 shape room.0
+          (then_from (ranges_within t.writable P11 t de dma c.0) _ w.0 shape writes.0 w.2))),
+      subst (λ z. request_of z t ≡ request_of z s) (ok_is _ shape w.2)
           (ap (λ bs. record { shape = record { function = function; arg = a.0; reads = padded 3 b.0; writes = padded 2 w.0 }; blocks = bs }) (blocks_same s t more de dma small 3 b.0 reads.1)),
     )
 

@@ -1,6 +1,7 @@
 -- The ends of blocks: the walk through the template of what ends a block, or at the label behind it.
 use Rattle.std.proofs.Common.{◌≡◌, ℕ, suc, ◌==◌, Bool, true, false, cond, List, ◌∷◌, ◌++◌, Some, refl, sym, ap, ◌∙◌, subst}
 use Rattle.std.specs.Prelude.{Result, Ok, Err}
+use Rattle.std.proofs.lemmas.Bool.{and_from}
 use Rattle.cells.specs.declared.Part.{Part}
 use Rattle.cells.specs.declared.Part.TheVariants.{C, H, L}
 use Rattle.cells.specs.declared.Cond.{Cond}
@@ -23,7 +24,6 @@ use Rattle.templates_plain.specs.Template.{template, label_of, unless}
 use Rattle.sym_blocks.specs.declared.reason.Reason.{Reason}
 use Rattle.sym_blocks.specs.declared.reason.Reason.TheVariants.{Form}
 use Rattle.sym_terms.specs.Term.{Term}
-use Rattle.sym_terms.proofs.Equal.{both_true}
 use Rattle.sym_blocks.specs.Outcome.{Way, Goto, Call, Sys, SysReturn, Boot, In, Out, One, Two}
 use Rattle.sym_blocks.specs.Block80.{Symbolic80, goto, jump, call, return_by, asking, where_holds, exit80, flag_term}
 use Rattle.sym_blocks.specs.Symbolic86.{Symbolic86}
@@ -101,7 +101,7 @@ module _ (p : Program) (w : Surroundings) (before : Parts) (at room : ℕ) (save
   if_call c goal skip k = if_call_of c goal skip (flags_meet_at before c s t (λ q h. k q (in_first (flag c) (asked_of goal) q h)) a)
 
   end : (i : Instr80) → ends80 i ≡ true → SkipsTo w i at rest → ((q : Part) → Among (uses80 i) q → Among before q) → End_of i
-  end Pchl e skip k = record { exit86 = One (bx_way t); is = refl; agrees = both_true (agrees s.held.h t.held.h) (agrees s.held.l t.held.l) (meets_agree _ _ (a.parts H (k H refl))) (meets_agree _ _ (a.parts L (k L refl))) }
+  end Pchl e skip k = record { exit86 = One (bx_way t); is = refl; agrees = and_from (agrees s.held.h t.held.h) (agrees s.held.l t.held.l) (meets_agree _ _ (a.parts H (k H refl))) (meets_agree _ _ (a.parts L (k L refl))) }
   end (Jmp goal) e skip k = jump_end goal
   end (Jif c goal) e skip k = if_jump c goal skip k
   end (CallTo goal) e skip k = call_end goal
@@ -113,12 +113,12 @@ module _ (p : Program) (w : Surroundings) (before : Parts) (at room : ℕ) (save
   end (InFrom n) e skip k = record {
     exit86 = One (In n (AtPlace w.after));
     is = ap (λ z. cond z (one_way t (In n (AtPlace w.after))) (Err Form)) (may_follow p w rest g b);
-    agrees = one_agrees (asking p w.after (In n)) (In n (AtPlace w.after)) (asking_agrees p w rest g b (In n) (both_true (n == n) (w.after == w.after) (same_here n) (same_here w.after)));
+    agrees = one_agrees (asking p w.after (In n)) (In n (AtPlace w.after)) (asking_agrees p w rest g b (In n) (and_from (n == n) (w.after == w.after) (same_here n) (same_here w.after)));
   }
   end (OutTo n) e skip k = record {
     exit86 = One (Out n (AtPlace w.after));
     is = ap (λ z. cond z (one_way t (Out n (AtPlace w.after))) (Err Form)) (may_follow p w rest g b);
-    agrees = one_agrees (asking p w.after (Out n)) (Out n (AtPlace w.after)) (asking_agrees p w rest g b (Out n) (both_true (n == n) (w.after == w.after) (same_here n) (same_here w.after)));
+    agrees = one_agrees (asking p w.after (Out n)) (Out n (AtPlace w.after)) (asking_agrees p w rest g b (Out n) (and_from (n == n) (w.after == w.after) (same_here n) (same_here w.after)));
   }
   end i e skip k = absurd (let f : false ≡ true = e in cc)
 

@@ -1,7 +1,7 @@
 -- The ways of templates agree with those of their instructions.
 use Rattle.std.proofs.Common.{◌≡◌, ℕ, ◌==◌, ◌||◌, Bool, true, false, cond, List, Some, refl, sym, ap, ◌∙◌}
 use Rattle.std.specs.Prelude.{not, ◌&&◌}
-use Rattle.std.proofs.lemmas.Bool.{eq-eqb, or_right}
+use Rattle.std.proofs.lemmas.Bool.{eq-eqb, or_right, and_from}
 use Rattle.cells.specs.declared.Part.{Part}
 use Rattle.cells.specs.declared.Part.TheVariants.{S, Z, P, Cy}
 use Rattle.cells.specs.declared.Cond.{Cond}
@@ -21,7 +21,6 @@ use Rattle.templates_plain.specs.Template.{label_of, unless}
 use Rattle.cells.specs.Places.{same_place}
 use Rattle.sym_terms.specs.Term.{same_bool}
 use Rattle.sym_terms.specs.Making.{high, low}
-use Rattle.sym_terms.proofs.Equal.{both_true}
 use Rattle.sym_blocks.specs.Outcome.{Way, Goto, Call, Sys, SysReturn, Boot, Leave, One, Two}
 use Rattle.sym_blocks.specs.Block80.{Symbolic80, goto, jump, call, return_by, asking, flag_term, wanted, where_holds, next_word}
 use Rattle.sym_blocks.specs.Symbolic86.{Symbolic86, next_word as next_word86}
@@ -92,7 +91,7 @@ module _ (p : Program) (w : Surroundings) (rest : List Stmt86) (g : w.goes_on �
     where
       by_start : is_start p w.after ≡ true → way_agrees (Call (AtPlace t) (AtPlace w.after)) (Call (AtPlace t) (back_from_call w ys)) ≡ true
       by_start h =
-          both_true _ _ (same_here t)
+          and_from _ _ (same_here t)
           (ap (λ z. same_place (AtPlace w.after) (cond z (AtPlace w.after) EndPlace)) (e ∙ label_follows h) ∙ same_here w.after)
 
   pub asks_agree : (ys : List Stmt86) → comes_next w ys ≡ comes_next w rest → way_agrees (call p w.after ToBdos) (Sys (back_from_system w ys)) ≡ true
@@ -104,7 +103,7 @@ module _ (p : Program) (w : Surroundings) (rest : List Stmt86) (g : w.goes_on �
 pub returns_agree : {Kept : Part → Type 0} (s : Symbolic80) (t : Symbolic86) → Agree Kept s t → way_agrees (return_by s) (return_way t) ≡ true
 returns_agree s t a =
     let m = next_words_meet s t a in
-    both_true (agrees (high (next_word s)) (high (next_word86 t))) (agrees (low (next_word s)) (low (next_word86 t))) (meets_agree _ _ (highs_meet _ _ m)) (meets_agree _ _ (lows_meet _ _ m))
+    and_from (agrees (high (next_word s)) (high (next_word86 t))) (agrees (low (next_word s)) (low (next_word86 t))) (meets_agree _ _ (highs_meet _ _ m)) (meets_agree _ _ (lows_meet _ _ m))
 
 -- the flag of a condition
 pub flags_meet_at : (before : Parts) (c : Cond) (s : Symbolic80) (t : Symbolic86) → ((q : Part) → Among (flag c) q → Among before q) → Agree (Among before) s t → Meets (flag_term s.held c) (flag_of_jump t.held (unless c))
@@ -122,29 +121,29 @@ pub crossed : (c : Cond) (s : Symbolic80) (t : Symbolic86) (way otherwise straig
 crossed c s t way otherwise straight jumped m e f = by_cond c m
   where
     both : way_agrees way straight ≡ true → way_agrees otherwise jumped ≡ true → (way_agrees way straight && way_agrees otherwise jumped) ≡ true
-    both = both_true (way_agrees way straight) (way_agrees otherwise jumped)
+    both = and_from (way_agrees way straight) (way_agrees otherwise jumped)
 
     by_cond : (c : Cond) → Meets (flag_term s.held c) (flag_of_jump t.held (unless c)) → exit_agrees (where_holds s c way otherwise) (Two (flag_of_jump t.held (unless c)) (jumps_at (unless c)) jumped straight) ≡ true
-    by_cond Nz m = both_true _ _ (meets_agree _ _ m) (both e f)
-    by_cond Zero m = both_true _ _ (meets_agree _ _ m) (both e f)
-    by_cond Nc m = both_true _ _ (meets_agree _ _ m) (both e f)
-    by_cond Carry m = both_true _ _ (meets_agree _ _ m) (both e f)
-    by_cond Po m = both_true _ _ (meets_agree _ _ m) (both e f)
-    by_cond Pe m = both_true _ _ (meets_agree _ _ m) (both e f)
-    by_cond Plus m = both_true _ _ (meets_agree _ _ m) (both e f)
-    by_cond Minus m = both_true _ _ (meets_agree _ _ m) (both e f)
+    by_cond Nz m = and_from _ _ (meets_agree _ _ m) (both e f)
+    by_cond Zero m = and_from _ _ (meets_agree _ _ m) (both e f)
+    by_cond Nc m = and_from _ _ (meets_agree _ _ m) (both e f)
+    by_cond Carry m = and_from _ _ (meets_agree _ _ m) (both e f)
+    by_cond Po m = and_from _ _ (meets_agree _ _ m) (both e f)
+    by_cond Pe m = and_from _ _ (meets_agree _ _ m) (both e f)
+    by_cond Plus m = and_from _ _ (meets_agree _ _ m) (both e f)
+    by_cond Minus m = and_from _ _ (meets_agree _ _ m) (both e f)
 
 -- or it jumps where the condition holds
 pub straight_on : (c : Cond) (j : Jump) (s : Symbolic80) (t : Symbolic86) (way otherwise jumped straight : Way) → JumpsWhere c j → Meets (flag_term s.held c) (flag_of_jump t.held (unless c)) → way_agrees way jumped ≡ true → way_agrees otherwise straight ≡ true → exit_agrees (where_holds s c way otherwise) (Two (flag_of_jump t.held j) (jumps_at j) jumped straight) ≡ true
 straight_on c j s t way otherwise jumped straight where_so m e f =
     ap (λ z. exit_agrees (where_holds s c way otherwise) (Two z (jumps_at j) jumped straight)) (where_so.flag t.held ∙ same_flag c)
     ∙ ap (λ z. exit_agrees (where_holds s c way otherwise) (Two (flag_of_jump t.held (unless c)) z jumped straight)) where_so.value
-    ∙ both_true (agrees (flag_term s.held c) (flag_of_jump t.held (unless c))) _ (meets_agree _ _ m) (by_value (wanted c))
+    ∙ and_from (agrees (flag_term s.held c) (flag_of_jump t.held (unless c))) _ (meets_agree _ _ m) (by_value (wanted c))
   where
     same_flag : (c : Cond) → flag_term t.held c ≡ flag_of_jump t.held (unless c)
     same_flag Nz = refl
     same_flag c = refl
 
     by_value : (v : Bool) → ways_agree (same_bool v v) way otherwise jumped straight ≡ true
-    by_value true = both_true (way_agrees way jumped) (way_agrees otherwise straight) e f
-    by_value false = both_true (way_agrees way jumped) (way_agrees otherwise straight) e f
+    by_value true = and_from (way_agrees way jumped) (way_agrees otherwise straight) e f
+    by_value false = and_from (way_agrees way jumped) (way_agrees otherwise straight) e f

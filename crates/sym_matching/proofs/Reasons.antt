@@ -6,6 +6,7 @@ use Rattle.std.proofs.lemmas.Bool.{or_parts, or_right}
 use Rattle.cells.specs.declared.Part.{Part}
 use Rattle.cells.specs.declared.Part.TheVariants.{A, B, C, D, E, H, L, S, Z, Ac, P, Cy}
 use Rattle.cells.specs.Parts.{Parts, has, union}
+use Rattle.cells.proofs.Options.{if_none}
 use Rattle.sym_blocks.specs.declared.reason.Reason.{Reason}
 use Rattle.sym_blocks.specs.declared.reason.Reason.TheVariants.{Actions, Exits, KeptSp}
 use Rattle.sym_blocks.specs.Outcome.{Outcome, part_of}
@@ -17,25 +18,21 @@ passes : {X : Type 0} (b : Bool) (o : Option X) (r : X) → cond b o (Some r) �
 passes true o r e = (refl, e)
 passes false o r e = absurd (cc)
 
-goes_by : {X : Type 0} (b : Bool) (x : X) (o : Option X) → cond b (Some x) o ≡ None → (b ≡ false) × (o ≡ None)
-goes_by true x o e = absurd (cc)
-goes_by false x o e = (refl, e)
-
 -- no part is bad where none is found
 pub none_found : (f : Part → Bool) → find f all_parts ≡ None → (q : Part) → f q ≡ false
 none_found f e q =
-    let a = goes_by (f A) A _ e in
-    let b = goes_by (f B) B _ a.1 in
-    let c = goes_by (f C) C _ b.1 in
-    let d = goes_by (f D) D _ c.1 in
-    let i = goes_by (f E) E _ d.1 in
-    let h = goes_by (f H) H _ i.1 in
-    let l = goes_by (f L) L _ h.1 in
-    let s = goes_by (f S) S _ l.1 in
-    let z = goes_by (f Z) Z _ s.1 in
-    let ac = goes_by (f Ac) Ac _ z.1 in
-    let p = goes_by (f P) P _ ac.1 in
-    let cy = goes_by (f Cy) Cy _ p.1 in
+    let a = if_none (f A) A _ e in
+    let b = if_none (f B) B _ a.1 in
+    let c = if_none (f C) C _ b.1 in
+    let d = if_none (f D) D _ c.1 in
+    let i = if_none (f E) E _ d.1 in
+    let h = if_none (f H) H _ i.1 in
+    let l = if_none (f L) L _ h.1 in
+    let s = if_none (f S) S _ l.1 in
+    let z = if_none (f Z) Z _ s.1 in
+    let ac = if_none (f Ac) Ac _ z.1 in
+    let p = if_none (f P) P _ ac.1 in
+    let cy = if_none (f Cy) Cy _ p.1 in
     of_part a.0 b.0 c.0 d.0 i.0 h.0 l.0 s.0 z.0 ac.0 p.0 cy.0 q
   where
     of_part : f A ≡ false → f B ≡ false → f C ≡ false → f D ≡ false → f E ≡ false → f H ≡ false → f L ≡ false → f S ≡ false → f Z ≡ false → f Ac ≡ false → f P ≡ false → f Cy ≡ false → (q : Part) → f q ≡ false

@@ -2,7 +2,7 @@
 use Rattle.std.proofs.Common.{◌≡◌, ◌≢◌, ℕ, ◌≤◌, ◌||◌, Bool, false, List, [], ◌∷◌, ◌++◌, refl, ap, arith}
 use Rattle.std.specs.Prelude.{◌&&◌}
 use Rattle.std.specs.List.{list_any}
-use Rattle.std.proofs.lemmas.Bool.{cond_both, or_parts}
+use Rattle.std.proofs.lemmas.Bool.{cond_both, or_from, or_parts}
 use Rattle.i80.specs.declared.Goal.TheVariants.{Bdos}
 use Rattle.i80.specs.declared.Instr80.{Instr80}
 use Rattle.i80.specs.declared.Instr80.TheVariants.{Jif, Call}
@@ -18,7 +18,6 @@ use Rattle.templates_plain.specs.Template.{template, label_of}
 use Rattle.flow.specs.Blocks.{end_of}
 use Rattle.flow.proofs.Cuts.{flat}
 use Rattle.templates.specs.Style.{Style, is_pair, knows_function, jump_if, without_first_if, without_last_if, written_as, label_within, block_from, block_of, blocks_of}
-use Rattle.sym_rows.proofs.Terms.{neither}
 use Rattle.sym_plain.proofs.Laid.{length80-some}
 use Rattle.sym_plain.proofs.Standing.{other_number, template_marks}
 use Rattle.sym_own.proofs.Runs.{end_from, laid_up}
@@ -32,14 +31,14 @@ pub lacks_both : (l : Label) (xs ys : List Stmt86) → Lacks l xs → Lacks l ys
 lacks_both l [] ys h g = g
 lacks_both l (x ∷ xs) ys h g =
     let both = or_parts (marks l x) (list_any (λ x. marks l x) xs) h in
-    neither (marks l x) (list_any (λ x. marks l x) (xs ++ ys)) both.0 (lacks_both l xs ys both.1 g)
+    or_from (marks l x) (list_any (λ x. marks l x) (xs ++ ys)) both.0 (lacks_both l xs ys both.1 g)
 
 lacks_left : (l : Label) (first last : Bool) (xs : List Stmt86) → Lacks l xs → Lacks l (without_first_if first (without_last_if last xs))
 lacks_left l = left_so (Lacks l) (record {
   Here = λ x. marks l x ≡ false;
   none = refl;
   parts = λ x xs h. or_parts (marks l x) (list_any (λ x. marks l x) xs) h;
-  whole = λ x xs h k. neither (marks l x) (list_any (λ x. marks l x) xs) h k;
+  whole = λ x xs h k. or_from (marks l x) (list_any (λ x. marks l x) xs) h k;
 })
 
 -- an instruction's statements have no label but that past its own condition
@@ -73,7 +72,7 @@ block_lacks l s first c (x ∷ xs) f =
 
 one_lacks : (l : Label) (s : Style) (b : List Placed) → Free l b → Lacks l (block_of s b)
 one_lacks l s [] f = refl
-one_lacks l s (x ∷ xs) f = neither (same_label (At x.at) l) (list_any (λ x. marks l x) (block_from s false false (x ∷ xs))) f.0 (block_lacks l s false false (x ∷ xs) f)
+one_lacks l s (x ∷ xs) f = or_from (same_label (At x.at) l) (list_any (λ x. marks l x) (block_from s false false (x ∷ xs))) f.0 (block_lacks l s false false (x ∷ xs) f)
 
 pub blocks_lack : (l : Label) (s : Style) (bs : List (List Placed)) → Free l (flat bs) → Lacks l (blocks_of s bs)
 blocks_lack l s [] f = refl

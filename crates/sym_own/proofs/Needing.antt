@@ -3,7 +3,7 @@
 use Rattle.std.proofs.Common.{◌≡◌, ℕ, suc, Bool, true, false, cond, List, [], ◌∷◌, Option, Some, None, inl, inr, ◌⊎◌, ⊎_elim, refl, sym, ap, ◌∙◌, subst, arith}
 use Rattle.std.specs.Prelude.{is_some, ◌||◌}
 use Rattle.std.specs.List.{Contains}
-use Rattle.std.proofs.lemmas.Bool.{or_parts}
+use Rattle.std.proofs.lemmas.Bool.{or_cases, or_parts}
 use Rattle.cells.specs.declared.Part.{Part}
 use Rattle.cells.specs.declared.Part.TheVariants.{A, B, L}
 use Rattle.cells.specs.declared.Place.TheVariants.{At as AtPlace}
@@ -25,7 +25,7 @@ use Rattle.sym_blocks.specs.Block80.{Symbolic80, goto, call, return_by, asking, 
 use Rattle.sym_blocks.specs.BlockMatch.{without_a, with_a, kept_by, kept_by_exit, lost_by}
 use Rattle.sym_texts.specs.Needed.{needed_by}
 use Rattle.sym_rows.specs.Meeting.{Among}
-use Rattle.sym_rows.proofs.Moves.{has_nothing, has_union, either}
+use Rattle.sym_rows.proofs.Moves.{has_nothing, has_union}
 use Rattle.sym_rows.proofs.Row.{in_second}
 use Rattle.sym_own.proofs.Runs.{IsOf, instr_is}
 
@@ -166,7 +166,7 @@ module _ (p : Program) (n : Needs) (closed : NeedsAreClosed p) (are : AreAllNeed
 
     -- either of two ways
     of_two : (v w : Way) (q : Part) → (Among (kept_by (needed_by p n) v) q → Among before q) → (Among (kept_by (needed_by p n) w) q → Among before q) → Among (union (kept_by (needed_by p n) v) (kept_by (needed_by p n) w)) q → Among before q
-    of_two v w q f g c = ⊎_elim f g (either (has (kept_by (needed_by p n) v) q) (has (kept_by (needed_by p n) w) q) (sym (has_union (kept_by (needed_by p n) v) (kept_by (needed_by p n) w) q) ∙ c))
+    of_two v w q f g c = ⊎_elim f g (or_cases (has (kept_by (needed_by p n) v) q) (has (kept_by (needed_by p n) w) q) (sym (has_union (kept_by (needed_by p n) v) (kept_by (needed_by p n) w) q) ∙ c))
 
     pub end_kept : (i : Instr80) → ends80 i ≡ true → Uses i → Edges i → (s : Symbolic80) (q : Part) → Among (kept_by_exit (needed_by p n) (exit80 p a s i)) q → Among before q
     end_kept Pchl e using edge s q c = to_return Pchl [] q refl edge (has_nothing q) c

@@ -3,7 +3,7 @@
 use Rattle.std.proofs.Common.{◌≡◌, ◌≢◌, ℕ, zero, suc, ◌+◌, ◌-◌, ◌<◌, ◌≤◌, ◌==◌, true, false, cond, List, [], ◌∷◌, ◌++◌, length, Some, refl, sym, ap, subst, ◌∙◌, arith, append_assoc}
 use Rattle.std.specs.Prelude.{map}
 use Rattle.std.specs.List.{list_any}
-use Rattle.std.proofs.lemmas.Bool.{or_right}
+use Rattle.std.proofs.lemmas.Bool.{or_right, or_from}
 use Rattle.i80.specs.declared.Instr80.{Instr80}
 use Rattle.i80.specs.Columns.{length80, ends80, is_well_formed}
 use Rattle.asm86_lines.specs.declared.line.Label.TheVariants.{At}
@@ -15,7 +15,7 @@ use Rattle.flow.proofs.Straight.{uncut}
 use Rattle.flow.proofs.Extents.{numbered}
 use Rattle.sym_blocks.specs.Block80.{instrs_from, before_more, address_after, addresses_from}
 use Rattle.sym_blocks.specs.Walk86.{Surroundings, is_passed}
-use Rattle.sym_rows.proofs.Terms.{or_first, neither}
+use Rattle.sym_rows.proofs.Terms.{or_first}
 use Rattle.sym_plain.proofs.Laid.{length80-some}
 use Rattle.sym_plain.proofs.Standing.{same_number, other_number, not_here}
 
@@ -136,7 +136,7 @@ none_behind (x ∷ xs) from limit a laid le =
     let some = length80-some x.instr in
     let up = laid_up xs (end_of x) limit laid.3 in
     let ne : x.at ≢ a = omega (arith, some, up, le) in
-    neither (x.at == a) (list_any (λ b. b == a) (places_of xs)) (other_number x.at a ne) (none_behind xs (end_of x) limit a laid.3 le)
+    or_from (x.at == a) (list_any (λ b. b == a) (places_of xs)) (other_number x.at a ne) (none_behind xs (end_of x) limit a laid.3 le)
 
 -- a block among the blocks of a program
 

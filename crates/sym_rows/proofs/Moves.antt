@@ -1,5 +1,6 @@
 -- States that agree, behind a write of a part or of SP, and behind a load or a store.
 use Rattle.std.proofs.Common.{◌≡◌, suc, ◌||◌, ◌⊎◌, inl, inr, Bool, true, false, List, [], ◌∷◌, ◌++◌, refl, sym, ap, ◌∙◌}
+use Rattle.std.proofs.lemmas.Bool.{and_from, and_parts, or_cases}
 use Rattle.cells.specs.declared.Part.{Part}
 use Rattle.cells.specs.declared.Part.TheVariants.{A, B, C, D, E, H, L, S, Z, Ac, P, Cy}
 use Rattle.cells.specs.Parts.{Parts, nothing, has, only, union}
@@ -10,7 +11,6 @@ use Rattle.i80.specs.declared.Pair.TheVariants.{B as PairB, D as PairD, H as Pai
 use Rattle.i80.specs.Columns.{part_of_reg, pair, five_flags}
 use Rattle.templates_plain.specs.Template.{reg_of, pair_of}
 use Rattle.sym_terms.specs.Term.{Term, Loaded8, Loaded16}
-use Rattle.sym_terms.proofs.Equal.{first_true, second_true, both_true}
 use Rattle.sym_blocks.specs.Outcome.{Action, Load8, Load16, Store8, Store16, Held, part_of, with_flags_of, with_count_flags_of}
 use Rattle.sym_blocks.specs.Block80.{Symbolic80, reg_term, with_reg, pair_term, with_pair, with_held, load8, load16, store8, store16, next_byte, next_word}
 use Rattle.sym_blocks.specs.Symbolic86.{Symbolic86, reg8_term, with_reg8, reg16_term, with_reg16, losing_flags, with_held as with_held86, load8 as load8_86, load16 as load16_86, store8 as store8_86, store16 as store16_86, next_byte as next_byte86, next_word as next_word86}
@@ -39,10 +39,6 @@ pub has_union : (a b : Parts) (q : Part) → has (union a b) q ≡ (has a q || h
 has_union a b A = refl
 has_union a b q = refl
 
-pub either : (a b : Bool) → (a || b) ≡ true → (a ≡ true) ⊎ (b ≡ true)
-either true b e = inl refl
-either false b e = inr e
-
 -- fewer parts
 pub agree_on : {Kept Fewer : Part → Type 0} (s : Symbolic80) (t : Symbolic86) → ((q : Part) → Fewer q → Kept q) → Agree Kept s t → Agree Fewer s t
 agree_on s t f a = record { parts = λ q c. a.parts q (f q c); sp = a.sp; actions = a.actions; loads = a.loads }
@@ -61,7 +57,7 @@ agree_both {Kept} d e s t a = agree_on s t into a
 
     into : (q : Part) → Adding Kept (union d e) q → Adding (Adding Kept d) e q
     into q (inl c) = inl (inl c)
-    into q (inr c) = by_one q (either (has d q) (has e q) (sym (has_union d e q) ∙ c))
+    into q (inr c) = by_one q (or_cases (has d q) (has e q) (sym (has_union d e q) ∙ c))
 
 -- registers
 
@@ -183,9 +179,10 @@ agree_losing s t a = record { parts = flags_lost s.held t a.parts; sp = a.sp; ac
 -- loads and stores
 
 one_more : (xs ys : List Action) (x y : Action) → actions_agree xs ys ≡ true → action_agrees x y ≡ true → actions_agree (xs ++ x ∷ []) (ys ++ y ∷ []) ≡ true
-one_more [] [] x y e f = both_true (action_agrees x y) true f refl
+one_more [] [] x y e f = and_from (action_agrees x y) true f refl
 one_more (z ∷ xs) (w ∷ ys) x y e f =
-    both_true (action_agrees z w) _ (first_true (action_agrees z w) _ e) (one_more xs ys x y (second_true (action_agrees z w) _ e) f)
+    let both = and_parts (action_agrees z w) (actions_agree xs ys) e in
+    and_from (action_agrees z w) _ both.0 (one_more xs ys x y both.1 f)
 one_more xs ys x y e f = absurd (cc)
 
 pub agree_load8 : {Kept : Part → Type 0} (s : Symbolic80) (t : Symbolic86) (at at' : Term) → agrees at at' ≡ true → Agree Kept s t → Agree Kept (load8 s at) (load8_86 t at')
@@ -195,10 +192,10 @@ pub agree_load16 : {Kept : Part → Type 0} (s : Symbolic80) (t : Symbolic86) (a
 agree_load16 s t at at' e a = record { parts = a.parts; sp = a.sp; actions = one_more s.trace.actions t.trace.actions (Load16 at) (Load16 at') a.actions e; loads = ap suc a.loads }
 
 pub agree_store8 : {Kept : Part → Type 0} (s : Symbolic80) (t : Symbolic86) (at at' v w : Term) → agrees at at' ≡ true → agrees v w ≡ true → Agree Kept s t → Agree Kept (store8 s at v) (store8_86 t at' w)
-agree_store8 s t at at' v w e f a = record { parts = a.parts; sp = a.sp; actions = one_more s.trace.actions t.trace.actions (Store8 at v) (Store8 at' w) a.actions (both_true (agrees at at') (agrees v w) e f); loads = a.loads }
+agree_store8 s t at at' v w e f a = record { parts = a.parts; sp = a.sp; actions = one_more s.trace.actions t.trace.actions (Store8 at v) (Store8 at' w) a.actions (and_from (agrees at at') (agrees v w) e f); loads = a.loads }
 
 pub agree_store16 : {Kept : Part → Type 0} (s : Symbolic80) (t : Symbolic86) (at at' v w : Term) → agrees at at' ≡ true → agrees v w ≡ true → Agree Kept s t → Agree Kept (store16 s at v) (store16_86 t at' w)
-agree_store16 s t at at' v w e f a = record { parts = a.parts; sp = a.sp; actions = one_more s.trace.actions t.trace.actions (Store16 at v) (Store16 at' w) a.actions (both_true (agrees at at') (agrees v w) e f); loads = a.loads }
+agree_store16 s t at at' v w e f a = record { parts = a.parts; sp = a.sp; actions = one_more s.trace.actions t.trace.actions (Store16 at v) (Store16 at' w) a.actions (and_from (agrees at at') (agrees v w) e f); loads = a.loads }
 
 -- what the next load brings
 pub next_bytes_meet : {Kept : Part → Type 0} (s : Symbolic80) (t : Symbolic86) → Agree Kept s t → Meets (next_byte s) (next_byte86 t)

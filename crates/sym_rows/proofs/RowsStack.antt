@@ -1,6 +1,6 @@
 -- The rows of the stack.
-use Rattle.std.proofs.Common.{◌≡◌, ℕ, Bool, true, false, refl, sym, ap, ◌∙◌, subst}
-use Rattle.std.proofs.lemmas.Bool.{or_right}
+use Rattle.std.proofs.Common.{◌≡◌, ℕ, Bool, true, refl, ap, ◌∙◌}
+use Rattle.std.proofs.lemmas.Bool.{or_right, and_from}
 use Rattle.cells.specs.declared.Part.{Part}
 use Rattle.cells.specs.declared.Part.TheVariants.{A, H, L, S, Z, Ac, P, Cy}
 use Rattle.cells.specs.Parts.{Parts, only, union}
@@ -9,15 +9,14 @@ use Rattle.i80.specs.declared.StackPair.{StackPair}
 use Rattle.i80.specs.declared.StackPair.TheVariants.{B as StackB, D as StackD, H as StackH, Psw}
 use Rattle.i80.specs.declared.Instr80.TheVariants.{Xthl, Push, Pop}
 use Rattle.i80.specs.Columns.{five_flags}
-use Rattle.sym_terms.specs.Term.{Term, Num, Loaded16, High, Low, Join, FlagByte, is_open}
+use Rattle.sym_terms.specs.Term.{Term, Num, Loaded16, High, Low, Join, FlagByte}
 use Rattle.sym_terms.specs.Making.{sum16, join, bit}
-use Rattle.sym_terms.proofs.Equal.{both_true}
 use Rattle.sym_blocks.specs.Outcome.{Held, with_flags_in}
 use Rattle.sym_blocks.specs.Block80.{Symbolic80, flag_byte}
 use Rattle.sym_blocks.specs.Symbolic86.{Symbolic86, next_word as next_word86}
 use Rattle.sym_blocks.specs.Sorts.{AreSorted80, AreSorted86}
 use Rattle.sym_blocks.specs.Agree.{agrees, same_known}
-use Rattle.sym_rows.specs.Meeting.{Meets, same, WordsMeet, no_word, one_word, halves, Among, Agree}
+use Rattle.sym_rows.specs.Meeting.{Meets, same, WordsMeet, Among, Agree}
 use Rattle.sym_rows.proofs.Terms.{meets_agree}
 use Rattle.sym_rows.proofs.Words.{words_agree, sums_meet, number_words_meet}
 use Rattle.sym_rows.proofs.Moves.{Adding, PartsMeet, old, agree_none, agree_pair, pair_meets, agree_sp, agree_beside, agree_load16, agree_store16, next_words_meet}
@@ -33,12 +32,12 @@ psw_agrees x y a s z ac p cy =
     ap (λ w. agrees w (join y.a (flag_byte y))) (join_flag_byte x.a x.s x.z x.ac x.p x.cy)
     ∙ ap (λ w. agrees (Join x.a (flag_byte x)) w) (join_flag_byte y.a y.s y.z y.ac y.p y.cy)
     ∙ or_right (same_known (Join x.a (flag_byte x)) (Join y.a (flag_byte y))) _
-    (both_true (agrees x.a y.a) _ (meets_agree _ _ a)
+    (and_from (agrees x.a y.a) _ (meets_agree _ _ a)
     (or_right (same_known (flag_byte x) (flag_byte y)) _
-    (both_true (agrees x.s y.s) _ (meets_agree _ _ s)
-    (both_true (agrees x.z y.z) _ (meets_agree _ _ z)
-    (both_true (agrees x.ac y.ac) _ (meets_agree _ _ ac)
-    (both_true (agrees x.p y.p) (agrees x.cy y.cy) (meets_agree _ _ p) (meets_agree _ _ cy)))))))
+    (and_from (agrees x.s y.s) _ (meets_agree _ _ s)
+    (and_from (agrees x.z y.z) _ (meets_agree _ _ z)
+    (and_from (agrees x.ac y.ac) _ (meets_agree _ _ ac)
+    (and_from (agrees x.p y.p) (agrees x.cy y.cy) (meets_agree _ _ p) (meets_agree _ _ cy)))))))
 
 -- A and the flags of a loaded word
 psw_written : {Kept : Part → Type 0} (x y : Held) (k k' : ℕ) → k' ≡ k → PartsMeet Kept x y → PartsMeet (Adding Kept (union (only A) five_flags)) (with_flags_in (Low (Loaded16 k)) (record x { a = High (Loaded16 k) })) (with_flags_in (Low (Loaded16 k')) (record y { a = High (Loaded16 k') }))

@@ -1,13 +1,13 @@
 -- Bytes and flags that meet: they agree, and what is made of them meets.
 use Rattle.std.specs.Prelude.{not}
 use Rattle.std.proofs.Common.{◌≡◌, ℕ, ◌||◌, Bool, true, false, cond, refl, sym, ap, ap₂, ◌∙◌}
-use Rattle.std.proofs.lemmas.Bool.{or_right}
+use Rattle.std.proofs.lemmas.Bool.{or_right, and_from, or_from}
 use Rattle.cells.specs.declared.Part.{Part}
 use Rattle.cells.specs.declared.Part.TheVariants.{Ac, Cy}
 use Rattle.i80.specs.declared.Op.{Op}
 use Rattle.sym_terms.specs.Term.{Term, Num, Alu, Flag, Join, FlagByte, Turn, Adjust, Unknown, is_open, same_term}
 use Rattle.sym_terms.specs.Making.{alu, flag, flag_of, carry_flag, half_carry_flag, is_logic, is_addition, turn, adjust}
-use Rattle.sym_terms.proofs.Equal.{both_true, same_term_refl}
+use Rattle.sym_terms.proofs.Equal.{same_term_refl}
 use Rattle.sym_blocks.specs.Agree.{has_unknown, same_known, agrees}
 use Rattle.sym_rows.specs.Meeting.{Meets, lost, same}
 
@@ -17,14 +17,10 @@ pub or_first : (a b : Bool) → a ≡ true → (a || b) ≡ true
 or_first true b e = refl
 or_first false b e = absurd (cc)
 
-pub neither : (a b : Bool) → a ≡ false → b ≡ false → (a || b) ≡ false
-neither false b p q = q
-neither true b p q = absurd (cc)
-
 -- terms in which nothing is unknown agree with themselves
 
 known_self : (s : Term) → has_unknown s ≡ false → same_known s s ≡ true
-known_self s e = both_true (same_term s s) (not (has_unknown s)) (same_term_refl s) (ap not e)
+known_self s e = and_from (same_term s s) (not (has_unknown s)) (same_term_refl s) (ap not e)
 
 pub agrees_self : (s : Term) → has_unknown s ≡ false → agrees s s ≡ true
 agrees_self Unknown e = refl
@@ -85,14 +81,14 @@ alus_meet op a a' b b' c c' (same ea ka) (lost e) mc = lost (unknown_if _ (Alu o
 alus_meet op a a' b b' c c' (same ea ka) (same eb kb) (lost e) = lost (unknown_if _ (Alu op a b c) (or_right (is_open a) (is_open b || is_open c) (or_right (is_open b) (is_open c) (ap is_open e))))
 alus_meet op a a' b b' c c' (same ea ka) (same eb kb) (same ec kc) =
     meets_at (alu op a b c) (alu op a b c) _ _ refl (ap₂ (λ x y. alu op x y c') ea eb ∙ ap (alu op a b) ec)
-    (self_if (is_open a || (is_open b || is_open c)) (Alu op a b c) (same refl (neither (has_unknown a) _ ka (neither (has_unknown b) (has_unknown c) kb kc))))
+    (self_if (is_open a || (is_open b || is_open c)) (Alu op a b c) (same refl (or_from (has_unknown a) _ ka (or_from (has_unknown b) (has_unknown c) kb kc))))
 
 pub turns_meet : (kind : ℕ) (a a' c c' : Term) → Meets a a' → Meets c c' → Meets (turn kind a c) (turn kind a' c')
 turns_meet kind a a' c c' (lost e) mc = lost (unknown_if _ (Turn kind a c) (or_first (is_open a) (is_open c) (ap is_open e)))
 turns_meet kind a a' c c' (same ea ka) (lost e) = lost (unknown_if _ (Turn kind a c) (or_right (is_open a) (is_open c) (ap is_open e)))
 turns_meet kind a a' c c' (same ea ka) (same ec kc) =
     meets_at (turn kind a c) (turn kind a c) _ _ refl (ap₂ (turn kind) ea ec)
-    (self_if (is_open a || is_open c) (Turn kind a c) (same refl (neither (has_unknown a) (has_unknown c) ka kc)))
+    (self_if (is_open a || is_open c) (Turn kind a c) (same refl (or_from (has_unknown a) (has_unknown c) ka kc)))
 
 pub adjusts_meet : (a a' b b' c c' : Term) → Meets a a' → Meets b b' → Meets c c' → Meets (adjust a b c) (adjust a' b' c')
 adjusts_meet a a' b b' c c' (lost e) mb mc = lost (unknown_if _ (Adjust a b c) (or_first (is_open a) (is_open b || is_open c) (ap is_open e)))
@@ -100,7 +96,7 @@ adjusts_meet a a' b b' c c' (same ea ka) (lost e) mc = lost (unknown_if _ (Adjus
 adjusts_meet a a' b b' c c' (same ea ka) (same eb kb) (lost e) = lost (unknown_if _ (Adjust a b c) (or_right (is_open a) (is_open b || is_open c) (or_right (is_open b) (is_open c) (ap is_open e))))
 adjusts_meet a a' b b' c c' (same ea ka) (same eb kb) (same ec kc) =
     meets_at (adjust a b c) (adjust a b c) _ _ refl (ap₂ (λ x y. adjust x y c') ea eb ∙ ap (adjust a b) ec)
-    (self_if (is_open a || (is_open b || is_open c)) (Adjust a b c) (same refl (neither (has_unknown a) _ ka (neither (has_unknown b) (has_unknown c) kb kc))))
+    (self_if (is_open a || (is_open b || is_open c)) (Adjust a b c) (same refl (or_from (has_unknown a) _ ka (or_from (has_unknown b) (has_unknown c) kb kc))))
 
 -- a number meets itself
 pub number_meets : (n : ℕ) → Meets (Num n) (Num n)

@@ -1,17 +1,16 @@
 -- Words that meet: joined of bytes that meet, taken apart, and summed.
 use Rattle.std.specs.Prelude.{◌&&◌, not}
 use Rattle.std.proofs.Common.{◌≡◌, ℕ, zero, suc, ◌+◌, ◌*◌, ◌/◌, ◌%◌, ◌<◌, ◌||◌, ◌⊎◌, inl, inr, Bool, true, false, cond, refl, sym, ap, ap₂, ◌∙◌, arith}
-use Rattle.std.proofs.lemmas.Bool.{ltb-true, or_right}
+use Rattle.std.proofs.lemmas.Bool.{ltb-true, or_right, and_from, and_parts, or_from, or_parts}
 use Rattle.cells.specs.declared.Part.TheVariants.{Cy}
 use Rattle.i80.specs.declared.Op.TheVariants.{Add, Adc}
 use Rattle.sym_terms.specs.Term.{Term, Num, Sum16, High, Low, Join, Turned, Unknown, is_byte, is_open, is_adjusted, same_term}
 use Rattle.sym_terms.specs.Making.{sum16, sum_of, gathered, plus, high, low, join, carry_of}
 use Rattle.sym_terms.specs.Laws.{IsMadeAs}
-use Rattle.sym_terms.proofs.Equal.{both_true, same_term-true}
-use Rattle.sym_terms.proofs.Sorts.{first_false, second_false}
+use Rattle.sym_terms.proofs.Equal.{same_term-true}
 use Rattle.sym_blocks.specs.Agree.{has_unknown, agrees}
 use Rattle.sym_rows.specs.Meeting.{Meets, lost, same, WordsMeet, no_word, one_word, halves}
-use Rattle.sym_rows.proofs.Terms.{or_first, neither, agrees_self, meets_agree, meets_at, unknown_if, flags_meet, alus_meet, number_meets}
+use Rattle.sym_rows.proofs.Terms.{or_first, agrees_self, meets_agree, meets_at, unknown_if, flags_meet, alus_meet, number_meets}
 
 -- the halves of bytes that were joined
 
@@ -19,16 +18,12 @@ word_low : (x : Bool) (w w' : Term) → (same_term w w' && not (is_adjusted w)) 
 word_low true w w' e one made = ap low (one refl) ∙ made
 word_low false w w' e one made = refl
 
-one_of_both : (a b : Bool) → (a && b) ≡ true → a ≡ true
-one_of_both true b e = refl
-one_of_both false b e = absurd (cc)
-
 pub low_of_join : (h l : Term) → IsMadeAs is_byte l → low (join h l) ≡ l
 low_of_join (Num h) (Num l) m =
     let below : l < 256 = ltb-true l 256 m.1 in
     let e : (256 * h + l) % 256 ≡ l = omega arith in
     ap Num e
-low_of_join (High w) (Low w') m = word_low (same_term w w' && not (is_adjusted w)) w w' refl (λ e. same_term-true w w' (one_of_both (same_term w w') _ e)) m.0.2
+low_of_join (High w) (Low w') m = word_low (same_term w w' && not (is_adjusted w)) w w' refl (λ e. same_term-true w w' (and_parts (same_term w w') _ e).0) m.0.2
 low_of_join h l m = refl
 
 word_high : (x : Bool) (w w' : Term) → high w ≡ High w → high (cond x w (Join (High w) (Low w'))) ≡ High w
@@ -50,12 +45,12 @@ join_to_unknown h = refl
 
 joined_known : (x : Bool) (w w' : Term) → has_unknown w ≡ false → has_unknown w' ≡ false → has_unknown (cond x w (Join (High w) (Low w'))) ≡ false
 joined_known true w w' k k' = k
-joined_known false w w' k k' = neither (has_unknown w) (has_unknown w') k k'
+joined_known false w w' k k' = or_from (has_unknown w) (has_unknown w') k k'
 
 join_known : (h l : Term) → has_unknown h ≡ false → has_unknown l ≡ false → has_unknown (join h l) ≡ false
 join_known (Num h) (Num l) k k' = refl
 join_known (High w) (Low w') k k' = joined_known (same_term w w' && not (is_adjusted w)) w w' k k'
-join_known h l k k' = neither (has_unknown h) (has_unknown l) k k'
+join_known h l k k' = or_from (has_unknown h) (has_unknown l) k k'
 
 -- bytes that meet are joined to words that meet
 pub joins_meet : (h h' l l' : Term) → IsMadeAs is_byte h → IsMadeAs is_byte l → IsMadeAs is_byte l' → Meets h h' → Meets l l' → WordsMeet (join h l) (join h' l')
@@ -72,14 +67,14 @@ joins_meet h h' l l' mh ml ml' (same eh kh) (lost el) =
 
 high_self : (w : Term) → has_unknown w ≡ false → Meets (high w) (high w)
 high_self (Num n) k = same refl refl
-high_self (Join h l) k = same refl (first_false (has_unknown h) (has_unknown l) k)
+high_self (Join h l) k = same refl (or_parts (has_unknown h) (has_unknown l) k).0
 high_self (Turned c) k = lost refl
 high_self Unknown k = lost refl
 high_self w k = same refl k
 
 low_self : (w : Term) → has_unknown w ≡ false → Meets (low w) (low w)
 low_self (Num n) k = same refl refl
-low_self (Join h l) k = same refl (second_false (has_unknown h) (has_unknown l) k)
+low_self (Join h l) k = same refl (or_parts (has_unknown h) (has_unknown l) k).1
 low_self (Turned c) k = lost refl
 low_self Unknown k = lost refl
 low_self w k = same refl k
@@ -98,7 +93,7 @@ lows_meet s t (halves h l e o mh ml) = meets_at l (low t) _ _ (ap low e) refl ml
 pub words_agree : (s t : Term) → WordsMeet s t → agrees s t ≡ true
 words_agree s t (no_word e) = ap (λ x. agrees x t) e
 words_agree s t (one_word e k) = ap (λ x. agrees s x) e ∙ agrees_self s k
-words_agree s t (halves h l e o mh ml) = ap (λ x. agrees x t) e ∙ or_right _ _ (both_true (agrees h (high t)) (agrees l (low t)) (meets_agree h (high t) mh) (meets_agree l (low t) ml))
+words_agree s t (halves h l e o mh ml) = ap (λ x. agrees x t) e ∙ or_right _ _ (and_from (agrees h (high t)) (agrees l (low t)) (meets_agree h (high t) mh) (meets_agree l (low t) ml))
 
 -- sums
 
@@ -109,16 +104,16 @@ open_or_one s t (halves h l e o mh ml) = inl o
 
 plus_known : (a : Term) (n : ℕ) → has_unknown a ≡ false → has_unknown (plus a n) ≡ false
 plus_known a zero k = k
-plus_known a (suc n) k = neither (has_unknown a) false k refl
+plus_known a (suc n) k = or_from (has_unknown a) false k refl
 
 gathered_known : (a : Term) (n : ℕ) → has_unknown a ≡ false → has_unknown (gathered a n) ≡ false
 gathered_known (Num m) n k = refl
-gathered_known (Sum16 a (Num m)) n k = plus_known a ((m + n) % 0x10000) (first_false (has_unknown a) false k)
+gathered_known (Sum16 a (Num m)) n k = plus_known a ((m + n) % 0x10000) (or_parts (has_unknown a) false k).0
 gathered_known a n k = plus_known a n k
 
 sum_known : (a b : Term) → has_unknown a ≡ false → has_unknown b ≡ false → has_unknown (sum_of a b) ≡ false
 sum_known a (Num n) k k' = gathered_known a n k
-sum_known a b k k' = neither (has_unknown a) (has_unknown b) k k'
+sum_known a b k k' = or_from (has_unknown a) (has_unknown b) k k'
 
 word_if : (x : Bool) (t u : Term) → u ≡ cond x Unknown t → has_unknown t ≡ false → WordsMeet (cond x Unknown t) u
 word_if true t u e k = no_word refl

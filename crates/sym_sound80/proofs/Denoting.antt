@@ -1,9 +1,6 @@
 -- A state of the tagged 8080 that holds what the terms of a run say.
-use Rattle.std.proofs.Common.{◌≡◌, ℕ, ◌+◌, ◌<◌, ◌==◌, Bool, true, false, cond, List, [], ◌∷◌, ◌++◌, length, Some, refl, ap, subst, ◌∙◌, arith}
-use Rattle.std.specs.Prelude.{slice_get}
-use Rattle.std.proofs.lemmas.Option.{slice_get-get_or}
+use Rattle.std.proofs.Common.{◌≡◌, ℕ, ◌+◌, ◌<◌, ◌==◌, Bool, true, false, cond, List, [], ◌∷◌, ◌++◌, length, refl, subst, arith}
 use Rattle.std.proofs.lemmas.List.{length-append, append-nil}
-use Rattle.std.proofs.Math.Seq.{get_or-append_seam}
 use Rattle.cells.specs.declared.Flags.{Flags}
 use Rattle.cells.specs.declared.Cell.{Cell}
 use Rattle.asm80_program.specs.Program.{Program}
@@ -11,6 +8,7 @@ use Rattle.cpu80_steps.specs.State.{State80, Regs80, reg80}
 use Rattle.cpu80_steps.specs.Memory.{is_closed, is_write_protected, put}
 use Rattle.sym_terms.specs.Term.{Term, Loaded8, Loaded16}
 use Rattle.sym_terms.specs.Values80.{Load80, LoadedByte, LoadedWord, Byte, Word, OneBit, word_of, Val80}
+use Rattle.sym_terms.proofs.Places.{get_last_at}
 use Rattle.sym_blocks.specs.Outcome.{Load8, Load16, Store8, Store16, Held}
 use Rattle.sym_blocks.specs.Block80.{Symbolic80, reg_term, load8, load16, store8, store16}
 use Rattle.sym_runs.specs.States.{IsCell, IsState80}
@@ -26,13 +24,6 @@ pub record Denotes (p : Program) (s0 : State80) (loads : List Load80) (x : Symbo
   pub count : length loads ≡ x.trace.loads
   pub memory : Replays80 p (env80 s0 []) s0.mem x.trace.actions loads s.mem
   pub dma : s.dma ≡ s0.dma
-
--- what was loaded last
-get_last : {X : Type 0} → (xs : List X) (y : X) (k : ℕ) → length xs ≡ k → slice_get (xs ++ y ∷ []) k ≡ Some y
-get_last xs y k e =
-    let n : length (xs ++ y ∷ []) ≡ length xs + 1 = length-append xs (y ∷ []) in
-    let within : length xs < length (xs ++ y ∷ []) = omega (arith, n) in
-    subst (λ j. slice_get (xs ++ y ∷ []) j ≡ Some y) e (slice_get-get_or (xs ++ y ∷ []) (length xs) y within ∙ ap Some (get_or-append_seam xs y [] y))
 
 pub holds_grow : (s0 : State80) (loads more : List Load80) (x : Held) (regs : Regs80) (flags : Flags) → Holds80 (env80 s0 loads) x regs flags → Holds80 (env80 s0 (loads ++ more)) x regs flags
 holds_grow s0 loads more x regs flags h =
@@ -57,7 +48,7 @@ module _ (p : Program) (s0 : State80) where
       }
 
   pub byte_loaded : (loads : List Load80) (x : Symbolic80) (s : State80) (c : Cell) → Denotes p s0 loads x s → Val80 (env80 s0 (loads ++ LoadedByte c ∷ [])) (Loaded8 x.trace.loads) (Byte c)
-  byte_loaded loads x s c d = get_last loads (LoadedByte c) x.trace.loads d.count
+  byte_loaded loads x s c d = get_last_at loads (LoadedByte c) x.trace.loads d.count
 
   pub loads_word : (loads : List Load80) (x : Symbolic80) (s : State80) (address : Term) (n : ℕ) → Denotes p s0 loads x s → n + 1 < 0x10000 → Val80 (env80 s0 loads) address (word_of n) → is_closed p n ≡ false → is_closed p (n + 1) ≡ false → Denotes p s0 (loads ++ LoadedWord (s.mem (n + 1)) (s.mem n) ∷ []) (load16 x address) s
   loads_word loads x s address n d lt v open_low open_high =
@@ -72,7 +63,7 @@ module _ (p : Program) (s0 : State80) where
       }
 
   pub word_loaded : (loads : List Load80) (x : Symbolic80) (s : State80) (h l : Cell) → Denotes p s0 loads x s → Val80 (env80 s0 (loads ++ LoadedWord h l ∷ [])) (Loaded16 x.trace.loads) (Word h l)
-  word_loaded loads x s h l d = get_last loads (LoadedWord h l) x.trace.loads d.count
+  word_loaded loads x s h l d = get_last_at loads (LoadedWord h l) x.trace.loads d.count
 
   -- a store
   cell_put : (m : ℕ → Cell) (n : ℕ) (c : Cell) → ((a : ℕ) → is_closed p a ≡ false → IsCell p (m a)) → IsCell p c → (a : ℕ) → is_closed p a ≡ false → IsCell p (put m n c a)

@@ -1,8 +1,6 @@
 -- A term keeps its values when more is loaded.
-use Rattle.std.proofs.Common.{◌≡◌, ℕ, ◌<◌, ◌+◌, ◌/◌, ◌%◌, Bool, false, List, ◌++◌, length, Option, Some, None, ap, ◌∙◌, arith}
+use Rattle.std.proofs.Common.{◌≡◌, ℕ, ◌<◌, ◌+◌, ◌/◌, ◌%◌, Bool, false, List, ◌++◌, Option, Some, None}
 use Rattle.std.specs.Prelude.{slice_get}
-use Rattle.std.proofs.lemmas.Option.{slice_get_within, slice_get-get_or, get_or_from_slice_get}
-use Rattle.std.proofs.lemmas.List.{get_or_append_left, length-append}
 use Rattle.cells.specs.declared.Flags.{Flags}
 use Rattle.cells.specs.declared.Cell.{Cell}
 use Rattle.cells.specs.declared.Cell.TheVariants.{Num as NumCell, Psw}
@@ -13,13 +11,7 @@ use Rattle.base_arithmetic.specs.Arithmetic.{as_bit, daa_result, daa_carry, daa_
 use Rattle.base_arithmetic.specs.Operations.{flags_by, result_of, flags_of, flags_in}
 use Rattle.sym_terms.specs.Term.{Term, Num, Start, StartSp, Loaded8, Loaded16, Alu, Flag, Sum16, High, Low, Join, FlagByte, Bit, Turn, Turned, Adjust, Code, Unknown}
 use Rattle.sym_terms.specs.Values80.{Env80, Load80, LoadedByte, LoadedWord, Value80, Byte, Word, OneBit, Result, byte_by, word_by, bit_by, result_by, word_of, Val80, start80, flag_in, turn_result, turn_flags}
-
--- an element stays where it is when more follow
-pub get_grows : {X : Type 0} → (xs ys : List X) (k : ℕ) (x : X) → slice_get xs k ≡ Some x → slice_get (xs ++ ys) k ≡ Some x
-get_grows xs ys k x e =
-    let within : k < length xs = slice_get_within xs k x e in
-    let more : k < length (xs ++ ys) = omega (arith, length-append xs ys, within) in
-    slice_get-get_or (xs ++ ys) k x more ∙ ap Some (get_or_append_left xs ys x k within ∙ get_or_from_slice_get xs k x x e)
+use Rattle.sym_terms.proofs.Places.{get_front}
 
 -- more of a relation on each sort of value
 
@@ -111,10 +103,10 @@ value_grows e more (Start part) v p = start_grows e more part v p
 value_grows e more StartSp v p = p
 value_grows e more (Loaded8 k) v p =
     byte_more (λ x. slice_get e.loads k ≡ Some (LoadedByte x)) (λ x. slice_get (e.loads ++ more) k ≡ Some (LoadedByte x)) v
-    (λ c q. get_grows e.loads more k (LoadedByte c) q) p
+    (λ c q. get_front e.loads more (LoadedByte c) k q) p
 value_grows e more (Loaded16 k) v p =
     word_more (λ x y. slice_get e.loads k ≡ Some (LoadedWord x y)) (λ x y. slice_get (e.loads ++ more) k ≡ Some (LoadedWord x y)) v
-    (λ h l q. get_grows e.loads more k (LoadedWord h l) q) p
+    (λ h l q. get_front e.loads more (LoadedWord h l) k q) p
 value_grows e more (Alu op a b c) v p =
     result_more (AluIs e op a b c) (AluIs (with_more e more) op a b c) v
     (λ n g q. (q.0, q.1, q.2, value_grows e more a (Byte (NumCell q.0)) q.3, value_grows e more b (Byte (NumCell q.1)) q.4, value_grows e more c (OneBit (Some q.2)) q.5, q.6, q.7)) p

@@ -1,9 +1,6 @@
 -- A state of the 8086 that holds what the terms of a walk say.
-use Rattle.std.proofs.Common.{◌≡◌, ℕ, ◌+◌, ◌/◌, ◌%◌, ◌<◌, ◌==◌, Bool, true, false, cond, List, [], ◌∷◌, ◌++◌, length, Some, refl, sym, ap, subst, ◌∙◌, arith}
-use Rattle.std.specs.Prelude.{slice_get}
-use Rattle.std.proofs.lemmas.Option.{slice_get-get_or}
+use Rattle.std.proofs.Common.{◌≡◌, ℕ, ◌+◌, ◌/◌, ◌%◌, ◌<◌, ◌==◌, Bool, true, false, cond, List, [], ◌∷◌, ◌++◌, length, refl, sym, ap, subst, ◌∙◌, arith}
 use Rattle.std.proofs.lemmas.List.{length-append, append-nil}
-use Rattle.std.proofs.Math.Seq.{get_or-append_seam}
 use Rattle.i86.specs.declared.Reg8.{Reg8}
 use Rattle.i86.specs.declared.Reg8.TheVariants.{Al, Cl, Dl, Bl, Ah, Ch, Dh, Bh}
 use Rattle.base_arithmetic.specs.Arithmetic.{as_bit}
@@ -11,6 +8,7 @@ use Rattle.cpu86_steps.specs.State.{State86, Flags86, reg8, wrap, put, put_word,
 use Rattle.cpu86_steps.specs.Effect.{set8, with_flags}
 use Rattle.sym_terms.specs.Term.{Term, Loaded8, Loaded16}
 use Rattle.sym_terms.specs.Values86.{Env86, Load86, LoadedByte, LoadedWord, Number, Val86}
+use Rattle.sym_terms.proofs.Places.{get_last_at}
 use Rattle.sym_blocks.specs.Outcome.{Load8, Load16, Store8, Store16, Held, Trace}
 use Rattle.sym_blocks.specs.Symbolic86.{Symbolic86, reg8_term, with_reg8, with_held, load8, load16, store8, store16}
 use Rattle.sym_runs.specs.States.{IsState86}
@@ -31,13 +29,6 @@ pub record Denotes (e : Env86) (s0 : State86) (loads : List Load86) (x : Symboli
   pub dma : s.dma ≡ s0.dma
   pub ds : s.ds ≡ s0.ds
   pub ss : s.ss ≡ s0.ss
-
--- what was loaded last
-get_last : {X : Type 0} → (xs : List X) (y : X) (k : ℕ) → length xs ≡ k → slice_get (xs ++ y ∷ []) k ≡ Some y
-get_last xs y k e =
-    let n : length (xs ++ y ∷ []) ≡ length xs + 1 = length-append xs (y ∷ []) in
-    let within : length xs < length (xs ++ y ∷ []) = omega (arith, n) in
-    subst (λ j. slice_get (xs ++ y ∷ []) j ≡ Some y) e (slice_get-get_or (xs ++ y ∷ []) (length xs) y within ∙ ap Some (get_or-append_seam xs y [] y))
 
 flags_grow : (e : Env86) (loads more : List Load86) (x : Held) (f : Flags86) → FlagsHold86 (with_loads e loads) x f → FlagsHold86 (with_loads e (loads ++ more)) x f
 flags_grow e loads more x f h =
@@ -75,7 +66,7 @@ module _ (e : Env86) (s0 : State86) where
       }
 
   pub byte_loaded : (loads : List Load86) (x : Symbolic86) (s : State86) (b : ℕ) → Denotes e s0 loads x s → Val86 (with_loads e (loads ++ LoadedByte b ∷ [])) (Loaded8 x.trace.loads) (Number b)
-  byte_loaded loads x s b d = get_last loads (LoadedByte b) x.trace.loads d.count
+  byte_loaded loads x s b d = get_last_at loads (LoadedByte b) x.trace.loads d.count
 
   pub loads_word : (loads : List Load86) (x : Symbolic86) (s : State86) (address : Term) (n : ℕ) → Denotes e s0 loads x s → n < 0x10000 → Val86 (with_loads e loads) address (Number n) → Denotes e s0 (loads ++ LoadedWord (word_at s.mem n) ∷ []) (load16 x address) s
   loads_word loads x s address n d lt v =
@@ -95,7 +86,7 @@ module _ (e : Env86) (s0 : State86) where
       }
 
   pub word_loaded : (loads : List Load86) (x : Symbolic86) (s : State86) (w : ℕ) → Denotes e s0 loads x s → Val86 (with_loads e (loads ++ LoadedWord w ∷ [])) (Loaded16 x.trace.loads) (Number w)
-  word_loaded loads x s w d = get_last loads (LoadedWord w) x.trace.loads d.count
+  word_loaded loads x s w d = get_last_at loads (LoadedWord w) x.trace.loads d.count
 
   -- a store
   pub stores_byte : (loads : List Load86) (x : Symbolic86) (s : State86) (address value : Term) (n b : ℕ) → Denotes e s0 loads x s → n < 0x10000 → b < 256 → Val86 (with_loads e loads) address (Number n) → Val86 (with_loads e loads) value (Number b) → Denotes e s0 loads (store8 x address value) (record s { mem = put s.mem n b })

@@ -1,8 +1,6 @@
 -- A term keeps its values when more is loaded.
-use Rattle.std.proofs.Common.{◌≡◌, ℕ, ◌<◌, ◌+◌, ◌*◌, ◌/◌, ◌%◌, Bool, List, ◌++◌, length, Some, refl, sym, ap, ◌∙◌, arith}
+use Rattle.std.proofs.Common.{◌≡◌, ℕ, ◌<◌, ◌+◌, ◌*◌, ◌/◌, ◌%◌, Bool, List, ◌++◌, Some, refl, sym, ◌∙◌}
 use Rattle.std.specs.Prelude.{slice_get}
-use Rattle.std.proofs.lemmas.Option.{slice_get_within, slice_get-get_or, get_or_from_slice_get}
-use Rattle.std.proofs.lemmas.List.{get_or_append_left, length-append}
 use Rattle.cells.specs.declared.Flags.{Flags}
 use Rattle.cells.specs.declared.Part.{Part}
 use Rattle.cells.specs.declared.Part.TheVariants.{A, B, C, D, E, H, L, S, Z, Ac, P, Cy}
@@ -14,13 +12,7 @@ use Rattle.base_arithmetic.specs.Operations.{result_of, flags_of}
 use Rattle.sym_terms.specs.Term.{Term, Num, Start, StartSp, Loaded8, Loaded16, Alu, Flag, Sum16, High, Low, Join, FlagByte, Bit, Turn, Turned, Adjust, Code, Unknown}
 use Rattle.sym_terms.specs.Values80.{flag_in, turn_result, turn_flags}
 use Rattle.sym_terms.specs.Values86.{Env86, Load86, LoadedByte, LoadedWord, Value86, Number, Result, number_by, result_by, MayBe, Adjusts, Val86, start86}
-
--- an element stays where it is when more follow
-get_grows : {X : Type 0} → (xs ys : List X) (k : ℕ) (x : X) → slice_get xs k ≡ Some x → slice_get (xs ++ ys) k ≡ Some x
-get_grows xs ys k x e =
-    let within : k < length xs = slice_get_within xs k x e in
-    let more : k < length (xs ++ ys) = omega (arith, length-append xs ys, within) in
-    slice_get-get_or (xs ++ ys) k x more ∙ ap Some (get_or_append_left xs ys x k within ∙ get_or_from_slice_get xs k x x e)
+use Rattle.sym_terms.proofs.Places.{get_front}
 
 -- more of a relation on each sort of value
 
@@ -99,10 +91,10 @@ value_grows e more (Start part) v p =
 value_grows e more StartSp v p = p
 value_grows e more (Loaded8 k) v p =
     number_more (λ i. slice_get e.loads k ≡ Some (LoadedByte i)) (λ i. slice_get (e.loads ++ more) k ≡ Some (LoadedByte i)) v
-    (λ i q. get_grows e.loads more k (LoadedByte i) q) p
+    (λ i q. get_front e.loads more (LoadedByte i) k q) p
 value_grows e more (Loaded16 k) v p =
     number_more (λ i. slice_get e.loads k ≡ Some (LoadedWord i)) (λ i. slice_get (e.loads ++ more) k ≡ Some (LoadedWord i)) v
-    (λ i q. get_grows e.loads more k (LoadedWord i) q) p
+    (λ i q. get_front e.loads more (LoadedWord i) k q) p
 value_grows e more (Alu op a b c) v p =
     result_more (AluIs e op a b c) (AluIs (with_more e more) op a b c) v
     (λ n g q. (q.0, q.1, q.2, value_grows e more a (Number q.0) q.3, value_grows e more b (Number q.1) q.4, value_grows e more c (Number (as_bit q.2)) q.5, q.6, q.7)) p

@@ -6,6 +6,7 @@ use Rattle.std.proofs.Math.Seq.{take-append_seam}
 use Rattle.std.proofs.lemmas.Option.{slice_get_within, slice_get-get_or}
 use Rattle.xlt_pool.specs.declared.node.Node.{Node}
 use Rattle.xlt_pool.specs.Contents.{Contents, StandsAt, IsAbsent}
+use Rattle.xlt_pool.proofs.Places.{get_push}
 use Rattle.sym_terms.specs.declared.head.Head.{Head}
 use Rattle.sym_terms.specs.declared.head.Head.TheVariants.{FlagByte as FlagByteHead}
 use Rattle.sym_terms.specs.Term.{Term, is_adjusted}
@@ -13,7 +14,7 @@ use Rattle.sym_terms.specs.Making.{IsMade}
 use Rattle.sym_terms.specs.Heads.{operands, node_of, marked, rest_node, number_of, term_of}
 use Rattle.sym_terms.specs.Trees.{Entry, Tree, Rest, tree_at, tree_of_head, entry_of, entries_of, AreTrees, tree_in, AreTerms}
 use Rattle.sym_terms.specs.Forms.{HasRest, IsHeadNode, IsRestNode, IsFormed, IsTermList}
-use Rattle.sym_terms.proofs.Places.{get_push, get_from_cut, below_cut, cut_of_cut}
+use Rattle.sym_terms.proofs.Places.{get_from_cut, below_cut, cut_of_cut}
 use Rattle.sym_terms.proofs.Entries.{entries_push, length-entries_of, entries_cut, entry_at}
 use Rattle.sym_terms.proofs.Heads.{AreApart, entry_back, same_id, same_heads, lift_tree_at, lift_trees, lift_head}
 use Rattle.sym_terms.proofs.Marks.{entry_marked}

@@ -1,5 +1,6 @@
 -- On the 8086's side a made term in which nothing open and no Adjust stands has at most one value of each kind.
 use Rattle.std.proofs.Common.{◌≡◌, ℕ, ◌+◌, ◌*◌, ◌/◌, ◌%◌, ◌||◌, Bool, true, false, cond, Option, Some, refl, sym, ap, ap₂, subst, ◌∙◌, arith}
+use Rattle.std.proofs.lemmas.Bool.{or_parts}
 use Rattle.cells.specs.declared.Flags.{Flags}
 use Rattle.cells.specs.declared.Part.{Part}
 use Rattle.cells.specs.declared.Part.TheVariants.{S, Z, Ac, P, Cy}
@@ -13,7 +14,6 @@ use Rattle.sym_terms.specs.Making.{IsMade, flag, is_addition}
 use Rattle.sym_terms.specs.Values80.{flag_in, turn_result, turn_flags, turn_carry}
 use Rattle.sym_terms.specs.Values86.{Number, Result, Env86, LoadedByte, LoadedWord, Val86, number_by, result_by, MayBe}
 use Rattle.sym_terms.specs.Laws.{OneValue86}
-use Rattle.sym_terms.proofs.Sorts.{first_false, second_false}
 
 one_number : (Q : ℕ → Type 0) → ((i j : ℕ) → Q i → Q j → i ≡ j) → OneValue86 (number_by Q)
 one_number Q same = record { number = same; result = λ m n f g p q. absurd p }
@@ -102,16 +102,16 @@ one86 e StartSp m o u = one_number _ (λ i j p q. p ∙ sym q)
 one86 e (Loaded8 k) m o u = one_number _ (λ i j p q. let both : Some (LoadedByte i) ≡ Some (LoadedByte j) = sym p ∙ q in cc)
 one86 e (Loaded16 k) m o u = one_number _ (λ i j p q. let both : Some (LoadedWord i) ≡ Some (LoadedWord j) = sym p ∙ q in cc)
 one86 e (Alu op a b c) m o u =
-    let rest : (is_open b || is_open c) ≡ false = second_false (is_open a) (is_open b || is_open c) o in
-    let rest_u : (is_adjusted b || is_adjusted c) ≡ false = second_false (is_adjusted a) (is_adjusted b || is_adjusted c) u in
+    let rest : (is_open b || is_open c) ≡ false = (or_parts (is_open a) (is_open b || is_open c) o).1 in
+    let rest_u : (is_adjusted b || is_adjusted c) ≡ false = (or_parts (is_adjusted a) (is_adjusted b || is_adjusted c) u).1 in
     one_result
     (λ n f. (x y : ℕ) × (k : Bool) × Val86 e a (Number x) × Val86 e b (Number y) × Val86 e c (Number (as_bit k))
     × (n ≡ result_of op x y (as_bit k)) × (f ≡ flags_of op x y (as_bit k)))
     (λ n n' f f' p q.
     alu_same op p.0 p.1 q.0 q.1 p.2 q.2 n n' f f'
-    ((one86 e a m.0 (first_false (is_open a) (is_open b || is_open c) o) (first_false (is_adjusted a) (is_adjusted b || is_adjusted c) u)).number p.0 q.0 p.3 q.3)
-    ((one86 e b m.1 (first_false (is_open b) (is_open c) rest) (first_false (is_adjusted b) (is_adjusted c) rest_u)).number p.1 q.1 p.4 q.4)
-    (bit_same p.2 q.2 ((one86 e c m.2 (second_false (is_open b) (is_open c) rest) (second_false (is_adjusted b) (is_adjusted c) rest_u)).number (as_bit p.2) (as_bit q.2) p.5 q.5))
+    ((one86 e a m.0 (or_parts (is_open a) (is_open b || is_open c) o).0 (or_parts (is_adjusted a) (is_adjusted b || is_adjusted c) u).0).number p.0 q.0 p.3 q.3)
+    ((one86 e b m.1 (or_parts (is_open b) (is_open c) rest).0 (or_parts (is_adjusted b) (is_adjusted c) rest_u).0).number p.1 q.1 p.4 q.4)
+    (bit_same p.2 q.2 ((one86 e c m.2 (or_parts (is_open b) (is_open c) rest).1 (or_parts (is_adjusted b) (is_adjusted c) rest_u).1).number (as_bit p.2) (as_bit q.2) p.5 q.5))
     p.6 q.6 p.7 q.7)
 one86 e (Flag part r) m o u =
     one_number _
@@ -121,16 +121,16 @@ one86 e (Flag part r) m o u =
 one86 e (Sum16 a b) m o u =
     one_number _
     (λ i j p q.
-    let first : p.0 ≡ q.0 = (one86 e a m.0 (first_false (is_open a) (is_open b) o) (first_false (is_adjusted a) (is_adjusted b) u)).number p.0 q.0 p.4 q.4 in
-    let second : p.1 ≡ q.1 = (one86 e b m.1 (second_false (is_open a) (is_open b) o) (second_false (is_adjusted a) (is_adjusted b) u)).number p.1 q.1 p.5 q.5 in
+    let first : p.0 ≡ q.0 = (one86 e a m.0 (or_parts (is_open a) (is_open b) o).0 (or_parts (is_adjusted a) (is_adjusted b) u).0).number p.0 q.0 p.4 q.4 in
+    let second : p.1 ≡ q.1 = (one86 e b m.1 (or_parts (is_open a) (is_open b) o).1 (or_parts (is_adjusted a) (is_adjusted b) u).1).number p.1 q.1 p.5 q.5 in
     p.6 ∙ ap₂ (λ m n. (m + n) % 0x10000) first second ∙ sym q.6)
 one86 e (High w) m o u = one_number _ (λ i j p q. p.2 ∙ ap (λ n. n / 256) ((one86 e w m.0 o u).number p.0 q.0 p.1 q.1) ∙ sym q.2)
 one86 e (Low w) m o u = one_number _ (λ i j p q. p.2 ∙ ap (λ n. n % 256) ((one86 e w m.0 o u).number p.0 q.0 p.1 q.1) ∙ sym q.2)
 one86 e (Join h l) m o u =
     one_number _
     (λ i j p q.
-    let first : p.0 ≡ q.0 = (one86 e h m.0 (first_false (is_open h) (is_open l) o) (first_false (is_adjusted h) (is_adjusted l) u)).number p.0 q.0 p.4 q.4 in
-    let second : p.1 ≡ q.1 = (one86 e l m.1 (second_false (is_open h) (is_open l) o) (second_false (is_adjusted h) (is_adjusted l) u)).number p.1 q.1 p.5 q.5 in
+    let first : p.0 ≡ q.0 = (one86 e h m.0 (or_parts (is_open h) (is_open l) o).0 (or_parts (is_adjusted h) (is_adjusted l) u).0).number p.0 q.0 p.4 q.4 in
+    let second : p.1 ≡ q.1 = (one86 e l m.1 (or_parts (is_open h) (is_open l) o).1 (or_parts (is_adjusted h) (is_adjusted l) u).1).number p.1 q.1 p.5 q.5 in
     p.6 ∙ ap₂ (λ x y. 256 * x + y) first second ∙ sym q.6)
 one86 e (FlagByte s z ac p cy) m o u = absurd (cc)
 one86 e (Bit b part) m o u =
@@ -145,8 +145,8 @@ one86 e (Turn kind a c) m o u =
     (λ n f. (x : ℕ) × (k : Bool) × Val86 e a (Number x) × Val86 e c (Number (as_bit k)) × (n ≡ turn_result kind x k) × (f ≡ turn_flags kind x))
     (λ n n' f f' p q.
     turn_same kind p.0 q.0 p.1 q.1 n n' f f'
-    ((one86 e a m.0 (first_false (is_open a) (is_open c) o) (first_false (is_adjusted a) (is_adjusted c) u)).number p.0 q.0 p.2 q.2)
-    (bit_same p.1 q.1 ((one86 e c m.1 (second_false (is_open a) (is_open c) o) (second_false (is_adjusted a) (is_adjusted c) u)).number (as_bit p.1) (as_bit q.1) p.3 q.3))
+    ((one86 e a m.0 (or_parts (is_open a) (is_open c) o).0 (or_parts (is_adjusted a) (is_adjusted c) u).0).number p.0 q.0 p.2 q.2)
+    (bit_same p.1 q.1 ((one86 e c m.1 (or_parts (is_open a) (is_open c) o).1 (or_parts (is_adjusted a) (is_adjusted c) u).1).number (as_bit p.1) (as_bit q.1) p.3 q.3))
     p.4 q.4 p.5 q.5)
 one86 e (Turned c) m o u = absurd (cc)
 one86 e (Adjust a ac cy) m o u = absurd (cc)

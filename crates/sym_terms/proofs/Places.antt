@@ -1,5 +1,5 @@
 -- The elements of a list by place, where it grows at its end or is cut.
-use Rattle.std.proofs.Common.{◌≡◌, ℕ, zero, suc, ◌<◌, ◌≤◌, List, [], ◌∷◌, ◌++◌, length, take, Some, refl, ap, arith, ◌⊎◌, inl, inr, ⊎_elim}
+use Rattle.std.proofs.Common.{◌≡◌, ℕ, zero, suc, ◌<◌, ◌≤◌, List, [], ◌∷◌, ◌++◌, length, take, Some, refl, ap, subst, arith}
 use Rattle.std.specs.List.{slice_get}
 
 pub get_front : {X : Type 0} (xs ys : List X) (x : X) (k : ℕ) → slice_get xs k ≡ Some x → slice_get (xs ++ ys) k ≡ Some x
@@ -11,11 +11,8 @@ pub get_last : {X : Type 0} (xs ys : List X) (y : X) → slice_get (xs ++ (y ∷
 get_last [] ys y = refl
 get_last (z ∷ xs) ys y = get_last xs ys y
 
-pub get_push : {X : Type 0} (xs : List X) (x y : X) (k : ℕ) → slice_get (xs ++ y ∷ []) k ≡ Some x → (slice_get xs k ≡ Some x) ⊎ ((k ≡ length xs) × (y ≡ x))
-get_push [] x y zero h = inr (refl, cc)
-get_push [] x y (suc k) h = absurd (cc)
-get_push (z ∷ xs) x y zero h = inl h
-get_push (z ∷ xs) x y (suc k) h = ⊎_elim (λ p. inl p) (λ q. inr (ap suc q.0, q.1)) (get_push xs x y k h)
+pub get_last_at : {X : Type 0} (xs : List X) (y : X) (k : ℕ) → length xs ≡ k → slice_get (xs ++ y ∷ []) k ≡ Some y
+get_last_at xs y k e = subst (λ j. slice_get (xs ++ y ∷ []) j ≡ Some y) e (get_last xs [] y)
 
 pub get_from_cut : {X : Type 0} (xs : List X) (x : X) (n k : ℕ) → slice_get (take n xs) k ≡ Some x → slice_get xs k ≡ Some x
 get_from_cut [] x zero k h = absurd (cc)

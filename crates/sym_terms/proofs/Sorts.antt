@@ -19,14 +19,6 @@ pub closed : (x : Bool) (t u : Term) → cond x Unknown t ≡ u → (Unknown ≡
 closed true t u e differs = absurd (differs e)
 closed false t u e differs = refl
 
-pub first_false : (a b : Bool) → (a || b) ≡ false → a ≡ false
-first_false true b h = absurd (cc)
-first_false false b h = refl
-
-pub second_false : (a b : Bool) → (a || b) ≡ false → b ≡ false
-second_false true b h = absurd (cc)
-second_false false b h = h
-
 -- the operand of a half that is left as it stands is not open
 pub high_closed : (w : Term) → IsMade w → is_word w ≡ true → high w ≡ High w → is_open w ≡ false
 high_closed (Num n) m s e = refl

@@ -1,6 +1,6 @@
 -- Terms that agree: one term, or by their halves and flags.
-use Rattle.std.proofs.Common.{◌≡◌, ℕ, ◌/◌, ◌%◌, ◌<◌, Bool, true, false, not, Option, Some, None, refl, sym, subst, arith, ◌⊎◌, inl, inr, ⊎_elim, ◌||◌}
-use Rattle.std.proofs.lemmas.Bool.{and_parts}
+use Rattle.std.proofs.Common.{◌≡◌, ℕ, ◌/◌, ◌%◌, ◌<◌, Bool, true, false, not, Option, Some, None, refl, sym, subst, arith, ⊎_elim}
+use Rattle.std.proofs.lemmas.Bool.{and_parts, or_cases}
 use Rattle.cells.specs.declared.Place.{Place}
 use Rattle.cells.specs.declared.Cell.{Cell}
 use Rattle.cells.specs.declared.Part.TheVariants.{S, Z, Ac, P, Cy}
@@ -16,10 +16,6 @@ use Rattle.sym_blocks.specs.Agree.{has_unknown, same_known, agrees}
 use Rattle.sym_blocks.specs.Stands.{Knows, KnowsBits, Stands}
 use Rattle.sym_values.specs.Linked.{WordStands, EnvsStand, AgreeingTermsStand}
 use Rattle.sym_values.proofs.Same.{IsFor, is_for_stands, may_knows, SameStands, same_stands}
-
-either : (a b : Bool) → (a || b) ≡ true → (a ≡ true) ⊎ (b ≡ true)
-either true b e = inl refl
-either false b e = inr e
 
 not_is : (b : Bool) → not b ≡ true → b ≡ false
 not_is true e = absurd (cc)
@@ -68,7 +64,7 @@ module _ (keep : MadeTermsKeepValues) (sorts : MadeTermsHaveSorts) (offset : Pla
         cy = flags_stand cy (bit t Cy) f.cy (has_bit n 0) a3.1 v.5 (law.bit t Cy (Number (as_bit (has_bit n 0))) m refl (n, has_bit n 0, w, refl, refl));
       } in
       subst (λ x. Stands offset x n) (sym v.6) (lt, bits))
-      (either (same_known (FlagByte s z ac p cy) t) _ h)
+      (or_cases (same_known (FlagByte s z ac p cy) t) _ h)
   bytes_stand s t c n m h v w lt = is_for_stands offset c n lt (known_byte s t c n h v w)
 
   -- words
@@ -93,7 +89,7 @@ module _ (keep : MadeTermsKeepValues) (sorts : MadeTermsHaveSorts) (offset : Pla
         bytes_stand a (high t) x (n / 256) (sorts.high t m) p.0 v.0 (law.high t (Number (n / 256)) m (n, w, refl)) (high_small n lt),
         bytes_stand b (low t) y (n % 256) (sorts.low t m) p.1 v.1 (law.low t (Number (n % 256)) m (n, w, refl)) (low_small n),
       ))
-      (either (same_known (Join a b) t) _ h)
+      (or_cases (same_known (Join a b) t) _ h)
   words_stand s t x y n m h v w lt = known_word_stands s t x y n h v w lt
 
 pub agreeing_stand : MadeTermsKeepValues → MadeTermsHaveSorts → AgreeingTermsStand

@@ -1,6 +1,6 @@
 -- Statements that `==` finds to be the same are the same.
-use Rattle.std.proofs.Common.{◌≡◌, ◌&&◌, ◌==◌, ℕ, Bool, true, false, refl, ap, sym, ◌∙◌}
-use Rattle.std.proofs.lemmas.Bool.{eqb-true, eq-eqb}
+use Rattle.std.proofs.Common.{◌≡◌, ◌==◌, true, false, refl, ap, sym, ◌∙◌}
+use Rattle.std.proofs.lemmas.Bool.{and_from, and_parts, eqb-true, eq-eqb}
 use Rattle.i86.specs.declared.Reg8.{Reg8}
 use Rattle.i86.specs.declared.Reg8.TheVariants as reg8s
 use Rattle.i86.specs.contracts.Reg8PartialEq.TheImpl as reg8_eq
@@ -46,14 +46,6 @@ use Rattle.asm86_lines.specs.contracts.line.Stmt86PartialEq.TheImpl as stmt86_eq
 
 no : false ≡ true → ⊥
 no h = cc
-
-left : (a b : Bool) → (a && b) ≡ true → a ≡ true
-left true b h = refl
-left false b h = absurd (no h)
-
-right : (a b : Bool) → (a && b) ≡ true → b ≡ true
-right true b h = h
-right false b h = absurd (no h)
 
 same_reg8 : (a b : Reg8) → reg8_eq.eq-value.it a b ≡ true → a ≡ b
 same_reg8 reg8s.Al reg8s.Al h = refl
@@ -133,29 +125,29 @@ same_jump jumps.Jnp jumps.Jnp h = refl
 same_jump a b h = absurd (no h)
 
 same_instr86 : (a b : Instr86) → instr86_eq.eq-value.it a b ≡ true → a ≡ b
-same_instr86 (instr86s.MovReg8 x v) (instr86s.MovReg8 y w) h = λ i. instr86s.MovReg8 ((same_reg8 x y (left (reg8_eq.eq-value.it x y) (operand8_eq.eq-value.it v w) h)) i) ((same_operand8 v w (right (reg8_eq.eq-value.it x y) (operand8_eq.eq-value.it v w) h)) i)
-same_instr86 (instr86s.MovMem8 x v) (instr86s.MovMem8 y w) h = λ i. instr86s.MovMem8 ((same_ptr x y (left (ptr_eq.eq-value.it x y) (reg8_eq.eq-value.it v w) h)) i) ((same_reg8 v w (right (ptr_eq.eq-value.it x y) (reg8_eq.eq-value.it v w) h)) i)
+same_instr86 (instr86s.MovReg8 x v) (instr86s.MovReg8 y w) h = λ i. instr86s.MovReg8 ((same_reg8 x y (and_parts (reg8_eq.eq-value.it x y) (operand8_eq.eq-value.it v w) h).0) i) ((same_operand8 v w (and_parts (reg8_eq.eq-value.it x y) (operand8_eq.eq-value.it v w) h).1) i)
+same_instr86 (instr86s.MovMem8 x v) (instr86s.MovMem8 y w) h = λ i. instr86s.MovMem8 ((same_ptr x y (and_parts (ptr_eq.eq-value.it x y) (reg8_eq.eq-value.it v w) h).0) i) ((same_reg8 v w (and_parts (ptr_eq.eq-value.it x y) (reg8_eq.eq-value.it v w) h).1) i)
 same_instr86 (instr86s.MovAlDirect x) (instr86s.MovAlDirect y) h = ap instr86s.MovAlDirect (eqb-true x y h)
 same_instr86 (instr86s.MovDirectAl x) (instr86s.MovDirectAl y) h = ap instr86s.MovDirectAl (eqb-true x y h)
-same_instr86 (instr86s.MovNum8 x v) (instr86s.MovNum8 y w) h = λ i. instr86s.MovNum8 ((same_reg8 x y (left (reg8_eq.eq-value.it x y) (v == w) h)) i) ((eqb-true v w (right (reg8_eq.eq-value.it x y) (v == w) h)) i)
-same_instr86 (instr86s.MovNum16 x v) (instr86s.MovNum16 y w) h = λ i. instr86s.MovNum16 ((same_reg16 x y (left (reg16_eq.eq-value.it x y) (v == w) h)) i) ((eqb-true v w (right (reg16_eq.eq-value.it x y) (v == w) h)) i)
-same_instr86 (instr86s.MovMemNum x v) (instr86s.MovMemNum y w) h = λ i. instr86s.MovMemNum ((same_ptr x y (left (ptr_eq.eq-value.it x y) (v == w) h)) i) ((eqb-true v w (right (ptr_eq.eq-value.it x y) (v == w) h)) i)
-same_instr86 (instr86s.MovReg16 x v) (instr86s.MovReg16 y w) h = λ i. instr86s.MovReg16 ((same_reg16 x y (left (reg16_eq.eq-value.it x y) (operand16_eq.eq-value.it v w) h)) i) ((same_operand16 v w (right (reg16_eq.eq-value.it x y) (operand16_eq.eq-value.it v w) h)) i)
-same_instr86 (instr86s.MovDirect16 x v) (instr86s.MovDirect16 y w) h = λ i. instr86s.MovDirect16 ((eqb-true x y (left (x == y) (reg16_eq.eq-value.it v w) h)) i) ((same_reg16 v w (right (x == y) (reg16_eq.eq-value.it v w) h)) i)
+same_instr86 (instr86s.MovNum8 x v) (instr86s.MovNum8 y w) h = λ i. instr86s.MovNum8 ((same_reg8 x y (and_parts (reg8_eq.eq-value.it x y) (v == w) h).0) i) ((eqb-true v w (and_parts (reg8_eq.eq-value.it x y) (v == w) h).1) i)
+same_instr86 (instr86s.MovNum16 x v) (instr86s.MovNum16 y w) h = λ i. instr86s.MovNum16 ((same_reg16 x y (and_parts (reg16_eq.eq-value.it x y) (v == w) h).0) i) ((eqb-true v w (and_parts (reg16_eq.eq-value.it x y) (v == w) h).1) i)
+same_instr86 (instr86s.MovMemNum x v) (instr86s.MovMemNum y w) h = λ i. instr86s.MovMemNum ((same_ptr x y (and_parts (ptr_eq.eq-value.it x y) (v == w) h).0) i) ((eqb-true v w (and_parts (ptr_eq.eq-value.it x y) (v == w) h).1) i)
+same_instr86 (instr86s.MovReg16 x v) (instr86s.MovReg16 y w) h = λ i. instr86s.MovReg16 ((same_reg16 x y (and_parts (reg16_eq.eq-value.it x y) (operand16_eq.eq-value.it v w) h).0) i) ((same_operand16 v w (and_parts (reg16_eq.eq-value.it x y) (operand16_eq.eq-value.it v w) h).1) i)
+same_instr86 (instr86s.MovDirect16 x v) (instr86s.MovDirect16 y w) h = λ i. instr86s.MovDirect16 ((eqb-true x y (and_parts (x == y) (reg16_eq.eq-value.it v w) h).0) i) ((same_reg16 v w (and_parts (x == y) (reg16_eq.eq-value.it v w) h).1) i)
 same_instr86 instr86s.MovAxDs instr86s.MovAxDs h = refl
 same_instr86 instr86s.MovSsAx instr86s.MovSsAx h = refl
-same_instr86 (instr86s.Alu x v) (instr86s.Alu y w) h = λ i. instr86s.Alu ((same_alu_op x y (left (alu_op_eq.eq-value.it x y) (operand8_eq.eq-value.it v w) h)) i) ((same_operand8 v w (right (alu_op_eq.eq-value.it x y) (operand8_eq.eq-value.it v w) h)) i)
-same_instr86 (instr86s.AluNum x v) (instr86s.AluNum y w) h = λ i. instr86s.AluNum ((same_alu_op x y (left (alu_op_eq.eq-value.it x y) (v == w) h)) i) ((eqb-true v w (right (alu_op_eq.eq-value.it x y) (v == w) h)) i)
+same_instr86 (instr86s.Alu x v) (instr86s.Alu y w) h = λ i. instr86s.Alu ((same_alu_op x y (and_parts (alu_op_eq.eq-value.it x y) (operand8_eq.eq-value.it v w) h).0) i) ((same_operand8 v w (and_parts (alu_op_eq.eq-value.it x y) (operand8_eq.eq-value.it v w) h).1) i)
+same_instr86 (instr86s.AluNum x v) (instr86s.AluNum y w) h = λ i. instr86s.AluNum ((same_alu_op x y (and_parts (alu_op_eq.eq-value.it x y) (v == w) h).0) i) ((eqb-true v w (and_parts (alu_op_eq.eq-value.it x y) (v == w) h).1) i)
 same_instr86 instr86s.OrClCl instr86s.OrClCl h = refl
-same_instr86 (instr86s.Add16 x v) (instr86s.Add16 y w) h = λ i. instr86s.Add16 ((same_reg16 x y (left (reg16_eq.eq-value.it x y) (reg16_eq.eq-value.it v w) h)) i) ((same_reg16 v w (right (reg16_eq.eq-value.it x y) (reg16_eq.eq-value.it v w) h)) i)
-same_instr86 (instr86s.Count8 x v) (instr86s.Count8 y w) h = λ i. instr86s.Count8 ((same_count x y (left (count_eq.eq-value.it x y) (operand8_eq.eq-value.it v w) h)) i) ((same_operand8 v w (right (count_eq.eq-value.it x y) (operand8_eq.eq-value.it v w) h)) i)
-same_instr86 (instr86s.Count16 x v) (instr86s.Count16 y w) h = λ i. instr86s.Count16 ((same_count x y (left (count_eq.eq-value.it x y) (reg16_eq.eq-value.it v w) h)) i) ((same_reg16 v w (right (count_eq.eq-value.it x y) (reg16_eq.eq-value.it v w) h)) i)
+same_instr86 (instr86s.Add16 x v) (instr86s.Add16 y w) h = λ i. instr86s.Add16 ((same_reg16 x y (and_parts (reg16_eq.eq-value.it x y) (reg16_eq.eq-value.it v w) h).0) i) ((same_reg16 v w (and_parts (reg16_eq.eq-value.it x y) (reg16_eq.eq-value.it v w) h).1) i)
+same_instr86 (instr86s.Count8 x v) (instr86s.Count8 y w) h = λ i. instr86s.Count8 ((same_count x y (and_parts (count_eq.eq-value.it x y) (operand8_eq.eq-value.it v w) h).0) i) ((same_operand8 v w (and_parts (count_eq.eq-value.it x y) (operand8_eq.eq-value.it v w) h).1) i)
+same_instr86 (instr86s.Count16 x v) (instr86s.Count16 y w) h = λ i. instr86s.Count16 ((same_count x y (and_parts (count_eq.eq-value.it x y) (reg16_eq.eq-value.it v w) h).0) i) ((same_reg16 v w (and_parts (count_eq.eq-value.it x y) (reg16_eq.eq-value.it v w) h).1) i)
 same_instr86 (instr86s.Push x) (instr86s.Push y) h = ap instr86s.Push (same_stack_reg x y h)
 same_instr86 (instr86s.Pop x) (instr86s.Pop y) h = ap instr86s.Pop (same_stack_reg x y h)
-same_instr86 (instr86s.Xchg8 x v) (instr86s.Xchg8 y w) h = λ i. instr86s.Xchg8 ((same_reg8 x y (left (reg8_eq.eq-value.it x y) (reg8_eq.eq-value.it v w) h)) i) ((same_reg8 v w (right (reg8_eq.eq-value.it x y) (reg8_eq.eq-value.it v w) h)) i)
-same_instr86 (instr86s.Xchg16 x v) (instr86s.Xchg16 y w) h = λ i. instr86s.Xchg16 ((same_reg16 x y (left (reg16_eq.eq-value.it x y) (reg16_eq.eq-value.it v w) h)) i) ((same_reg16 v w (right (reg16_eq.eq-value.it x y) (reg16_eq.eq-value.it v w) h)) i)
-same_instr86 (instr86s.Rotate8 x v) (instr86s.Rotate8 y w) h = λ i. instr86s.Rotate8 ((same_rotate x y (left (rotate_eq.eq-value.it x y) (reg8_eq.eq-value.it v w) h)) i) ((same_reg8 v w (right (rotate_eq.eq-value.it x y) (reg8_eq.eq-value.it v w) h)) i)
-same_instr86 (instr86s.Rotate16 x v) (instr86s.Rotate16 y w) h = λ i. instr86s.Rotate16 ((same_rotate x y (left (rotate_eq.eq-value.it x y) (reg16_eq.eq-value.it v w) h)) i) ((same_reg16 v w (right (rotate_eq.eq-value.it x y) (reg16_eq.eq-value.it v w) h)) i)
+same_instr86 (instr86s.Xchg8 x v) (instr86s.Xchg8 y w) h = λ i. instr86s.Xchg8 ((same_reg8 x y (and_parts (reg8_eq.eq-value.it x y) (reg8_eq.eq-value.it v w) h).0) i) ((same_reg8 v w (and_parts (reg8_eq.eq-value.it x y) (reg8_eq.eq-value.it v w) h).1) i)
+same_instr86 (instr86s.Xchg16 x v) (instr86s.Xchg16 y w) h = λ i. instr86s.Xchg16 ((same_reg16 x y (and_parts (reg16_eq.eq-value.it x y) (reg16_eq.eq-value.it v w) h).0) i) ((same_reg16 v w (and_parts (reg16_eq.eq-value.it x y) (reg16_eq.eq-value.it v w) h).1) i)
+same_instr86 (instr86s.Rotate8 x v) (instr86s.Rotate8 y w) h = λ i. instr86s.Rotate8 ((same_rotate x y (and_parts (rotate_eq.eq-value.it x y) (reg8_eq.eq-value.it v w) h).0) i) ((same_reg8 v w (and_parts (rotate_eq.eq-value.it x y) (reg8_eq.eq-value.it v w) h).1) i)
+same_instr86 (instr86s.Rotate16 x v) (instr86s.Rotate16 y w) h = λ i. instr86s.Rotate16 ((same_rotate x y (and_parts (rotate_eq.eq-value.it x y) (reg16_eq.eq-value.it v w) h).0) i) ((same_reg16 v w (and_parts (rotate_eq.eq-value.it x y) (reg16_eq.eq-value.it v w) h).1) i)
 same_instr86 (instr86s.Not8 x) (instr86s.Not8 y) h = ap instr86s.Not8 (same_reg8 x y h)
 same_instr86 instr86s.Daa instr86s.Daa h = refl
 same_instr86 instr86s.Sahf instr86s.Sahf h = refl
@@ -163,7 +155,7 @@ same_instr86 instr86s.Lahf instr86s.Lahf h = refl
 same_instr86 instr86s.Cmc instr86s.Cmc h = refl
 same_instr86 instr86s.Stc instr86s.Stc h = refl
 same_instr86 instr86s.Nop instr86s.Nop h = refl
-same_instr86 (instr86s.Jcc x v) (instr86s.Jcc y w) h = λ i. instr86s.Jcc ((same_jump x y (left (jump_eq.eq-value.it x y) (v == w) h)) i) ((eqb-true v w (right (jump_eq.eq-value.it x y) (v == w) h)) i)
+same_instr86 (instr86s.Jcc x v) (instr86s.Jcc y w) h = λ i. instr86s.Jcc ((same_jump x y (and_parts (jump_eq.eq-value.it x y) (v == w) h).0) i) ((eqb-true v w (and_parts (jump_eq.eq-value.it x y) (v == w) h).1) i)
 same_instr86 (instr86s.JmpNear x) (instr86s.JmpNear y) h = ap instr86s.JmpNear (eqb-true x y h)
 same_instr86 (instr86s.JmpShort x) (instr86s.JmpShort y) h = ap instr86s.JmpShort (eqb-true x y h)
 same_instr86 instr86s.JmpBx instr86s.JmpBx h = refl
@@ -196,18 +188,15 @@ same_stmt86 (stmt86s.Db x) (stmt86s.Db y) h = ap stmt86s.Db (eqb-true x y h)
 same_stmt86 (stmt86s.Dw x) (stmt86s.Dw y) h = ap stmt86s.Dw (same_value16 x y h)
 same_stmt86 (stmt86s.Mark x) (stmt86s.Mark y) h = ap stmt86s.Mark (same_label x y h)
 same_stmt86 (stmt86s.Run x) (stmt86s.Run y) h = ap stmt86s.Run (same_instr86 x y h)
-same_stmt86 (stmt86s.MovOffset x v) (stmt86s.MovOffset y w) h = λ i. stmt86s.MovOffset ((same_reg16 x y (left (reg16_eq.eq-value.it x y) (label_eq.eq-value.it v w) h)) i) ((same_label v w (right (reg16_eq.eq-value.it x y) (label_eq.eq-value.it v w) h)) i)
+same_stmt86 (stmt86s.MovOffset x v) (stmt86s.MovOffset y w) h = λ i. stmt86s.MovOffset ((same_reg16 x y (and_parts (reg16_eq.eq-value.it x y) (label_eq.eq-value.it v w) h).0) i) ((same_label v w (and_parts (reg16_eq.eq-value.it x y) (label_eq.eq-value.it v w) h).1) i)
 same_stmt86 (stmt86s.Jmp x) (stmt86s.Jmp y) h = ap stmt86s.Jmp (same_label x y h)
 same_stmt86 (stmt86s.Jmps x) (stmt86s.Jmps y) h = ap stmt86s.Jmps (same_label x y h)
-same_stmt86 (stmt86s.Jcc x v) (stmt86s.Jcc y w) h = λ i. stmt86s.Jcc ((same_jump x y (left (jump_eq.eq-value.it x y) (label_eq.eq-value.it v w) h)) i) ((same_label v w (right (jump_eq.eq-value.it x y) (label_eq.eq-value.it v w) h)) i)
+same_stmt86 (stmt86s.Jcc x v) (stmt86s.Jcc y w) h = λ i. stmt86s.Jcc ((same_jump x y (and_parts (jump_eq.eq-value.it x y) (label_eq.eq-value.it v w) h).0) i) ((same_label v w (and_parts (jump_eq.eq-value.it x y) (label_eq.eq-value.it v w) h).1) i)
 same_stmt86 (stmt86s.Call x) (stmt86s.Call y) h = ap stmt86s.Call (same_label x y h)
 same_stmt86 stmt86s.EndText stmt86s.EndText h = refl
 same_stmt86 a b h = absurd (no h)
 
 -- a statement is found to be the same as itself
-
-both : (a b : Bool) → a ≡ true → b ≡ true → (a && b) ≡ true
-both a b e f = λ i. e i && f i
 
 itself_reg8 : (a : Reg8) → reg8_eq.eq-value.it a a ≡ true
 itself_reg8 reg8s.Al = refl
@@ -277,29 +266,29 @@ itself_jump jumps.Jp = refl
 itself_jump jumps.Jnp = refl
 
 itself_instr86 : (a : Instr86) → instr86_eq.eq-value.it a a ≡ true
-itself_instr86 (instr86s.MovReg8 x v) = both (reg8_eq.eq-value.it x x) (operand8_eq.eq-value.it v v) (itself_reg8 x) (itself_operand8 v)
-itself_instr86 (instr86s.MovMem8 x v) = both (ptr_eq.eq-value.it x x) (reg8_eq.eq-value.it v v) (itself_ptr x) (itself_reg8 v)
+itself_instr86 (instr86s.MovReg8 x v) = and_from (reg8_eq.eq-value.it x x) (operand8_eq.eq-value.it v v) (itself_reg8 x) (itself_operand8 v)
+itself_instr86 (instr86s.MovMem8 x v) = and_from (ptr_eq.eq-value.it x x) (reg8_eq.eq-value.it v v) (itself_ptr x) (itself_reg8 v)
 itself_instr86 (instr86s.MovAlDirect x) = eq-eqb x x refl
 itself_instr86 (instr86s.MovDirectAl x) = eq-eqb x x refl
-itself_instr86 (instr86s.MovNum8 x v) = both (reg8_eq.eq-value.it x x) (v == v) (itself_reg8 x) (eq-eqb v v refl)
-itself_instr86 (instr86s.MovNum16 x v) = both (reg16_eq.eq-value.it x x) (v == v) (itself_reg16 x) (eq-eqb v v refl)
-itself_instr86 (instr86s.MovMemNum x v) = both (ptr_eq.eq-value.it x x) (v == v) (itself_ptr x) (eq-eqb v v refl)
-itself_instr86 (instr86s.MovReg16 x v) = both (reg16_eq.eq-value.it x x) (operand16_eq.eq-value.it v v) (itself_reg16 x) (itself_operand16 v)
-itself_instr86 (instr86s.MovDirect16 x v) = both (x == x) (reg16_eq.eq-value.it v v) (eq-eqb x x refl) (itself_reg16 v)
+itself_instr86 (instr86s.MovNum8 x v) = and_from (reg8_eq.eq-value.it x x) (v == v) (itself_reg8 x) (eq-eqb v v refl)
+itself_instr86 (instr86s.MovNum16 x v) = and_from (reg16_eq.eq-value.it x x) (v == v) (itself_reg16 x) (eq-eqb v v refl)
+itself_instr86 (instr86s.MovMemNum x v) = and_from (ptr_eq.eq-value.it x x) (v == v) (itself_ptr x) (eq-eqb v v refl)
+itself_instr86 (instr86s.MovReg16 x v) = and_from (reg16_eq.eq-value.it x x) (operand16_eq.eq-value.it v v) (itself_reg16 x) (itself_operand16 v)
+itself_instr86 (instr86s.MovDirect16 x v) = and_from (x == x) (reg16_eq.eq-value.it v v) (eq-eqb x x refl) (itself_reg16 v)
 itself_instr86 instr86s.MovAxDs = refl
 itself_instr86 instr86s.MovSsAx = refl
-itself_instr86 (instr86s.Alu x v) = both (alu_op_eq.eq-value.it x x) (operand8_eq.eq-value.it v v) (itself_alu_op x) (itself_operand8 v)
-itself_instr86 (instr86s.AluNum x v) = both (alu_op_eq.eq-value.it x x) (v == v) (itself_alu_op x) (eq-eqb v v refl)
+itself_instr86 (instr86s.Alu x v) = and_from (alu_op_eq.eq-value.it x x) (operand8_eq.eq-value.it v v) (itself_alu_op x) (itself_operand8 v)
+itself_instr86 (instr86s.AluNum x v) = and_from (alu_op_eq.eq-value.it x x) (v == v) (itself_alu_op x) (eq-eqb v v refl)
 itself_instr86 instr86s.OrClCl = refl
-itself_instr86 (instr86s.Add16 x v) = both (reg16_eq.eq-value.it x x) (reg16_eq.eq-value.it v v) (itself_reg16 x) (itself_reg16 v)
-itself_instr86 (instr86s.Count8 x v) = both (count_eq.eq-value.it x x) (operand8_eq.eq-value.it v v) (itself_count x) (itself_operand8 v)
-itself_instr86 (instr86s.Count16 x v) = both (count_eq.eq-value.it x x) (reg16_eq.eq-value.it v v) (itself_count x) (itself_reg16 v)
+itself_instr86 (instr86s.Add16 x v) = and_from (reg16_eq.eq-value.it x x) (reg16_eq.eq-value.it v v) (itself_reg16 x) (itself_reg16 v)
+itself_instr86 (instr86s.Count8 x v) = and_from (count_eq.eq-value.it x x) (operand8_eq.eq-value.it v v) (itself_count x) (itself_operand8 v)
+itself_instr86 (instr86s.Count16 x v) = and_from (count_eq.eq-value.it x x) (reg16_eq.eq-value.it v v) (itself_count x) (itself_reg16 v)
 itself_instr86 (instr86s.Push x) = itself_stack_reg x
 itself_instr86 (instr86s.Pop x) = itself_stack_reg x
-itself_instr86 (instr86s.Xchg8 x v) = both (reg8_eq.eq-value.it x x) (reg8_eq.eq-value.it v v) (itself_reg8 x) (itself_reg8 v)
-itself_instr86 (instr86s.Xchg16 x v) = both (reg16_eq.eq-value.it x x) (reg16_eq.eq-value.it v v) (itself_reg16 x) (itself_reg16 v)
-itself_instr86 (instr86s.Rotate8 x v) = both (rotate_eq.eq-value.it x x) (reg8_eq.eq-value.it v v) (itself_rotate x) (itself_reg8 v)
-itself_instr86 (instr86s.Rotate16 x v) = both (rotate_eq.eq-value.it x x) (reg16_eq.eq-value.it v v) (itself_rotate x) (itself_reg16 v)
+itself_instr86 (instr86s.Xchg8 x v) = and_from (reg8_eq.eq-value.it x x) (reg8_eq.eq-value.it v v) (itself_reg8 x) (itself_reg8 v)
+itself_instr86 (instr86s.Xchg16 x v) = and_from (reg16_eq.eq-value.it x x) (reg16_eq.eq-value.it v v) (itself_reg16 x) (itself_reg16 v)
+itself_instr86 (instr86s.Rotate8 x v) = and_from (rotate_eq.eq-value.it x x) (reg8_eq.eq-value.it v v) (itself_rotate x) (itself_reg8 v)
+itself_instr86 (instr86s.Rotate16 x v) = and_from (rotate_eq.eq-value.it x x) (reg16_eq.eq-value.it v v) (itself_rotate x) (itself_reg16 v)
 itself_instr86 (instr86s.Not8 x) = itself_reg8 x
 itself_instr86 instr86s.Daa = refl
 itself_instr86 instr86s.Sahf = refl
@@ -307,7 +296,7 @@ itself_instr86 instr86s.Lahf = refl
 itself_instr86 instr86s.Cmc = refl
 itself_instr86 instr86s.Stc = refl
 itself_instr86 instr86s.Nop = refl
-itself_instr86 (instr86s.Jcc x v) = both (jump_eq.eq-value.it x x) (v == v) (itself_jump x) (eq-eqb v v refl)
+itself_instr86 (instr86s.Jcc x v) = and_from (jump_eq.eq-value.it x x) (v == v) (itself_jump x) (eq-eqb v v refl)
 itself_instr86 (instr86s.JmpNear x) = eq-eqb x x refl
 itself_instr86 (instr86s.JmpShort x) = eq-eqb x x refl
 itself_instr86 instr86s.JmpBx = refl
@@ -337,10 +326,10 @@ itself_stmt86 (stmt86s.Db x) = eq-eqb x x refl
 itself_stmt86 (stmt86s.Dw x) = itself_value16 x
 itself_stmt86 (stmt86s.Mark x) = itself_label x
 itself_stmt86 (stmt86s.Run x) = itself_instr86 x
-itself_stmt86 (stmt86s.MovOffset x v) = both (reg16_eq.eq-value.it x x) (label_eq.eq-value.it v v) (itself_reg16 x) (itself_label v)
+itself_stmt86 (stmt86s.MovOffset x v) = and_from (reg16_eq.eq-value.it x x) (label_eq.eq-value.it v v) (itself_reg16 x) (itself_label v)
 itself_stmt86 (stmt86s.Jmp x) = itself_label x
 itself_stmt86 (stmt86s.Jmps x) = itself_label x
-itself_stmt86 (stmt86s.Jcc x v) = both (jump_eq.eq-value.it x x) (label_eq.eq-value.it v v) (itself_jump x) (itself_label v)
+itself_stmt86 (stmt86s.Jcc x v) = and_from (jump_eq.eq-value.it x x) (label_eq.eq-value.it v v) (itself_jump x) (itself_label v)
 itself_stmt86 (stmt86s.Call x) = itself_label x
 itself_stmt86 stmt86s.EndText = refl
 
