@@ -1,2 +1,3 @@
 mod KeepBits
 pub mod SamePlace
+pub mod Unions
