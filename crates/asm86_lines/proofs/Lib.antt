@@ -1,3 +1,4 @@
 pub mod Sorting
 pub mod Labels
 pub mod Sizes
+pub mod Statements

@@ -1,3 +1,4 @@
 mod KeepBits
 pub mod SamePlace
 pub mod Options
+pub mod Unions

@@ -1,5 +1,5 @@
 -- What a reply finds and leaves.
-use Rattle.std.proofs.Common.{◌≡◌, ℕ, ◌+◌, ◌≤◌, ◌==◌, ◌&&◌, nat_lt, Bool, true, false, cond, List, [], ◌∷◌, length, Option, Some, None, Result, Ok, Err, refl, sym, ap, ◌∙◌, subst, arith}
+use Rattle.std.proofs.Common.{◌≡◌, ℕ, ◌+◌, ◌≤◌, ◌==◌, ◌&&◌, Bool, true, false, cond, List, [], ◌∷◌, length, Option, Some, None, Result, Ok, Err, refl, sym, ap, ◌∙◌, subst, arith}
 use Rattle.std.specs.List.{All}
 use Rattle.std.proofs.lemmas.Bool.{and_parts}
 use Rattle.std.proofs.lemmas.Bool.Decides.{nat_tests}
@@ -19,6 +19,7 @@ use Rattle.dialogue.specs.Shape.{Seen, argument_of, address_of, is_readable, ran
 use Rattle.dialogue.specs.Fits.{fills, writes_fit, line_fits, line_bytes_fit, kind_by, answer_fits, fits, fits_row, fits_event}
 use Rattle.dialogue.specs.Lawful.{IsLawful, IsShapeOver}
 use Rattle.dialogue.proofs.LawfulShapes.{made, made-lawful}
+use Rattle.dialogue.proofs.Lines.{line_short}
 use Rattle.base_runs.specs.Run.{Asks}
 use Rattle.asm80_program.specs.Program.{Program}
 use Rattle.cpu80_steps.specs.State.{State80, num_of}
@@ -173,19 +174,12 @@ writes_within (r ∷ rs) (b ∷ bs) h e =
     by_fill true f rest same g = All-cons Fits b bs (filled r b (h 0 r (omega arith)) f) (rest g)
     by_fill false f rest same g = same g
 
-line_within_bytes : (room : ℕ) (bytes : List ℕ) → line_bytes_fit room bytes ≡ true → length bytes ≤ room
-line_within_bytes room [] e = cc
-line_within_bytes room (k ∷ bytes) e =
-    let lt : nat_lt k room ≡ true = (and_parts (nat_lt k room) (length bytes == k) e).0 in
-    let len : (length bytes == k) ≡ true = (and_parts (nat_lt k room) (length bytes == k) e).1 in
-    grind (arith, nat_tests)
-
 line_within : (rs : List Range) (bs : List Block) → All Ends rs → line_fits rs bs ≡ true → All Fits bs
 line_within [] bs h e = cc
 line_within (r ∷ rs) [] h e = cc
 line_within (r ∷ rs) (b ∷ []) h e =
     let at : (b.at == r.at) ≡ true = (and_parts (b.at == r.at) (line_bytes_fit r.len b.bytes) e).0 in
-    let len = line_within_bytes r.len b.bytes (and_parts (b.at == r.at) (line_bytes_fit r.len b.bytes) e).1 in
+    let len = line_short r.len b.bytes (and_parts (b.at == r.at) (line_bytes_fit r.len b.bytes) e).1 in
     let ends : Ends r = h 0 r (omega arith) in
     let fit : Fits b = grind (arith, nat_tests) in
     All-cons Fits b [] fit (All-nil Fits)

@@ -29,8 +29,9 @@ use Rattle.cpu80_steps.specs.State.{State80, num_of, wrap as wrap80}
 use Rattle.cpu80_steps.specs.Memory.{is_closed, put as put80, read_word}
 use Rattle.cells.specs.Places.{same_place}
 use Rattle.cells.proofs.SamePlace.{same_place_is}
-use Rattle.cpu80_steps.specs.Call.{Return as Return80, is_just_below, seen_by as seen_by80, ask as ask80, ask_after, call_by, call_system as call_system80, place_if, is_place, place_in, popped_return as popped_return80, put_bytes as put_bytes80, put_blocks as put_blocks80, answered as answered80, cells_after, after_reply as after_reply80}
+use Rattle.cpu80_steps.specs.Call.{Return as Return80, is_just_below, seen_by as seen_by80, ask as ask80, ask_after, call_by, call_system as call_system80, is_place, place_in, popped_return as popped_return80, put_bytes as put_bytes80, put_blocks as put_blocks80, answered as answered80, cells_after, after_reply as after_reply80}
 use Rattle.cpu80_steps.specs.Step.{return_at as return_at80, replied_to as replied_to80, replied80}
+use Rattle.cpu80_steps.proofs.Passing.{place_if_is}
 use Rattle.cpu80_bytes.specs.State.{ByteState, wrap, word, word_at, next, put, byte_of}
 use Rattle.cpu80_bytes.specs.Call.{Stop, seen_by, ask, call_system, Return, place_of, popped_return, put_bytes, put_blocks, chosen_regs, answered, after_reply}
 use Rattle.cpu80_bytes.specs.Step.{return_at, replied_to, replied_bytes}
@@ -91,10 +92,6 @@ sees_more p s u is_popped d = record { byte = λ a n lt e. by_test a n (is_just_
 pub record Names (p : Program) (q : Place) (w : ℕ) : Type 0 where
   pub address : w ≡ address_of q
   pub is_place : is_place p q ≡ true
-
-place_if_is : (b : Bool) (q r : Place) → place_if b q ≡ Ok r → (b ≡ true) × (q ≡ r)
-place_if_is true q r e = (refl, ok_is q r e)
-place_if_is false q r e = absurd (err_is_not P1 r e)
 
 halves : (n a b : ℕ) → a ≡ n / 256 → b ≡ n % 256 → word a b ≡ n
 halves n a b h l = omega (arith, h, l)

@@ -15,23 +15,17 @@ use Rattle.i80.specs.declared.StackPair.TheVariants.{B as StackB, D as StackD, H
 use Rattle.dialogue.specs.Tried.{try_then}
 use Rattle.base_arithmetic.specs.Arithmetic.{as_bit}
 use Rattle.base_arithmetic.specs.Operations.{flags_in}
+use Rattle.base_arithmetic.proofs.Bytes.{tested}
 use Rattle.asm80_program.specs.Program.{Program}
 use Rattle.cpu80_steps.specs.State.{State80, high_of, low_of, with_bc as with_bc80, with_de as with_de80, with_hl as with_hl80, with_num, with_a as with_a80, wrap as wrap80, num_or}
 use Rattle.cpu80_steps.specs.Memory.{is_closed, unless_then, put as put80, address, word_fits, read_at, may_write, write_at, Halves, read_word, write_word}
 use Rattle.cpu80_steps.specs.Effect.{source as source80, into as into80, lda as lda80, sta as sta80, lhld as lhld80, xchg as xchg80, xthl as xthl80, sphl as sphl80, push as push80, push_pair as push_pair80, popped as popped80, pop_pair as pop_pair80}
+use Rattle.cpu80_steps.proofs.Passing.{unless_is, within}
 use Rattle.cpu80_bytes.specs.State.{ByteState, pair_word, with_bc, with_de, with_hl, with_word, with_a, wrap, put, next, put_word, bit_of}
 use Rattle.cpu80_bytes.specs.Flags.{flag_byte, flags_in_byte}
 use Rattle.cpu80_bytes.specs.Effect.{source, into, store, lda, lhld, shld, xchg, xthl, push, push_pair, popped, pop_pair}
-use Rattle.dialogue.proofs.Tried.{ok_is, then_is, err_is_not}
+use Rattle.dialogue.proofs.Tried.{ok_is, then_is}
 use Rattle.cpu80_follows.proofs.Stands.{Knows, Stands, FlagsStand, StatesStand, reg_stands, set_stands, put_stands, sets_regs, sets_flags, sets_cells, sets_sp, number, word_is, word_small}
-
-unless_is : (b : Bool) (r : Rule) (x : Bool) → unless_then b r ≡ Ok x → b ≡ false
-unless_is true r x e = absurd (err_is_not r x e)
-unless_is false r x e = refl
-
--- a word does not begin at the last cell, so its second byte is in the next
-within : (n : ℕ) → n < 0x10000 → (n == 0xFFFF) ≡ false → n + 1 < 0x10000
-within n lt e = grind (arith, lt, e)
 
 next_is : (n : ℕ) (x : Bool) → n < 0x10000 → word_fits n ≡ Ok x → n + 1 ≡ next n
 next_is n x lt e = let h = within n lt (unless_is (n == 0xFFFF) P4 x e) in omega (arith, h)
@@ -53,10 +47,6 @@ bits_are s z c2 a c1 p c0 k hs hz h2 ha h1 hp h0 hk n e =
 pub bit_small : (b : Bool) → as_bit b < 2
 bit_small true = omega arith
 bit_small false = omega arith
-
-tested : (m : ℕ) (b : Bool) → m ≡ as_bit b → (m == 1) ≡ b
-tested m true h = ap (λ k. k == 1) h
-tested m false h = ap (λ k. k == 1) h
 
 flag_byte_stands : (s : State80) (u : ByteState) (choice : ℕ) → FlagsStand s.flags u.flags → Stands (PswCell s.flags) (flag_byte u.flags choice)
 flag_byte_stands s u choice d =

@@ -2,7 +2,6 @@
 use Rattle.std.proofs.Common.{◌≡◌, ℕ, ◌+◌, ◌-◌, ◌<◌, Bool, true, false, cond, not, Option, Some, None, Ok, Err, refl, sym, ap, subst, ◌∙◌, arith}
 use Rattle.std.specs.Prelude.{nat_lt, bit_xor, unwrap_or}
 use Rattle.std.specs.Int.Bits.{xor_self}
-use Rattle.std.proofs.lemmas.Nat.{and_le_l, or_of_8, xor_of_8}
 use Rattle.cells.specs.declared.Flags.{Flags}
 use Rattle.cells.specs.declared.Cell.{Cell}
 use Rattle.cells.specs.declared.Cell.TheVariants.{Num}
@@ -17,6 +16,7 @@ use Rattle.i80.specs.declared.Op.TheVariants.{Add, Adc, Sub, Sbb, Ana, Xra, Ora,
 use Rattle.dialogue.specs.Tried.{try_then}
 use Rattle.base_arithmetic.specs.Arithmetic.{as_bit, sum8, difference8, borrow8, turned_left, turned_right, bit7, bit0, daa_result, daa_carry, daa_excepted}
 use Rattle.base_arithmetic.specs.Operations.{flags_by, result_of, flags_of}
+use Rattle.base_arithmetic.proofs.Bytes.{result_small}
 use Rattle.asm80_program.specs.Program.{Program}
 use Rattle.cpu80_steps.specs.State.{State80, reg80, with_num, with_a as with_a80, with_flags as with_flags80, with_cy as with_cy80, wrap as wrap80, num_or}
 use Rattle.cpu80_steps.specs.Memory.{address, read_at, may_write}
@@ -47,16 +47,6 @@ pub sets_cy : (s : State80) (u : ByteState) (c : Bool) → StatesStand s u → S
 sets_cy s u c d = sets_flags s u _ _ d (record { s = d.flags.s; z = d.flags.z; ac = d.flags.ac; p = d.flags.p; cy = refl })
 
 -- operations
-
-result_small : (op : Op) (x y c : ℕ) → x < 256 → y < 256 → result_of op x y c < 256
-result_small Add x y c hx hy = omega arith
-result_small Adc x y c hx hy = omega arith
-result_small Sub x y c hx hy = omega arith
-result_small Sbb x y c hx hy = omega arith
-result_small Ana x y c hx hy = omega (arith, hx, and_le_l x y)
-result_small Xra x y c hx hy = xor_of_8 x y hx hy
-result_small Ora x y c hx hy = or_of_8 x y hx hy
-result_small Cmp x y c hx hy = omega arith
 
 a_after_stands : (op : Op) (v : Cell) (a n : ℕ) → Stands v a → n < 256 → Stands (a_after80 op v n) (a_after op a n)
 a_after_stands Add v a n h lt = number n lt

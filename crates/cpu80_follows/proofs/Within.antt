@@ -1,7 +1,7 @@
 -- What a reply that fits writes is within memory.
-use Rattle.std.proofs.Common.{◌≡◌, ℕ, ◌+◌, ◌≤◌, ◌==◌, Bool, true, false, cond, List, [], ◌∷◌, length, Option, Some, None, refl, arith}
-use Rattle.std.specs.Prelude.{All, nat_lt, ◌&&◌}
-use Rattle.std.proofs.lemmas.Bool.{and_parts, eqb-true, ltb-true}
+use Rattle.std.proofs.Common.{◌≡◌, ◌+◌, ◌≤◌, ◌==◌, Bool, true, false, cond, List, [], ◌∷◌, length, Option, Some, None, refl, arith}
+use Rattle.std.specs.Prelude.{All}
+use Rattle.std.proofs.lemmas.Bool.{and_parts, eqb-true}
 use Rattle.std.proofs.lemmas.List.Elements.{All-head, All-tail}
 use Rattle.dialogue.specs.declared.blocks.Block.{Block}
 use Rattle.dialogue.specs.declared.request.Range.{Range}
@@ -11,6 +11,7 @@ use Rattle.dialogue.specs.Table.{Row, row_of}
 use Rattle.dialogue.specs.Shape.{ranges}
 use Rattle.dialogue.specs.Fits.{fills, writes_fit, line_bytes_fit, line_fits, fits_row, fits}
 use Rattle.dialogue.specs.Lawful.{IsLawful}
+use Rattle.dialogue.proofs.Lines.{line_short}
 
 abbrev pub AreWithin : List Block → Type 0
 AreWithin [] = Unit {0}
@@ -34,14 +35,6 @@ writes_are (r ∷ rs) (b ∷ bs) all h =
         let ends = All-head Ends r rs all in
         (omega (arith, at, size, ends), next g)
     by_fill false e g next again = again g
-
-line_short : (room : ℕ) (bytes : List ℕ) → line_bytes_fit room bytes ≡ true → length bytes ≤ room
-line_short room [] h = absurd (cc)
-line_short room (k ∷ bytes) h =
-    let p = and_parts (nat_lt k room) (length bytes == k) h in
-    let lt = ltb-true k room p.0 in
-    let same = eqb-true (length bytes) k p.1 in
-    omega (arith, lt, same)
 
 line_is : (rs : List Range) (bs : List Block) → All Ends rs → line_fits rs bs ≡ true → AreWithin bs
 line_is [] bs all h = absurd (cc)

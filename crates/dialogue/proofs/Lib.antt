@@ -3,3 +3,4 @@ pub mod Rows
 pub mod LawfulShapes
 pub mod Pages
 pub mod Tried
+pub mod Lines

@@ -4,7 +4,8 @@ use Rattle.std.proofs.lemmas.List.{drop_more}
 use Rattle.std.proofs.lemmas.Bool.{false≢true, cases_lt}
 use Rattle.cells.specs.declared.Part.{Part}
 use Rattle.cells.specs.declared.Part.TheVariants.{A, B, C, D, E, H, L, S, Z, Ac, P, Cy}
-use Rattle.cells.specs.Parts.{Parts, nothing, only, union, has, these, weight}
+use Rattle.cells.specs.Parts.{Parts, nothing, only, has, these, weight}
+use Rattle.cells.proofs.Unions.{has_union}
 use Rattle.flow.specs.Search.{size, is_left}
 
 or-false : (b : Bool) → (b || false) ≡ b
@@ -24,20 +25,6 @@ has-nothing Z = refl
 has-nothing Ac = refl
 has-nothing P = refl
 has-nothing Cy = refl
-
-pub has-union : (k m : Parts) (x : Part) → has (union k m) x ≡ (has k x || has m x)
-has-union k m A = refl
-has-union k m B = refl
-has-union k m C = refl
-has-union k m D = refl
-has-union k m E = refl
-has-union k m H = refl
-has-union k m L = refl
-has-union k m S = refl
-has-union k m Z = refl
-has-union k m Ac = refl
-has-union k m P = refl
-has-union k m Cy = refl
 
 -- a set of one part has no other
 pub only-has : (q x : Part) → has (only q) x ≡ true → q ≡ x
@@ -186,7 +173,7 @@ pub left-more : (x q : Part) (left left' k m : Parts) (qs : List Part) → has l
 left-more x q left left' k m qs is =
     ap (λ a. a || (has (these qs) x && is_left k m x)) is
     ∙ sym (spread (has left x) (has (only q) x) (has (these qs) x) (is_left k m x))
-    ∙ sym (ap (λ b. has left x || (b && is_left k m x)) (has-union (only q) (these qs) x))
+    ∙ sym (ap (λ b. has left x || (b && is_left k m x)) (has_union (only q) (these qs) x))
 
 abbrev pub all_parts : List Part
 all_parts = A ∷ B ∷ C ∷ D ∷ E ∷ H ∷ L ∷ S ∷ Z ∷ Ac ∷ P ∷ Cy ∷ []

@@ -4,9 +4,10 @@ use Rattle.std.proofs.Math.ListN.{set}
 use Rattle.std.proofs.lemmas.Bool.{or_left}
 use Rattle.cells.specs.declared.Part.{Part}
 use Rattle.cells.specs.Parts.{Parts, has, union}
+use Rattle.cells.proofs.Unions.{has_union}
 use Rattle.flow.specs.declared.search.Vertex.{Vertex}
 use Rattle.flow.specs.Search.{vertex, no_vertex, credit, is_left, IsVisited}
-use Rattle.flow.proofs.Sets.{has-union, size-le, size-rises}
+use Rattle.flow.proofs.Sets.{size-le, size-rises}
 use Rattle.flow.proofs.Credits.{credits-set, visits_left-le}
 
 abbrev grown_vertex : Vertex → Parts → Vertex
@@ -15,7 +16,7 @@ grown_vertex v left = record { defines = v.defines; need = union v.need left; wa
 -- it has grown, and has less credit left whether it waited or not
 less_credit : (v : Vertex) (left : Parts) → union v.need left ≢ v.need → credit (grown_vertex v left) ≤ credit v
 less_credit v left other =
-    let rises = size-rises v.need (union v.need left) (λ x h. has-union v.need left x ∙ or_left (has v.need x) (has left x) h) (λ same. other (sym same)) in
+    let rises = size-rises v.need (union v.need left) (λ x h. has_union v.need left x ∙ or_left (has v.need x) (has left x) h) (λ same. other (sym same)) in
     let most = size-le (union v.need left) in
     omega (arith, rises, most)
 
@@ -24,7 +25,7 @@ changed vs from passed left lt is other = record {
   same_length = length-set vs from v;
   others = λ k differs. get_or-set_other vs from k v no_vertex differs;
   defines = ap (λ (w : Vertex). w.defines) here;
-  need = λ x. ap (λ (w : Vertex). has w.need x) here ∙ has-union (vertex vs from).need left x ∙ ap (λ b. has (vertex vs from).need x || b) (is x);
+  need = λ x. ap (λ (w : Vertex). has w.need x) here ∙ has_union (vertex vs from).need left x ∙ ap (λ b. has (vertex vs from).need x || b) (is x);
   woken = inr (ap (λ (w : Vertex). w.waits) here);
   fewer = omega (arith, credits-set vs from v lt, less);
   cheaper = λ ss. visits_left-le ss vs from v lt less;

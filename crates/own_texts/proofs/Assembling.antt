@@ -14,13 +14,14 @@ use Rattle.asm86_lines.specs.declared.line.Stmt86.TheVariants.{Mark, Jcc}
 use Rattle.asm86_lines.specs.Layout.{size_of, sizes_of, offset_from, offset_of}
 use Rattle.asm86_lines.specs.Order.{Reading, CodeGroup, in_order}
 use Rattle.asm86_lines.specs.Image.{cells_from, used_in, AllDefined, UsesDefined, reaches, short_reaches, AllReach}
+use Rattle.asm86_lines.proofs.Statements.{Each, offset_past}
 use Rattle.asm86_line_reader.specs.ReadBack.{label_fits, has_line}
 use Rattle.asm80_program.specs.declared.program.Placed.{Placed}
 use Rattle.asm80_program.specs.Program.{AreLaid}
 use Rattle.flow.proofs.Laid.{length80-positive}
 use Rattle.templates_plain.specs.Template.{label_of}
 use Rattle.own_texts.specs.Reach.{ShortenedReach}
-use Rattle.own_texts.proofs.Statements.{Each, each-append, each-map, HaveLines, stands_behind, offset_past, eq_true, eq_false}
+use Rattle.own_texts.proofs.Statements.{each-append, each-map, HaveLines, stands_behind, eq_true, eq_false}
 use Rattle.own_texts.proofs.Shapes.{IsStep, runs, loads, jumps, calls, AreSteps, HasShape, straight, past, short, step_marks_not, word_fits}
 use Rattle.own_texts.proofs.Body.{IsGroup, marked, bare, IsBody, none, more}
 use Rattle.own_texts.proofs.Placing.{group_marks_not}

@@ -12,8 +12,9 @@ use Rattle.asm86_lines.specs.declared.line.Stmt86.{Stmt86}
 use Rattle.asm86_lines.specs.declared.line.Stmt86.TheVariants.{Org, Db, Dw}
 use Rattle.asm86_lines.specs.Order.{Reading, DataGroup, in_order, is_free}
 use Rattle.asm86_lines.specs.Image.{cells_from, word_cells}
+use Rattle.asm86_lines.proofs.Statements.{Each}
 use Rattle.templates_plain.specs.Plain.{org_at, data_from, ending}
-use Rattle.own_texts.proofs.Statements.{Each, each-append, eq_true, eq_false}
+use Rattle.own_texts.proofs.Statements.{each-append, eq_true, eq_false}
 
 -- bytes, and words that are offsets of code addresses of a kind, ascending from a place on and below a limit
 pub data HasData (G : ℕ → Type 0) (limit : ℕ) : ℕ → List (ℕ × Cell) → Type 0 where

@@ -11,9 +11,9 @@ use Rattle.i80.specs.declared.Instr80.TheVariants.{Mov, Mvi, Lxi, Inx, Dcx, Dad,
 use Rattle.asm86_lines.specs.declared.line.Label.{Label}
 use Rattle.asm86_lines.specs.declared.line.Stmt86.{Stmt86}
 use Rattle.asm86_lines.specs.Layout.{size_of}
+use Rattle.asm86_lines.proofs.Statements.{Each}
 use Rattle.templates_plain.specs.Template.{template}
 use Rattle.own_texts.specs.Reach.{is_shortened, ShortenedReach}
-use Rattle.own_texts.proofs.Statements.{Each}
 
 pub template_long : (i : Instr80) (at : ℕ) (save : Bool) → list_any is_shortened (template i at save) ≡ false
 template_long (Mov (Reg r) s) at save = refl

@@ -12,6 +12,7 @@ use Rattle.asm86_lines.specs.declared.line.Label.TheVariants.{At as Line, Skip, 
 use Rattle.asm86_lines.specs.declared.line.Stmt86.{Stmt86}
 use Rattle.asm86_lines.specs.declared.line.Stmt86.TheVariants.{Cseg, Mark, Run, Jmp, Jcc, Call as CallTo}
 use Rattle.asm86_lines.specs.Layout.{offset_of}
+use Rattle.asm86_lines.proofs.Statements.{Each}
 use Rattle.asm80_program.specs.declared.program.Placed.{Placed}
 use Rattle.asm80_program.specs.Program.{Program, IsProgram}
 use Rattle.flow.specs.Blocks.{cut_from, BlocksCut}
@@ -22,7 +23,7 @@ use Rattle.templates_plain.specs.Plain.{prologue}
 use Rattle.templates.specs.Style.{Style, jump_if, is_pair, knows_function, without_first_if, without_last_if, written, written_as, label_within, block_from, blocks_of, styled_statements}
 use Rattle.templates.specs.Lean.{long_style, lean_style, reaches_in}
 use Rattle.own_texts.specs.Reach.{JumpsReach}
-use Rattle.own_texts.proofs.Statements.{Each, each-first, each-last}
+use Rattle.own_texts.proofs.Statements.{each-first, each-last}
 use Rattle.own_texts.proofs.Shapes.{Names}
 use Rattle.own_texts.proofs.Body.{AreKnown, known_front, known_map}
 use Rattle.own_texts.proofs.Leading.{Leads, program_known}

@@ -13,11 +13,12 @@ use Rattle.asm86_lines.specs.declared.line.Stmt86.TheVariants.{Mark, Jmp, Jcc}
 use Rattle.asm86_lines.specs.Layout.{size_of, sizes_of, marks, same_label, offset_from, offset_of, place_of}
 use Rattle.asm86_lines.specs.Image.{count_marks, IsDefinedOnce, reaches as reaches_86}
 use Rattle.asm86_lines.proofs.Sizes.{sizes_of-append, count_marks-append}
+use Rattle.asm86_lines.proofs.Statements.{Each, MarksNot, offset_past, uncounted}
 use Rattle.templates_plain.specs.Template.{label_of}
 use Rattle.templates.specs.Lean.{reaches}
 use Rattle.own_texts.specs.Reach.{ShortenedReach}
 use Rattle.asm86_image.proofs.Texts.{absent}
-use Rattle.own_texts.proofs.Statements.{Each, MarksNot, offset_past, eq_true}
+use Rattle.own_texts.proofs.Statements.{eq_true}
 use Rattle.own_texts.proofs.Jumps.{IsLong, not_shortened}
 
 -- statements of a kind that both have, and jumps that are long in the first and short in the second
@@ -97,14 +98,6 @@ found_front from a l (x ∷ xs) ys h = by_mark (marks l x) h (found_front (from 
     by_mark : (t : Bool) → cond t (Some from) (offset_from (from + size_of x) xs l) ≡ Some a → (offset_from (from + size_of x) xs l ≡ Some a → offset_from (from + size_of x) (xs ++ ys) l ≡ Some a) → cond t (Some from) (offset_from (from + size_of x) (xs ++ ys) l) ≡ Some a
     by_mark true g rest = g
     by_mark false g rest = rest g
-
-uncounted : (l : Label) (xs : List Stmt86) → count_marks l xs ≡ 0 → MarksNot l xs
-uncounted l [] h = tt
-uncounted l (x ∷ xs) h = by_mark (marks l x) refl h (uncounted l xs)
-  where
-    by_mark : (t : Bool) → marks l x ≡ t → cond t 1 0 + count_marks l xs ≡ 0 → (count_marks l xs ≡ 0 → MarksNot l xs) → (marks l x ≡ false) × MarksNot l xs
-    by_mark true e g rest = absurd (omega (arith, g))
-    by_mark false e g rest = (e, rest (omega (arith, g)))
 
 marks_none : (from : ℕ) (l : Label) (xs : List Stmt86) → offset_from from xs l ≡ None → MarksNot l xs
 marks_none from l xs h = uncounted l xs (absent from xs l h)

@@ -11,6 +11,7 @@ use Rattle.asm86_lines.specs.declared.line.Stmt86.TheVariants.{Mark}
 use Rattle.asm86_lines.specs.Layout.{offset_from, marks, same_label}
 use Rattle.asm86_lines.specs.Image.{count_marks}
 use Rattle.asm86_lines.proofs.Sizes.{count_marks-append}
+use Rattle.asm86_lines.proofs.Statements.{MarksNot}
 use Rattle.asm80_program.specs.declared.program.Placed.{Placed}
 use Rattle.asm80_program.specs.Program.{placed_in, AreLaid}
 use Rattle.asm80_program.proofs.Lookup.{above-laid}
@@ -18,7 +19,7 @@ use Rattle.flow.specs.Blocks.{extent}
 use Rattle.flow.proofs.Cuts.{flat}
 use Rattle.flow.proofs.Laid.{length80-positive, found_start}
 use Rattle.templates.specs.Style.{Style, block_from, block_of, blocks_of}
-use Rattle.own_texts.proofs.Statements.{MarksNot, marks_not-append, stands_behind, eq_true, eq_false}
+use Rattle.own_texts.proofs.Statements.{marks_not-append, stands_behind, eq_true, eq_false}
 use Rattle.own_texts.proofs.Shapes.{HasShape, straight, past, short, step_marks_not, steps_mark_not, shape_marks_not}
 use Rattle.own_texts.proofs.Body.{IsGroup, marked, bare, IsBody, none, more}
 

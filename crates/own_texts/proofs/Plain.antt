@@ -6,6 +6,7 @@ use Rattle.i80.specs.declared.Instr80.TheVariants.{Call}
 use Rattle.asm86_lines.specs.declared.line.Label.TheVariants.{At as Line}
 use Rattle.asm86_lines.specs.declared.line.Stmt86.TheVariants.{Cseg, Dseg, Mark}
 use Rattle.asm86_lines.specs.Layout.{place_of}
+use Rattle.asm86_lines.proofs.Statements.{Each}
 use Rattle.asm80_program.specs.declared.program.Placed.{Placed}
 use Rattle.asm80_program.specs.Program.{Program}
 use Rattle.flow.specs.Blocks.{cut_from}
@@ -14,7 +15,7 @@ use Rattle.templates_plain.specs.Template.{template}
 use Rattle.templates_plain.specs.Plain.{prologue, runtime, body, data_from, ending, plain_statements}
 use Rattle.templates.specs.Style.{plain_style, is_pair, knows_function, written, written_as, label_within, block_from, blocks_of, styled_statements}
 use Rattle.own_texts.specs.Reach.{JumpsReach}
-use Rattle.own_texts.proofs.Statements.{Each, each-append}
+use Rattle.own_texts.proofs.Statements.{each-append}
 use Rattle.own_texts.proofs.Jumps.{IsLong, template_long, each_long, all_long_reach}
 
 -- ---- block after block, the templates

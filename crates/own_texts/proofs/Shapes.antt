@@ -19,12 +19,13 @@ use Rattle.asm86_lines.specs.declared.line.Label.TheVariants.{At as Line, Skip, 
 use Rattle.asm86_lines.specs.declared.line.Stmt86.{Stmt86}
 use Rattle.asm86_lines.specs.declared.line.Stmt86.TheVariants.{Mark, Run, MovOffset, Jmp as JmpTo, Jcc, Call as CallTo}
 use Rattle.asm86_lines.specs.Layout.{size_of, marks, same_label}
+use Rattle.asm86_lines.proofs.Statements.{Each, MarksNot}
 use Rattle.asm86_line_reader.specs.ReadBack.{instr_fits}
 use Rattle.asm80_program.specs.declared.program.Placed.{Placed}
 use Rattle.asm80_program.specs.Program.{IsCoded}
 use Rattle.templates_plain.specs.Template.{label_of, unless, template}
 use Rattle.templates.specs.Style.{Style, jump_if, ends_by_sahf, begins_by_lahf, without_first_if, without_last_if, written_as}
-use Rattle.own_texts.proofs.Statements.{Each, each-first, each-last, each-map, MarksNot}
+use Rattle.own_texts.proofs.Statements.{each-first, each-last, each-map}
 
 -- the places that an instruction names are all of a kind
 abbrev pub Names : (Goal → Type 0) → Instr80 → Type 0

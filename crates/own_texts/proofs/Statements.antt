@@ -1,16 +1,13 @@
 -- What holds of each statement of a text, and the labels that stand in it.
-use Rattle.std.proofs.Common.{◌≡◌, ◌≢◌, ℕ, ◌+◌, List, [], ◌∷◌, ◌++◌, Option, Some, refl, ap, ◌∙◌, arith, Bool, false, cond, true, ◌==◌}
+use Rattle.std.proofs.Common.{◌≡◌, ◌≢◌, ℕ, ◌+◌, List, [], ◌∷◌, ◌++◌, Option, Some, refl, arith, Bool, false, cond, true, ◌==◌}
 use Rattle.std.specs.Prelude.{is_some}
 use Rattle.std.proofs.lemmas.Bool.Decides.{nat_tests}
 use Rattle.asm86_lines.specs.declared.line.Label.{Label}
 use Rattle.asm86_lines.specs.declared.line.Stmt86.{Stmt86}
-use Rattle.asm86_lines.specs.Layout.{size_of, sizes_of, marks, offset_from}
+use Rattle.asm86_lines.specs.Layout.{size_of, marks, offset_from}
+use Rattle.asm86_lines.proofs.Statements.{Each, MarksNot}
 use Rattle.asm86_line_reader.specs.ReadBack.{has_line}
 use Rattle.templates.specs.Style.{without_last, without_first_if, without_last_if}
-
-abbrev pub Each : (Stmt86 → Type 0) → List Stmt86 → Type 0
-Each P [] = Unit {0}
-Each P (x ∷ xs) = P x × Each P xs
 
 pub each-append : (P : Stmt86 → Type 0) (xs ys : List Stmt86) → Each P xs → Each P ys → Each P (xs ++ ys)
 each-append P [] ys h g = g
@@ -39,19 +36,8 @@ each-map P Q f (x ∷ xs) h = (f x h.0, each-map P Q f xs h.1)
 abbrev pub HaveLines : List Stmt86 → Type 0
 HaveLines xs = Each (λ x. has_line x ≡ true) xs
 
--- no statement is this label
-abbrev pub MarksNot : Label → List Stmt86 → Type 0
-MarksNot l xs = Each (λ x. marks l x ≡ false) xs
-
 pub marks_not-append : (l : Label) (xs ys : List Stmt86) → MarksNot l xs → MarksNot l ys → MarksNot l (xs ++ ys)
 marks_not-append l = each-append (λ x. marks l x ≡ false)
-
--- a label that does not stand in a list is looked for behind it
-pub offset_past : (at : ℕ) (l : Label) (xs ys : List Stmt86) → MarksNot l xs → offset_from at (xs ++ ys) l ≡ offset_from (at + sizes_of xs) ys l
-offset_past at l [] ys h = let e : at ≡ at + 0 = omega arith in ap (λ n. offset_from n ys l) e
-offset_past at l (x ∷ xs) ys h =
-    let e : at + size_of x + sizes_of xs ≡ at + (size_of x + sizes_of xs) = omega arith in
-    ap (λ b. cond b (Some at) (offset_from (at + size_of x) (xs ++ ys) l)) h.0 ∙ offset_past (at + size_of x) l xs ys h.1 ∙ ap (λ n. offset_from n ys l) e
 
 -- a label that stands in a list stands where more statements come before it
 some_step : (t : Bool) (at : ℕ) (o : Option ℕ) → is_some o ≡ true → is_some (cond t (Some at) o) ≡ true

@@ -14,6 +14,7 @@ use Rattle.asm86_lines.specs.Layout.{sizes_of, marks, offset_of, place_of}
 use Rattle.asm86_lines.specs.Order.{at_start, in_order}
 use Rattle.asm86_lines.specs.Image.{statements, used_in, count_marks, IsDefinedOnce, AllDefined, UsesDefined, reaches, short_reaches, AllReach, Assembles}
 use Rattle.asm86_lines.proofs.Sizes.{count_marks-append}
+use Rattle.asm86_lines.proofs.Statements.{Each, MarksNot, offset_past}
 use Rattle.asm86_line_reader.specs.ReadBack.{label_fits, has_line}
 use Rattle.asm80_program.specs.declared.program.Placed.{Placed}
 use Rattle.asm80_program.specs.Program.{Program, placed_in, AreLaid, IsProgram}
@@ -30,7 +31,7 @@ use Rattle.sym_texts.specs.Matches.{HasOpening}
 use Rattle.own_texts.specs.Fits.{StyleFits}
 use Rattle.own_texts.specs.Reach.{JumpsReach}
 use Rattle.templates_plain.proofs.NumberedLines.{statements-numbered}
-use Rattle.own_texts.proofs.Statements.{Each, each-append, HaveLines, MarksNot, offset_past, stands_behind}
+use Rattle.own_texts.proofs.Statements.{each-append, HaveLines, stands_behind}
 use Rattle.own_texts.proofs.Shapes.{word_fits, byte_fits}
 use Rattle.own_texts.proofs.Body.{AreKnown, IsBody, blocks_body}
 use Rattle.own_texts.proofs.Leading.{Leads, program_known}

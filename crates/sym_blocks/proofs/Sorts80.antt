@@ -1,6 +1,5 @@
 -- The instructions of the 8080 keep their terms made and of their sorts.
-use Rattle.std.proofs.Common.{◌≡◌, ℕ, zero, suc, ◌+◌, ◌<◌, ◌||◌, ◌&&◌, Bool, true, false, cond, List, [], ◌∷◌, ◌++◌, Option, Some, None, ◌==◌, refl, ap, arith, lit<}
-use Rattle.std.proofs.lemmas.Bool.{lt-ltb}
+use Rattle.std.proofs.Common.{◌≡◌, ℕ, zero, suc, ◌+◌, ◌<◌, ◌||◌, ◌&&◌, Bool, true, false, cond, List, [], ◌∷◌, ◌++◌, Option, Some, None, ◌==◌, refl, ap, lit<}
 use Rattle.cells.specs.declared.Place.{Place}
 use Rattle.cells.specs.declared.Place.TheVariants.{At}
 use Rattle.cells.specs.declared.Part.{Part}
@@ -29,6 +28,7 @@ use Rattle.asm80_program.specs.Program.{Program, IsCoded, AreCoded, placed_in, i
 use Rattle.sym_terms.specs.Term.{Term, Num, Alu, Turn, Adjust, Code, Unknown, is_flag, is_bit, is_byte, is_word, leaves_flag, is_open}
 use Rattle.sym_terms.specs.Making.{alu, flag, sum16, high, low, join, turn, adjust, carry_of}
 use Rattle.sym_terms.specs.Laws.{IsMadeAs, MadeTermsHaveSorts}
+use Rattle.sym_terms.proofs.Sorts.{byte_sorted, word_sorted, leaves_open}
 use Rattle.sym_blocks.specs.Outcome.{Action, Load8, Load16, Store8, Store16, Way, Goto, Call, Leave, In, Out, Exit, One, Held, with_flags_of, with_count_flags_of, with_flags_in}
 use Rattle.sym_blocks.specs.Block80.{Symbolic80, start80, reg_term, with_reg, pair_term, with_pair, with_held, with_a, load8, load16, store8, store16, next_byte, next_word, source, after_source, into, lxi, lda, xchg, xthl, operation, carry_in, a_after, with_result, operated, cleared, alu_by, count_by, add_to_pair, dad, turn_by, daa, flag_byte, pushed, push, popped, pop, effect80, goto, jump, call, return_by, asking, flag_term, exit80, outcome80, outcome_from, before_more, instrs_from, block80}
 use Rattle.sym_blocks.specs.Sorts.{HeldIsSorted, ActionIsSorted, ActionsAreSorted, AreSorted80, WayIsSorted, ExitIsSorted, OutcomeIsSorted}
@@ -38,12 +38,6 @@ appended [] x h here = (here, tt)
 appended (y ∷ ys) x h here = (h.0, appended ys x h.1 here)
 
 -- numbers of each sort
-pub byte_number : (n : ℕ) → n < 0x100 → IsMadeAs is_byte (Num n)
-byte_number n h = (omega arith, lt-ltb n 256 h)
-
-pub word_number : (n : ℕ) → n < 0x10000 → IsMadeAs is_word (Num n)
-word_number n h = (h, lt-ltb n 0x10000 h)
-
 pub zero_bit : IsMadeAs is_bit (Num 0)
 zero_bit = (lit< tt, refl)
 
@@ -60,14 +54,6 @@ one_byte = (lit< tt, refl)
 pub record IsResult (r : Term) : Type 0 where
   pub byte : IsMadeAs is_byte r
   pub leaves : (part : Part) → is_flag part ≡ true → leaves_flag part r ≡ true
-
-alu_leaves : (x : Bool) (op : Op) (a b c : Term) (part : Part) → is_flag part ≡ true → leaves_flag part (cond x Unknown (Alu op a b c)) ≡ true
-alu_leaves true op a b c part h = h
-alu_leaves false op a b c part h = h
-
-adjust_leaves : (x : Bool) (a ac cy : Term) (part : Part) → is_flag part ≡ true → leaves_flag part (cond x Unknown (Adjust a ac cy)) ≡ true
-adjust_leaves true a ac cy part h = h
-adjust_leaves false a ac cy part h = h
 
 turn_leaves : (x : Bool) (kind : ℕ) (a c : Term) → leaves_flag Cy (cond x Unknown (Turn kind a c)) ≡ true
 turn_leaves true kind a c = refl
@@ -102,10 +88,10 @@ instrs_coded p at (suc n) k =
 
 module _ (m : MadeTermsHaveSorts) where
   pub alu_result : (op : Op) (a b c : Term) → IsMadeAs is_byte a → IsMadeAs is_byte b → IsMadeAs is_bit c → IsResult (alu op a b c)
-  alu_result op a b c p q r = record { byte = m.alu op a b c p q r; leaves = alu_leaves (is_open a || (is_open b || is_open c)) op a b c }
+  alu_result op a b c p q r = record { byte = m.alu op a b c p q r; leaves = λ part h. leaves_open (is_open a || (is_open b || is_open c)) (Alu op a b c) part h refl }
 
   pub adjust_result : (a ac cy : Term) → IsMadeAs is_byte a → IsMadeAs is_bit ac → IsMadeAs is_bit cy → IsResult (adjust a ac cy)
-  adjust_result a ac cy p q r = record { byte = m.adjust a ac cy p q r; leaves = adjust_leaves (is_open a || (is_open ac || is_open cy)) a ac cy }
+  adjust_result a ac cy p q r = record { byte = m.adjust a ac cy p q r; leaves = λ part h. leaves_open (is_open a || (is_open ac || is_open cy)) (Adjust a ac cy) part h refl }
 
   pub flag_of_result : (part : Part) (r : Term) → IsResult r → is_flag part ≡ true → IsMadeAs is_bit (flag part r)
   flag_of_result part r h f = m.flag part r (h.byte.0, h.leaves part f)
@@ -247,7 +233,7 @@ module _ (m : MadeTermsHaveSorts) where
   into_sorted s Mem t h p = store8_sorted s (pair_term s PairH) t h (pair_sorted s PairH h) p
 
   lxi_sorted : (s : Symbolic80) (pair : Pair) (w : Word) → IsCoded (Lxi pair w) → AreSorted80 s → AreSorted80 (lxi s pair w)
-  lxi_sorted s pair (Number w) k h = with_pair_sorted s pair (Num w) h (word_number w k)
+  lxi_sorted s pair (Number w) k h = with_pair_sorted s pair (Num w) h (word_sorted w k)
   lxi_sorted s pair (CodeAt a) k h = with_pair_sorted s pair (join (Code (At a) true) (Code (At a) false)) h (m.join (Code (At a) true) (Code (At a) false) (tt, refl) (tt, refl))
 
   lda_sorted : (s : Symbolic80) (address : Term) → AreSorted80 s → IsMadeAs is_word address → AreSorted80 (lda s address)
@@ -274,7 +260,7 @@ module _ (m : MadeTermsHaveSorts) where
       held_sorted (into (after_source s on) on r) (with_count_flags_of r (into (after_source s on) on r).held) t (count_flags_sorted r (into (after_source s on) on r).held f t.held)
 
   add_sorted : (s : Symbolic80) (pair : Pair) (n : ℕ) → n < 0x10000 → AreSorted80 s → AreSorted80 (add_to_pair s pair n)
-  add_sorted s pair n k h = with_pair_sorted s pair (sum16 (pair_term s pair) (Num n)) h (m.sum16 (pair_term s pair) (Num n) (pair_sorted s pair h) (word_number n k))
+  add_sorted s pair n k h = with_pair_sorted s pair (sum16 (pair_term s pair) (Num n)) h (m.sum16 (pair_term s pair) (Num n) (pair_sorted s pair h) (word_sorted n k))
 
   dad_sorted : (s : Symbolic80) (pair : Pair) → AreSorted80 s → AreSorted80 (dad s pair)
   dad_sorted s pair h =
@@ -303,7 +289,7 @@ module _ (m : MadeTermsHaveSorts) where
 
   push_sorted : (s : Symbolic80) (w : Term) → AreSorted80 s → IsMadeAs is_word w → AreSorted80 (push s w)
   push_sorted s w h p =
-      let q : IsMadeAs is_word (sum16 s.sp (Num 0xFFFE)) = m.sum16 s.sp (Num 0xFFFE) h.sp (word_number 0xFFFE (lit< tt)) in
+      let q : IsMadeAs is_word (sum16 s.sp (Num 0xFFFE)) = m.sum16 s.sp (Num 0xFFFE) h.sp (word_sorted 0xFFFE (lit< tt)) in
       sp_sorted (store16 s (sum16 s.sp (Num 0xFFFE)) w) (sum16 s.sp (Num 0xFFFE)) (store16_sorted s (sum16 s.sp (Num 0xFFFE)) w h q p) q
 
   popped_sorted : (s : Symbolic80) (pair : StackPair) (w : Term) → AreSorted80 s → IsMadeAs is_word w → AreSorted80 (popped s pair w)
@@ -316,38 +302,38 @@ module _ (m : MadeTermsHaveSorts) where
   pop_sorted s pair h =
       sp_sorted (popped (load16 s s.sp) pair (next_word s)) (sum16 s.sp (Num 2))
       (popped_sorted (load16 s s.sp) pair (next_word s) (load16_sorted s s.sp h h.sp) (tt, refl))
-      (m.sum16 s.sp (Num 2) h.sp (word_number 2 (lit< tt)))
+      (m.sum16 s.sp (Num 2) h.sp (word_sorted 2 (lit< tt)))
 
   xthl_sorted : (s : Symbolic80) → AreSorted80 s → AreSorted80 (xthl s)
   xthl_sorted s h =
       let t = record (load16 s s.sp) { sp = sum16 s.sp (Num 2) } in
-      let r : AreSorted80 (record (load16 s s.sp) { sp = sum16 s.sp (Num 2) }) = sp_sorted (load16 s s.sp) (sum16 s.sp (Num 2)) (load16_sorted s s.sp h h.sp) (m.sum16 s.sp (Num 2) h.sp (word_number 2 (lit< tt))) in
+      let r : AreSorted80 (record (load16 s s.sp) { sp = sum16 s.sp (Num 2) }) = sp_sorted (load16 s s.sp) (sum16 s.sp (Num 2)) (load16_sorted s s.sp h h.sp) (m.sum16 s.sp (Num 2) h.sp (word_sorted 2 (lit< tt))) in
       with_pair_sorted (push t (pair_term s PairH)) PairH (next_word s) (push_sorted t (pair_term s PairH) r (pair_sorted s PairH h)) (tt, refl)
 
   -- the table
   pub effect_sorted : (s : Symbolic80) (i : Instr80) → IsCoded i → AreSorted80 s → AreSorted80 (effect80 s i)
   effect_sorted s Nop k h = h
   effect_sorted s (Mov to from) k h = into_sorted (after_source s from) to (source s from) (after_source_sorted s from h) (source_sorted s from h)
-  effect_sorted s (Mvi to n) k h = into_sorted s to (Num n) h (byte_number n k)
+  effect_sorted s (Mvi to n) k h = into_sorted s to (Num n) h (byte_sorted n k)
   effect_sorted s (Lxi pair w) k h = lxi_sorted s pair w k h
-  effect_sorted s (Lda a) k h = lda_sorted s (Num a) h (word_number a k)
-  effect_sorted s (Sta a) k h = store8_sorted s (Num a) s.held.a h (word_number a k) h.held.a
-  effect_sorted s (Lhld a) k h = with_pair_sorted (load16 s (Num a)) PairH (next_word s) (load16_sorted s (Num a) h (word_number a k)) (tt, refl)
-  effect_sorted s (Shld a) k h = store16_sorted s (Num a) (pair_term s PairH) h (word_number a k) (pair_sorted s PairH h)
+  effect_sorted s (Lda a) k h = lda_sorted s (Num a) h (word_sorted a k)
+  effect_sorted s (Sta a) k h = store8_sorted s (Num a) s.held.a h (word_sorted a k) h.held.a
+  effect_sorted s (Lhld a) k h = with_pair_sorted (load16 s (Num a)) PairH (next_word s) (load16_sorted s (Num a) h (word_sorted a k)) (tt, refl)
+  effect_sorted s (Shld a) k h = store16_sorted s (Num a) (pair_term s PairH) h (word_sorted a k) (pair_sorted s PairH h)
   effect_sorted s (Ldax pair) k h = lda_sorted s (pair_term s pair) h (pair_sorted s pair h)
   effect_sorted s (Stax pair) k h = store8_sorted s (pair_term s pair) s.held.a h (pair_sorted s pair h) h.held.a
   effect_sorted s Xchg k h = xchg_sorted s h
   effect_sorted s Xthl k h = xthl_sorted s h
   effect_sorted s Sphl k h = sp_sorted s (pair_term s PairH) h (pair_sorted s PairH h)
   effect_sorted s (AluWith op from) k h = alu_sorted s op from h
-  effect_sorted s (AluI op n) k h = held_sorted s (operated op (Num n) s.held) h (operated_sorted op (Num n) s.held (byte_number n k) h.held)
+  effect_sorted s (AluI op n) k h = held_sorted s (operated op (Num n) s.held) h (operated_sorted op (Num n) s.held (byte_sorted n k) h.held)
   effect_sorted s (Inr on) k h = count_sorted s Add on h
   effect_sorted s (Dcr on) k h = count_sorted s Sub on h
   effect_sorted s (Inx pair) k h = add_sorted s pair 1 (lit< tt) h
   effect_sorted s (Dcx pair) k h = add_sorted s pair 0xFFFF (lit< tt) h
   effect_sorted s (Dad pair) k h = dad_sorted s pair h
   effect_sorted s Daa k h = daa_sorted s h
-  effect_sorted s Cma k h = with_a_sorted s (alu Xra s.held.a (Num 0xFF) (Num 0)) h (m.alu Xra s.held.a (Num 0xFF) (Num 0) h.held.a (byte_number 0xFF (lit< tt)) zero_bit)
+  effect_sorted s Cma k h = with_a_sorted s (alu Xra s.held.a (Num 0xFF) (Num 0)) h (m.alu Xra s.held.a (Num 0xFF) (Num 0) h.held.a (byte_sorted 0xFF (lit< tt)) zero_bit)
   effect_sorted s Stc k h = held_sorted s (record (s.held) { cy = Num 1 }) h (cy_sorted s.held (Num 1) h.held one_bit)
   effect_sorted s Cmc k h = held_sorted s (record (s.held) { cy = alu Xra s.held.cy (Num 1) (Num 0) }) h (cy_sorted s.held (alu Xra s.held.cy (Num 1) (Num 0)) h.held (complement_sorted s.held.cy h.held.cy))
   effect_sorted s Rlc k h = turn_sorted s 0 (Num 0) (lit< tt) h zero_bit

@@ -29,11 +29,12 @@ use Rattle.cells.specs.declared.Place.TheVariants.{At as AtPlace, Exit}
 use Rattle.sym_terms.specs.Term.{Term, Num, Start, Turned, Code, Unknown, is_bit, is_byte, is_word}
 use Rattle.sym_terms.specs.Making.{alu, flag, sum16, high, low, turn, adjust, carry_of}
 use Rattle.sym_terms.specs.Laws.{IsMadeAs, MadeTermsHaveSorts}
+use Rattle.sym_terms.proofs.Sorts.{byte_sorted, word_sorted}
 use Rattle.sym_blocks.specs.Outcome.{Load8, Load16, Store8, Store16, Held, with_flags_of, with_count_flags_of, with_flags_in}
 use Rattle.sym_blocks.specs.Block80.{operation, carry_in, with_result, cleared, flag_byte}
 use Rattle.sym_blocks.specs.Symbolic86.{Symbolic86, start_if, start86, reg8_term, with_reg8, reg16_term, with_reg16, with_held, with_cf, load8, load16, store8, store16, next_byte, next_word, pointed, operand8, after_operand8, into_operand8, operand16, after_operand16, op_of, operated, gives_zero, alu_al, or_cl, count_op, count8, losing_flags, count_step, count16, add16, turn_kind, turn_carry, rotate8, brought_back, rotate16, daa, push, pop, xchg8, xchg16, code_word, offset_term, effect86}
 use Rattle.sym_blocks.specs.Sorts.{HeldIsSorted, AreSorted86, IsCoded86}
-use Rattle.sym_blocks.proofs.Sorts80.{appended, byte_number, word_number, zero_bit, one_bit, one_byte, IsResult, alu_result, adjust_result, turn_flag, carry_sorted, complement_sorted, flags_sorted, count_flags_sorted, flags_in_sorted, flag_byte_sorted, a_sorted, cy_sorted, bc_sorted, de_sorted, hl_sorted, carry_in_sorted, result_sorted, cleared_sorted}
+use Rattle.sym_blocks.proofs.Sorts80.{appended, zero_bit, one_bit, one_byte, IsResult, alu_result, adjust_result, turn_flag, carry_sorted, complement_sorted, flags_sorted, count_flags_sorted, flags_in_sorted, flag_byte_sorted, a_sorted, cy_sorted, bc_sorted, de_sorted, hl_sorted, carry_in_sorted, result_sorted, cleared_sorted}
 
 module _ (m : MadeTermsHaveSorts) where
   held_sorted : (s : Symbolic86) (x : Held) → AreSorted86 s → HeldIsSorted x → AreSorted86 (with_held s x)
@@ -116,7 +117,7 @@ module _ (m : MadeTermsHaveSorts) where
 
   mov16_sorted : (s : Symbolic86) (r : Reg16) (o : Operand16) → IsCoded86 (MovReg16 r o) → AreSorted86 s → AreSorted86 (with_reg16 (after_operand16 s o) r (operand16 s o))
   mov16_sorted s r (Reg_16 q) k h = with_reg16_sorted s r (reg16_term s q) h (reg16_sorted s q h)
-  mov16_sorted s r (Direct a) k h = with_reg16_sorted (load16 s (Num a)) r (next_word s) (load16_sorted s (Num a) h (word_number a k)) (tt, refl)
+  mov16_sorted s r (Direct a) k h = with_reg16_sorted (load16 s (Num a)) r (next_word s) (load16_sorted s (Num a) h (word_sorted a k)) (tt, refl)
 
   -- arithmetic
 
@@ -159,7 +160,7 @@ module _ (m : MadeTermsHaveSorts) where
   count16_sorted : (s : Symbolic86) (c : Count) (r : Reg16) → AreSorted86 s → AreSorted86 (count16 s c r)
   count16_sorted s c r h =
       let w = sum16 (reg16_term s r) (Num (count_step c)) in
-      losing_sorted (with_reg16 s r w) (with_reg16_sorted s r w h (m.sum16 (reg16_term s r) (Num (count_step c)) (reg16_sorted s r h) (word_number (count_step c) (step_below c))))
+      losing_sorted (with_reg16 s r w) (with_reg16_sorted s r w h (m.sum16 (reg16_term s r) (Num (count_step c)) (reg16_sorted s r h) (word_sorted (count_step c) (step_below c))))
 
   add16_sorted : (s : Symbolic86) (r q : Reg16) → AreSorted86 s → AreSorted86 (add16 s r q)
   add16_sorted s r q h =
@@ -210,13 +211,13 @@ module _ (m : MadeTermsHaveSorts) where
 
   push_sorted : (s : Symbolic86) (r : Reg16) → AreSorted86 s → AreSorted86 (push s r)
   push_sorted s r h =
-      let q : IsMadeAs is_word (sum16 s.sp (Num 0xFFFE)) = m.sum16 s.sp (Num 0xFFFE) h.sp (word_number 0xFFFE (lit< tt)) in
+      let q : IsMadeAs is_word (sum16 s.sp (Num 0xFFFE)) = m.sum16 s.sp (Num 0xFFFE) h.sp (word_sorted 0xFFFE (lit< tt)) in
       sp_sorted (store16 s (sum16 s.sp (Num 0xFFFE)) (reg16_term s r)) (sum16 s.sp (Num 0xFFFE)) (store16_sorted s (sum16 s.sp (Num 0xFFFE)) (reg16_term s r) h q (reg16_sorted s r h)) q
 
   pop_sorted : (s : Symbolic86) (r : Reg16) → AreSorted86 s → AreSorted86 (pop s r)
   pop_sorted s r h =
       with_reg16_sorted (record (load16 s s.sp) { sp = sum16 s.sp (Num 2) }) r (next_word s)
-      (sp_sorted (load16 s s.sp) (sum16 s.sp (Num 2)) (load16_sorted s s.sp h h.sp) (m.sum16 s.sp (Num 2) h.sp (word_number 2 (lit< tt))))
+      (sp_sorted (load16 s s.sp) (sum16 s.sp (Num 2)) (load16_sorted s s.sp h h.sp) (m.sum16 s.sp (Num 2) h.sp (word_sorted 2 (lit< tt))))
       (tt, refl)
 
   xchg8_sorted : (s : Symbolic86) (r q : Reg8) → AreSorted86 s → AreSorted86 (xchg8 s r q)
@@ -239,16 +240,16 @@ module _ (m : MadeTermsHaveSorts) where
   pub effect86_sorted : (s : Symbolic86) (i : Instr86) → IsCoded86 i → AreSorted86 s → AreSorted86 (effect86 s i)
   effect86_sorted s (MovReg8 r o) k h = with_reg8_sorted (after_operand8 s o) r (operand8 s o) (after_operand8_sorted s o h) (operand8_sorted s o h)
   effect86_sorted s (MovMem8 p r) k h = store8_sorted s (pointed s p) (reg8_term s r) h (pointed_sorted s p h) (reg8_sorted s r h)
-  effect86_sorted s (MovAlDirect a) k h = with_reg8_sorted (load8 s (Num a)) Al (next_byte s) (load8_sorted s (Num a) h (word_number a k)) (tt, refl)
-  effect86_sorted s (MovDirectAl a) k h = store8_sorted s (Num a) s.held.a h (word_number a k) h.held.a
-  effect86_sorted s (MovNum8 r n) k h = with_reg8_sorted s r (Num n) h (byte_number n k)
-  effect86_sorted s (MovNum16 r w) k h = with_reg16_sorted s r (Num w) h (word_number w k)
-  effect86_sorted s (MovMemNum p n) k h = store8_sorted s (pointed s p) (Num n) h (pointed_sorted s p h) (byte_number n k)
+  effect86_sorted s (MovAlDirect a) k h = with_reg8_sorted (load8 s (Num a)) Al (next_byte s) (load8_sorted s (Num a) h (word_sorted a k)) (tt, refl)
+  effect86_sorted s (MovDirectAl a) k h = store8_sorted s (Num a) s.held.a h (word_sorted a k) h.held.a
+  effect86_sorted s (MovNum8 r n) k h = with_reg8_sorted s r (Num n) h (byte_sorted n k)
+  effect86_sorted s (MovNum16 r w) k h = with_reg16_sorted s r (Num w) h (word_sorted w k)
+  effect86_sorted s (MovMemNum p n) k h = store8_sorted s (pointed s p) (Num n) h (pointed_sorted s p h) (byte_sorted n k)
   effect86_sorted s (MovReg16 r o) k h = mov16_sorted s r o k h
-  effect86_sorted s (MovDirect16 a r) k h = store16_sorted s (Num a) (reg16_term s r) h (word_number a k) (reg16_sorted s r h)
+  effect86_sorted s (MovDirect16 a r) k h = store16_sorted s (Num a) (reg16_term s r) h (word_sorted a k) (reg16_sorted s r h)
   effect86_sorted s MovAxDs k h = with_reg16_sorted s Ax Unknown h (tt, refl)
   effect86_sorted s (AluWith op o) k h = alu_sorted s op o h
-  effect86_sorted s (AluNum op n) k h = operated_sorted s op (Num n) h (byte_number n k)
+  effect86_sorted s (AluNum op n) k h = operated_sorted s op (Num n) h (byte_sorted n k)
   effect86_sorted s OrClCl k h = or_cl_sorted s h
   effect86_sorted s (Add16 r q) k h = add16_sorted s r q h
   effect86_sorted s (Count8 c o) k h = count8_sorted s c o h
@@ -259,7 +260,7 @@ module _ (m : MadeTermsHaveSorts) where
   effect86_sorted s (Xchg16 r q) k h = xchg16_sorted s r q h
   effect86_sorted s (Rotate8 kind r) k h = rotate8_sorted s kind r h
   effect86_sorted s (Rotate16 kind r) k h = rotate16_sorted s kind r h
-  effect86_sorted s (Not8 r) k h = with_reg8_sorted s r (alu Xra (reg8_term s r) (Num 0xFF) (Num 0)) h (m.alu Xra (reg8_term s r) (Num 0xFF) (Num 0) (reg8_sorted s r h) (byte_number 0xFF (lit< tt)) zero_bit)
+  effect86_sorted s (Not8 r) k h = with_reg8_sorted s r (alu Xra (reg8_term s r) (Num 0xFF) (Num 0)) h (m.alu Xra (reg8_term s r) (Num 0xFF) (Num 0) (reg8_sorted s r h) (byte_sorted 0xFF (lit< tt)) zero_bit)
   effect86_sorted s Daa k h = daa_sorted s h
   effect86_sorted s Sahf k h = held_sorted s (with_flags_in s.ah s.held) h (flags_in_sorted m s.ah s.held h.ah h.held)
   effect86_sorted s Lahf k h = ah_sorted s (flag_byte s.held) h (flag_byte_sorted m s.held h.held)

@@ -1,5 +1,5 @@
 -- The 8086 at X_SYS, and where the runtime comes back to.
-use Rattle.std.proofs.Common.{◌≡◌, ℕ, ◌+◌, ◌-◌, ◌/◌, ◌%◌, ◌≤◌, ◌<◌, ◌==◌, Bool, true, false, not, cond, List, [], ◌∷◌, Option, Some, Result, Ok, refl, sym, ap, subst, ◌∙◌, arith}
+use Rattle.std.proofs.Common.{◌≡◌, ℕ, ◌+◌, ◌-◌, ◌%◌, ◌≤◌, ◌<◌, ◌==◌, Bool, true, false, not, cond, List, [], ◌∷◌, Option, Some, Result, Ok, refl, sym, ap, subst, ◌∙◌, arith}
 use Rattle.std.specs.Prelude.{◌&&◌, ◌||◌}
 use Rattle.cells.specs.declared.Place.{Place}
 use Rattle.cells.specs.declared.Place.TheVariants.{At, Exit as EndPlace}
@@ -22,9 +22,11 @@ use Rattle.sym_runs.specs.Runs86.{GoesOnAt}
 use Rattle.sym_runs.specs.Linked.{IsFirstOf, places}
 use Rattle.sym_values.specs.Replayed.{MemoryStands}
 use Rattle.dialogue.proofs.Tried.{then_is, ok_is}
+use Rattle.cpu80_steps.proofs.Passing.{place_if_is}
 use Rattle.sym_sound80.proofs.Answering.{read_word_is}
-use Rattle.sym_sound80.proofs.Leaving.{place_is, place_if_is}
+use Rattle.sym_sound80.proofs.Leaving.{place_is}
 use Rattle.sym_sound86.proofs.Words.{back_on, eq_true, lt_true, lt_false, at_least, spoiled_past, pushed_back, call_keeps}
+use Rattle.sym_sound86.proofs.Denoting.{word_put}
 use Rattle.sym_linking.specs.Cuts.{IsCut}
 use Rattle.sym_linking.proofs.Exits.{ComesBack}
 use Rattle.sym_linking.proofs.Writes.{AreWithin, blocks_past86}
@@ -39,9 +41,6 @@ byte_put m n b a h lt = by_place (a == n)
     by_place : (c : Bool) → cond c b (m a) < 256
     by_place true = lt
     by_place false = h
-
-pub word_put : (m : ℕ → ℕ) (n w : ℕ) → ((a : ℕ) → m a < 256) → w < 0x10000 → (a : ℕ) → put_word m n w a < 256
-word_put m n w h lt a = byte_put (put m n (w % 256)) (wrap (n + 1)) (w / 256) a (byte_put m n (w % 256) a (h a) (omega arith)) (omega (arith, lt))
 
 chosen : (c k : ℕ) → byte_of c k < 256
 chosen c k = omega arith

@@ -1,7 +1,7 @@
 -- What a reply writes, on both machines: blocks within memory, at cells that the call may write.
 use Rattle.std.proofs.Common.{◌≡◌, ◌≢◌, ℕ, zero, suc, ◌+◌, ◌≤◌, ◌<◌, ◌==◌, Bool, true, false, cond, List, [], ◌∷◌, length, Option, refl, sym, ap, subst, ◌∙◌, arith}
-use Rattle.std.specs.Prelude.{All, nat_le, nat_lt}
-use Rattle.std.proofs.lemmas.Bool.{and_parts, leb-true, eqb-true, ltb-true}
+use Rattle.std.specs.Prelude.{All, nat_le}
+use Rattle.std.proofs.lemmas.Bool.{and_parts, leb-true, eqb-true}
 use Rattle.std.proofs.lemmas.List.Elements.{All-head, All-tail}
 use Rattle.cells.specs.declared.Place.{Place}
 use Rattle.cells.specs.declared.Cell.{Cell}
@@ -10,6 +10,7 @@ use Rattle.dialogue.specs.declared.blocks.Block.{Block}
 use Rattle.dialogue.specs.declared.request.Range.{Range}
 use Rattle.dialogue.specs.Shape.{all_cells, is_within}
 use Rattle.dialogue.specs.Fits.{fills, writes_fit, line_bytes_fit, line_fits}
+use Rattle.dialogue.proofs.Lines.{line_short}
 use Rattle.asm80_program.specs.Program.{Program}
 use Rattle.cpu80_steps.specs.Memory.{put as put80}
 use Rattle.cpu80_steps.specs.Call.{put_bytes as put_bytes80, put_blocks as put_blocks80}
@@ -62,14 +63,6 @@ writes_are passes (r ∷ rs) (b ∷ bs) all h =
         let same = eqb-true (length b.bytes) r.len p.1 in
         in_range passes r b bs (All-head (λ r. is_within passes r ≡ true) r rs all) (eqb-true b.at r.at p.0) (omega (arith, same)) (next g)
     by_fill false e g next again = again g
-
-line_short : (room : ℕ) (bytes : List ℕ) → line_bytes_fit room bytes ≡ true → length bytes ≤ room
-line_short room [] h = absurd (cc)
-line_short room (k ∷ bytes) h =
-    let p = and_parts (nat_lt k room) (length bytes == k) h in
-    let lt = ltb-true k room p.0 in
-    let same = eqb-true (length bytes) k p.1 in
-    omega (arith, lt, same)
 
 line_is : (passes : ℕ → Bool) (rs : List Range) (bs : List Block) → All (λ r. is_within passes r ≡ true) rs → line_fits rs bs ≡ true → AreWithin passes bs
 line_is passes [] bs all h = absurd (cc)

@@ -1,5 +1,5 @@
 -- Linked runs at a block that the text matches: both machines by their laws, and what their terms stand for.
-use Rattle.std.proofs.Common.{◌≡◌, ℕ, ◌/◌, ◌%◌, Bool, true, false, ◌||◌, List, [], Option, Some, sym, ◌∙◌, subst, arith, ◌⊎◌, inl, inr}
+use Rattle.std.proofs.Common.{◌≡◌, ℕ, ◌/◌, ◌%◌, Bool, true, false, ◌||◌, List, [], Option, Some, sym, ◌∙◌, subst, ◌⊎◌, inl, inr}
 use Rattle.std.specs.Prelude.{Ok, IfOk}
 use Rattle.cells.specs.declared.Cell.TheVariants.{Num}
 use Rattle.cells.specs.declared.Part.{Part}
@@ -27,13 +27,10 @@ use Rattle.sym_runs.specs.Linked.{StandsIn, places}
 use Rattle.sym_values.specs.Linked.{WordStands, EnvsStand, AgreeingTermsStand}
 use Rattle.sym_values.specs.Replayed.{ReplayedStand, AgreeingActionsStand}
 use Rattle.sym_values.specs.Environments.{HasEnvs, LinkedRunsHaveEnvs}
+use Rattle.sym_values.proofs.Same.{word_is}
 use Rattle.sym_matching.specs.Matching.{BlocksStand, MatchingBlocksStand}
 use Rattle.sym_matching.proofs.Reasons.{Matches, walk_matches, kept_agrees, none_lost}
 use Rattle.sym_matching.proofs.Ways.{ways_meet, way_sorted, kept_way, goes_on}
-
--- a number is known by its halves
-halves_same : (m n : ℕ) → n / 256 ≡ m / 256 → n % 256 ≡ m % 256 → n ≡ m
-halves_same m n h l = omega (arith, h, l)
 
 or_false : (a b : Bool) → a ≡ false → (a || b) ≡ true → b ≡ true
 or_false a b e h = subst (λ z. (z || b) ≡ true) e h
@@ -82,7 +79,7 @@ module _ (sorts : StepsKeepSorts) (law80 : BlocksRun80) (law86 : WalksRun86) (te
         let a = or_false (is_end x.exit) (agrees x.sp o.sp) (goes_on e x.exit r.way r.takes g) m.sp in
         let z : WordStands (places (offsets_of lines)) (Num (r.ended.sp / 256)) (Num (r.ended.sp % 256)) w.ended.sp =
         terms.word (places (offsets_of lines)) e d x.sp o.sp (Num (r.ended.sp / 256)) (Num (r.ended.sp % 256)) w.ended.sp envs sorted.sp a r.sp w.sp w.is_state.sp in
-        halves_same r.ended.sp w.ended.sp z.0 z.1
+        word_is r.ended.sp w.ended.sp z.0 z.1
 
     pub stand : walk86 p (statements lines) (keeps.at first) first count ≡ Ok o → t.ss ≡ t.ds → t.dma ≡ s.dma → BlocksStand p lines fetch choices used keeps first count s t
     stand walked segments dma = record {

@@ -7,6 +7,7 @@ use Rattle.cells.specs.declared.Part.{Part}
 use Rattle.cells.specs.declared.Part.TheVariants.{A, B, C, D, E, H, L, S, Z, Ac, P, Cy}
 use Rattle.cells.specs.Parts.{Parts, has, union}
 use Rattle.cells.proofs.Options.{if_none}
+use Rattle.cells.proofs.Unions.{has_union}
 use Rattle.sym_blocks.specs.declared.reason.Reason.{Reason}
 use Rattle.sym_blocks.specs.declared.reason.Reason.TheVariants.{Actions, Exits, KeptSp}
 use Rattle.sym_blocks.specs.Outcome.{Outcome, part_of}
@@ -96,20 +97,6 @@ pub none_lost : (k : Keeps) (x y : Outcome) (q : Part) → is_bad k x y q ≡ fa
 none_lost k x y q e h = lost_if y.direct (has (lost_by k x.exit) q) (or_parts (y.direct && has (lost_by k x.exit) q) _ e).0 h
 
 -- the parts of two sets
-
-has_union : (a b : Parts) (q : Part) → has (union a b) q ≡ (has a q || has b q)
-has_union a b A = refl
-has_union a b B = refl
-has_union a b C = refl
-has_union a b D = refl
-has_union a b E = refl
-has_union a b H = refl
-has_union a b L = refl
-has_union a b S = refl
-has_union a b Z = refl
-has_union a b Ac = refl
-has_union a b P = refl
-has_union a b Cy = refl
 
 pub in_first : (a b : Parts) (q : Part) → has a q ≡ true → has (union a b) q ≡ true
 in_first a b q h = has_union a b q ∙ ap (λ z. z || has b q) h

@@ -4,6 +4,7 @@ use Rattle.xlt_pool.specs.Contents.{Contents}
 use Rattle.sym_terms.specs.declared.head.Term.{Term as TermId}
 use Rattle.sym_terms.specs.Term.{Term}
 use Rattle.sym_terms.specs.Trees.{StandsFor, Grows, Makes, AreTerms}
+use Rattle.sym_terms.proofs.Interning.{still, more, then_grows}
 use Rattle.sym_blocks.specs.Outcome.{Way, ByTerms, Exit, One, Two, Outcome}
 use Rattle.sym_micro.specs.declared.outcome.Way.{Way as WayIds}
 use Rattle.sym_micro.specs.declared.outcome.Way.TheVariants.{Goto as GotoIds, ByTerms as ByTermsIds, Call as CallIds, Sys as SysIds, SysReturn as SysReturnIds, Boot as BootIds, Leave as LeaveIds, In as InIds, Out as OutIds}
@@ -13,7 +14,7 @@ use Rattle.sym_micro.specs.declared.run.Run.{Run}
 use Rattle.sym_micro.specs.Machine.{Machine}
 use Rattle.sym_micro.specs.Stands.{machine_of, Runs}
 use Rattle.sym_micro.specs.Exits.{WayIs, FindsWay, FindsExit, RunsTo}
-use Rattle.sym_micro.proofs.Ready.{still, more, then_grows, run_given, same_machine}
+use Rattle.sym_micro.proofs.Ready.{run_given, same_machine}
 
 -- where a node is missing, so is the way
 pub no_way : (old mid new : Contents) (j : ℕ) (tree : Term) (way : Way) → Grows old mid j → j + 1 ≤ 3 → Makes mid new 1 tree None → FindsWay old new 3 way None

@@ -1,11 +1,12 @@
 -- A run that goes on: its ids stand for what they stood for, and a register more has an id.
-use Rattle.std.proofs.Common.{◌≡◌, ℕ, suc, ◌+◌, ◌≤◌, ◌<◌, List, [], ◌∷◌, ◌++◌, length, Option, Some, None, refl, sym, ap, ap₂, subst, ◌∙◌, arith, append-nil, append_assoc, length-append}
+use Rattle.std.proofs.Common.{◌≡◌, ℕ, suc, ◌+◌, ◌≤◌, ◌<◌, List, [], ◌∷◌, ◌++◌, length, Option, Some, None, refl, sym, ap, ap₂, subst, ◌∙◌, arith, length-append}
 use Rattle.std.specs.Vec.{vec_capacity}
 use Rattle.xlt_pool.specs.Contents.{Contents}
 use Rattle.sym_terms.specs.declared.head.Term.{Term as TermId}
 use Rattle.sym_terms.specs.Term.{Term, is_bit, is_byte, is_word}
 use Rattle.sym_terms.specs.Laws.{IsMadeAs}
 use Rattle.sym_terms.specs.Trees.{tree_in, IsGiven, AreTerms, Grows, Makes}
+use Rattle.sym_terms.proofs.Interning.{still, more, then_grows}
 use Rattle.sym_blocks.specs.Outcome.{Action}
 use Rattle.sym_micro.specs.declared.outcome.Action.{Action as ActionId}
 use Rattle.sym_micro.specs.declared.outcome.Action.TheVariants.{Load8 as Load8Id, Load16 as Load16Id, Store8 as Store8Id, Store16 as Store16Id}
@@ -20,41 +21,6 @@ use Rattle.sym_micro.specs.declared.micro.WordSlot.TheVariants.{V, W, X}
 use Rattle.sym_micro.specs.Machine.{Machine, byte_in, with_byte, word_in, with_word, with_flag}
 use Rattle.sym_micro.specs.Stands.{id_of_byte, run_with_byte, run_with_word, run_with_flag, trees_of_held, tree_of_action, trees_of_actions, machine_of, HeldIsGiven, ActionIsGiven, ActionsAreGiven, RunIsGiven, IsResult, IsTurned, IsSorted, IsReady, GoesOn, Gives, Runs}
 use Rattle.sym_micro.proofs.Sorted.{with_byte_sorted, with_word_sorted, with_flag_sorted, with_result_sorted, with_turned_sorted}
-
--- growth
-
-pub still : (pool : Contents) → Grows pool pool 0
-still pool = record {
-  added = [];
-  nodes = sym (append-nil pool.nodes);
-  few = omega arith;
-  spare = omega arith;
-  kept = λ t h. (h, refl);
-}
-
-pub more : (old new : Contents) (j k : ℕ) → j ≤ k → Grows old new j → Grows old new k
-more old new j k h g = record {
-  added = g.added;
-  nodes = g.nodes;
-  few = let few : length g.added ≤ j = g.few in omega arith;
-  spare = g.spare;
-  kept = g.kept;
-}
-
-pub then_grows : (old mid new : Contents) (j k : ℕ) → Grows old mid j → Grows mid new k → Grows old new (j + k)
-then_grows old mid new j k g h = record {
-  added = g.added ++ h.added;
-  nodes = h.nodes ∙ ap (λ l. l ++ h.added) g.nodes ∙ append_assoc old.nodes g.added h.added;
-  few =
-      let first : length g.added ≤ j = g.few in
-      let second : length h.added ≤ k = h.few in
-      omega (arith, length-append g.added h.added);
-  spare =
-      let first : mid.spare + length g.added ≡ old.spare = g.spare in
-      let second : new.spare + length h.added ≡ mid.spare = h.spare in
-      omega (arith, length-append g.added h.added);
-  kept = λ t p. let a = g.kept t p in let b = h.kept t a.0 in (b.0, b.1 ∙ a.1);
-}
 
 module _ (old new : Contents) (n : ℕ) (g : Grows old new n) where
   given_still : (t : TermId) → IsGiven old t → IsGiven new t

@@ -1,5 +1,5 @@
 -- Micro-operations keep the terms of the registers made and of their sorts.
-use Rattle.std.proofs.Common.{◌≡◌, ℕ, ◌<◌, ◌||◌, ◌&&◌, Bool, true, false, cond, refl, ap, arith, lit<}
+use Rattle.std.proofs.Common.{◌≡◌, ℕ, ◌<◌, ◌||◌, ◌&&◌, Bool, true, false, cond, refl, ap, lit<}
 use Rattle.std.proofs.lemmas.Bool.{lt-ltb}
 use Rattle.cells.specs.declared.Part.{Part}
 use Rattle.cells.specs.declared.Part.TheVariants.{Cy as PartCy}
@@ -10,6 +10,7 @@ use Rattle.i86.specs.declared.Rotate.TheVariants.{Rol, Ror, Rcl, Rcr}
 use Rattle.sym_terms.specs.Term.{Term, Num, Start, Alu, Turn, Turned, Adjust, Unknown, is_flag, is_bit, is_byte, is_word, is_open, leaves_flag}
 use Rattle.sym_terms.specs.Making.{alu, half_of, high, low, turn, turn_or_turned, adjust}
 use Rattle.sym_terms.specs.Laws.{IsMadeAs, MadeTermsHaveSorts}
+use Rattle.sym_terms.proofs.Sorts.{byte_sorted as byte_number_sorted, leaves_open}
 use Rattle.sym_blocks.specs.Outcome.{Held}
 use Rattle.sym_blocks.specs.Block80.{operation, carry_in, flag_byte}
 use Rattle.sym_blocks.specs.Symbolic86.{turn_kind, turn_carry, brought_back}
@@ -39,9 +40,6 @@ one_bit = (lit< tt, refl)
 
 one_byte : IsMadeAs is_byte (Num 1)
 one_byte = (lit< tt, refl)
-
-pub byte_number_sorted : (n : ℕ) → n < 0x100 → IsMadeAs is_byte (Num n)
-byte_number_sorted n h = (omega arith, lt-ltb n 256 h)
 
 -- registers
 
@@ -100,14 +98,6 @@ with_turned_sorted m q h p = record { held = h.held; ah = h.ah; si = h.si; sp = 
 
 -- results
 
-alu_leaves : (x : Bool) (op : Op) (a b c : Term) (part : Part) → is_flag part ≡ true → leaves_flag part (cond x Unknown (Alu op a b c)) ≡ true
-alu_leaves true op a b c part h = h
-alu_leaves false op a b c part h = h
-
-adjust_leaves : (x : Bool) (a ac cy : Term) (part : Part) → is_flag part ≡ true → leaves_flag part (cond x Unknown (Adjust a ac cy)) ≡ true
-adjust_leaves true a ac cy part h = h
-adjust_leaves false a ac cy part h = h
-
 turn_leaves : (x : Bool) (kind : ℕ) (a c : Term) → leaves_flag PartCy (cond x Unknown (Turn kind a c)) ≡ true
 turn_leaves true kind a c = refl
 turn_leaves false kind a c = refl
@@ -163,10 +153,10 @@ module _ (k : MadeTermsHaveSorts) where
   pub operated_sorted : (op : Op) (a b cy : Term) → IsMadeAs is_byte a → IsMadeAs is_byte b → IsMadeAs is_bit cy → IsResult (alu (operation op) a b (carry_in op cy))
   operated_sorted op a b cy p q r =
       let c = carry_in op cy in
-      record { byte = k.alu (operation op) a b c p q (carry_in_sorted op cy r); leaves = alu_leaves (is_open a || (is_open b || is_open c)) (operation op) a b c }
+      record { byte = k.alu (operation op) a b c p q (carry_in_sorted op cy r); leaves = λ part h. leaves_open (is_open a || (is_open b || is_open c)) (Alu (operation op) a b c) part h refl }
 
   pub adjusted_sorted : (a ac cy : Term) → IsMadeAs is_byte a → IsMadeAs is_bit ac → IsMadeAs is_bit cy → IsResult (adjust a ac cy)
-  adjusted_sorted a ac cy p q r = record { byte = k.adjust a ac cy p q r; leaves = adjust_leaves (is_open a || (is_open ac || is_open cy)) a ac cy }
+  adjusted_sorted a ac cy p q r = record { byte = k.adjust a ac cy p q r; leaves = λ part h. leaves_open (is_open a || (is_open ac || is_open cy)) (Adjust a ac cy) part h refl }
 
   pub turned_sorted : (kind : Rotate) (a cy : Term) → IsMadeAs is_byte a → IsMadeAs is_bit cy → IsTurned (turn (turn_kind kind) a (turn_carry kind cy))
   turned_sorted kind a cy p q =

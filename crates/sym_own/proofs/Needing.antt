@@ -8,6 +8,7 @@ use Rattle.cells.specs.declared.Part.{Part}
 use Rattle.cells.specs.declared.Part.TheVariants.{A, B, L}
 use Rattle.cells.specs.declared.Place.TheVariants.{At as AtPlace}
 use Rattle.cells.specs.Parts.{Parts, nothing, has, only, union}
+use Rattle.cells.proofs.Unions.{has_union}
 use Rattle.i80.specs.declared.Goal.TheVariants.{At as ToInstr, Boot as ToBoot, Bdos as ToBdos}
 use Rattle.i80.specs.declared.Instr80.{Instr80}
 use Rattle.i80.specs.declared.Instr80.TheVariants.{Pchl, Jmp, Jif, Call as CallTo, Cif, Ret, Rif, Rst0, In as InFrom, Out as OutTo}
@@ -25,7 +26,7 @@ use Rattle.sym_blocks.specs.Block80.{Symbolic80, goto, call, return_by, asking, 
 use Rattle.sym_blocks.specs.BlockMatch.{without_a, with_a, kept_by, kept_by_exit, lost_by}
 use Rattle.sym_texts.specs.Needed.{needed_by}
 use Rattle.sym_rows.specs.Meeting.{Among}
-use Rattle.sym_rows.proofs.Moves.{has_nothing, has_union}
+use Rattle.sym_rows.proofs.Moves.{has_nothing}
 use Rattle.sym_rows.proofs.Row.{in_second}
 use Rattle.sym_own.proofs.Runs.{IsOf, instr_is}
 

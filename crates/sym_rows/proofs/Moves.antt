@@ -4,6 +4,7 @@ use Rattle.std.proofs.lemmas.Bool.{and_from, and_parts, or_cases}
 use Rattle.cells.specs.declared.Part.{Part}
 use Rattle.cells.specs.declared.Part.TheVariants.{A, B, C, D, E, H, L, S, Z, Ac, P, Cy}
 use Rattle.cells.specs.Parts.{Parts, nothing, has, only, union}
+use Rattle.cells.proofs.Unions.{has_union}
 use Rattle.i80.specs.declared.Reg.{Reg as Register}
 use Rattle.i80.specs.declared.Reg.TheVariants.{A as RegA, B as RegB, C as RegC, D as RegD, E as RegE, H as RegH, L as RegL}
 use Rattle.i80.specs.declared.Pair.{Pair}
@@ -34,10 +35,6 @@ old (inr c) e = absurd (cc)
 pub has_nothing : (q : Part) → has nothing q ≡ false
 has_nothing A = refl
 has_nothing q = refl
-
-pub has_union : (a b : Parts) (q : Part) → has (union a b) q ≡ (has a q || has b q)
-has_union a b A = refl
-has_union a b q = refl
 
 -- fewer parts
 pub agree_on : {Kept Fewer : Part → Type 0} (s : Symbolic80) (t : Symbolic86) → ((q : Part) → Fewer q → Kept q) → Agree Kept s t → Agree Fewer s t

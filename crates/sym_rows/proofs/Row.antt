@@ -4,6 +4,7 @@ use Rattle.std.proofs.lemmas.Bool.{or_right}
 use Rattle.cells.specs.declared.Part.{Part}
 use Rattle.cells.specs.declared.Part.TheVariants.{H, L}
 use Rattle.cells.specs.Parts.{Parts, has, only, union}
+use Rattle.cells.proofs.Unions.{has_union}
 use Rattle.i80.specs.declared.Reg.{Reg as Register}
 use Rattle.i80.specs.declared.Reg.TheVariants.{A as RegA}
 use Rattle.i80.specs.declared.Pair.TheVariants.{H as PairH}
@@ -19,7 +20,7 @@ use Rattle.sym_rows.specs.Meeting.{Among, Agree}
 use Rattle.sym_rows.specs.Rows.{all_passed}
 use Rattle.sym_rows.proofs.Terms.{or_first}
 use Rattle.sym_rows.proofs.Words.{words_agree}
-use Rattle.sym_rows.proofs.Moves.{Adding, has_union, pair_meets}
+use Rattle.sym_rows.proofs.Moves.{Adding, pair_meets}
 
 -- an instruction uses parts that are agreed on
 abbrev pub Given : Parts → Instr80 → Type 0

@@ -1,14 +1,15 @@
 -- A block as far as it has come: what the instructions that are left do, is what the block does.
-use Rattle.std.proofs.Common.{◌≡◌, ◌∙◌, ℕ, zero, suc, ◌+◌, ◌-◌, ◌≤◌, false, List, [], ◌∷◌, length, Option, Some, None, IsSome, refl, sym, ap, subst, arith}
+use Rattle.std.proofs.Common.{◌≡◌, ◌∙◌, ℕ, zero, suc, ◌+◌, ◌-◌, ◌≤◌, false, List, [], ◌∷◌, length, Option, Some, IsSome, refl, sym, ap, subst, arith}
 use Rattle.i80.specs.declared.Instr80.{Instr80}
 use Rattle.i80.specs.Columns.{length80}
 use Rattle.asm80_program.specs.Program.{Program, instr_at}
 use Rattle.xlt_pool.specs.Contents.{Contents}
-use Rattle.sym_blocks.specs.Block80.{Symbolic80, start80, effect80, exit80, outcome80, outcome_from, before_more, instrs_from, IsBlock, block80}
+use Rattle.sym_blocks.specs.Block80.{Symbolic80, start80, effect80, exit80, outcome80, outcome_from, instrs_from, IsBlock, block80}
 use Rattle.sym_micro.specs.declared.run.Run.{Run}
 use Rattle.sym_micro.specs.declared.outcome.Exit.{Exit as ExitIds}
 use Rattle.cells.specs.Parts.{Parts, everything}
 use Rattle.sym_blocks.specs.Symbolic86.{Symbolic86, start86}
+use Rattle.sym_blocks.proofs.Instructions.{some_there, first_is, shorter}
 use Rattle.sym_micro.specs.Machine.{Machine, as80, as86}
 use Rattle.sym_micro.specs.Stands.{machine_of, Runs}
 use Rattle.sym_micro.specs.Exits.{FindsExit, RunsTo}
@@ -22,11 +23,6 @@ pub all_left : (p : Program) (first count : ℕ) (s : Symbolic80) → IsBlock p 
 all_left p first count s b e = record { rest = ap (outcome_from p first (instrs_from p first count)) e; whole = b.whole }
 
 -- an instruction is there where one is left
-
-some_there : (o : Option Instr80) (more : Instr80 → List Instr80) (n : ℕ) → length (before_more o (λ i. i ∷ more i)) ≡ suc n → IsSome o
-some_there None more n h = absurd (cc)
-some_there (Some i) more n h = refl
-
 pub is_there : (p : Program) (first count at left : ℕ) (s : Symbolic80) → Left p first count at left s → 1 ≤ left → IsSome (instr_at p at)
 is_there p first count at zero s d le = absurd (omega arith)
 is_there p first count at (suc n) s d le = some_there (instr_at p at) (λ i. instrs_from p (at + length80 i) n) n d.whole
@@ -34,12 +30,6 @@ is_there p first count at (suc n) s d le = some_there (instr_at p at) (λ i. ins
 outcome_more : (p : Program) (at n : ℕ) (i : Instr80) (xs : List Instr80) (s : Symbolic80) → length xs ≡ suc n → outcome_from p at (i ∷ xs) s ≡ outcome_from p (at + length80 i) xs (effect80 s i)
 outcome_more p at n i [] s h = absurd (cc)
 outcome_more p at n i (j ∷ ys) s h = refl
-
-first_is : (p : Program) (at n : ℕ) (i : Instr80) → instr_at p at ≡ Some i → instrs_from p at (suc n) ≡ i ∷ instrs_from p (at + length80 i) n
-first_is p at n i h = ap (λ o. before_more o (λ j. j ∷ instrs_from p (at + length80 j) n)) h
-
-shorter : (i : Instr80) (xs : List Instr80) (n : ℕ) → length (i ∷ xs) ≡ suc n → length xs ≡ n
-shorter i xs n h = omega (arith, h)
 
 -- an instruction that is not the last
 pub goes_on : (p : Program) (first count at left : ℕ) (s : Symbolic80) (i : Instr80) → Left p first count at left s → 2 ≤ left → instr_at p at ≡ Some i → Left p first count (at + length80 i) (left - 1) (effect80 s i)

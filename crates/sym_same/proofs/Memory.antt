@@ -24,6 +24,7 @@ use Rattle.cpu86_steps.specs.State.{wrap, put, put_word, back}
 use Rattle.cpu86_steps.specs.Start.{start_byte, put_cells}
 use Rattle.sym_blocks.specs.Stands.{Stands}
 use Rattle.sym_sound86.proofs.Words.{eq_false, put_word_past, put_word_low, put_word_high}
+use Rattle.sym_sound86.proofs.Denoting.{word_put}
 use Rattle.sym_texts.specs.Matches.{or_else, byte_at, DataAreCoded}
 
 -- the cells of a text: from 100H up, and bytes
@@ -159,11 +160,8 @@ module _ (p : Program) (low : 0x1000 ≤ p.top) (high : p.top ≤ 0xFF00) (offse
   abbrev pub opened : ℕ → ℕ
   opened = put_word (put_word start 6 p.top) (back p.top 2) last
 
-  word_bytes : (m : ℕ → ℕ) (n w : ℕ) → ((a : ℕ) → m a < 256) → w < 0x10000 → (a : ℕ) → put_word m n w a < 256
-  word_bytes m n w h lt a = Rattle.sym_linking.proofs.System.word_put m n w h lt a
-
   pub opened_bytes : (a : ℕ) → opened a < 256
-  opened_bytes = word_bytes (put_word start 6 p.top) (back p.top 2) last (word_bytes start 6 p.top (cells_bytes (start_byte fill page) cells are bytes) (omega (arith, high))) last_small
+  opened_bytes = word_put (put_word start 6 p.top) (back p.top 2) last (word_put start 6 p.top (cells_bytes (start_byte fill page) cells are bytes) (omega (arith, high))) last_small
 
   module _ (a : ℕ) (fits : a < 0x10000) where
     abbrev S : Cell → Type 0

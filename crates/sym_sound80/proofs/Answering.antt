@@ -1,5 +1,5 @@
 -- What a step of the tagged 8080 has done where it is not refused.
-use Rattle.std.proofs.Common.{◌≡◌, ℕ, ◌+◌, ◌*◌, ◌/◌, ◌%◌, ◌<◌, ◌==◌, Bool, true, false, Ok, refl, ap, subst, ◌∙◌, arith}
+use Rattle.std.proofs.Common.{◌≡◌, ℕ, ◌+◌, ◌*◌, ◌/◌, ◌%◌, ◌<◌, ◌==◌, false, Ok, ap, subst, ◌∙◌, arith}
 use Rattle.cells.specs.declared.Cell.{Cell}
 use Rattle.cells.specs.declared.Cell.TheVariants.{Num, Lo, Hi, Psw, Junk}
 use Rattle.cells.specs.declared.Rule.{Rule}
@@ -8,12 +8,9 @@ use Rattle.dialogue.proofs.Tried.{ok_is, err_is_not, then_is}
 use Rattle.asm80_program.specs.Program.{Program}
 use Rattle.cpu80_steps.specs.State.{State80, num_or}
 use Rattle.cpu80_steps.specs.Memory.{is_closed, is_write_protected, unless_then, put, address, word_fits, read_at, may_write, write_at, Halves, read_word, write_word}
+use Rattle.cpu80_steps.proofs.Passing.{unless_is, within}
 use Rattle.sym_terms.specs.Values80.{Word, word_of}
 use Rattle.sym_runs.specs.States.{IsCell}
-
-pub unless_is : (b : Bool) (r : Rule) (x : Bool) → unless_then b r ≡ Ok x → b ≡ false
-unless_is true r x e = absurd (err_is_not r x e)
-unless_is false r x e = refl
 
 -- a cell that is taken as a number is one
 pub number_is : (r : Rule) (c : Cell) (n : ℕ) → num_or r c ≡ Ok n → c ≡ Num n
@@ -47,10 +44,6 @@ pub write_is : (p : Program) (s t : State80) (n : ℕ) (c : Cell) → write_at p
 write_is p s t n c e =
     let w = then_is (may_write p n) _ t e in
     (unless_is (is_write_protected p n) P3 w.0 w.1, ok_is _ t w.2)
-
--- a word does not begin at the last cell
-within : (n : ℕ) → n < 0x10000 → (n == 0xFFFF) ≡ false → n + 1 < 0x10000
-within n lt e = grind (arith, lt, e)
 
 pub read_word_is : (p : Program) (s : State80) (n : ℕ) (w : Halves) → n < 0x10000 → read_word p s n ≡ Ok w → (n + 1 < 0x10000) × (is_closed p n ≡ false) × (is_closed p (n + 1) ≡ false) × (s.mem (n + 1) ≡ w.high) × (s.mem n ≡ w.low)
 read_word_is p s n w lt e =

@@ -1,8 +1,6 @@
 -- Operations on bytes: the number and the flags that the tagged 8080 has are values of the terms.
-use Rattle.std.proofs.Common.{◌≡◌, ℕ, ◌<◌, Bool, true, false, cond, List, Option, Some, None, Result, Ok, refl, sym, ap, subst, ◌∙◌, arith}
+use Rattle.std.proofs.Common.{◌≡◌, ℕ, ◌<◌, Bool, true, false, List, Option, Some, None, Result, Ok, refl, sym, ap, subst, ◌∙◌, arith}
 use Rattle.std.specs.Prelude.{◌||◌}
-use Rattle.std.proofs.lemmas.Bool.{lt-ltb}
-use Rattle.std.proofs.lemmas.Nat.{and_le_l, or_of_8, xor_of_8}
 use Rattle.cells.specs.declared.Flags.{Flags}
 use Rattle.cells.specs.declared.Cell.{Cell}
 use Rattle.cells.specs.declared.Cell.TheVariants.{Num as NumCell}
@@ -16,13 +14,15 @@ use Rattle.i80.specs.declared.Op.{Op}
 use Rattle.i80.specs.declared.Op.TheVariants.{Add, Adc, Sub, Sbb, Ana, Xra, Ora, Cmp}
 use Rattle.base_arithmetic.specs.Arithmetic.{as_bit, daa_result, daa_carry, daa_excepted}
 use Rattle.base_arithmetic.specs.Operations.{flags_by, result_of, flags_of}
+use Rattle.base_arithmetic.proofs.Bytes.{result_small}
 use Rattle.asm80_program.specs.Program.{Program}
 use Rattle.cpu80_steps.specs.State.{State80, reg80, with_a, with_flags, num_or}
 use Rattle.cpu80_steps.specs.Effect.{known, carry_for, a_after as a_after80, alu_with}
-use Rattle.sym_terms.specs.Term.{Term, Num, Alu, Adjust, Unknown, is_byte, is_bit, is_flag, leaves_flag, is_open}
+use Rattle.sym_terms.specs.Term.{Term, Num, Alu, Adjust, is_byte, is_bit, is_flag, leaves_flag, is_open}
 use Rattle.sym_terms.specs.Making.{alu, flag, adjust}
 use Rattle.sym_terms.specs.Values80.{Env80, Load80, Byte, OneBit, Result as ResultOf, Val80, flag_in}
 use Rattle.sym_terms.specs.Laws.{IsMadeAs, MadeTermsKeepValues, MadeTermsHaveSorts}
+use Rattle.sym_terms.proofs.Sorts.{leaves_open}
 use Rattle.sym_blocks.specs.Outcome.{Held, with_flags_of, with_count_flags_of}
 use Rattle.sym_blocks.specs.Block80.{Symbolic80, reg_term, with_held, operation, carry_in, a_after, operated}
 use Rattle.sym_blocks.specs.Sorts.{HeldIsSorted}
@@ -32,17 +32,6 @@ use Rattle.sym_sound80.proofs.Denoting.{Denotes}
 use Rattle.sym_sound80.proofs.Holding.{sets_parts, sets_reg}
 use Rattle.dialogue.proofs.Tried.{ok_is, err_is_not, then_is}
 use Rattle.sym_sound80.proofs.Answering.{number_is}
-
--- results are bytes
-pub result_small : (op : Op) (x y c : ℕ) → x < 256 → y < 256 → result_of op x y c < 256
-result_small Add x y c hx hy = omega arith
-result_small Adc x y c hx hy = omega arith
-result_small Sub x y c hx hy = omega arith
-result_small Sbb x y c hx hy = omega arith
-result_small Ana x y c hx hy = omega (arith, and_le_l x y, hx)
-result_small Xra x y c hx hy = xor_of_8 x y hx hy
-result_small Ora x y c hx hy = or_of_8 x y hx hy
-result_small Cmp x y c hx hy = omega arith
 
 -- CMP subtracts
 same_result : (op : Op) (x y c : ℕ) → result_of (operation op) x y c ≡ result_of op x y c
@@ -79,9 +68,6 @@ zero_bit e = (false, refl, refl)
 
 pub one_bit : (e : Env80) → Val80 e (Num 1) (OneBit (Some true))
 one_bit e = (true, refl, refl)
-
-pub byte_sorted : (n : ℕ) → n < 256 → IsMadeAs is_byte (Num n)
-byte_sorted n lt = (omega (arith, lt), lt-ltb n 256 lt)
 
 -- the carry that an operation takes
 record Carries (e : Env80) (op : Op) (cy : Term) (c : ℕ) : Type 0 where
@@ -121,11 +107,6 @@ pub record Gives (e : Env80) (r : Term) (n : ℕ) (f : Flags) : Type 0 where
   pub result : Val80 e r (ResultOf n f)
   pub byte : Val80 e r (Byte (NumCell n))
   pub sorted : (part : Part) → is_flag part ≡ true → IsMadeAs (leaves_flag part) r
-
--- what is Unknown where something is open leaves flags all the same
-leaves_open : (b : Bool) (r : Term) (part : Part) → is_flag part ≡ true → leaves_flag part r ≡ is_flag part → leaves_flag part (cond b Unknown r) ≡ true
-leaves_open true r part h e = h
-leaves_open false r part h e = e ∙ h
 
 module _ (keep : MadeTermsKeepValues) (sorts : MadeTermsHaveSorts) where
   pub alu_gives : (e : Env80) (op : Op) (a b c : Term) (x y : ℕ) (k : Bool) → IsMadeAs is_byte a → IsMadeAs is_byte b → IsMadeAs is_bit c → Val80 e a (Byte (NumCell x)) → Val80 e b (Byte (NumCell y)) → Val80 e c (OneBit (Some k)) → Gives e (alu op a b c) (result_of op x y (as_bit k)) (flags_of op x y (as_bit k))

@@ -25,8 +25,9 @@ use Rattle.cpu80_steps.specs.Effect.{push}
 use Rattle.cells.specs.Conditions.{is_clear, holds}
 use Rattle.cells.specs.Places.{same_place}
 use Rattle.cells.proofs.SamePlace.{same_place_is}
-use Rattle.cpu80_steps.specs.Call.{Return, place_if, is_place, place_in, popped_return, return_after}
+use Rattle.cpu80_steps.specs.Call.{Return, is_place, place_in, popped_return, return_after}
 use Rattle.cpu80_steps.specs.Step.{go_to, leave_to, go_by, go_back, jump as jump80, enter, call as call80, where_holds as where_holds80, ask_event, ask_port, sent, return_at}
+use Rattle.cpu80_steps.proofs.Passing.{place_if_is}
 use Rattle.sym_terms.specs.Term.{High, Low, Loaded16, same_bool}
 use Rattle.sym_terms.specs.Values80.{Env80, Load80, Byte, OneBit, Val80}
 use Rattle.sym_blocks.specs.Outcome.{Way, Goto, ByTerms, Call, Leave, In, Out, Exit, One, Held}
@@ -52,10 +53,6 @@ pub record NamesPlace (p : Program) (high low : Cell) (q : Place) : Type 0 where
   pub high_is : high ≡ Hi q
   pub low_is : low ≡ Lo q
   pub is_place : is_place p q ≡ true
-
-pub place_if_is : (b : Bool) (q r : Place) → place_if b q ≡ Ok r → (b ≡ true) × (q ≡ r)
-place_if_is true q r e = (refl, ok_is q r e)
-place_if_is false q r e = absurd (err_is_not P1 r e)
 
 pub place_is : (p : Program) (high low : Cell) (q : Place) → place_in p high low ≡ Ok q → NamesPlace p high low q
 place_is p (Hi r) (Lo o) q e =

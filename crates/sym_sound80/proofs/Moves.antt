@@ -1,6 +1,5 @@
 -- Moves, loads, stores and the stack.
 use Rattle.std.proofs.Common.{◌≡◌, ℕ, ◌+◌, ◌/◌, ◌%◌, ◌<◌, true, false, List, [], ◌∷◌, ◌++◌, Ok, refl, ap, subst, ◌∙◌, arith}
-use Rattle.std.proofs.lemmas.Bool.{lt-ltb}
 use Rattle.cells.specs.declared.Cell.{Cell}
 use Rattle.cells.specs.declared.Cell.TheVariants.{Num as NumCell, Lo, Hi, Psw as PswCell}
 use Rattle.cells.specs.declared.Place.TheVariants.{At}
@@ -23,6 +22,7 @@ use Rattle.sym_terms.specs.Term.{Term, Num, Code, is_word}
 use Rattle.sym_terms.specs.Making.{high, low, join, sum16}
 use Rattle.sym_terms.specs.Values80.{Env80, Load80, LoadedByte, LoadedWord, Byte, Word, OneBit, word_of, Val80}
 use Rattle.sym_terms.specs.Laws.{IsMadeAs, MadeTermsKeepValues, MadeTermsHaveSorts}
+use Rattle.sym_terms.proofs.Sorts.{word_sorted}
 use Rattle.sym_blocks.specs.Outcome.{Held, with_flags_in}
 use Rattle.sym_blocks.specs.Block80.{Symbolic80, reg_term, with_held, pair_term, with_pair, source, after_source, into, load8, load16, store8, store16, next_byte, next_word, lxi, lda, lhld, xchg, xthl, flag_byte, pushed, push, popped, pop}
 use Rattle.sym_blocks.specs.Sorts.{HeldIsSorted, AreSorted80}
@@ -38,9 +38,6 @@ use Rattle.sym_sound80.proofs.Computing.{sets_flags}
 pub record Denoted (p : Program) (s0 : State80) (x : Symbolic80) (s : State80) : Type 0 where
   pub loads : List Load80
   pub denotes : Denotes p s0 loads x s
-
-pub word_sorted : (n : ℕ) → n < 0x10000 → IsMadeAs is_word (Num n)
-word_sorted n lt = (lt, lt-ltb n 0x10000 lt)
 
 pub word_number : (e : Env80) (n : ℕ) → n < 0x10000 → Val80 e (Num n) (word_of n)
 word_number e n lt = (lt, refl, refl)

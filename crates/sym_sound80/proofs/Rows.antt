@@ -20,6 +20,7 @@ use Rattle.cpu80_steps.specs.Effect.{source as source80, into as into80, lda as 
 use Rattle.sym_terms.specs.Term.{Num}
 use Rattle.sym_terms.specs.Values80.{Load80, word_of, Val80}
 use Rattle.sym_terms.specs.Laws.{MadeTermsKeepValues, MadeTermsHaveSorts}
+use Rattle.sym_terms.proofs.Sorts.{byte_sorted, word_sorted}
 use Rattle.sym_blocks.specs.Block80.{Symbolic80, with_held, pair_term, source, after_source, cleared, operated, alu_by, effect80}
 use Rattle.sym_blocks.specs.Sorts.{HeldIsSorted, AreSorted80}
 use Rattle.sym_runs.specs.States.{IsHeldPlace}
@@ -28,8 +29,8 @@ use Rattle.sym_sound80.proofs.Denoting.{Denotes}
 use Rattle.sym_sound80.proofs.Holding.{pair_value, pair_address, fetches, puts}
 use Rattle.dialogue.proofs.Tried.{ok_is, then_is}
 use Rattle.sym_sound80.proofs.Answering.{address_is}
-use Rattle.sym_sound80.proofs.Computing.{byte_number, byte_sorted, operates}
-use Rattle.sym_sound80.proofs.Moves.{Denoted, word_sorted, word_number, sets_sp, loads_a, stores_a, exchanges, moves, sets_number, loads_code_bc, loads_code_de, loads_code_hl, loads_hl, stores_pair, exchanges_top, pushes_pair, pops}
+use Rattle.sym_sound80.proofs.Computing.{byte_number, operates}
+use Rattle.sym_sound80.proofs.Moves.{Denoted, word_number, sets_sp, loads_a, stores_a, exchanges, moves, sets_number, loads_code_bc, loads_code_de, loads_code_hl, loads_hl, stores_pair, exchanges_top, pushes_pair, pops}
 use Rattle.sym_sound80.proofs.Sums.{counts_up, counts_down, adds_to_pair, adds_pair, sets_cy, adjusts, inverts, turns_cy, turns_left, turns_right, turns_left_through, turns_right_through, clears_a}
 
 -- a code address that an instruction loads may be held

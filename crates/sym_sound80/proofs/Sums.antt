@@ -1,8 +1,6 @@
 -- Counts, words, adjustment and rotation.
 use Rattle.std.proofs.Common.{◌≡◌, ℕ, zero, suc, ◌+◌, ◌-◌, ◌*◌, ◌/◌, ◌%◌, ◌<◌, Bool, true, false, cond, not, List, Some, None, Result, Ok, Err, refl, sym, ap, subst, ◌∙◌, arith}
 use Rattle.std.specs.Prelude.{nat_lt, bit_xor, ◌||◌}
-use Rattle.std.specs.Int.Bits.{xor_add_and}
-use Rattle.std.proofs.lemmas.Nat.{and_mask}
 use Rattle.cells.specs.declared.Cell.{Cell}
 use Rattle.cells.specs.declared.Cell.TheVariants.{Num as NumCell}
 use Rattle.cells.specs.declared.Rule.{Rule}
@@ -18,6 +16,7 @@ use Rattle.i80.specs.declared.Op.{Op}
 use Rattle.i80.specs.declared.Op.TheVariants.{Add, Adc, Sub, Xra}
 use Rattle.base_arithmetic.specs.Arithmetic.{as_bit, has_even_parity, sum8, carry8, difference8, bit0, daa_result, daa_carry, daa_excepted}
 use Rattle.base_arithmetic.specs.Operations.{flags_by, result_of, flags_of}
+use Rattle.base_arithmetic.proofs.Bytes.{carry_is, inverted_is}
 use Rattle.dialogue.specs.Tried.{try_then}
 use Rattle.asm80_program.specs.Program.{Program}
 use Rattle.cpu80_steps.specs.State.{State80, reg80, high_of, low_of, with_a as with_a80, with_num, with_flags, with_cy, wrap, num_or}
@@ -27,6 +26,7 @@ use Rattle.sym_terms.specs.Term.{Term, Num, Start, Alu, Flag, Bit, Turn, Unknown
 use Rattle.sym_terms.specs.Making.{alu, flag, sum16, high, low, turn, adjust, carry_of}
 use Rattle.sym_terms.specs.Values80.{Env80, Load80, Byte, OneBit, Result as ResultOf, word_of, Val80, turn_result, turn_carry, turn_flags}
 use Rattle.sym_terms.specs.Laws.{IsMadeAs, MadeTermsKeepValues, MadeTermsHaveSorts}
+use Rattle.sym_terms.proofs.Sorts.{byte_sorted, word_sorted}
 use Rattle.sym_blocks.specs.Outcome.{Held, with_flags_of, with_count_flags_of}
 use Rattle.sym_blocks.specs.Block80.{Symbolic80, reg_term, with_held, with_a, pair_term, with_pair, source, after_source, into, count_by, add_to_pair, dad, turn_by, daa, cleared}
 use Rattle.sym_blocks.specs.Sorts.{HeldIsSorted, AreSorted80}
@@ -36,8 +36,8 @@ use Rattle.sym_sound80.proofs.Denoting.{Denotes}
 use Rattle.sym_sound80.proofs.Holding.{sets_reg, pair_value, fetches, puts}
 use Rattle.dialogue.proofs.Tried.{ok_is, err_is_not, then_is}
 use Rattle.sym_sound80.proofs.Answering.{number_is, halves_are}
-use Rattle.sym_sound80.proofs.Computing.{alu_gives, adjust_gives, all_flags, count_flags, sets_flags, byte_number, zero_bit, one_bit, byte_sorted, known_is}
-use Rattle.sym_sound80.proofs.Moves.{Denoted, held_after, word_sorted, word_number, sets_number}
+use Rattle.sym_sound80.proofs.Computing.{alu_gives, adjust_gives, all_flags, count_flags, sets_flags, byte_number, zero_bit, one_bit, known_is}
+use Rattle.sym_sound80.proofs.Moves.{Denoted, held_after, word_number, sets_number}
 
 -- a bit that is known is used as a byte
 pub bit_as_byte : (e : Env80) (t : Term) (b : Bool) → IsMadeAs is_bit t → Val80 e t (OneBit (Some b)) → Val80 e t (Byte (NumCell (as_bit b)))
@@ -56,18 +56,6 @@ bit_as_byte e (Bit t part) b m v = (b, v, refl)
 bit_as_byte e (Alu op x y c) b m v = let same : Some b ≡ Some v.0 = v.3 in let is : b ≡ v.0 = cc in (as_bit v.0, v.1, v.2, ap (λ k. NumCell (as_bit k)) is)
 bit_as_byte e Unknown b m v = let differ : Some b ≡ None = v in absurd (cc)
 bit_as_byte e t b m v = absurd (cc)
-
--- the carry out of the sum of two words is that of the halves
-carry_is : (x y : ℕ) → carry8 (x / 256) (y / 256) (as_bit (carry8 (x % 256) (y % 256) 0)) ≡ nat_lt 0xFFFF (x + y)
-carry_is x y = by_low (carry8 (x % 256) (y % 256) 0) refl
-  where
-    by_low : (b : Bool) → carry8 (x % 256) (y % 256) 0 ≡ b → carry8 (x / 256) (y / 256) (as_bit b) ≡ nat_lt 0xFFFF (x + y)
-    by_low true h = grind (arith, h)
-    by_low false h = grind (arith, h)
-
--- 255 less a byte is its complement
-inverted_is : (n : ℕ) → n < 256 → bit_xor n 255 ≡ 255 - n
-inverted_is n lt = let s = xor_add_and n 255 in let m = and_mask n 8 in omega (arith, s, m, lt)
 
 zero_is_even : has_even_parity 0 ≡ true
 unfolding lib.Count.ones

@@ -1,5 +1,5 @@
 -- Operations of the 8086: the numbers and flags that the machine has are values of the terms, whatever the choice gives.
-use Rattle.std.proofs.Common.{◌≡◌, ℕ, ◌<◌, Bool, true, false, cond, List, refl, sym, subst, ◌∙◌, arith}
+use Rattle.std.proofs.Common.{◌≡◌, ℕ, ◌<◌, Bool, true, false, cond, List, refl, sym, subst, arith}
 use Rattle.std.specs.Prelude.{◌||◌}
 use Rattle.std.proofs.lemmas.Nat.{and_le_l, or_of_8, xor_of_8}
 use Rattle.cells.specs.declared.Flags.{Flags}
@@ -15,11 +15,12 @@ use Rattle.base_arithmetic.specs.Operations.{result_of, flags_of}
 use Rattle.cpu86_steps.specs.State.{State86, Flags86, bit_of}
 use Rattle.cpu86_steps.specs.Flags.{alu_result, alu_flags}
 use Rattle.cpu86_steps.specs.Effect.{set8, stores_result, alu_al as alu_al86}
-use Rattle.sym_terms.specs.Term.{Term, Num, Alu, Unknown, is_byte, is_bit, is_flag, leaves_flag, is_open}
+use Rattle.sym_terms.specs.Term.{Term, Num, Alu, is_byte, is_bit, is_flag, leaves_flag, is_open}
 use Rattle.sym_terms.specs.Making.{alu, flag}
 use Rattle.sym_terms.specs.Values80.{flag_in}
 use Rattle.sym_terms.specs.Values86.{Env86, Load86, Number, Result as ResultOf, MayBe, Val86}
 use Rattle.sym_terms.specs.Laws.{IsMadeAs, MadeTermsKeepValues, MadeTermsHaveSorts}
+use Rattle.sym_terms.proofs.Sorts.{leaves_open}
 use Rattle.sym_blocks.specs.Outcome.{Held, with_flags_of, with_count_flags_of, with_flags_in}
 use Rattle.sym_blocks.specs.Block80.{operation, carry_in, a_after, cleared}
 use Rattle.sym_blocks.specs.Symbolic86.{Symbolic86, reg8_term, with_held, with_cf, op_of, operated, losing_flags}
@@ -81,10 +82,6 @@ pub record Gives (e : Env86) (r : Term) (n : ℕ) (f : Flags) : Type 0 where
   pub result : Val86 e r (ResultOf n f)
   pub number : Val86 e r (Number n)
   pub sorted : (part : Part) → is_flag part ≡ true → IsMadeAs (leaves_flag part) r
-
-leaves_open : (b : Bool) (r : Term) (part : Part) → is_flag part ≡ true → leaves_flag part r ≡ is_flag part → leaves_flag part (cond b Unknown r) ≡ true
-leaves_open true r part h e = h
-leaves_open false r part h e = e ∙ h
 
 -- the sorts and values of the carry that an operation takes
 carry_sorted : (op : AluOp) (cy : Term) → IsMadeAs is_bit cy → IsMadeAs is_bit (carry_in (op_of op) cy)

@@ -1,10 +1,7 @@
 -- Counts, words, rotations, adjustment and the byte of flags.
 use Rattle.std.proofs.Common.{◌≡◌, ℕ, ◌+◌, ◌-◌, ◌*◌, ◌/◌, ◌%◌, ◌<◌, Bool, true, false, cond, not, List, Some, None, refl, sym, ap, subst, ◌∙◌, arith, ◌==◌}
 use Rattle.std.specs.Prelude.{bit_xor, nat_lt, ◌||◌}
-use Rattle.std.specs.Int.Bits.{xor_add_and}
-use Rattle.std.proofs.lemmas.Nat.{and_mask}
 use Rattle.cells.specs.declared.Flags.{Flags}
-use Rattle.cells.specs.declared.Part.{Part}
 use Rattle.cells.specs.declared.Part.TheVariants.{S, Z, Ac, P, Cy}
 use Rattle.cells.specs.Bits.{has_bit}
 use Rattle.i80.specs.declared.Op.TheVariants.{Add, Adc as AddWithCarry, Sub, Xra, Ora}
@@ -20,6 +17,7 @@ use Rattle.i86.specs.declared.Rotate.{Rotate}
 use Rattle.i86.specs.declared.Rotate.TheVariants.{Rol, Ror, Rcl, Rcr}
 use Rattle.base_arithmetic.specs.Arithmetic.{as_bit, has_even_parity, sum8, carry8, difference8, borrow4, turned_left, turned_right, bit7, bit0, daa_adds_6, daa_result, daa_carry, daa_excepted}
 use Rattle.base_arithmetic.specs.Operations.{flags_by as flags_by80, result_of, flags_of}
+use Rattle.base_arithmetic.proofs.Bytes.{tested, carry_is, inverted_is}
 use Rattle.cpu86_steps.specs.State.{State86, Flags86, reg8, reg16, with16, byte_of, bit_of, operand8 as operand86, with_operand8}
 use Rattle.cpu86_steps.specs.Flags.{flags_by, alu_flags, count8_flags, count16_flags, add16_flags, rotate8_result, rotate8_carry, rotate16_result, bit15, chosen_flags, flag_byte as flag_byte86, flags_of_byte}
 use Rattle.cpu86_steps.specs.Effect.{set8, with_flags, with_cf as with_cf86, or_cl as or_cl86, count8 as count8_86, count16 as count16_86, add16 as add16_86, rotate8 as rotate8_86, rotate16 as rotate16_86, daa as daa86}
@@ -28,12 +26,13 @@ use Rattle.sym_terms.specs.Making.{alu, flag, sum16, high, low, turn, adjust, ca
 use Rattle.sym_terms.specs.Values80.{turn_result, turn_carry as turn_carry80, turn_flags}
 use Rattle.sym_terms.specs.Values86.{Env86, Load86, Number, Result as ResultOf, Adjusts, Val86}
 use Rattle.sym_terms.specs.Laws.{IsMadeAs, MadeTermsKeepValues, MadeTermsHaveSorts}
+use Rattle.sym_terms.proofs.Sorts.{byte_sorted, word_sorted, leaves_open}
 use Rattle.sym_blocks.specs.Outcome.{with_flags_of, with_count_flags_of, with_flags_in}
 use Rattle.sym_blocks.specs.Block80.{cleared, flag_byte}
 use Rattle.sym_blocks.specs.Symbolic86.{Symbolic86, reg8_term, with_reg8, reg16_term, with_reg16, with_held, with_cf, operand8, after_operand8, into_operand8, or_cl, count8, losing_flags, count_step, count16, add16, turn_kind, turn_carry, rotate8, brought_back, rotate16, daa}
 use Rattle.sym_runs.specs.Runs86.{with_loads}
 use Rattle.sym_sound86.proofs.Denoting.{Denotes, sets_byte, sets_flags}
-use Rattle.sym_sound86.proofs.Words86.{Denoted, HasSorts, reg8_sorted, byte_sorted, word_sorted, reg16_value, reg16_sorted, reg16_small, sets_word, fetches, puts}
+use Rattle.sym_sound86.proofs.Words86.{Denoted, HasSorts, reg8_sorted, reg16_value, reg16_sorted, reg16_small, sets_word, fetches, puts}
 use Rattle.sym_sound86.proofs.Alu86.{bit_small, MayHave, Gives, alu_gives, all_flags, count_flags, same_flags_of, same_count_flags, same_cy, same_lost, same_in, same_cleared}
 
 zero_is_even : has_even_parity 0 ≡ true
@@ -45,18 +44,6 @@ sum_small x = omega arith
 
 difference_small : (x : ℕ) → difference8 x 1 0 < 256
 difference_small x = omega arith
-
--- the carry out of the sum of two words is that of the halves
-carry_is : (x y : ℕ) → carry8 (x / 256) (y / 256) (as_bit (carry8 (x % 256) (y % 256) 0)) ≡ nat_lt 0xFFFF (x + y)
-carry_is x y = by_low (carry8 (x % 256) (y % 256) 0) refl
-  where
-    by_low : (b : Bool) → carry8 (x % 256) (y % 256) 0 ≡ b → carry8 (x / 256) (y / 256) (as_bit b) ≡ nat_lt 0xFFFF (x + y)
-    by_low true h = grind (arith, h)
-    by_low false h = grind (arith, h)
-
--- 255 less a byte is its complement
-inverted_is : (n : ℕ) → n < 256 → bit_xor n 255 ≡ 255 - n
-inverted_is n lt = let s = xor_add_and n 255 in let m = and_mask n 8 in omega (arith, s, m, lt)
 
 turned_round : (b : Bool) → bit_xor (as_bit b) 1 ≡ as_bit (not b)
 turned_round true = refl
@@ -105,11 +92,6 @@ bit15_is n lt = by_bit (bit15 n) refl
 -- the byte that LAHF makes has the flags in their bits
 bits_are : (s z c2 a c1 p c0 k : ℕ) → s < 2 → z < 2 → c2 < 2 → a < 2 → c1 < 2 → p < 2 → c0 < 2 → k < 2 → (n : ℕ) → n ≡ 128 * s + 64 * z + 32 * c2 + 16 * a + 8 * c1 + 4 * p + 2 * c0 + k → (n < 256) × ((n / 128) % 2 ≡ s) × ((n / 64) % 2 ≡ z) × ((n / 16) % 2 ≡ a) × ((n / 4) % 2 ≡ p) × (n % 2 ≡ k)
 bits_are s z c2 a c1 p c0 k hs hz h2 ha h1 hp h0 hk n e = (omega (arith, e), omega (arith, e), omega (arith, e), omega (arith, e), omega (arith, e), omega (arith, e))
-
--- a bit of 0 or 1 that is tested
-tested : (m : ℕ) (b : Bool) → m ≡ as_bit b → (m == 1) ≡ b
-tested m true h = ap (λ k. k == 1) h
-tested m false h = ap (λ k. k == 1) h
 
 module _ (keep : MadeTermsKeepValues) (sorts : MadeTermsHaveSorts) (e : Env86) (s0 : State86) where
   -- CF alone
@@ -313,10 +295,6 @@ module _ (keep : MadeTermsKeepValues) (sorts : MadeTermsHaveSorts) (e : Env86) (
   abbrev as_flags : Flags86 → Flags
   as_flags f = record { s = Some f.sf; z = Some f.zf; ac = Some f.af; p = Some f.pf; cy = Some f.cf }
 
-  adjust_leaves : (a ac cy : Term) (b : Bool) (part : Part) → Rattle.sym_terms.specs.Term.is_flag part ≡ true → leaves_flag part (cond b Unknown (Adjust a ac cy)) ≡ true
-  adjust_leaves a ac cy true part h = h
-  adjust_leaves a ac cy false part h = h
-
   pub adjusts : (loads : List Load86) (x : Symbolic86) (s : State86) (choice : ℕ) → Denotes e s0 loads x s → HasSorts x → Denotes e s0 loads (daa x) (daa86 s choice)
   adjusts loads x s choice d o = by_excepted (daa_excepted s.regs.al s.flags.af s.flags.cf) refl
     where
@@ -330,7 +308,7 @@ module _ (keep : MadeTermsKeepValues) (sorts : MadeTermsHaveSorts) (e : Env86) (
           record {
             result = (keep.on_8086 (with_loads e loads)).adjust x.held.a x.held.ac x.held.cy (ResultOf n f) o.held.a o.held.ac o.held.cy (s.regs.al, s.flags.af, s.flags.cf, d.in_regs Al, v.2, v.4, is);
             number = (keep.on_8086 (with_loads e loads)).adjust x.held.a x.held.ac x.held.cy (Number n) o.held.a o.held.ac o.held.cy (f, (s.regs.al, s.flags.af, s.flags.cf, d.in_regs Al, v.2, v.4, is));
-            sorted = λ part i. (made.0, adjust_leaves x.held.a x.held.ac x.held.cy (is_open x.held.a || (is_open x.held.ac || is_open x.held.cy)) part i);
+            sorted = λ part i. (made.0, leaves_open (is_open x.held.a || (is_open x.held.ac || is_open x.held.cy)) (Adjust x.held.a x.held.ac x.held.cy) part i refl);
           }
 
       adjusted : (n : ℕ) (f : Flags) (g : Flags86) → n < 256 → Gives (with_loads e loads) (adjust x.held.a x.held.ac x.held.cy) n f → MayHave f g → Denotes e s0 loads (daa x) (with_flags (set8 s Al n) g)

@@ -43,7 +43,7 @@ byte_put m n b h lt a = by_place (a == n)
     by_place true = lt
     by_place false = h a
 
-word_put : (m : ℕ → ℕ) (n w : ℕ) → ((a : ℕ) → m a < 256) → w < 0x10000 → (a : ℕ) → put_word m n w a < 256
+pub word_put : (m : ℕ → ℕ) (n w : ℕ) → ((a : ℕ) → m a < 256) → w < 0x10000 → (a : ℕ) → put_word m n w a < 256
 word_put m n w h lt = byte_put (put m n (w % 256)) (wrap (n + 1)) (w / 256) (byte_put m n (w % 256) h (omega arith)) (omega (arith, lt))
 
 module _ (e : Env86) (s0 : State86) where

@@ -3,7 +3,7 @@ pub mod Words
 mod Values
 mod Replaying
 mod Writing
-mod Denoting
+pub mod Denoting
 mod Words86
 mod Alu86
 mod Counts86

@@ -11,10 +11,11 @@ use Rattle.asm86_lines.specs.declared.line.Line86.{Line86}
 use Rattle.asm86_lines.specs.Layout.{same_label, size_of, sizes_of, marked, is_label, marks, offset_from, offset_of, place_of, bytes_at, code_of}
 use Rattle.asm86_lines.specs.Image.{statements, offset_in, labels_before, labels_from, count_marks, IsDefinedOnce, AllDefined, UsesDefined, used_in, short_reaches, AllReach}
 use Rattle.asm86_lines.proofs.Sizes.{sizes_of-append, count_marks-append}
+use Rattle.asm86_lines.proofs.Statements.{uncounted, offset_past}
 use Rattle.sym_blocks.specs.Walk86.{Surroundings, behind, is_passed, Met, EndsAt, Instruction, Nothing, met_label, met, follows}
 use Rattle.sym_blocks.specs.Sorts.{StatementIsCoded, StatementsAreCoded}
 use Rattle.sym_runs.specs.Runs86.{offsets_of}
-use Rattle.sym_sound86.proofs.Standing.{StandAll, bytes_all, stand_all, stand_back, MarksNot, offset_past, offset_here}
+use Rattle.sym_sound86.proofs.Standing.{StandAll, bytes_all, stand_all, stand_back, offset_here}
 
 -- these statements stand behind a position of a text, at an offset
 pub record Position (text xs : List Stmt86) (at : ℕ) : Type 0 where
@@ -32,7 +33,7 @@ position_next text x xs at p =
       at_is = omega (arith, is, sizes_of-append p.before (x ∷ []), one);
     }
 
-position_moved : (text xs : List Stmt86) (at to : ℕ) → at ≡ to → Position text xs at → Position text xs to
+pub position_moved : (text xs : List Stmt86) (at to : ℕ) → at ≡ to → Position text xs at → Position text xs to
 position_moved text xs at to e p = subst (Position text xs) e p
 
 -- labels
@@ -71,15 +72,6 @@ once_if b = cond b 1 0
 once_is : (b c : Bool) → b ≡ c → once_if b ≡ once_if c
 once_is b c e = ap once_if e
 
--- a label that was counted nowhere before stands nowhere before
-not_marked : (l : Label) (xs : List Stmt86) → count_marks l xs ≡ 0 → MarksNot l xs
-not_marked l [] e = tt
-not_marked l (x ∷ xs) e = by_mark (marks l x) refl (not_marked l xs)
-  where
-    by_mark : (b : Bool) → marks l x ≡ b → (count_marks l xs ≡ 0 → MarksNot l xs) → (marks l x ≡ false) × MarksNot l xs
-    by_mark true h f = let one = once_is (marks l x) true h in absurd (omega (arith, e, one))
-    by_mark false h f = let none = once_is (marks l x) false h in (h, f (omega (arith, e, none)))
-
 -- a label that stands at a position has its offset
 pub label_here : (text xs : List Stmt86) (l : Label) (at : ℕ) → IsDefinedOnce text → Position text (Mark l ∷ xs) at → offset_of text l ≡ Some at
 label_here text xs l at once p =
@@ -89,7 +81,7 @@ label_here text xs l at once p =
     let most = once l in
     let none : count_marks l p.before ≡ 0 = omega (arith, counted, one, most) in
     let zero_more : 0 + sizes_of p.before ≡ at = let is = p.at_is in omega (arith, is) in
-    ap (λ t. offset_of t l) p.is ∙ offset_past 0 l p.before (Mark l ∷ xs) (not_marked l p.before none) ∙ offset_here (0 + sizes_of p.before) l (Mark l) xs here ∙ ap Some zero_more
+    ap (λ t. offset_of t l) p.is ∙ offset_past 0 l p.before (Mark l ∷ xs) (uncounted l p.before none) ∙ offset_here (0 + sizes_of p.before) l (Mark l) xs here ∙ ap Some zero_more
 
 -- what stands behind a label, at its offset
 behind_from : (at : ℕ) (xs : List Stmt86) (l : Label) (ys : List Stmt86) → behind xs l ≡ Some ys → (before : List Stmt86) × (xs ≡ before ++ ys) × (offset_from at xs l ≡ Some (at + sizes_of before))

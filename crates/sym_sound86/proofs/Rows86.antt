@@ -18,12 +18,13 @@ use Rattle.cpu86_steps.specs.Effect.{set8, with_flags, effect, alu_al as alu_al8
 use Rattle.sym_terms.specs.Term.{Num, Unknown}
 use Rattle.sym_terms.specs.Values86.{Load86, Env86}
 use Rattle.sym_terms.specs.Laws.{MadeTermsKeepValues, MadeTermsHaveSorts}
+use Rattle.sym_terms.proofs.Sorts.{byte_sorted, word_sorted}
 use Rattle.sym_blocks.specs.Block80.{cleared}
 use Rattle.sym_blocks.specs.Symbolic86.{Symbolic86, reg8_term, reg16_term, with_held, pointed, operand8, after_operand8, operated, alu_al, effect86}
 use Rattle.sym_blocks.specs.Sorts.{IsCoded86}
 use Rattle.sym_sound86.proofs.Words.{lt_false}
 use Rattle.sym_sound86.proofs.Denoting.{Denotes, stores_byte, stores_word, sets_byte}
-use Rattle.sym_sound86.proofs.Words86.{Denoted, HasSorts, byte_sorted, word_sorted, reg16_value, reg16_small, sets_word, pointed_value, pointed_small, fetches, loads_into, loads_direct, moves_word, pushes, pops, exchanges_bytes, exchanges_words}
+use Rattle.sym_sound86.proofs.Words86.{Denoted, HasSorts, reg16_value, reg16_small, sets_word, pointed_value, pointed_small, fetches, loads_into, loads_direct, moves_word, pushes, pops, exchanges_bytes, exchanges_words}
 use Rattle.sym_sound86.proofs.Alu86.{operates}
 use Rattle.sym_sound86.proofs.Counts86.{sets_cf, clears, ors_cl, counts, counts16, adds16, rotates, rotates16, adjusts, inverts, turns_cf, loads_flags, stores_flags}
 

@@ -1,5 +1,5 @@
 -- The runtime: its statements stand in the text one after the other, and are steps of the machine.
-use Rattle.std.proofs.Common.{◌≡◌, ◌≢◌, ℕ, suc, ◌+◌, ◌<◌, ◌==◌, true, false, cond, List, ◌∷◌, ◌++◌, Option, Some, refl, sym, ap, subst, ◌∙◌, arith}
+use Rattle.std.proofs.Common.{◌≡◌, ◌≢◌, ℕ, suc, ◌+◌, ◌<◌, ◌==◌, true, false, cond, List, ◌∷◌, ◌++◌, Option, Some, refl, sym, ap, ◌∙◌, arith}
 use Rattle.std.specs.Prelude.{bit_or}
 use Rattle.std.specs.Int.Bits.{or_self}
 use Rattle.i86.specs.declared.Reg8.TheVariants.{Al, Cl, Dl, Bl, Ch, Bh}
@@ -10,7 +10,6 @@ use Rattle.i86.specs.declared.Instr86.TheVariants.{MovReg8, MovNum8, OrClCl, Jcc
 use Rattle.i86.specs.Code.{Reads}
 use Rattle.base_runs.specs.Run.{Ran, choice_at}
 use Rattle.asm86_lines.specs.declared.line.Label.TheVariants.{Sys, End}
-use Rattle.asm86_lines.specs.declared.line.Stmt86.{Stmt86}
 use Rattle.asm86_lines.specs.declared.line.Stmt86.TheVariants.{Mark, Run, Jcc as JccTo}
 use Rattle.asm86_lines.specs.declared.line.Line86.{Line86}
 use Rattle.asm86_lines.specs.Layout.{sizes_of, offset_of, place_of, distance8}
@@ -22,14 +21,11 @@ use Rattle.cpu86_steps.specs.Step.{step86}
 use Rattle.templates_plain.specs.Plain.{runtime, call_code, end_code}
 use Rattle.sym_runs.specs.Runtime.{HasRuntime, answers_moved, CallsSystem, EndsAfter, RuntimesRun86}
 use Rattle.sym_sound86.proofs.Words.{eq_false}
-use Rattle.sym_sound86.proofs.Positions.{Position, position_next, offsets_are, label_here, ends_within}
+use Rattle.sym_sound86.proofs.Positions.{Position, position_next, position_moved, offsets_are, label_here, ends_within}
 use Rattle.sym_sound86.proofs.Stepping.{past, steps_as, steps_on}
 
 number_is : (x y : ℕ) → ◌≡◌ {A = Option ℕ} (Some x) (Some y) → x ≡ y
 number_is x y e = cc
-
-moved : (text xs : List Stmt86) (at to : ℕ) → at ≡ to → Position text xs at → Position text xs to
-moved text xs at to e p = subst (Position text xs) e p
 
 -- the jump over the call lands 7 bytes on
 seven_on : (from : ℕ) → from < 0x10000 → distance8 from (from + 7) ≡ 7
@@ -50,7 +46,7 @@ module _ (lines : List Line86) (a : Assembles lines) (fetch : ℕ → Option Ins
   starts = record { before = h.before; is = h.is; at_is = refl }
 
   call_at : Position (statements lines) (call_code ++ (Mark End ∷ (end_code ++ h.after))) (sizes_of h.before)
-  call_at = moved (statements lines) _ (sizes_of h.before + 0) (sizes_of h.before) (omega arith) (position_next (statements lines) (Mark Sys) _ (sizes_of h.before) starts)
+  call_at = position_moved (statements lines) _ (sizes_of h.before + 0) (sizes_of h.before) (omega arith) (position_next (statements lines) (Mark Sys) _ (sizes_of h.before) starts)
 
   jump_at : Position (statements lines) (JccTo Jz End ∷ (Run Int224 ∷ (Run (MovReg8 Bl (Reg_8 Al)) ∷ (Run (MovReg8 Ch (Reg_8 Bh)) ∷ (Run Ret ∷ (Mark End ∷ (end_code ++ h.after))))))) (sizes_of h.before + 2)
   jump_at = position_next (statements lines) (Run OrClCl) _ (sizes_of h.before) call_at
@@ -68,10 +64,10 @@ module _ (lines : List Line86) (a : Assembles lines) (fetch : ℕ → Option Ins
   return_at = position_next (statements lines) (Run (MovReg8 Ch (Reg_8 Bh))) _ (sizes_of h.before + 2 + 2 + 2 + 2) second_at
 
   mark_at : Position (statements lines) (Mark End ∷ (end_code ++ h.after)) (sizes_of h.before + 11)
-  mark_at = moved (statements lines) _ (sizes_of h.before + 2 + 2 + 2 + 2 + 2 + 1) (sizes_of h.before + 11) (omega arith) (position_next (statements lines) (Run Ret) _ (sizes_of h.before + 2 + 2 + 2 + 2 + 2) return_at)
+  mark_at = position_moved (statements lines) _ (sizes_of h.before + 2 + 2 + 2 + 2 + 2 + 1) (sizes_of h.before + 11) (omega arith) (position_next (statements lines) (Run Ret) _ (sizes_of h.before + 2 + 2 + 2 + 2 + 2) return_at)
 
   end_at : Position (statements lines) (end_code ++ h.after) (sizes_of h.before + 11)
-  end_at = moved (statements lines) _ (sizes_of h.before + 11 + 0) (sizes_of h.before + 11) (omega arith) (position_next (statements lines) (Mark End) _ (sizes_of h.before + 11) mark_at)
+  end_at = position_moved (statements lines) _ (sizes_of h.before + 11 + 0) (sizes_of h.before + 11) (omega arith) (position_next (statements lines) (Mark End) _ (sizes_of h.before + 11) mark_at)
 
   sys_is : offset_of (statements lines) Sys ≡ Some (sizes_of h.before)
   sys_is = label_here (statements lines) _ Sys (sizes_of h.before) a.once starts
@@ -85,7 +81,7 @@ module _ (lines : List Line86) (a : Assembles lines) (fetch : ℕ → Option Ins
   -- from X_END: two steps, and the end
   ends_at : (used : ℕ) (s : State86) → s.ss ≡ s.ds → s.ip ≡ sizes_of h.before + 11 → EndsAfter fetch choices used 2 s
   ends_at used s seg at =
-      let first = moved (statements lines) _ (sizes_of h.before + 11) s.ip (sym at) end_at in
+      let first = position_moved (statements lines) _ (sizes_of h.before + 11) s.ip (sym at) end_at in
       let second = position_next (statements lines) (Run (MovNum8 Cl 0)) _ s.ip first in
       let third = position_next (statements lines) (Run (MovNum8 Dl 0)) _ (s.ip + 2) second in
       let u : State86 = effect (MovNum8 Cl 0) (past s 2) (choice_at choices used) in
@@ -98,7 +94,7 @@ module _ (lines : List Line86) (a : Assembles lines) (fetch : ℕ → Option Ins
 
   -- the test of the function
   or_steps : (used : ℕ) (s : State86) → s.ss ≡ s.ds → s.ip ≡ sizes_of h.before → step86 fetch s (choice_at choices used) ≡ Ran (effect OrClCl (past s 2) (choice_at choices used))
-  or_steps used s seg at = steps_on lines a fetch reads OrClCl _ s _ (moved (statements lines) _ (sizes_of h.before) s.ip (sym at) call_at) refl seg
+  or_steps used s seg at = steps_on lines a fetch reads OrClCl _ s _ (position_moved (statements lines) _ (sizes_of h.before) s.ip (sym at) call_at) refl seg
 
   -- a function other than 0
   calls_at : (used : ℕ) (s : State86) → s.ss ≡ s.ds → s.ip ≡ sizes_of h.before → s.regs.cl ≢ 0 → CallsSystem fetch choices used s
@@ -106,20 +102,20 @@ module _ (lines : List Line86) (a : Assembles lines) (fetch : ℕ → Option Ins
       let c = choice_at choices used in
       let u : State86 = effect OrClCl (past s 2) c in
       let cl_is : bit_or s.regs.cl s.regs.cl ≡ s.regs.cl = or_self s.regs.cl in
-      let second = moved (statements lines) _ (sizes_of h.before + 2) (s.ip + 2) (let e : sizes_of h.before + 2 ≡ s.ip + 2 = omega (arith, at) in e) jump_at in
+      let second = position_moved (statements lines) _ (sizes_of h.before + 2) (s.ip + 2) (let e : sizes_of h.before + 2 ≡ s.ip + 2 = omega (arith, at) in e) jump_at in
       let not_taken : (bit_or s.regs.cl s.regs.cl == 0) ≡ false = ap (λ n. n == 0) cl_is ∙ is_not_zero s.regs.cl some in
       let jumped : step86 fetch u (choice_at choices (suc used)) ≡ Ran (past u 2) =
       steps_as lines a fetch reads (JccTo Jz End) _ u (Jcc Jz (distance8 (s.ip + 2 + 2) (place_of (statements lines) End))) _ second refl refl seg
       ∙ ap (λ b. Ran (cond b (jump_by (past u 2) (distance (distance8 (s.ip + 2 + 2) (place_of (statements lines) End)))) (past u 2))) not_taken in
       let v : State86 = past u 2 in
-      let third = moved (statements lines) _ (sizes_of h.before + 2 + 2) (s.ip + 2 + 2) (let e : sizes_of h.before + 2 + 2 ≡ s.ip + 2 + 2 = omega (arith, at) in e) system_at in
+      let third = position_moved (statements lines) _ (sizes_of h.before + 2 + 2) (s.ip + 2 + 2) (let e : sizes_of h.before + 2 + 2 ≡ s.ip + 2 + 2 = omega (arith, at) in e) system_at in
       record {
         asking = v;
         runs = (u, or_steps used s seg at, (v, jumped, refl));
         back = s.ip + 2 + 2 + 2;
         calls = λ q. steps_as lines a fetch reads (Run Int224) _ v Int224 q third refl refl seg ∙ ap (λ n. call_system (record s { regs = record (s.regs) { cl = n }; flags = v.flags; ip = s.ip + 2 + 2 + 2 }) q) cl_is;
         returns = λ later t is seg' at'.
-            let back = moved (statements lines) _ (sizes_of h.before + 2 + 2 + 2) t.ip (let e : sizes_of h.before + 2 + 2 + 2 ≡ t.ip = omega (arith, at, at') in e) back_at in
+            let back = position_moved (statements lines) _ (sizes_of h.before + 2 + 2 + 2) t.ip (let e : sizes_of h.before + 2 + 2 + 2 ≡ t.ip = omega (arith, at, at') in e) back_at in
             let next = position_next (statements lines) (Run (MovReg8 Bl (Reg_8 Al))) _ t.ip back in
             let last = position_next (statements lines) (Run (MovReg8 Ch (Reg_8 Bh))) _ (t.ip + 2) next in
             let x : State86 = effect (MovReg8 Bl (Reg_8 Al)) (past t 2) (choice_at choices later) in
@@ -133,7 +129,7 @@ module _ (lines : List Line86) (a : Assembles lines) (fetch : ℕ → Option Ins
       let c = choice_at choices used in
       let u : State86 = effect OrClCl (past s 2) c in
       let cl_is : bit_or s.regs.cl s.regs.cl ≡ s.regs.cl = or_self s.regs.cl in
-      let second = moved (statements lines) _ (sizes_of h.before + 2) (s.ip + 2) (let e : sizes_of h.before + 2 ≡ s.ip + 2 = omega (arith, at) in e) jump_at in
+      let second = position_moved (statements lines) _ (sizes_of h.before + 2) (s.ip + 2) (let e : sizes_of h.before + 2 ≡ s.ip + 2 = omega (arith, at) in e) jump_at in
       let within = ends_within (statements lines) (JccTo Jz End) _ (s.ip + 2) second a.small in
       let place : place_of (statements lines) End ≡ s.ip + 2 + 2 + 7 = end_place ∙ (let e : sizes_of h.before + 11 ≡ s.ip + 2 + 2 + 7 = omega (arith, at) in e) in
       let seven : distance8 (s.ip + 2 + 2) (place_of (statements lines) End) ≡ 7 = ap (distance8 (s.ip + 2 + 2)) place ∙ seven_on (s.ip + 2 + 2) within in

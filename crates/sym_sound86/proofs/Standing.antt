@@ -1,5 +1,5 @@
 -- Which statements stand at which place of a code, and the offsets of their labels.
-use Rattle.std.proofs.Common.{◌≡◌, ℕ, ◌+◌, ◌<◌, List, [], ◌∷◌, ◌++◌, length, Some, ap, ◌∙◌, subst, arith, append_assoc, length-append, true, false, cond}
+use Rattle.std.proofs.Common.{◌≡◌, ℕ, ◌+◌, ◌<◌, List, [], ◌∷◌, ◌++◌, length, Some, ap, ◌∙◌, subst, arith, append_assoc, length-append, true, cond}
 use Rattle.std.proofs.Math.Seq.{get_or-append_seam}
 use Rattle.std.proofs.lemmas.Option.{slice_get-get_or}
 use Rattle.i86.specs.Code.{HasBytes}
@@ -45,18 +45,6 @@ stand_back code off at [] ys h = let e : at ≡ at + 0 = omega arith in subst (�
 stand_back code off at (x ∷ xs) ys h =
     let e : at + size_of x + sizes_of xs ≡ at + (size_of x + sizes_of xs) = omega arith in
     subst (λ n. StandAll code off n ys) e (stand_back code off (at + size_of x) xs ys h.1)
-
--- no statement is this label
-abbrev pub MarksNot : Label → List Stmt86 → Type 0
-MarksNot l [] = Unit {0}
-MarksNot l (x ∷ xs) = (marks l x ≡ false) × MarksNot l xs
-
--- a label that does not stand in a list is looked for behind it
-pub offset_past : (at : ℕ) (l : Label) (xs ys : List Stmt86) → MarksNot l xs → offset_from at (xs ++ ys) l ≡ offset_from (at + sizes_of xs) ys l
-offset_past at l [] ys h = let e : at ≡ at + 0 = omega arith in ap (λ n. offset_from n ys l) e
-offset_past at l (x ∷ xs) ys h =
-    let e : at + size_of x + sizes_of xs ≡ at + (size_of x + sizes_of xs) = omega arith in
-    ap (λ b. cond b (Some at) (offset_from (at + size_of x) (xs ++ ys) l)) h.0 ∙ offset_past (at + size_of x) l xs ys h.1 ∙ ap (λ n. offset_from n ys l) e
 
 -- a label that stands here has this offset
 pub offset_here : (at : ℕ) (l : Label) (x : Stmt86) (xs : List Stmt86) → marks l x ≡ true → offset_from at (x ∷ xs) l ≡ Some at

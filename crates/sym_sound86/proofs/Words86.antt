@@ -1,6 +1,5 @@
 -- Words of the 8086, operands, moves and the stack.
 use Rattle.std.proofs.Common.{◌≡◌, ℕ, ◌+◌, ◌/◌, ◌%◌, ◌<◌, List, [], ◌∷◌, ◌++◌, refl, arith}
-use Rattle.std.proofs.lemmas.Bool.{lt-ltb}
 use Rattle.i86.specs.declared.Reg8.{Reg8}
 use Rattle.i86.specs.declared.Reg8.TheVariants.{Al, Cl, Dl, Bl, Ah, Ch, Dh, Bh}
 use Rattle.i86.specs.declared.Reg16.{Reg16}
@@ -17,6 +16,7 @@ use Rattle.sym_terms.specs.Term.{Term, Num, is_byte, is_word}
 use Rattle.sym_terms.specs.Making.{high, low, join, sum16}
 use Rattle.sym_terms.specs.Values86.{Load86, LoadedByte, LoadedWord, Env86, Number, Val86}
 use Rattle.sym_terms.specs.Laws.{IsMadeAs, MadeTermsKeepValues, MadeTermsHaveSorts}
+use Rattle.sym_terms.proofs.Sorts.{word_sorted}
 use Rattle.sym_blocks.specs.Symbolic86.{Symbolic86, reg8_term, with_reg8, reg16_term, with_reg16, load8, load16, store16, next_byte, next_word, pointed, operand8, after_operand8, into_operand8, operand16, after_operand16, push, pop, xchg8, xchg16}
 use Rattle.sym_blocks.specs.Sorts.{HeldIsSorted}
 use Rattle.sym_runs.specs.Runs86.{with_loads}
@@ -33,12 +33,6 @@ pub record HasSorts (x : Symbolic86) : Type 0 where
   pub ah : IsMadeAs is_byte x.ah
   pub si : IsMadeAs is_word x.si
   pub sp : IsMadeAs is_word x.sp
-
-pub word_sorted : (n : ℕ) → n < 0x10000 → IsMadeAs is_word (Num n)
-word_sorted n lt = (lt, lt-ltb n 0x10000 lt)
-
-pub byte_sorted : (n : ℕ) → n < 256 → IsMadeAs is_byte (Num n)
-byte_sorted n lt = (omega (arith, lt), lt-ltb n 256 lt)
 
 pub reg8_sorted : (x : Symbolic86) → HasSorts x → (r : Reg8) → IsMadeAs is_byte (reg8_term x r)
 reg8_sorted x o Al = o.held.a

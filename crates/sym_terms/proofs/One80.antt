@@ -91,10 +91,10 @@ word_number m n e f =
     let low : m % 256 ≡ n % 256 = cell_number (m % 256) (n % 256) f in
     omega arith
 
-alu_same : (op : Op) (x y x' y' : ℕ) (k k' : Bool) (n n' : ℕ) (f f' : Flags) → x ≡ x' → y ≡ y' → k ≡ k' → n ≡ result_of op x y (as_bit k) → n' ≡ result_of op x' y' (as_bit k') → f ≡ flags_of op x y (as_bit k) → f' ≡ flags_of op x' y' (as_bit k') → (n ≡ n') × (f ≡ f')
+pub alu_same : (op : Op) (x y x' y' : ℕ) (k k' : Bool) (n n' : ℕ) (f f' : Flags) → x ≡ x' → y ≡ y' → k ≡ k' → n ≡ result_of op x y (as_bit k) → n' ≡ result_of op x' y' (as_bit k') → f ≡ flags_of op x y (as_bit k) → f' ≡ flags_of op x' y' (as_bit k') → (n ≡ n') × (f ≡ f')
 alu_same op x y x' y' k k' n n' f f' ex ey ek en en' ef ef' = (cc, cc)
 
-turn_same : (kind x x' : ℕ) (k k' : Bool) (n n' : ℕ) (f f' : Flags) → x ≡ x' → k ≡ k' → n ≡ turn_result kind x k → n' ≡ turn_result kind x' k' → f ≡ turn_flags kind x → f' ≡ turn_flags kind x' → (n ≡ n') × (f ≡ f')
+pub turn_same : (kind x x' : ℕ) (k k' : Bool) (n n' : ℕ) (f f' : Flags) → x ≡ x' → k ≡ k' → n ≡ turn_result kind x k → n' ≡ turn_result kind x' k' → f ≡ turn_flags kind x → f' ≡ turn_flags kind x' → (n ≡ n') × (f ≡ f')
 turn_same kind x x' k k' n n' f f' ex ek en en' ef ef' =
     (en ∙ ap₂ (turn_result kind) ex ek ∙ sym en', ef ∙ ap (turn_flags kind) ex ∙ sym ef')
 

@@ -14,6 +14,7 @@ use Rattle.sym_terms.specs.Making.{IsMade, flag, is_addition}
 use Rattle.sym_terms.specs.Values80.{flag_in, turn_result, turn_flags, turn_carry}
 use Rattle.sym_terms.specs.Values86.{Number, Result, Env86, LoadedByte, LoadedWord, Val86, number_by, result_by, MayBe}
 use Rattle.sym_terms.specs.Laws.{OneValue86}
+use Rattle.sym_terms.proofs.One80.{alu_same, turn_same}
 
 one_number : (Q : ℕ → Type 0) → ((i j : ℕ) → Q i → Q j → i ≡ j) → OneValue86 (number_by Q)
 one_number Q same = record { number = same; result = λ m n f g p q. absurd p }
@@ -88,12 +89,6 @@ known_bit o b i e m = let Q : Option Bool → Type 0 = λ w. MayBe w i in subst 
 flag_same : (part : Part) (f g : Flags) (i j : ℕ) → known_at f part → f ≡ g → MayBe (flag_in f part) i → MayBe (flag_in g part) j → i ≡ j
 flag_same part f g i j k e p q =
     known_bit (flag_in f part) k.0 i k.1 p ∙ sym (known_bit (flag_in g part) k.0 j (ap (λ h. flag_in h part) (sym e) ∙ k.1) q)
-
-alu_same : (op : Op) (x y x' y' : ℕ) (k k' : Bool) (n n' : ℕ) (f f' : Flags) → x ≡ x' → y ≡ y' → k ≡ k' → n ≡ result_of op x y (as_bit k) → n' ≡ result_of op x' y' (as_bit k') → f ≡ flags_of op x y (as_bit k) → f' ≡ flags_of op x' y' (as_bit k') → (n ≡ n') × (f ≡ f')
-alu_same op x y x' y' k k' n n' f f' ex ey ek en en' ef ef' = (cc, cc)
-
-turn_same : (kind x x' : ℕ) (k k' : Bool) (n n' : ℕ) (f f' : Flags) → x ≡ x' → k ≡ k' → n ≡ turn_result kind x k → n' ≡ turn_result kind x' k' → f ≡ turn_flags kind x → f' ≡ turn_flags kind x' → (n ≡ n') × (f ≡ f')
-turn_same kind x x' k k' n n' f f' ex ek en en' ef ef' = (en ∙ ap₂ (turn_result kind) ex ek ∙ sym en', ef ∙ ap (turn_flags kind) ex ∙ sym ef')
 
 pub one86 : (e : Env86) (t : Term) → IsMade t → is_open t ≡ false → is_adjusted t ≡ false → OneValue86 (Val86 e t)
 one86 e (Num n) m o u = one_number _ (λ i j p q. p ∙ sym q)

@@ -64,6 +64,17 @@ open_shows t m = refl
 
 -- the sorts
 
+pub byte_sorted : (n : ℕ) → n < 256 → IsMadeAs is_byte (Num n)
+byte_sorted n lt = (omega (arith, lt), lt-ltb n 256 lt)
+
+pub word_sorted : (n : ℕ) → n < 0x10000 → IsMadeAs is_word (Num n)
+word_sorted n lt = (lt, lt-ltb n 0x10000 lt)
+
+-- what is Unknown where something is open leaves flags all the same
+pub leaves_open : (b : Bool) (r : Term) (part : Part) → is_flag part ≡ true → leaves_flag part r ≡ is_flag part → leaves_flag part (cond b Unknown r) ≡ true
+leaves_open true r part h e = h
+leaves_open false r part h e = e ∙ h
+
 pub bit_is_byte : (t : Term) → is_bit t ≡ true → is_byte t ≡ true
 bit_is_byte (Num n) h = let below : n < 2 = ltb-true n 2 h in lt-ltb n 256 (omega arith)
 bit_is_byte (Start part) h = refl

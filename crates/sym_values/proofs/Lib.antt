@@ -1,4 +1,4 @@
 mod Choosing
-mod Same
+pub mod Same
 mod Agreeing
 pub mod Replaying

@@ -120,7 +120,7 @@ bit_byte : (offset : Place → Option ℕ) (b : Bool) (c : Cell) (n : ℕ) → c
 bit_byte offset b c n e m = subst (λ x. IsFor offset x n) (sym e) m
 
 -- words of equal halves
-word_is : (m n : ℕ) → n / 256 ≡ m / 256 → n % 256 ≡ m % 256 → n ≡ m
+pub word_is : (m n : ℕ) → n / 256 ≡ m / 256 → n % 256 ≡ m % 256 → n ≡ m
 word_is m n h l = omega (arith, h, l)
 
 -- a flag of a byte

@@ -6,17 +6,14 @@ use Rattle.std.proofs.lemmas.List.{drop-take}
 use Rattle.i80.specs.declared.Instr80.{Instr80}
 use Rattle.i80.specs.Columns.{length80}
 use Rattle.asm80_program.specs.Program.{Program, instr_at}
-use Rattle.sym_blocks.specs.Block80.{before_more, instrs_from, addresses_from, address_after}
+use Rattle.sym_blocks.specs.Block80.{instrs_from, addresses_from, address_after}
+use Rattle.sym_blocks.proofs.Instructions.{some_there, first_is, shorter}
 
 -- so many instructions are left, from this address on, and the others have their addresses in front
 pub record Filled (p : Program) (first count at left : ℕ) (filled : List ℕ) : Type 0 where
   pub rest : filled ++ addresses_from at (instrs_from p at left) ≡ addresses_from first (instrs_from p first count)
   pub after : address_after at (instrs_from p at left) ≡ address_after first (instrs_from p first count)
   pub whole : length (instrs_from p at left) ≡ left
-
-some_there : (o : Option Instr80) (more : Instr80 → List Instr80) (n : ℕ) → length (before_more o (λ i. i ∷ more i)) ≡ suc n → IsSome o
-some_there None more n h = absurd (cc)
-some_there (Some i) more n h = refl
 
 -- an instruction is there where one is left
 pub is_there : (p : Program) (first count at left : ℕ) (filled : List ℕ) → Filled p first count at left filled → 0 < left → IsSome (instr_at p at)
@@ -26,12 +23,6 @@ is_there p first count at (suc n) filled d le = some_there (instr_at p at) (λ i
 pub not_none : (o : Option Instr80) → IsSome o → o ≡ None → ⊥
 not_none None h e = absurd (cc)
 not_none (Some i) h e = absurd (cc)
-
-first_is : (p : Program) (at n : ℕ) (i : Instr80) → instr_at p at ≡ Some i → instrs_from p at (suc n) ≡ i ∷ instrs_from p (at + length80 i) n
-first_is p at n i h = ap (λ o. before_more o (λ j. j ∷ instrs_from p (at + length80 j) n)) h
-
-shorter : (i : Instr80) (xs : List Instr80) (n : ℕ) → length (i ∷ xs) ≡ suc n → length xs ≡ n
-shorter i xs n h = omega (arith, h)
 
 one_more : (p : Program) (first count at n : ℕ) (filled : List ℕ) (i : Instr80) → Filled p first count at (suc n) filled → instr_at p at ≡ Some i → Filled p first count (at + length80 i) n (filled ++ at ∷ [])
 one_more p first count at n filled i d h =

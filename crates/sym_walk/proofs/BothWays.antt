@@ -9,6 +9,7 @@ use Rattle.xlt_pool.specs.Contents.{Contents}
 use Rattle.dialogue.specs.Tried.{try_then}
 use Rattle.sym_terms.specs.declared.head.Term.{Term as TermId}
 use Rattle.sym_terms.specs.Trees.{StandsFor, Grows, AreTerms}
+use Rattle.sym_terms.proofs.Interning.{more, then_grows}
 use Rattle.sym_blocks.specs.declared.reason.Reason.{Reason}
 use Rattle.sym_blocks.specs.Outcome.{Way, Exit, Two}
 use Rattle.sym_blocks.specs.Symbolic86.{Symbolic86}
@@ -20,7 +21,7 @@ use Rattle.sym_micro.specs.declared.run.Run.{Run}
 use Rattle.sym_micro.specs.Machine.{Machine, as86}
 use Rattle.sym_micro.specs.Stands.{machine_of, trees_of_held, HeldIsGiven, IsReady}
 use Rattle.sym_micro.specs.Exits.{WayIs, FindsWay, FindsExit}
-use Rattle.sym_micro.proofs.Ready.{more, then_grows, same_machine}
+use Rattle.sym_micro.proofs.Ready.{same_machine}
 use Rattle.sym_micro.proofs.Found.{way_still, two_exit}
 use Rattle.sym_walk.specs.declared.lasts.Last.{Last}
 use Rattle.sym_walk.specs.Ends.{LastIs, LastStands, BothStand, target, both, flag_id}

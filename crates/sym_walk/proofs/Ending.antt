@@ -3,6 +3,7 @@ use Rattle.std.proofs.Common.{ℕ, Bool, false, Option, Some, None, Result, Ok, 
 use Rattle.xlt_pool.specs.Contents.{Contents}
 use Rattle.dialogue.specs.Tried.{try_then}
 use Rattle.sym_terms.specs.Trees.{Grows}
+use Rattle.sym_terms.proofs.Interning.{still}
 use Rattle.sym_blocks.specs.declared.reason.Reason.{Reason}
 use Rattle.sym_blocks.specs.Outcome.{Way, Exit, One, Outcome}
 use Rattle.sym_blocks.specs.Symbolic86.{Symbolic86}
@@ -14,7 +15,7 @@ use Rattle.sym_micro.specs.declared.run.Run.{Run}
 use Rattle.sym_micro.specs.Machine.{Machine, as86}
 use Rattle.sym_micro.specs.Stands.{machine_of, IsReady}
 use Rattle.sym_micro.specs.Exits.{WayIs, ExitIs, OutcomeIs}
-use Rattle.sym_micro.proofs.Ready.{still, run_given, same_machine}
+use Rattle.sym_micro.proofs.Ready.{run_given, same_machine}
 use Rattle.sym_walk.specs.Around.{WayMayBe}
 use Rattle.sym_walk.specs.Ends.{WayStands, Ends}
 

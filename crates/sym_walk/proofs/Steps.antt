@@ -11,6 +11,7 @@ use Rattle.asm80_program.specs.declared.program.Placed.{Placed}
 use Rattle.i86.specs.declared.Jump.{Jump}
 use Rattle.xlt_pool.specs.Contents.{Contents}
 use Rattle.sym_terms.specs.Trees.{Grows}
+use Rattle.sym_terms.proofs.Interning.{still, more, then_grows}
 use Rattle.sym_blocks.specs.declared.reason.Reason.{Reason}
 use Rattle.sym_blocks.specs.Outcome.{Way, Exit, Two, Outcome}
 use Rattle.sym_blocks.specs.Block80.{instrs_from, addresses_from, address_after}
@@ -21,7 +22,6 @@ use Rattle.sym_micro.specs.declared.run.Run.{Run}
 use Rattle.sym_micro.specs.Machine.{as86}
 use Rattle.sym_micro.specs.Stands.{machine_of, IsReady, Runs}
 use Rattle.sym_micro.specs.Exits.{FindsExit}
-use Rattle.sym_micro.proofs.Ready.{still, more, then_grows}
 use Rattle.dialogue.specs.Tried.{try_then}
 use Rattle.sym_walk.specs.declared.lasts.Last.{Last}
 use Rattle.sym_walk.specs.declared.ends.End.{End}

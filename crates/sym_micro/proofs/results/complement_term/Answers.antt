@@ -3,8 +3,9 @@ use Rattle.i80.specs.declared.Op.TheVariants.{Xra}
 use Rattle.sym_terms.specs.Term.{Num, is_byte}
 use Rattle.sym_terms.specs.Making.{alu}
 use Rattle.sym_terms.specs.Trees.{tree_in}
+use Rattle.sym_terms.proofs.Interning.{then_grows}
 use Rattle.sym_micro.specs.Stands.{Gives}
-use Rattle.sym_micro.proofs.Ready.{gives_of, gives_none, then_gives, then_grows}
+use Rattle.sym_micro.proofs.Ready.{gives_of, gives_none, then_gives}
 use Rattle.sym_micro.proofs.results.complement_term.Goals as goal
 
 pub returns-in_err-one : goal.returns-in_err-one

@@ -1,12 +1,12 @@
 use Rattle.std.proofs.Common.{◌≡◌, Some, subst, sym, lit≤}
 use Rattle.i80.specs.declared.Instr80.{Instr80}
+use Rattle.sym_terms.proofs.Interning.{still, more}
 use Rattle.sym_blocks.specs.Outcome.{In, Out, Exit, One}
 use Rattle.sym_blocks.specs.Block80.{goto, jump, call, asking, return_by, exit80}
 use Rattle.sym_micro.specs.declared.outcome.Exit.TheVariants.{One as OneIds, Two as TwoIds}
 use Rattle.sym_micro.specs.Machine.{as80}
 use Rattle.sym_micro.specs.Stands.{machine_of}
 use Rattle.sym_micro.specs.Exits.{FindsExit}
-use Rattle.sym_micro.proofs.Ready.{still, more}
 use Rattle.sym_micro.proofs.Found.{one_exit}
 use Rattle.sym_run80.proofs.Where.{where_is, goes_straight}
 use Rattle.sym_run80.proofs.exits.exit.Goals as goal

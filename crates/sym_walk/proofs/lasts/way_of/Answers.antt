@@ -1,7 +1,8 @@
 use Rattle.std.proofs.Common.{refl, subst, lit≤}
+use Rattle.sym_terms.proofs.Interning.{still, more}
 use Rattle.sym_micro.specs.Machine.{as86}
 use Rattle.sym_micro.specs.Stands.{machine_of}
-use Rattle.sym_micro.proofs.Ready.{still, more, ready_still}
+use Rattle.sym_micro.proofs.Ready.{ready_still}
 use Rattle.sym_walk.specs.declared.lasts.Last.{Last}
 use Rattle.sym_walk.specs.Ends.{LastIs}
 use Rattle.sym_walk.proofs.lasts.way_of.Goals as goal
