@@ -1,5 +1,6 @@
 pub mod Cells
 pub mod Rows
 pub mod LawfulShapes
+pub mod Bytes
 pub mod Pages
 pub mod Tried
