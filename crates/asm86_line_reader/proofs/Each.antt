@@ -1,10 +1,10 @@
 -- What each element of a list gives.
-use Rattle.std.proofs.Common.{◌≡◌, ℕ, zero, suc, ◌+◌, ◌<◌, List, [], ◌∷◌, ◌++◌, map, take, get_or, length, Option, Some, None, option_map, refl, arith}
+use Rattle.std.proofs.Common.{◌≡◌, ℕ, zero, suc, ◌+◌, ◌<◌, List, [], ◌∷◌, ◌++◌, map, take, get_or, length, Option, Some, None, option_map, option_and_then, refl, arith}
 use Rattle.std.proofs.lemmas.List.{take_more}
-use Rattle.asm86_line_reader.specs.Operands.{then_opt, each}
+use Rattle.asm86_line_reader.specs.Operands.{each}
 
 abbrev pub both : {Y : Type 0} → Option Y → Option (List Y) → Option (List Y)
-both a b = then_opt a (λ y. option_map (λ ys. y ∷ ys) b)
+both {Y} a b = option_and_then (λ (y : Y). option_map (λ ys. y ∷ ys) b) a
 
 pub each_none : {X Y : Type 0} (f : X → Option Y) → each f [] ≡ Some []
 unfolding each

@@ -1,5 +1,5 @@
 -- Each form names the label that it goes to.
-use Rattle.std.proofs.Common.{◌≡◌, ℕ, ◌==◌, List, [], ◌∷◌, Bool, true, false, cond, Option, Some, None, option_map, Ok, refl}
+use Rattle.std.proofs.Common.{◌≡◌, ℕ, ◌==◌, List, [], ◌∷◌, Bool, true, false, cond, Option, Some, None, option_map, option_and_then, Ok, refl}
 use Rattle.std.specs.List.{list_all}
 use Rattle.i86.specs.declared.Reg8.{Reg8}
 use Rattle.i86.specs.declared.Reg8.TheVariants.{Al, Cl}
@@ -21,7 +21,7 @@ use Rattle.asm86_line_reader.specs.Forms as forms
 use Rattle.asm86_line_reader.specs.Forms.{names_labels}
 use Rattle.asm86_lines.specs.declared.line.Label.{Label}
 use Rattle.asm86_line_reader.specs.Line.{LineGives, sensible}
-use Rattle.asm86_line_reader.specs.Operands.{then_opt, each, operands_of}
+use Rattle.asm86_line_reader.specs.Operands.{each, operands_of}
 
 fine : Option Stmt86 → Bool
 fine None = true
@@ -213,7 +213,7 @@ unfolding fine all_fine
 one None h = refl
 one (Some s) h = rw h refl
 
-both : (s : Option Stmt86) (ss : Option (List Stmt86)) → fine s ≡ true → all_fine ss ≡ true → all_fine (then_opt s (λ y. option_map (λ ys. y ∷ ys) ss)) ≡ true
+both : (s : Option Stmt86) (ss : Option (List Stmt86)) → fine s ≡ true → all_fine ss ≡ true → all_fine (option_and_then (λ (y : Stmt86). option_map (λ ys. y ∷ ys) ss) s) ≡ true
 unfolding fine all_fine
 both None ss h k = refl
 both (Some s) None h k = refl
@@ -249,7 +249,7 @@ unfolding all_fine
 body [] = refl
 body (tokens.Operation o ∷ ts) = by_operands o (operands_of ts)
   where
-    by_operands : (o : Operation) (os : Option (List Operand)) → all_fine (then_opt os (forms.formed o)) ≡ true
+    by_operands : (o : Operation) (os : Option (List Operand)) → all_fine (option_and_then (forms.formed o) os) ≡ true
     by_operands o None = refl
     by_operands o (Some os) = formed o os
 body (_ ∷ ts) = refl

@@ -1,7 +1,7 @@
 -- The forms of a statement: an operation with its operands, and the statement that they make (Intel 8086 Family User's Manual,
 -- "Instruction set"; CP/M-86 Programmer's Guide, "Assembler Directives"; the choice of forms is this project's). What is in no row is
 -- no statement. A number may be above 255 here where a byte is needed: `is_small` says where none is.
-use Rattle.std.specs.Prelude.{ℕ, ◌==◌, nat_le, cond, List, [], ◌∷◌, Bool, true, false, Option, Some, None, option_map}
+use Rattle.std.specs.Prelude.{ℕ, ◌==◌, nat_le, cond, List, [], ◌∷◌, Bool, true, false, Option, Some, None, option_map, option_and_then}
 use Rattle.i86.specs.declared.Reg8.{Reg8}
 use Rattle.i86.specs.declared.Reg8.TheVariants.{Al, Cl}
 use Rattle.i86.specs.declared.Reg16.{Reg16}
@@ -27,7 +27,7 @@ use Rattle.asm86_line_reader.specs.declared.token.Token.{Token}
 use Rattle.asm86_line_reader.specs.declared.token.Token.TheVariants as tokens
 use Rattle.asm86_line_reader.specs.declared.token.Operand.{Operand}
 use Rattle.asm86_line_reader.specs.declared.token.Operand.TheVariants.{Reg8 as Byte, Reg16 as Word, Ds, Ss, Number, Label as To, Offset, Mem, DirectByte, DirectWord}
-use Rattle.asm86_line_reader.specs.Operands.{then_opt, each, operands_of}
+use Rattle.asm86_line_reader.specs.Operands.{each, operands_of}
 
 abbrev pub run : Instr86 → Option Stmt86
 run i = Some (Run i)
@@ -66,11 +66,11 @@ stacked Sp = None
 stacked Si = Some StackSi
 
 abbrev pub pushed : Operand → Option Stmt86
-pushed (Word r) = then_opt (stacked r) (λ s. run (Push s))
+pushed (Word r) = option_and_then (λ (s : StackReg). run (Push s)) (stacked r)
 pushed _ = None
 
 abbrev pub popped : Operand → Option Stmt86
-popped (Word r) = then_opt (stacked r) (λ s. run (Pop s))
+popped (Word r) = option_and_then (λ (s : StackReg). run (Pop s)) (stacked r)
 popped _ = None
 
 -- NOT
@@ -289,7 +289,7 @@ formed o os = option_map (λ s. s ∷ []) (single o os)
 -- what follows the label: nothing, or an operation with its operands
 abbrev pub body_of : List Token → Option (List Stmt86)
 body_of [] = Some []
-body_of (tokens.Operation o ∷ ts) = then_opt (operands_of ts) (formed o)
+body_of (tokens.Operation o ∷ ts) = option_and_then (formed o) (operands_of ts)
 body_of _ = None
 
 -- a label, if there is one, has a colon, and is a statement of its own

@@ -1,6 +1,6 @@
 -- The operands that tokens are (CP/M-86 Programmer's Guide, "Operators"; the choice of them is this project's): a register, a number, a
 -- label, `OFFSET label`, `BYTE PTR [BX]`, `BYTE PTR [SI]`, `BYTE PTR .a`, `WORD PTR .a`.
-use Rattle.std.specs.Prelude.{ℕ, List, [], ◌∷◌, Bool, true, false, cond, Option, Some, None, option_map}
+use Rattle.std.specs.Prelude.{ℕ, List, [], ◌∷◌, Bool, true, false, cond, Option, Some, None, option_map, option_and_then}
 use Rattle.std.specs.List.{slice_split}
 use Rattle.i86.specs.declared.Reg16.{Reg16}
 use Rattle.i86.specs.declared.Reg16.TheVariants.{Bx, Si}
@@ -11,10 +11,6 @@ use Rattle.asm86_line_reader.specs.declared.token.Token.{Token}
 use Rattle.asm86_line_reader.specs.declared.token.Token.TheVariants as tokens
 use Rattle.asm86_line_reader.specs.declared.token.Operand.{Operand}
 use Rattle.asm86_line_reader.specs.declared.token.Operand.TheVariants as operands
-
-abbrev pub then_opt : {X Y : Type 0} → Option X → (X → Option Y) → Option Y
-then_opt None f = None
-then_opt (Some x) f = f x
 
 -- a number and nothing more
 abbrev pub number_alone : List Token → Option ℕ
@@ -75,8 +71,8 @@ plain_alone t _ = None
 -- the operand that all of the tokens are
 abbrev pub operand_of : List Token → Option Operand
 operand_of [] = None
-operand_of (tokens.Byte ∷ ts) = then_opt (after_ptr ts) byte_cell
-operand_of (tokens.Word ∷ ts) = then_opt (after_ptr ts) word_cell
+operand_of (tokens.Byte ∷ ts) = option_and_then byte_cell (after_ptr ts)
+operand_of (tokens.Word ∷ ts) = option_and_then word_cell (after_ptr ts)
 operand_of (tokens.Offset ∷ ts) = option_map operands.Offset (label_alone ts)
 operand_of (t ∷ ts) = plain_alone t ts
 
@@ -87,7 +83,7 @@ is_comma _ = false
 -- what each element gives, where each gives something
 unfoldable pub each : {X Y : Type 0} → (X → Option Y) → List X → Option (List Y)
 each f [] = Some []
-each f (x ∷ xs) = then_opt (f x) (λ y. option_map (λ ys. y ∷ ys) (each f xs))
+each {Y} f (x ∷ xs) = option_and_then (λ (y : Y). option_map (λ ys. y ∷ ys) (each f xs)) (f x)
 
 -- the operands that tokens are, with commas between them; no tokens are no operands
 abbrev pub operands_of : List Token → Option (List Operand)

@@ -2,14 +2,14 @@
 use Rattle.std.specs.Prelude.{Bool, ◌&&◌, ◌||◌, not, cond, Option, Some, None, Result, Ok}
 use Rattle.std.specs.List.{find}
 use Rattle.cells.specs.declared.Part.{Part}
-use Rattle.cells.specs.Parts.{Parts, has}
+use Rattle.cells.specs.Parts.{Parts, has, all_parts}
 use Rattle.xlt_pool.specs.Contents.{Contents}
 use Rattle.sym_terms.specs.Trees.{tree_in, IsGiven}
 use Rattle.sym_blocks.specs.declared.reason.Reason.{Reason}
 use Rattle.sym_blocks.specs.declared.reason.Reason.TheVariants.{Actions, Exits}
 use Rattle.sym_blocks.specs.Outcome.{Outcome, part_of}
 use Rattle.sym_blocks.specs.Agree.{agrees, actions_agree, exit_agrees}
-use Rattle.sym_blocks.specs.BlockMatch.{all_parts, kept_reason}
+use Rattle.sym_blocks.specs.BlockMatch.{kept_reason}
 use Rattle.sym_micro.specs.Stands.{trees_of_held, trees_of_actions, HeldIsGiven, ActionsAreGiven}
 use Rattle.sym_micro.specs.Exits.{tree_of_exit, ExitIsGiven}
 use Rattle.sym_run.specs.Outcomes.{OutcomeIds, OutcomeStands, Comes, WorkState}

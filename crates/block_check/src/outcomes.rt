@@ -4,7 +4,7 @@ ghost use Rattle.std.specs.Prelude.{◌≡◌, ◌||◌};
 ghost use Rattle.std.specs.List.{find};
 ghost use Rattle.sym_blocks.specs.Agree.{agrees};
 ghost use Rattle.sym_blocks.specs.Outcome.{part_of};
-ghost use Rattle.sym_blocks.specs.BlockMatch.{all_parts, is_last, is_end, sp_agrees, kept_reason};
+ghost use Rattle.sym_blocks.specs.BlockMatch.{is_last, is_end, sp_agrees, kept_reason};
 ghost use Rattle.sym_micro.specs.Exits.{tree_of_way, tree_of_exit};
 ghost use Rattle.xlt_pool.specs.Contents.{Contents};
 ghost use Rattle.block_check.specs.Kept.{wanted_parts, lost_of};

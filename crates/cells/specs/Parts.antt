@@ -80,6 +80,10 @@ abbrev pub these : List Part → Parts
 these [] = nothing
 these (p ∷ ps) = union (only p) (these ps)
 
+-- the parts in their order
+abbrev pub all_parts : List Part
+all_parts = A ∷ B ∷ C ∷ D ∷ E ∷ H ∷ L ∷ S ∷ Z ∷ Ac ∷ P ∷ Cy ∷ []
+
 -- the set that bits stand for: bit 0 is A, and so on in the order of the parts to bit 11, which is CY
 abbrev pub parts_of_bits : ℕ → Parts
 parts_of_bits n =

@@ -31,18 +31,14 @@ use Rattle.cmd_run.proofs.Told.{told_given, supply_stops}
 use Rattle.cmd_run.proofs.Kept.{kept_counted, lost_by_memory, closes_writes}
 use Rattle.cmd_run.proofs.Disks.{DiskLaw, disk_or_none}
 use Rattle.cmd_run.proofs.Completing80.{OneProgram, OneRefusal, NotBoth, only_run, refused, no_devices}
-use Rattle.xlt_core.specs.declared.translation.Mode.{Mode}
 use Rattle.xlt_core.specs.declared.translation.Mode.TheVariants.{Lean}
 use Rattle.xlt_core.specs.Translation.{IsText, code_size, CodeFits, IsTooLarge}
+use Rattle.xlt_core.proofs.OneText.{OneText}
 use Rattle.cmd_both.specs.Lasts.{EndsBy}
 use Rattle.cmd_both.specs.Loads.{source_of, LeanStops, is_large, no_room, LoadStops, unloaded as Unloaded, no_image, no_memory as MemoryStops}
 use Rattle.cmd_both.specs.Runs.{HasBoth, HasCut, in_first, in_second}
 use Rattle.cmd_both.specs.Gives.{Stops, unloaded, no_memory, no_line, unkept, Gives, ran as GivesRun, unsaid, stopped}
 use Rattle.cmd_both.specs.Completes.{LeanFits, Comes, as_run80, too_large, Completes}
-
--- a program has one lean text
-abbrev pub OneText : Type 0
-OneText = (mode : Mode) (p : Program) (xs ys : List Line86) → IsText mode p xs → IsText mode p ys → xs ≡ ys
 
 module _ (program_is : OneProgram) (refusal_is : OneRefusal) (apart : NotBoth) (disks : DiskLaw) (text_is : OneText) (c : Both) where
   module _ (source : List ℕ) (given : Given) where

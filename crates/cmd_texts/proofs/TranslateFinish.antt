@@ -13,6 +13,7 @@ use Rattle.asm86_lines.specs.declared.line.Line86.{Line86}
 use Rattle.cmd_words.specs.Words.{Translate}
 use Rattle.xlt_core.specs.declared.translation.Mode.{Mode}
 use Rattle.xlt_core.specs.Translation.{IsText, code_size, CodeFits, IsTooLarge}
+use Rattle.xlt_core.proofs.OneText.{OneText}
 use Rattle.i86.specs.Decode.{HasReader}
 use Rattle.sym_same.specs.Same.{Same}
 use Rattle.cmd_reports.specs.declared.stop.Stop.{Stop}
@@ -32,10 +33,6 @@ pub record TextLaw : Type 0 where
   pub assembles : (mode : Mode) (p : Program) (lines : List Line86) → IsProgram p → IsText mode p lines → CodeFits lines → Assembles lines
   pub reader : (mode : Mode) (p : Program) (lines : List Line86) → IsProgram p → IsText mode p lines → CodeFits lines → HasReader (image_of lines).code
   pub same : (mode : Mode) (p : Program) (lines : List Line86) → IsProgram p → IsText mode p lines → CodeFits lines → Same p (image_of lines)
-
--- a program has one text in a mode
-abbrev pub OneText : Type 0
-OneText = (mode : Mode) (p : Program) (xs ys : List Line86) → IsText mode p xs → IsText mode p ys → xs ≡ ys
 
 -- the law of sources
 pub record SourceLaw : Type 0 where

@@ -1,20 +1,20 @@
 -- System calls of the 8080 over plain bytes: what one asks, and what its reply leaves (CP/M 2.2 Operating System Manual, "BDOS
 -- functions"; the ranges are this project's profile). A call changes no cell but those that its reply writes.
-use Rattle.std.specs.Prelude.{ℕ, ◌+◌, ◌/◌, ◌%◌, ◌==◌, true, cond, List, [], ◌∷◌, Some, Result, Ok, Err}
+use Rattle.std.specs.Prelude.{ℕ, ◌+◌, ◌/◌, ◌%◌, ◌==◌, cond, Some, Result, Ok, Err}
 use Rattle.cells.specs.declared.Place.{Place}
 use Rattle.cells.specs.declared.Place.TheVariants.{At, Exit}
 use Rattle.cells.specs.declared.Rule.{Rule}
-use Rattle.dialogue.specs.declared.blocks.Block.{Block}
 use Rattle.dialogue.specs.declared.request.Shape.{Shape}
 use Rattle.dialogue.specs.declared.request.Request.{Request}
 use Rattle.dialogue.specs.declared.request.Reply.{Reply}
 use Rattle.dialogue.specs.declared.request.Event.TheVariants.{Call}
 use Rattle.dialogue.specs.declared.table.AnswerKind.{AnswerKind}
 use Rattle.dialogue.specs.declared.table.AnswerKind.TheVariants.{NoAnswer, ByteAnswer, WordAnswer}
-use Rattle.dialogue.specs.Shape.{Seen, shape_of, request_of}
+use Rattle.dialogue.specs.Shape.{shape_of, request_of}
 use Rattle.dialogue.specs.Fits.{answer_of, dma_after}
+use Rattle.dialogue.specs.Bytes.{put_blocks, seen_by}
 use Rattle.base_runs.specs.Run.{Answer, Asks, Ends, Stops}
-use Rattle.cpu80_bytes.specs.State.{ByteRegs, ByteState, wrap, word_at, put, next, byte_of}
+use Rattle.cpu80_bytes.specs.State.{ByteRegs, ByteState, wrap, word_at, byte_of}
 use Rattle.cpu80_bytes.specs.Flags.{chosen_flags}
 
 -- why the machine stops: no instruction of the program starts at the address that comes next; or a call has no shape, that is,
@@ -22,10 +22,6 @@ use Rattle.cpu80_bytes.specs.Flags.{chosen_flags}
 pub data Stop : Type 0 where
   NoInstruction : Stop
   NoShape : Stop
-
--- 64K of readable and writable cells
-abbrev pub seen_by : (ℕ → ℕ) → Seen
-seen_by mem = record { byte = λ a. Some (mem a); writable = λ a. true }
 
 abbrev pub ask : ByteState → Result Shape Rule → Answer ByteState Stop
 ask u (Err r) = Stops NoShape
@@ -53,15 +49,6 @@ abbrev pub popped_return : ByteState → Return
 popped_return u = record { place = place_of (word_at u.mem u.sp); sp = wrap (u.sp + 2) }
 
 -- after the reply
-
--- a reply's bytes, from an address up
-abbrev pub put_bytes : (ℕ → ℕ) → ℕ → List ℕ → ℕ → ℕ
-put_bytes mem a [] = mem
-put_bytes mem a (b ∷ bs) = put_bytes (put mem a b) (next a) bs
-
-abbrev pub put_blocks : (ℕ → ℕ) → List Block → ℕ → ℕ
-put_blocks mem [] = mem
-put_blocks mem (b ∷ bs) = put_blocks (put_bytes mem b.at b.bytes) bs
 
 -- A is bits 0 to 7 of the choice; BC, DE and HL are the words from bits 16, 32 and 48 up
 abbrev pub chosen_regs : ℕ → ByteRegs

@@ -1,11 +1,12 @@
 -- The state of the 8080 over plain bytes: registers, flags and 64K of memory (Intel 8080 Assembly Language Programming Manual,
 -- chapter 1). A code address is the 8080 address of the instruction.
-use Rattle.std.specs.Prelude.{ℕ, ◌+◌, ◌*◌, ◌/◌, ◌%◌, ◌^◌, ◌==◌, Bool, cond}
+use Rattle.std.specs.Prelude.{ℕ, ◌+◌, ◌*◌, ◌/◌, ◌%◌, ◌^◌, ◌==◌, Bool}
 use Rattle.cells.specs.declared.Place.{Place}
 use Rattle.i80.specs.declared.Reg.{Reg}
 use Rattle.i80.specs.declared.Reg.TheVariants.{A, B, C, D, E, H, L}
 use Rattle.i80.specs.declared.Pair.{Pair}
 use Rattle.i80.specs.declared.Pair.TheVariants.{B as PairB, D as PairD, H as PairH, Sp}
+use Rattle.dialogue.specs.Bytes.{put}
 
 pub record ByteFlags : Type 0 where
   pub s : Bool
@@ -93,9 +94,6 @@ abbrev pub with_cy : ByteState → Bool → ByteState
 with_cy u c = record u { flags = record (u.flags) { cy = c } }
 
 -- memory
-
-abbrev pub put : (ℕ → ℕ) → ℕ → ℕ → ℕ → ℕ
-put mem a v b = cond (b == a) v (mem b)
 
 -- the address of the second byte of a word; that of a word at 0FFFFH is at 0
 abbrev pub next : ℕ → ℕ

@@ -23,6 +23,7 @@ use Rattle.dialogue.specs.Lawful.{IsLawful, IsShapeOver}
 use Rattle.dialogue.proofs.LawfulShapes.{made, made-lawful}
 use Rattle.dialogue.specs.Shape.{shape_of, request_of}
 use Rattle.dialogue.specs.Fits.{answer_fits, answer_in, answer_of, fits_row, fits, fits_event, dma_after}
+use Rattle.dialogue.specs.Bytes.{put, put_bytes, put_blocks, seen_by}
 use Rattle.base_runs.specs.Run.{Answer, Ran, Asks, Ends, Stops}
 use Rattle.asm80_program.specs.Program.{Program, IsProgram}
 use Rattle.cpu80_steps.specs.State.{State80, num_of, wrap as wrap80}
@@ -32,8 +33,8 @@ use Rattle.cells.proofs.SamePlace.{same_place_is}
 use Rattle.cpu80_steps.specs.Call.{Return as Return80, is_just_below, seen_by as seen_by80, ask as ask80, ask_after, call_by, call_system as call_system80, is_place, place_in, popped_return as popped_return80, put_bytes as put_bytes80, put_blocks as put_blocks80, answered as answered80, cells_after, after_reply as after_reply80}
 use Rattle.cpu80_steps.specs.Step.{return_at as return_at80, replied_to as replied_to80, replied80}
 use Rattle.cpu80_steps.proofs.Passing.{place_if_is}
-use Rattle.cpu80_bytes.specs.State.{ByteState, wrap, word, word_at, next, put, byte_of}
-use Rattle.cpu80_bytes.specs.Call.{Stop, seen_by, ask, call_system, Return, place_of, popped_return, put_bytes, put_blocks, chosen_regs, answered, after_reply}
+use Rattle.cpu80_bytes.specs.State.{ByteState, wrap, word, word_at, next, byte_of}
+use Rattle.cpu80_bytes.specs.Call.{Stop, ask, call_system, Return, place_of, popped_return, chosen_regs, answered, after_reply}
 use Rattle.cpu80_bytes.specs.Step.{return_at, replied_to, replied_bytes}
 use Rattle.cpu80_bytes.specs.Start.{address_of}
 use Rattle.cpu80_bytes.specs.Follows.{WritesBytes}

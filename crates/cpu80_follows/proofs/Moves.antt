@@ -6,6 +6,7 @@ use Rattle.cells.specs.declared.Cell.TheVariants.{Num, Lo, Hi, Psw as PswCell, J
 use Rattle.cells.specs.declared.Rule.{Rule}
 use Rattle.cells.specs.declared.Rule.TheVariants.{P2, P4, P8}
 use Rattle.cells.specs.Bits.{has_bit}
+use Rattle.cells.specs.Conditions.{Knows}
 use Rattle.i80.specs.declared.Src.{Src}
 use Rattle.i80.specs.declared.Src.TheVariants.{Reg as InReg, Mem}
 use Rattle.i80.specs.declared.Pair.{Pair}
@@ -13,6 +14,7 @@ use Rattle.i80.specs.declared.Pair.TheVariants.{B as PairB, D as PairD, H as Pai
 use Rattle.i80.specs.declared.StackPair.{StackPair}
 use Rattle.i80.specs.declared.StackPair.TheVariants.{B as StackB, D as StackD, H as StackH, Psw}
 use Rattle.dialogue.specs.Tried.{try_then}
+use Rattle.dialogue.specs.Bytes.{put}
 use Rattle.base_arithmetic.specs.Arithmetic.{as_bit}
 use Rattle.base_arithmetic.specs.Operations.{flags_in}
 use Rattle.base_arithmetic.proofs.Bytes.{tested}
@@ -21,11 +23,11 @@ use Rattle.cpu80_steps.specs.State.{State80, high_of, low_of, with_bc as with_bc
 use Rattle.cpu80_steps.specs.Memory.{is_closed, unless_then, put as put80, address, word_fits, read_at, may_write, write_at, Halves, read_word, write_word}
 use Rattle.cpu80_steps.specs.Effect.{source as source80, into as into80, lda as lda80, sta as sta80, lhld as lhld80, xchg as xchg80, xthl as xthl80, sphl as sphl80, push as push80, push_pair as push_pair80, popped as popped80, pop_pair as pop_pair80}
 use Rattle.cpu80_steps.proofs.Passing.{unless_is, within}
-use Rattle.cpu80_bytes.specs.State.{ByteState, pair_word, with_bc, with_de, with_hl, with_word, with_a, wrap, put, next, put_word, bit_of}
+use Rattle.cpu80_bytes.specs.State.{ByteState, pair_word, with_bc, with_de, with_hl, with_word, with_a, wrap, next, put_word, bit_of}
 use Rattle.cpu80_bytes.specs.Flags.{flag_byte, flags_in_byte}
 use Rattle.cpu80_bytes.specs.Effect.{source, into, store, lda, lhld, shld, xchg, xthl, push, push_pair, popped, pop_pair}
 use Rattle.dialogue.proofs.Tried.{ok_is, then_is}
-use Rattle.cpu80_follows.proofs.Stands.{Knows, Stands, FlagsStand, StatesStand, reg_stands, set_stands, put_stands, sets_regs, sets_flags, sets_cells, sets_sp, number, word_is, word_small}
+use Rattle.cpu80_follows.proofs.Stands.{Stands, FlagsStand, StatesStand, reg_stands, set_stands, put_stands, sets_regs, sets_flags, sets_cells, sets_sp, number, word_is, word_small}
 
 next_is : (n : ℕ) (x : Bool) → n < 0x10000 → word_fits n ≡ Ok x → n + 1 ≡ next n
 next_is n x lt e = let h = within n lt (unless_is (n == 0xFFFF) P4 x e) in omega (arith, h)

@@ -1,33 +1,21 @@
 -- When bytes stand for what the tagged machine knows: a number is the byte; the halves of a place are those of its address, EXIT
 -- being 0; a flag byte has the flags that are known; of all else any byte may stand.
-use Rattle.std.proofs.Common.{◌≡◌, ℕ, ◌+◌, ◌*◌, ◌/◌, ◌%◌, ◌<◌, ◌==◌, Bool, true, false, cond, Option, Some, None, Ok, refl, ap, ◌∙◌, arith}
+use Rattle.std.proofs.Common.{◌≡◌, ℕ, ◌+◌, ◌*◌, ◌/◌, ◌%◌, ◌<◌, ◌==◌, Bool, true, false, cond, Ok, refl, ap, ◌∙◌, arith}
 use Rattle.cells.specs.declared.Place.{Place}
 use Rattle.cells.specs.declared.Flags.{Flags}
 use Rattle.cells.specs.declared.Cell.{Cell}
 use Rattle.cells.specs.declared.Cell.TheVariants.{Num, Lo, Hi, Psw, Junk}
 use Rattle.cells.specs.declared.Rule.{Rule}
-use Rattle.cells.specs.Bits.{has_bit}
+use Rattle.cells.specs.Conditions.{Knows, KnowsBits}
 use Rattle.i80.specs.declared.Reg.{Reg}
 use Rattle.i80.specs.declared.Reg.TheVariants.{A, B, C, D, E, H, L}
 use Rattle.dialogue.proofs.Tried.{ok_is, err_is_not, then_is}
 use Rattle.dialogue.specs.Tried.{try_then}
+use Rattle.dialogue.specs.Bytes.{put}
 use Rattle.cpu80_steps.specs.State.{Regs80, State80, reg80, with_reg80, num_or}
 use Rattle.cpu80_steps.specs.Memory.{put as put80}
-use Rattle.cpu80_bytes.specs.State.{ByteFlags, ByteRegs, ByteState, reg, with_reg, put}
+use Rattle.cpu80_bytes.specs.State.{ByteFlags, ByteRegs, ByteState, reg, with_reg}
 use Rattle.cpu80_bytes.specs.Start.{address_of}
-
--- a flag that is known has this value
-abbrev pub Knows : Option Bool → Bool → Type 0
-Knows None b = Unit {0}
-Knows (Some v) b = b ≡ v
-
--- a byte has the flags that are known in bits 7 6 4 2 and 0
-pub record KnowsBits (f : Flags) (b : ℕ) : Type 0 where
-  pub s : Knows f.s (has_bit b 7)
-  pub z : Knows f.z (has_bit b 6)
-  pub ac : Knows f.ac (has_bit b 4)
-  pub p : Knows f.p (has_bit b 2)
-  pub cy : Knows f.cy (has_bit b 0)
 
 abbrev pub Means : Cell → ℕ → Type 0
 Means (Num n) b = b ≡ n

@@ -22,7 +22,7 @@ use Rattle.asm80_program.specs.Program.{Program, IsProgram, instr_at, is_start}
 use Rattle.cpu80_steps.specs.State.{State80, wrap as wrap80, num_or, with_a as with_a80}
 use Rattle.cpu80_steps.specs.Effect.{effect as effect80, push as push80}
 use Rattle.cpu80_steps.specs.Call.{Return as Return80, call_system as call_system80, place_if, place_in, popped_return as popped_return80, return_after as return_after80}
-use Rattle.cells.specs.Conditions.{is_clear, holds as holds80}
+use Rattle.cells.specs.Conditions.{Knows, is_clear, holds as holds80}
 use Rattle.cpu80_steps.specs.Step.{go_to as go_to80, go_on, leave_to as leave_to80, go_by, go_back, jump as jump80, enter, call as call80, where_holds, ask_event, ask_port, sent, act as act80, act_at as act_at80, step_at as step_at80, step80, return_of as return_of80, return_at as return_at80, replied_to as replied_to80}
 use Rattle.cpu80_bytes.specs.State.{ByteFlags, ByteState, pair_word, wrap, with_a, word_at}
 use Rattle.cpu80_bytes.specs.Flags.{holds}
@@ -31,7 +31,7 @@ use Rattle.cpu80_bytes.specs.Call.{Stop, call_system, popped_return}
 use Rattle.cpu80_bytes.specs.Step.{go_to, leave_to, ret, jump, call, act, after, act_at, step_at, step_bytes, return_of, return_at, replied_to, replied_bytes}
 use Rattle.sym_calls.specs.Sight.{WhoSeesMoreAsksTheSame}
 use Rattle.dialogue.proofs.Tried.{ok_is, err_is_not, then_is}
-use Rattle.cpu80_follows.proofs.Stands.{Knows, FlagsStand, StatesStand, sets_sp, sets_place, number, number_is}
+use Rattle.cpu80_follows.proofs.Stands.{FlagsStand, StatesStand, sets_sp, sets_place, number, number_is}
 use Rattle.cpu80_follows.proofs.Moves.{sets_a, high_of_place, low_of_place, push_stands}
 use Rattle.asm80_program.proofs.Standing.{IsPlaced, is_placed, start_range}
 use Rattle.cpu80_follows.proofs.Rows.{effects_stand}

@@ -6,6 +6,7 @@ use Rattle.cells.specs.declared.Flags.{Flags}
 use Rattle.cells.specs.declared.Cell.{Cell}
 use Rattle.cells.specs.declared.Cell.TheVariants.{Num}
 use Rattle.cells.specs.declared.Rule.TheVariants.{P5, P6, P7}
+use Rattle.cells.specs.Conditions.{Knows}
 use Rattle.i80.specs.declared.Reg.TheVariants.{A}
 use Rattle.i80.specs.declared.Src.{Src}
 use Rattle.i80.specs.declared.Src.TheVariants.{Reg as InReg, Mem}
@@ -25,7 +26,7 @@ use Rattle.cpu80_bytes.specs.State.{ByteState, reg, wrap, pair_word, with_word, 
 use Rattle.cpu80_bytes.specs.Flags.{settled, chosen_flags}
 use Rattle.cpu80_bytes.specs.Effect.{source, into, carry_for, a_after, computed, alu, counted_up, counted_down, inr, dcr, add_to_pair, added, dad, adjusted, daa, turned}
 use Rattle.dialogue.proofs.Tried.{ok_is, then_is, err_is_not}
-use Rattle.cpu80_follows.proofs.Stands.{Knows, Stands, FlagsStand, StatesStand, reg_stands, sets_flags, number, number_is}
+use Rattle.cpu80_follows.proofs.Stands.{Stands, FlagsStand, StatesStand, reg_stands, sets_flags, number, number_is}
 use Rattle.cpu80_follows.proofs.Moves.{bit_small, reads, address_is, pair_is, sets_a, sets_word, source_stands, into_stands}
 
 -- flags

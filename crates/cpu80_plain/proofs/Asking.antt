@@ -7,9 +7,10 @@ use Rattle.cells.specs.declared.Rule.{Rule}
 use Rattle.dialogue.specs.declared.request.Shape.{Shape}
 use Rattle.dialogue.specs.declared.request.Event.TheVariants.{Call}
 use Rattle.dialogue.specs.Shape.{request_of}
+use Rattle.dialogue.specs.Bytes.{seen_by}
 use Rattle.base_runs.specs.Run.{Ends, Stops}
 use Rattle.cpu80_bytes.specs.State.{ByteState}
-use Rattle.cpu80_bytes.specs.Call.{NoShape, seen_by, ask, shape_in, call_system}
+use Rattle.cpu80_bytes.specs.Call.{NoShape, ask, shape_in, call_system}
 use Rattle.cpu80_plain.specs.declared.plain.StepPlain.TheVariants.{Asked, Stopped}
 use Rattle.cpu80_plain.specs.declared.plain.Pending.TheVariants.{Answer}
 use Rattle.cpu80_plain.specs.declared.system.Return.{Return}

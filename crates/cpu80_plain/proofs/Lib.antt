@@ -1,4 +1,3 @@
-mod Writes
 mod Asking
 mod Starts
 mod Called

@@ -3,7 +3,7 @@ use Rattle.std.specs.Prelude.{◌≡◌, ℕ, Bool, true, false, cond, Option, S
 use Rattle.dialogue.specs.declared.request.Event.{Event}
 use Rattle.dialogue.specs.declared.request.Event.TheVariants.{Call, In, Out, End}
 use Rattle.dialogue.specs.declared.request.Reply.{Reply}
-use Rattle.dialogue.specs.Fits.{fits_event}
+use Rattle.dialogue.specs.Fits.{fits_event, waits_in}
 use Rattle.base_runs.specs.Run.{Answer, Ran, Asks, Ends, Stops}
 use Rattle.asm80_program.specs.Program.{Program}
 use Rattle.cpu80_bytes.specs.State.{ByteState}
@@ -13,7 +13,7 @@ use Rattle.cpu80_plain.specs.declared.plain.StepPlain.{StepPlain}
 use Rattle.cpu80_plain.specs.declared.plain.StepPlain.TheVariants.{Ran as DidRun, Asked, Ended, Stopped}
 use Rattle.cpu80_plain.specs.declared.plain.Plain80.{Plain80}
 use Rattle.cpu80_plain.specs.State.{state_of}
-use Rattle.cpu80_plain.specs.Standing.{Standing, waits_in, Keeps}
+use Rattle.cpu80_plain.specs.Standing.{Standing, Keeps}
 
 -- one step: what is answered, and how the machine stands after it. A stop changes nothing
 abbrev pub settled : ByteState → Answer ByteState Stop → StepPlain × Standing

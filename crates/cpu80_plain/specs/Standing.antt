@@ -6,8 +6,9 @@ use Rattle.cells.specs.declared.Place.TheVariants.{At}
 use Rattle.i80.specs.declared.Instr80.{Instr80}
 use Rattle.i80.specs.declared.Instr80.TheVariants.{Jmp, Jif}
 use Rattle.dialogue.specs.Shape.{request_of}
+use Rattle.dialogue.specs.Bytes.{seen_by}
 use Rattle.cpu80_bytes.specs.State.{ByteState}
-use Rattle.cpu80_bytes.specs.Call.{Return, seen_by, popped_return}
+use Rattle.cpu80_bytes.specs.Call.{Return, popped_return}
 use Rattle.cpu80_plain.specs.State.{state_of}
 use Rattle.cpu80_plain.specs.Back.{back_of}
 use Rattle.cpu80_plain.specs.declared.plain.Pending.{Pending}
@@ -29,14 +30,6 @@ said_by Ending mem = Some End
 
 abbrev pub standing : Plain80 → Standing
 standing c = record { state = state_of c.processor; said = said_by c.pending (state_of c.processor).mem }
-
--- the event that waits for its reply: the end waits for none
-abbrev pub waits_in : Option Event → Option Event
-waits_in None = None
-waits_in (Some (Call q)) = Some (Call q)
-waits_in (Some (In port)) = Some (In port)
-waits_in (Some (Out port byte)) = Some (Out port byte)
-waits_in (Some End) = None
 
 -- where the machine asks, it keeps the return that is expected, and the state `t` is still the state `s`
 abbrev pub Keeps : Option Return → ByteState → ByteState → Pending → Type 0

@@ -12,8 +12,8 @@ pub struct Memory {
 }
 
 impl Memory {
-    ghost use Rattle.cpu80_bytes.specs.State.{put, word_at, put_word};
-    ghost use Rattle.cpu80_bytes.specs.Call.{put_bytes, put_blocks};
+    ghost use Rattle.dialogue.specs.Bytes.{put, put_bytes, put_blocks};
+    ghost use Rattle.cpu80_bytes.specs.State.{word_at, put_word};
     ghost use Rattle.cpu80_plain.specs.State.{mem_of};
 
     /// The byte at an address.

@@ -53,10 +53,11 @@ pub struct Plain80 {
 
 impl Plain80 {
     ghost use Rattle.std.specs.Prelude.{ℕ, None, Some, IfOk, IfSome};
+    ghost use Rattle.dialogue.specs.Fits.{waits_in};
     ghost use Rattle.dialogue.specs.Lawful.{IsLawfulEvent};
     ghost use Rattle.asm80_program.specs.Program.{Program};
     ghost use Rattle.cpu80_bytes.specs.Start.{start_bytes};
-    ghost use Rattle.cpu80_plain.specs.Standing.{standing, waits_in};
+    ghost use Rattle.cpu80_plain.specs.Standing.{standing};
     ghost use Rattle.cpu80_plain.specs.Calls.{stepped, replied, IsOpen, IsMachineOf};
 
     /// The machine as a program begins: at 100H, with SP at T-2. Memory is the fill, which has a byte for each of the 65,536

@@ -4,14 +4,14 @@ use Rattle.i86.specs.declared.Instr86.{Instr86}
 use Rattle.dialogue.specs.declared.request.Event.{Event}
 use Rattle.dialogue.specs.declared.request.Event.TheVariants.{Call, In, Out, End}
 use Rattle.dialogue.specs.declared.request.Reply.{Reply}
-use Rattle.dialogue.specs.Fits.{fits_event}
+use Rattle.dialogue.specs.Fits.{fits_event, waits_in}
 use Rattle.base_runs.specs.Run.{Answer, Ran, Asks, Ends, Stops}
 use Rattle.cpu86_steps.specs.State.{State86}
 use Rattle.cpu86_steps.specs.Call.{Stop, NoInstruction, StackSegment, OddCall, replied86}
 use Rattle.cpu86_steps.specs.Step.{step86}
 use Rattle.cpu86.specs.declared.cpu.Step86.{Step86}
 use Rattle.cpu86.specs.declared.cpu.Step86.TheVariants.{Ran as DidRun, Asked, Ended, NoInstruction as HasNone, StackSegment as HasSegment, OddCall as HasOdd}
-use Rattle.cpu86.specs.Standing.{Standing, waits_in}
+use Rattle.cpu86.specs.Standing.{Standing}
 
 abbrev pub stop_of : Stop → Step86
 stop_of (NoInstruction ip) = HasNone ip

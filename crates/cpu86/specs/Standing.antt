@@ -3,8 +3,8 @@ use Rattle.std.specs.Prelude.{ℕ, List, Option, Some, None}
 use Rattle.dialogue.specs.declared.request.Event.{Event}
 use Rattle.dialogue.specs.declared.request.Event.TheVariants.{Call, In, Out, End}
 use Rattle.dialogue.specs.Shape.{request_of}
+use Rattle.dialogue.specs.Bytes.{seen_by}
 use Rattle.cpu86_steps.specs.State.{State86}
-use Rattle.cpu86_steps.specs.Call.{seen_by}
 use Rattle.cpu86_effects.specs.State.{state_of}
 use Rattle.cpu86.specs.declared.cpu.Pending.{Pending}
 use Rattle.cpu86.specs.declared.cpu.Pending.TheVariants.{Nothing, Answer, Byte, Taking, Ending}
@@ -28,11 +28,3 @@ standing c = record { state = state_of c.processor; said = said_by c.pending (st
 
 abbrev pub code_of : Cpu86 → List ℕ
 code_of c = c.code.items
-
--- the event that waits for its reply: the end waits for none
-abbrev pub waits_in : Option Event → Option Event
-waits_in None = None
-waits_in (Some (Call q)) = Some (Call q)
-waits_in (Some (In port)) = Some (In port)
-waits_in (Some (Out port byte)) = Some (Out port byte)
-waits_in (Some End) = None

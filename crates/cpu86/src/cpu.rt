@@ -61,6 +61,7 @@ pub struct Cpu86 {
 
 impl Cpu86 {
     ghost use Rattle.std.specs.Prelude.{None, IfOk, IfSome, Bool, ◌&&◌, ◌==◌, not};
+    ghost use Rattle.dialogue.specs.Fits.{waits_in};
     ghost use Rattle.dialogue.specs.Lawful.{IsLawfulEvent};
     ghost use Rattle.i86.specs.declared.Instr86.{Instr86};
     ghost use Rattle.i86.specs.Code.{Reads};
@@ -68,7 +69,7 @@ impl Cpu86 {
     ghost use Rattle.cpu86_steps.specs.Step.{step86, act_from};
     ghost use Rattle.cpu86_steps.specs.Start.{start86};
     ghost use Rattle.cpu86.specs.Starts.{start_of};
-    ghost use Rattle.cpu86.specs.Standing.{standing, code_of, waits_in};
+    ghost use Rattle.cpu86.specs.Standing.{standing, code_of};
     ghost use Rattle.cpu86.specs.Calls.{settled, stepped, replied, IsOpen, IsTold, IsTaken};
 
     /// The machine at the start of an image, of which it keeps a copy of the code. Memory is the fill, which has a byte for each

@@ -6,9 +6,10 @@ use Rattle.cells.specs.declared.Rule.{Rule}
 use Rattle.dialogue.specs.declared.request.Shape.{Shape}
 use Rattle.dialogue.specs.declared.request.Event.TheVariants.{Call}
 use Rattle.dialogue.specs.Shape.{shape_of, request_of}
+use Rattle.dialogue.specs.Bytes.{put_bytes, seen_by}
 use Rattle.base_runs.specs.Run.{Asks, Ends, Stops}
-use Rattle.cpu86_steps.specs.State.{State86, back, put_bytes}
-use Rattle.cpu86_steps.specs.Call.{OddCall, seen_by, ask, call_system, spoiled}
+use Rattle.cpu86_steps.specs.State.{State86, back}
+use Rattle.cpu86_steps.specs.Call.{OddCall, ask, call_system, spoiled}
 use Rattle.cpu86_effects.specs.State.{with_mem}
 use Rattle.cpu86_effects.specs.System.{six_at, IsAsked}
 use Rattle.cpu86_effects.proofs.Writes.{put_back_six}

@@ -1,26 +1,12 @@
 -- Bytes written one after another.
-use Rattle.std.proofs.Common.{◌≡◌, ℕ, ◌+◌, ◌%◌, ◌<◌, ◌==◌, Bool, true, false, cond, List, [], ◌∷◌, length, get_or, drop, refl, sym, ap, ◌∙◌, arith}
+use Rattle.std.proofs.Common.{◌≡◌, ℕ, ◌+◌, ◌<◌, ◌==◌, Bool, true, false, cond, List, [], ◌∷◌, length, get_or, drop, refl, sym, ap, ◌∙◌, arith}
 use mathlib.Core.Path.{fun_ext}
 use Rattle.std.proofs.lemmas.Bool.Decides.{nat_tests}
 use Rattle.std.proofs.lemmas.List.{drop_more}
-use Rattle.dialogue.specs.declared.blocks.Block.{Block}
-use Rattle.cpu86_steps.specs.State.{wrap, put, put_bytes}
-use Rattle.cpu86_steps.specs.Call.{put_blocks}
+use Rattle.dialogue.specs.Bytes.{put, put_bytes}
+use Rattle.cpu86_steps.specs.State.{wrap}
 use Rattle.cpu86_steps.specs.Start.{put_cells}
 use Rattle.cpu86_effects.specs.System.{six_at}
-
--- one more byte
-pub put_bytes_more : (m m' : ℕ → ℕ) (bs : List ℕ) (at i : ℕ) → i < length bs → m' ≡ put m at (get_or bs i 0) → put_bytes m' ((at + 1) % 0x10000) (drop (i + 1) bs) ≡ put_bytes m at (drop i bs)
-put_bytes_more m m' bs at i h e =
-    ap (λ w. put_bytes w ((at + 1) % 0x10000) (drop (i + 1) bs)) e
-    ∙ ap (put_bytes m at) (sym (drop_more bs i 0 h))
-
--- one more block
-pub put_blocks_more : (m m' : ℕ → ℕ) (bs : List Block) (i : ℕ) (b : Block) → i < length bs → b ≡ get_or bs i b → m' ≡ put_bytes m b.at b.bytes → put_blocks m' (drop (i + 1) bs) ≡ put_blocks m (drop i bs)
-put_blocks_more m m' bs i b h e f =
-    ap (λ w. put_blocks w (drop (i + 1) bs)) f
-    ∙ ap (λ (x : Block). put_blocks (put_bytes m x.at x.bytes) (drop (i + 1) bs)) e
-    ∙ ap (put_blocks m) (sym (drop_more bs i b h))
 
 -- one more cell
 pub put_cells_more : (m m' : ℕ → ℕ) (cs : List (ℕ × ℕ)) (i : ℕ) (d : ℕ × ℕ) → i < length cs → m' ≡ put m (get_or cs i d).0 (get_or cs i d).1 → put_cells m' (drop (i + 1) cs) ≡ put_cells m (drop i cs)

@@ -1,7 +1,6 @@
 -- INT 224, the call of the system: what it spoils and asks, and what a reply leaves (CP/M-86 System Guide, "BDOS calls").
-use Rattle.std.specs.Prelude.{ℕ, ◌/◌, ◌%◌, ◌==◌, true, cond, List, [], ◌∷◌, Some, Result, Ok, Err}
+use Rattle.std.specs.Prelude.{ℕ, ◌/◌, ◌%◌, ◌==◌, cond, List, [], ◌∷◌, Some, Result, Ok, Err}
 use Rattle.cells.specs.declared.Rule.{Rule}
-use Rattle.dialogue.specs.declared.blocks.Block.{Block}
 use Rattle.dialogue.specs.declared.request.Shape.{Shape}
 use Rattle.dialogue.specs.declared.request.Request.{Request}
 use Rattle.dialogue.specs.declared.request.Reply.{Reply}
@@ -9,10 +8,11 @@ use Rattle.dialogue.specs.declared.request.Event.{Event}
 use Rattle.dialogue.specs.declared.request.Event.TheVariants.{Call, In, Out, End}
 use Rattle.dialogue.specs.declared.table.AnswerKind.{AnswerKind}
 use Rattle.dialogue.specs.declared.table.AnswerKind.TheVariants.{NoAnswer, ByteAnswer, WordAnswer}
-use Rattle.dialogue.specs.Shape.{Seen, shape_of, request_of}
+use Rattle.dialogue.specs.Shape.{shape_of, request_of}
 use Rattle.dialogue.specs.Fits.{answer_of, dma_after}
+use Rattle.dialogue.specs.Bytes.{put_bytes, put_blocks, seen_by}
 use Rattle.base_runs.specs.Run.{Answer, Asks, Ends, Stops}
-use Rattle.cpu86_steps.specs.State.{Regs86, State86, word, back, put_bytes, byte_of}
+use Rattle.cpu86_steps.specs.State.{Regs86, State86, word, back, byte_of}
 use Rattle.cpu86_steps.specs.Flags.{chosen_flags}
 
 -- why the machine stops: no instruction stands at ip, the stack is not in the data segment, or a call that the profile lacks
@@ -28,10 +28,6 @@ chosen_six c = byte_of c 0 ∷ (byte_of c 8 ∷ (byte_of c 16 ∷ (byte_of c 24 
 unfoldable pub spoiled : (ℕ → ℕ) → ℕ → ℕ → ℕ → ℕ
 spoiled mem sp c = put_bytes mem (back sp 6) (chosen_six c)
 
--- 64K of readable and writable cells
-abbrev pub seen_by : (ℕ → ℕ) → Seen
-seen_by mem = record { byte = λ a. Some (mem a); writable = λ a. true }
-
 abbrev pub ask : State86 → Result Shape Rule → Answer State86 Stop
 ask s (Err r) = Stops (OddCall s.regs.cl)
 ask s (Ok shape) = Asks (Call (request_of shape (seen_by s.mem))) s
@@ -46,11 +42,6 @@ call_system s choice =
     cond (s.regs.cl == 0)
     (cond (s.regs.dl == 0) Ends (Stops (OddCall 0)))
     (ask_system (record s { mem = spoiled s.mem s.sp choice }))
-
--- what a reply writes
-abbrev pub put_blocks : (ℕ → ℕ) → List Block → ℕ → ℕ
-put_blocks mem [] = mem
-put_blocks mem (b ∷ bs) = put_blocks (put_bytes mem b.at b.bytes) bs
 
 -- AX, CX, DX and BX are bits 0 to 63 of the choice
 abbrev pub chosen_regs : ℕ → Regs86

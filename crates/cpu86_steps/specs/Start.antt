@@ -2,9 +2,10 @@
 use Rattle.std.specs.Prelude.{◌≢◌, ℕ, ◌-◌, ◌/◌, ◌%◌, ◌^◌, ◌<◌, ◌&&◌, nat_lt, nat_le, cond, List, [], ◌∷◌, All, Option, slice_index}
 use Rattle.i86.specs.declared.Instr86.{Instr86}
 use Rattle.dialogue.specs.declared.request.Reply.{Reply}
+use Rattle.dialogue.specs.Bytes.{put}
 use Rattle.asm86_lines.specs.Image.{Image}
 use Rattle.base_runs.specs.Run.{Run, turns, start_run}
-use Rattle.cpu86_steps.specs.State.{State86, put}
+use Rattle.cpu86_steps.specs.State.{State86}
 use Rattle.cpu86_steps.specs.Call.{Stop}
 use Rattle.cpu86_steps.specs.Flags.{chosen_flags}
 use Rattle.cpu86_steps.specs.Step.{machine86}

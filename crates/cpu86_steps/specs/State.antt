@@ -1,5 +1,5 @@
 -- The state of the 8086: registers, segments, flags and 64K of memory (Intel 8086 Family User's Manual, "Registers").
-use Rattle.std.specs.Prelude.{ℕ, ◌+◌, ◌-◌, ◌*◌, ◌/◌, ◌%◌, ◌^◌, ◌==◌, Bool, cond, List, [], ◌∷◌}
+use Rattle.std.specs.Prelude.{ℕ, ◌+◌, ◌-◌, ◌*◌, ◌/◌, ◌%◌, ◌^◌, ◌==◌, Bool}
 use Rattle.i86.specs.declared.Reg8.{Reg8}
 use Rattle.i86.specs.declared.Reg8.TheVariants.{Al, Cl, Dl, Bl, Ah, Ch, Dh, Bh}
 use Rattle.i86.specs.declared.Reg16.{Reg16}
@@ -10,6 +10,7 @@ use Rattle.i86.specs.declared.Operand8.{Operand8}
 use Rattle.i86.specs.declared.Operand8.TheVariants.{Reg, Mem}
 use Rattle.i86.specs.declared.Operand16.{Operand16}
 use Rattle.i86.specs.declared.Operand16.TheVariants.{Reg as Reg_16, Direct}
+use Rattle.dialogue.specs.Bytes.{put}
 
 pub record Flags86 : Type 0 where
   pub sf : Bool
@@ -88,20 +89,12 @@ wrap w = w % 0x10000
 abbrev pub back : ℕ → ℕ → ℕ
 back w k = wrap (w + (0x10000 - k))
 
-abbrev pub put : (ℕ → ℕ) → ℕ → ℕ → ℕ → ℕ
-put mem a v b = cond (b == a) v (mem b)
-
 -- a word in memory, low byte first; the second byte of one at 0FFFFH is at 0
 abbrev pub word_at : (ℕ → ℕ) → ℕ → ℕ
 word_at mem a = word (mem (wrap (a + 1))) (mem a)
 
 abbrev pub put_word : (ℕ → ℕ) → ℕ → ℕ → ℕ → ℕ
 put_word mem a w = put (put mem a (w % 256)) (wrap (a + 1)) (w / 256)
-
--- bytes from an address up
-abbrev pub put_bytes : (ℕ → ℕ) → ℕ → List ℕ → ℕ → ℕ
-put_bytes mem a [] = mem
-put_bytes mem a (b ∷ bs) = put_bytes (put mem a b) (wrap (a + 1)) bs
 
 -- the address in BX or SI
 abbrev pub pointed : State86 → Ptr → ℕ

@@ -78,6 +78,14 @@ fits_event (In port) reply = nat_lt reply.answer 256 && writes_nothing reply.wri
 fits_event (Out port byte) reply = (reply.answer == 0) && writes_nothing reply.writes
 fits_event End reply = false
 
+-- the event that waits for its reply: the end waits for none
+abbrev pub waits_in : Option Event → Option Event
+waits_in None = None
+waits_in (Some (Call request)) = Some (Call request)
+waits_in (Some (In port)) = Some (In port)
+waits_in (Some (Out port byte)) = Some (Out port byte)
+waits_in (Some End) = None
+
 -- the DMA address after a call: function 26 sets it, function 13 sets it to 80H
 abbrev pub dma_after : Request → ℕ → ℕ
 dma_after request dma =

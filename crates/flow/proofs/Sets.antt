@@ -1,10 +1,10 @@
 -- Sets of parts, by their members.
-use Rattle.std.proofs.Common.{◌≡◌, ◌≢◌, ℕ, ◌+◌, ◌<◌, ◌≤◌, Bool, true, false, ◌||◌, ◌&&◌, List, [], ◌∷◌, get_or, drop, refl, sym, ap, ◌∙◌, ⊎_elim, arith}
+use Rattle.std.proofs.Common.{◌≡◌, ◌≢◌, ℕ, ◌+◌, ◌<◌, ◌≤◌, Bool, true, false, ◌||◌, ◌&&◌, List, ◌∷◌, get_or, drop, refl, sym, ap, ◌∙◌, ⊎_elim, arith}
 use Rattle.std.proofs.lemmas.List.{drop_more}
 use Rattle.std.proofs.lemmas.Bool.{false≢true, cases_lt}
 use Rattle.cells.specs.declared.Part.{Part}
 use Rattle.cells.specs.declared.Part.TheVariants.{A, B, C, D, E, H, L, S, Z, Ac, P, Cy}
-use Rattle.cells.specs.Parts.{Parts, nothing, only, has, these, weight}
+use Rattle.cells.specs.Parts.{Parts, nothing, only, has, these, weight, all_parts}
 use Rattle.cells.proofs.Unions.{has_union}
 use Rattle.flow.specs.Search.{size, is_left}
 
@@ -174,9 +174,6 @@ left-more x q left left' k m qs is =
     ap (λ a. a || (has (these qs) x && is_left k m x)) is
     ∙ sym (spread (has left x) (has (only q) x) (has (these qs) x) (is_left k m x))
     ∙ sym (ap (λ b. has left x || (b && is_left k m x)) (has_union (only q) (these qs) x))
-
-abbrev pub all_parts : List Part
-all_parts = A ∷ B ∷ C ∷ D ∷ E ∷ H ∷ L ∷ S ∷ Z ∷ Ac ∷ P ∷ Cy ∷ []
 
 pub left-step : (x : Part) (left left' k m : Parts) (d : Part) (i : ℕ) (t : Bool) → i < 12 → has left' x ≡ (has left x || (has (only (get_or all_parts i d)) x && is_left k m x)) → left_of x left k m (drop i all_parts) ≡ t → left_of x left' k m (drop (i + 1) all_parts) ≡ t
 left-step x left left' k m d i t lt is before =

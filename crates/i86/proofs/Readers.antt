@@ -1,5 +1,5 @@
 -- What is decoded at a place is what stands there, and nothing else stands there.
-use Rattle.std.proofs.Common.{◌≡◌, ℕ, zero, suc, ◌+◌, ◌*◌, ◌/◌, ◌%◌, ◌<◌, ◌==◌, Bool, true, false, cond, List, [], ◌∷◌, length, get_or, Option, Some, None, option_map, slice_get, refl, sym, ap, ◌∙◌, subst, lit<, arith}
+use Rattle.std.proofs.Common.{◌≡◌, ℕ, zero, suc, ◌+◌, ◌*◌, ◌/◌, ◌%◌, ◌<◌, ◌==◌, Bool, true, false, cond, List, [], ◌∷◌, length, get_or, Option, Some, None, option_map, option_and_then, slice_get, refl, sym, ap, ◌∙◌, subst, lit<, arith}
 use Rattle.std.specs.Prelude.{All}
 use Rattle.std.proofs.lemmas.Option.{get_or_from_slice_get}
 use Rattle.std.proofs.lemmas.Bool.{eqb-true}
@@ -24,7 +24,7 @@ use Rattle.i86.specs.declared.decoding.Form.TheVariants.{Alone, Fixed, Byte, Wor
 use Rattle.i86.specs.Enc86.{code8, code16, reg_of_stack, code_of_ptr, code_of_alu, code_of_count, code_of_rotate, two, one, with_operand, word_then, enc86}
 use Rattle.i86.specs.Code.{HasBytes, Reads}
 use Rattle.i86.specs.Decode.{IsOnlyReader, HasOneReader, IsDecodedAt}
-use Rattle.i86.specs.Decoder.{look, then_opt, regs8, regs16, counts, rotates, reg8_at, reg16_at, ptr_at, operand8_at, direct_at, operand16_at, or_cl_cl, of_two, with_fields, with_byte, with_word, word_from, form_of, by_form, by_first, decoded}
+use Rattle.i86.specs.Decoder.{look, regs8, regs16, counts, rotates, reg8_at, reg16_at, ptr_at, operand8_at, direct_at, operand16_at, or_cl_cl, of_two, with_fields, with_byte, with_word, word_from, form_of, by_form, by_first, decoded}
 use Rattle.i86.proofs.Tables.{code_of_reg8, code_of_reg16, code_of_found_count, code_of_found_rotate, reg8_found, reg16_found, ptr_found, count_found, rotate_found, code8_small, code16_small, ptr_small, count_small, rotate_small, byte_opcode, word_opcode, fields_opcode, byte_form, word_form, fields_form, count_form, push_form, pop_form, Says, form_says}
 use Rattle.i86.proofs.Operands.{fields, mode_of, reg_of, rm_of, parts, if_then, of_map, of_both, both_found, reg8_at_is, reg16_at_is, ptr_at_is, direct_at_is, operand8_at_is, Names, operand16_at_is, mode_of_operand, rm_of_operand, operand8_fields, operand8_mode_small, operand8_rm_small, operand8_found}
 
@@ -86,7 +86,7 @@ module _ (code : List ℕ) (at : ℕ) where
   at_word f w h = at_form (word_opcode f) (Word f) (word_form f) h.0 ∙ ap (option_map (with_word f)) (word_there x y w h.1.0 (sym third ∙ h.1.1.0))
 
   at_fixed : (b c : ℕ) (i : Instr86) → form_of b ≡ Some (Fixed c i) → HasBytes code at (b ∷ (c ∷ [])) → decoded code at ≡ Some i
-  at_fixed b c i e h = at_form b (Fixed c i) e h.0 ∙ ap (λ o. then_opt o (λ m. cond (m == c) (Some i) None)) h.1.0 ∙ ap (λ t. cond t (Some i) None) self
+  at_fixed b c i e h = at_form b (Fixed c i) e h.0 ∙ ap (option_and_then (λ (m : ℕ). cond (m == c) (Some i) None)) h.1.0 ∙ ap (λ t. cond t (Some i) None) self
     where
       self : (c == c) ≡ true
       self = grind (arith, nat_tests)

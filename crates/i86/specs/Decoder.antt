@@ -1,6 +1,6 @@
 -- A way from the bytes to the instruction, by which the code decodes. Nobody has to believe it: what it finds is proved to be what
 -- stands there by the encodings, and nothing else (`decode_at`, `code_has_one_reader`).
-use Rattle.std.specs.Prelude.{ℕ, ◌+◌, ◌*◌, ◌/◌, ◌%◌, ◌==◌, nat_le, Bool, ◌&&◌, cond, List, [], ◌∷◌, Option, Some, None, option_map, slice_get}
+use Rattle.std.specs.Prelude.{ℕ, ◌+◌, ◌*◌, ◌/◌, ◌%◌, ◌==◌, nat_le, Bool, ◌&&◌, cond, List, [], ◌∷◌, Option, Some, None, option_map, option_and_then, slice_get}
 use Rattle.i86.specs.declared.Reg8.{Reg8}
 use Rattle.i86.specs.declared.Reg8.TheVariants.{Al, Cl, Dl, Bl, Ah, Ch, Dh, Bh}
 use Rattle.i86.specs.declared.Reg16.{Reg16}
@@ -36,10 +36,6 @@ use Rattle.i86.specs.declared.decoding.Form.TheVariants.{Alone, Fixed, Byte, Wor
 abbrev pub look : {X : Type 0} → List (ℕ × X) → ℕ → Option X
 look [] n = None
 look (e ∷ es) n = cond (e.0 == n) (Some e.1) (look es n)
-
-abbrev pub then_opt : {X Y : Type 0} → Option X → (X → Option Y) → Option Y
-then_opt None f = None
-then_opt (Some x) f = f x
 
 abbrev pub regs8 : List (ℕ × Reg8)
 regs8 = (0, Al) ∷ ((1, Cl) ∷ ((2, Dl) ∷ ((3, Bl) ∷ ((4, Ah) ∷ ((5, Ch) ∷ ((6, Dh) ∷ ((7, Bh) ∷ [])))))))
@@ -165,16 +161,16 @@ with_word WordCall w = CallNear w
 
 -- a word from its two bytes
 abbrev pub word_from : Option ℕ → Option ℕ → Option ℕ
-word_from low high = then_opt low (λ l. option_map (λ h. 256 * h + l) high)
+word_from low high = option_and_then (λ (l : ℕ). option_map (λ h. 256 * h + l) high) low
 
 -- the instruction of a form, by the bytes that follow the first
 abbrev pub by_form : Option Form → Option ℕ → Option ℕ → Option ℕ → Option Instr86
 by_form None x y z = None
 by_form (Some (Alone i)) x y z = Some i
-by_form (Some (Fixed second i)) x y z = then_opt x (λ m. cond (m == second) (Some i) None)
+by_form (Some (Fixed second i)) x y z = option_and_then (λ (m : ℕ). cond (m == second) (Some i) None) x
 by_form (Some (Byte f)) x y z = option_map (with_byte f) x
 by_form (Some (Word f)) x y z = option_map (with_word f) (word_from x y)
-by_form (Some (Fields f)) x y z = then_opt x (λ m. with_fields f (m / 64) (m / 8 % 8) (m % 8) y (word_from y z))
+by_form (Some (Fields f)) x y z = option_and_then (λ (m : ℕ). with_fields f (m / 64) (m / 8 % 8) (m % 8) y (word_from y z)) x
 
 abbrev pub by_first : Option ℕ → Option ℕ → Option ℕ → Option ℕ → Option Instr86
 by_first None x y z = None

@@ -5,8 +5,8 @@ use Rattle.std.specs.List.{find}
 use Rattle.cells.specs.declared.Place.{Place}
 use Rattle.cells.specs.declared.Place.TheVariants.{At, Exit as EndPlace}
 use Rattle.cells.specs.declared.Part.{Part}
-use Rattle.cells.specs.declared.Part.TheVariants.{A, B, C, D, E, H, L, S, Z, Ac, P, Cy}
-use Rattle.cells.specs.Parts.{Parts, nothing, has, union, these}
+use Rattle.cells.specs.declared.Part.TheVariants.{B, C, D, E, L}
+use Rattle.cells.specs.Parts.{Parts, nothing, has, union, these, all_parts}
 use Rattle.asm86_lines.specs.declared.line.Stmt86.{Stmt86}
 use Rattle.asm80_program.specs.Program.{Program}
 use Rattle.sym_blocks.specs.declared.reason.Reason.{Reason}
@@ -62,10 +62,6 @@ lost_by k x = nothing
 abbrev pub is_bad : Keeps → Outcome → Outcome → Part → Bool
 is_bad k x y q =
     (y.direct && has (lost_by k x.exit) q) || (has (kept_by_exit k x.exit) q && not (agrees (part_of x.held q) (part_of y.held q)))
-
--- the parts in their order
-abbrev pub all_parts : List Part
-all_parts = A ∷ B ∷ C ∷ D ∷ E ∷ H ∷ L ∷ S ∷ Z ∷ Ac ∷ P ∷ Cy ∷ []
 
 abbrev pub first_bad : Keeps → Outcome → Outcome → Option Part
 first_bad k x y = find (is_bad k x y) all_parts

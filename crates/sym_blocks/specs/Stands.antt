@@ -1,11 +1,10 @@
 -- What a tagged cell stands for on the 8086, where `offset` gives the offset of each place that has a label.
-use Rattle.std.specs.Prelude.{◌≡◌, ◌<◌, ℕ, ◌/◌, ◌%◌, Bool, Option, Some, None}
+use Rattle.std.specs.Prelude.{◌≡◌, ◌<◌, ℕ, ◌/◌, ◌%◌, Option, Some, None}
 use Rattle.cells.specs.declared.Place.{Place}
 use Rattle.cells.specs.declared.Place.TheVariants.{At as AtPlace, Exit}
-use Rattle.cells.specs.declared.Flags.{Flags}
 use Rattle.cells.specs.declared.Cell.{Cell}
 use Rattle.cells.specs.declared.Cell.TheVariants.{Num, Lo, Hi, Psw, Junk}
-use Rattle.cells.specs.Bits.{has_bit}
+use Rattle.cells.specs.Conditions.{KnowsBits}
 use Rattle.asm86_lines.specs.declared.line.Label.{Label}
 use Rattle.asm86_lines.specs.declared.line.Label.TheVariants.{At, End}
 
@@ -13,19 +12,6 @@ use Rattle.asm86_lines.specs.declared.line.Label.TheVariants.{At, End}
 abbrev pub label_of : Place → Label
 label_of (AtPlace a) = At a
 label_of Exit = End
-
--- a flag that is known has this value
-abbrev pub Knows : Option Bool → Bool → Type 0
-Knows None b = Unit {0}
-Knows (Some v) b = b ≡ v
-
--- a byte has the flags that are known in bits 7 6 4 2 and 0
-pub record KnowsBits (f : Flags) (b : ℕ) : Type 0 where
-  pub s : Knows f.s (has_bit b 7)
-  pub z : Knows f.z (has_bit b 6)
-  pub ac : Knows f.ac (has_bit b 4)
-  pub p : Knows f.p (has_bit b 2)
-  pub cy : Knows f.cy (has_bit b 0)
 
 -- a half of the offset of a place's label; without a label, none
 abbrev pub IsHalf : (ℕ → ℕ) → Option ℕ → ℕ → Type 0

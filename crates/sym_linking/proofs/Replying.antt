@@ -16,12 +16,13 @@ use Rattle.dialogue.specs.declared.request.Request.{Request}
 use Rattle.dialogue.specs.declared.table.AnswerKind.{AnswerKind}
 use Rattle.dialogue.specs.declared.table.AnswerKind.TheVariants.{NoAnswer, ByteAnswer, WordAnswer}
 use Rattle.dialogue.specs.Fits.{answer_fits, answer_of}
+use Rattle.dialogue.specs.Bytes.{put_blocks}
 use Rattle.asm80_program.specs.Program.{Program}
 use Rattle.cpu80_steps.specs.State.{State80, Regs80, reg80}
 use Rattle.cpu80_steps.specs.Memory.{is_closed}
 use Rattle.cpu80_steps.specs.Call.{is_just_below, put_blocks as put_blocks80, answered as answered80, cells_after, after_reply as after_reply80}
 use Rattle.cpu86_steps.specs.State.{State86, Regs86, reg8, byte_of, word}
-use Rattle.cpu86_steps.specs.Call.{put_blocks, chosen_regs, answered as answered86, after_reply as after_reply86}
+use Rattle.cpu86_steps.specs.Call.{chosen_regs, answered as answered86, after_reply as after_reply86}
 use Rattle.sym_blocks.specs.Stands.{Stands}
 use Rattle.sym_runs.specs.States.{IsCell, IsState80, IsState86}
 use Rattle.sym_runs.specs.Linked.{StandsIn}

@@ -7,14 +7,15 @@ use Rattle.cells.specs.declared.Cell.{Cell}
 use Rattle.cells.specs.declared.Cell.TheVariants.{Lo, Hi}
 use Rattle.cells.specs.declared.Rule.{Rule}
 use Rattle.dialogue.specs.declared.blocks.Block.{Block}
+use Rattle.dialogue.specs.Bytes.{put, put_bytes, put_blocks}
 use Rattle.asm86_lines.specs.declared.line.Label.{Label}
 use Rattle.asm86_lines.specs.declared.line.Label.TheVariants.{Sys as SysLabel}
 use Rattle.asm80_program.specs.Program.{Program}
 use Rattle.cpu80_steps.specs.State.{State80, wrap}
 use Rattle.cpu80_steps.specs.Memory.{is_write_protected, read_word}
 use Rattle.cpu80_steps.specs.Call.{Return, is_just_below, may_be_written, place_in, place_if, is_place, popped_return}
-use Rattle.cpu86_steps.specs.State.{State86, put, put_word, put_bytes, back as below, byte_of, word, word_at, push}
-use Rattle.cpu86_steps.specs.Call.{chosen_six, spoiled, put_blocks}
+use Rattle.cpu86_steps.specs.State.{State86, put_word, back as below, byte_of, word, word_at, push}
+use Rattle.cpu86_steps.specs.Call.{chosen_six, spoiled}
 use Rattle.sym_blocks.specs.Stands.{Stands}
 use Rattle.sym_runs.specs.States.{IsCell, IsHeldPlace, IsState80, IsState86}
 use Rattle.sym_runs.specs.Runs80.{going_on}

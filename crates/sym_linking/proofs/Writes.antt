@@ -11,11 +11,11 @@ use Rattle.dialogue.specs.declared.request.Range.{Range}
 use Rattle.dialogue.specs.Shape.{all_cells, is_within}
 use Rattle.dialogue.specs.Fits.{fills, writes_fit, line_bytes_fit, line_fits}
 use Rattle.dialogue.proofs.Lines.{line_short}
+use Rattle.dialogue.specs.Bytes.{put, put_bytes, put_blocks}
 use Rattle.asm80_program.specs.Program.{Program}
 use Rattle.cpu80_steps.specs.Memory.{put as put80}
 use Rattle.cpu80_steps.specs.Call.{put_bytes as put_bytes80, put_blocks as put_blocks80}
-use Rattle.cpu86_steps.specs.State.{wrap, put, put_bytes}
-use Rattle.cpu86_steps.specs.Call.{put_blocks}
+use Rattle.cpu86_steps.specs.State.{wrap}
 use Rattle.sym_runs.specs.States.{IsCell}
 use Rattle.sym_sound86.proofs.Words.{eq_false}
 use Rattle.sym_values.specs.Replayed.{MemoryStands}

@@ -5,14 +5,14 @@ use Rattle.std.specs.List.{find}
 use Rattle.std.proofs.lemmas.Bool.{or_parts, or_right}
 use Rattle.cells.specs.declared.Part.{Part}
 use Rattle.cells.specs.declared.Part.TheVariants.{A, B, C, D, E, H, L, S, Z, Ac, P, Cy}
-use Rattle.cells.specs.Parts.{Parts, has, union}
+use Rattle.cells.specs.Parts.{Parts, has, union, all_parts}
 use Rattle.cells.proofs.Options.{if_none}
 use Rattle.cells.proofs.Unions.{has_union}
 use Rattle.sym_blocks.specs.declared.reason.Reason.{Reason}
 use Rattle.sym_blocks.specs.declared.reason.Reason.TheVariants.{Actions, Exits, KeptSp}
 use Rattle.sym_blocks.specs.Outcome.{Outcome, part_of}
 use Rattle.sym_blocks.specs.Agree.{agrees, actions_agree, exit_agrees}
-use Rattle.sym_blocks.specs.BlockMatch.{Keeps, kept_by_exit, lost_by, is_bad, all_parts, first_bad, sp_agrees, kept_reason, outcome_reason, walked_reason}
+use Rattle.sym_blocks.specs.BlockMatch.{Keeps, kept_by_exit, lost_by, is_bad, first_bad, sp_agrees, kept_reason, outcome_reason, walked_reason}
 
 -- a test that has no reason against it passes
 passes : {X : Type 0} (b : Bool) (o : Option X) (r : X) → cond b o (Some r) ≡ None → (b ≡ true) × (o ≡ None)

@@ -4,7 +4,7 @@ use Rattle.std.specs.List.{find}
 use Rattle.std.proofs.lemmas.Bool.{or_right}
 use Rattle.cells.specs.declared.Part.{Part}
 use Rattle.cells.specs.declared.Part.TheVariants.{A, B, C, D, E, H, L, S, Z, Ac, P, Cy}
-use Rattle.cells.specs.Parts.{Parts, has, everything}
+use Rattle.cells.specs.Parts.{Parts, has, everything, all_parts}
 use Rattle.sym_terms.specs.Term.{Start, Unknown}
 use Rattle.sym_blocks.specs.declared.reason.Reason.TheVariants.{Actions, Exits, KeptSp}
 use Rattle.sym_blocks.specs.Outcome.{Exit, Outcome, part_of}
@@ -12,7 +12,7 @@ use Rattle.sym_blocks.specs.Block80.{Symbolic80, start80, outcome80}
 use Rattle.sym_blocks.specs.Symbolic86.{Symbolic86, start86}
 use Rattle.sym_blocks.specs.Walk86.{outcome86}
 use Rattle.sym_blocks.specs.Agree.{agrees, exit_agrees}
-use Rattle.sym_blocks.specs.BlockMatch.{Keeps, kept_by_exit, lost_by, is_bad, is_end, all_parts, kept_reason, outcome_reason}
+use Rattle.sym_blocks.specs.BlockMatch.{Keeps, kept_by_exit, lost_by, is_bad, is_end, kept_reason, outcome_reason}
 use Rattle.sym_rows.specs.Meeting.{Meets, same, one_word, Among, Agree}
 use Rattle.sym_rows.proofs.Terms.{meets_agree}
 use Rattle.sym_rows.proofs.Words.{words_agree}

@@ -6,6 +6,7 @@ use Rattle.cells.specs.declared.Rule.{Rule}
 use Rattle.cells.specs.declared.Part.{Part}
 use Rattle.cells.specs.declared.Part.TheVariants.{A, B, C, D, E, H, L, S, Z, Ac, P, Cy}
 use Rattle.cells.specs.Parts.{has}
+use Rattle.cells.specs.Conditions.{Knows}
 use Rattle.base_runs.specs.Run.{Run, Going, Waiting, Over}
 use Rattle.asm86_lines.specs.declared.line.Label.{Label}
 use Rattle.asm80_program.specs.Program.{Program}
@@ -13,7 +14,7 @@ use Rattle.cpu80_steps.specs.State.{State80}
 use Rattle.cpu80_steps.specs.Memory.{is_closed}
 use Rattle.cpu86_steps.specs.State.{State86}
 use Rattle.cpu86_steps.specs.Call.{Stop}
-use Rattle.sym_blocks.specs.Stands.{label_of, Knows, Stands}
+use Rattle.sym_blocks.specs.Stands.{label_of, Stands}
 use Rattle.sym_blocks.specs.BlockMatch.{Keeps, kept_at}
 use Rattle.sym_runs.specs.States.{IsState80, IsState86}
 

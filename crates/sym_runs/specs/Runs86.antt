@@ -10,6 +10,7 @@ use Rattle.i80.specs.declared.Reg.{Reg}
 use Rattle.i86.specs.declared.Instr86.{Instr86}
 use Rattle.i86.specs.Code.{Reads}
 use Rattle.dialogue.specs.declared.request.Event.TheVariants.{In as AskedIn, Out as AskedOut}
+use Rattle.dialogue.specs.Bytes.{put}
 use Rattle.base_arithmetic.specs.Arithmetic.{as_bit}
 use Rattle.base_runs.specs.Run.{Asks}
 use Rattle.asm86_lines.specs.declared.line.Label.{Label}
@@ -17,7 +18,7 @@ use Rattle.asm86_lines.specs.declared.line.Label.TheVariants.{At, Sys as SysLabe
 use Rattle.asm86_lines.specs.declared.line.Line86.{Line86}
 use Rattle.asm86_lines.specs.Image.{Assembles, image_of, offset_in, statements}
 use Rattle.asm80_program.specs.Program.{Program, is_start}
-use Rattle.cpu86_steps.specs.State.{State86, Regs86, Flags86, reg8, wrap, put, put_word, word_at, push}
+use Rattle.cpu86_steps.specs.State.{State86, Regs86, Flags86, reg8, wrap, put_word, word_at, push}
 use Rattle.cpu86_steps.specs.Call.{call_system}
 use Rattle.cpu86_steps.specs.Step.{step86, machine86}
 use Rattle.sym_terms.specs.Term.{Term, High, Low, Loaded16, same_bool}

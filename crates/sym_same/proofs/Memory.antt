@@ -20,7 +20,8 @@ use Rattle.asm86_lines.specs.Order.{Reading, at_start, in_data, is_free, may_sta
 use Rattle.asm86_lines.specs.Image.{word_cells, cells_from, put_cell, by_address}
 use Rattle.asm80_program.specs.Program.{Program, cell_at}
 use Rattle.cpu80_steps.specs.Start.{cell_or_junk, start_cell80}
-use Rattle.cpu86_steps.specs.State.{wrap, put, put_word, back}
+use Rattle.dialogue.specs.Bytes.{put}
+use Rattle.cpu86_steps.specs.State.{wrap, put_word, back}
 use Rattle.cpu86_steps.specs.Start.{start_byte, put_cells}
 use Rattle.sym_blocks.specs.Stands.{Stands}
 use Rattle.sym_sound86.proofs.Words.{eq_false, put_word_past, put_word_low, put_word_high}

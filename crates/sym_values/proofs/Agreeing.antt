@@ -5,6 +5,7 @@ use Rattle.cells.specs.declared.Place.{Place}
 use Rattle.cells.specs.declared.Cell.{Cell}
 use Rattle.cells.specs.declared.Part.TheVariants.{S, Z, Ac, P, Cy}
 use Rattle.cells.specs.Bits.{has_bit}
+use Rattle.cells.specs.Conditions.{Knows, KnowsBits}
 use Rattle.base_arithmetic.specs.Arithmetic.{as_bit}
 use Rattle.sym_terms.specs.Term.{Term, Join, FlagByte, Unknown, is_byte, is_word, same_term}
 use Rattle.sym_terms.specs.Making.{high, low, bit}
@@ -13,7 +14,7 @@ use Rattle.sym_terms.specs.Values86.{Env86, Number, Val86}
 use Rattle.sym_terms.specs.Laws.{IsMadeAs, MadeTermsKeepValues, MadeTermsHaveSorts}
 use Rattle.sym_terms.proofs.Equal.{same_term-true}
 use Rattle.sym_blocks.specs.Agree.{has_unknown, same_known, agrees}
-use Rattle.sym_blocks.specs.Stands.{Knows, KnowsBits, Stands}
+use Rattle.sym_blocks.specs.Stands.{Stands}
 use Rattle.sym_values.specs.Linked.{WordStands, EnvsStand, AgreeingTermsStand}
 use Rattle.sym_values.proofs.Same.{IsFor, is_for_stands, may_knows, SameStands, same_stands}
 

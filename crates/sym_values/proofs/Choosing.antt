@@ -7,6 +7,7 @@ use Rattle.cells.specs.declared.Cell.TheVariants.{Num, Lo, Hi, Psw, Junk}
 use Rattle.cells.specs.declared.Part.{Part}
 use Rattle.cells.specs.declared.Part.TheVariants.{A, B, C, D, E, H, L, S, Z, Ac, P, Cy}
 use Rattle.cells.specs.Parts.{Parts, has}
+use Rattle.cells.specs.Conditions.{Knows, KnowsBits}
 use Rattle.i80.specs.declared.Reg.TheVariants.{A as RegA, B as RegB, C as RegC, D as RegD, E as RegE, H as RegH, L as RegL}
 use Rattle.i86.specs.declared.Reg8.TheVariants.{Al, Cl, Ch, Dl, Dh, Bl, Bh}
 use Rattle.base_arithmetic.specs.Arithmetic.{as_bit}
@@ -17,7 +18,7 @@ use Rattle.cpu80_steps.specs.State.{State80}
 use Rattle.cpu86_steps.specs.State.{State86}
 use Rattle.cpu86_steps.specs.Call.{Stop}
 use Rattle.sym_terms.specs.Values86.{Env86, start86}
-use Rattle.sym_blocks.specs.Stands.{Knows, KnowsBits, IsHalf, Stands}
+use Rattle.sym_blocks.specs.Stands.{IsHalf, Stands}
 use Rattle.sym_blocks.specs.BlockMatch.{Keeps, kept_at}
 use Rattle.sym_runs.specs.States.{IsCell}
 use Rattle.sym_runs.specs.Runs80.{env80}

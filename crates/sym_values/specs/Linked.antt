@@ -4,13 +4,14 @@ use Rattle.cells.specs.declared.Place.{Place}
 use Rattle.cells.specs.declared.Cell.{Cell}
 use Rattle.cells.specs.declared.Part.{Part}
 use Rattle.cells.specs.declared.Part.TheVariants.{A, B, C, D, E, H, L, S, Z, Ac, P, Cy}
+use Rattle.cells.specs.Conditions.{Knows}
 use Rattle.base_arithmetic.specs.Arithmetic.{as_bit}
 use Rattle.sym_terms.specs.Term.{Term, is_byte, is_word}
 use Rattle.sym_terms.specs.Values80.{Env80, Load80, LoadedByte, LoadedWord, Byte, Word, OneBit, Val80}
 use Rattle.sym_terms.specs.Values86.{Env86, Load86, LoadedByte as LoadedByte86, LoadedWord as LoadedWord86, Number, Val86}
 use Rattle.sym_terms.specs.Laws.{IsMadeAs}
 use Rattle.sym_blocks.specs.Agree.{agrees}
-use Rattle.sym_blocks.specs.Stands.{Knows, Stands}
+use Rattle.sym_blocks.specs.Stands.{Stands}
 
 -- a word's halves stand for a number's
 abbrev pub WordStands : (Place → Option ℕ) → Cell → Cell → ℕ → Type 0

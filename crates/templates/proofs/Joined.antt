@@ -1,7 +1,7 @@
 -- The text of a block, one instruction after the other, and of blocks.
-use Rattle.std.proofs.Common.{◌≡◌, ℕ, suc, ◌+◌, ◌<◌, ◌≤◌, Bool, true, false, cond, List, [], ◌∷◌, ◌++◌, length, take, drop, drop-cons, get_or, Option, Some, All, refl, sym, ap, subst, ◌∙◌, append_assoc, add-one, length-append, arith}
+use Rattle.std.proofs.Common.{◌≡◌, ℕ, ◌+◌, ◌<◌, ◌≤◌, Bool, false, List, [], ◌∷◌, ◌++◌, length, take, drop, drop-cons, get_or, Option, Some, All, refl, sym, ap, subst, ◌∙◌, append_assoc, add-one, length-append, arith}
 use Rattle.std.proofs.lemmas.List.{get_or-map, length-map}
-use Rattle.std.specs.Prelude.{◌==◌, ◌||◌, unwrap_or}
+use Rattle.std.specs.Prelude.{unwrap_or}
 use Rattle.std.proofs.Math.Seq.{take-append_seam, drop-append_seam}
 use Rattle.std.specs.List.{Contains}
 use Rattle.std.proofs.lemmas.List.Elements.{Contains-get_or, All-drop}
@@ -10,8 +10,9 @@ use Rattle.asm86_lines.specs.declared.line.Stmt86.{Stmt86}
 use Rattle.asm86_lines.specs.declared.line.Stmt86.TheVariants.{Mark}
 use Rattle.asm80_program.specs.declared.program.Placed.{Placed}
 use Rattle.asm80_program.specs.Program.{Program}
-use Rattle.flow.specs.Blocks.{is_cut, onto, cut_from, extent, leader_of, blocks, leaders, block_at, BlocksCut}
+use Rattle.flow.specs.Blocks.{cut_from, extent, leader_of, blocks, leaders, block_at, BlocksCut}
 use Rattle.flow.specs.Solving.{Needs}
+use Rattle.flow.proofs.Cuts.{flat}
 use Rattle.templates.specs.Style.{Style, is_pair, knows_function, written, label_within, block_from, block_of, blocks_of}
 use Rattle.templates.specs.Lean.{long_style}
 use Rattle.templates.specs.Jumps.{style_by}
@@ -49,27 +50,6 @@ put_label s text marked new x block rest b m e =
     ∙ append_assoc text (Mark (At x.at) ∷ []) (block_from s false false block)
     ∙ ap (λ t. text ++ t) whole
 
--- the instructions of blocks
-abbrev pub joined : List (List Placed) → List Placed
-joined [] = []
-joined (b ∷ bs) = b ++ joined bs
-
-joined-onto : (x : Placed) (bs : List (List Placed)) → joined (onto x bs) ≡ x ∷ joined bs
-joined-onto x [] = refl
-joined-onto x (b ∷ bs) = refl
-
-joined_either : (t : Bool) (x : Placed) (xs : List Placed) (bs cs : List (List Placed)) → joined bs ≡ xs → joined cs ≡ xs → joined (cond t ((x ∷ []) ∷ bs) (onto x cs)) ≡ x ∷ xs
-joined_either true x xs bs cs b c = ap (λ ys. x ∷ ys) b
-joined_either false x xs bs cs b c = joined-onto x cs ∙ ap (λ ys. x ∷ ys) c
-
--- instructions that are cut into blocks are the instructions of the blocks
-pub joined_cut : (p : Program) (before : ℕ) (xs : List Placed) → joined (cut_from p before xs) ≡ xs
-joined_cut p before [] = refl
-joined_cut p before (x ∷ []) = refl
-joined_cut p before (x ∷ (y ∷ ys)) =
-    joined_either (is_cut p x y || (suc before == 16)) x (y ∷ ys) (cut_from p 0 (y ∷ ys)) (cut_from p (suc before) (y ∷ ys))
-    (joined_cut p 0 (y ∷ ys)) (joined_cut p (suc before) (y ∷ ys))
-
 -- of instructions, those behind the first
 pub all_behind : (P : Placed → Type 0) (x : Placed) (rest after : List Placed) → rest ≡ x ∷ after → All P rest → All P after
 all_behind P x rest after r h = subst (All P) (ap (drop 1) r) (All-drop P 1 rest h)
@@ -95,11 +75,11 @@ count_at p law k lt =
 -- the block at a place among them, where some instructions are those of the blocks from that place on
 pub record IsNextBlock (p : Program) (k count : ℕ) (rest : List Placed) : Type 0 where
   pub block : take count rest ≡ get_or (cut_from p 0 p.instrs) k []
-  pub behind : drop count rest ≡ joined (drop (k + 1) (cut_from p 0 p.instrs))
+  pub behind : drop count rest ≡ flat (drop (k + 1) (cut_from p 0 p.instrs))
   pub next : drop k (cut_from p 0 p.instrs) ≡ get_or (cut_from p 0 p.instrs) k [] ∷ drop (k + 1) (cut_from p 0 p.instrs)
   pub within : count ≤ length rest
 
-pub next_block : (p : Program) → BlocksCut p → (k count : ℕ) (found : Option ℕ) (rest : List Placed) → k < length (leaders p) → rest ≡ joined (drop k (cut_from p 0 p.instrs)) → count ≡ unwrap_or found 0 → found ≡ block_at p (get_or (leaders p) k 0) → IsNextBlock p k count rest
+pub next_block : (p : Program) → BlocksCut p → (k count : ℕ) (found : Option ℕ) (rest : List Placed) → k < length (leaders p) → rest ≡ flat (drop k (cut_from p 0 p.instrs)) → count ≡ unwrap_or found 0 → found ≡ block_at p (get_or (leaders p) k 0) → IsNextBlock p k count rest
 next_block p law k count found rest lt r c f =
     let cut = cut_from p 0 p.instrs in
     let b = get_or cut k [] in
@@ -108,12 +88,12 @@ next_block p law k count found rest lt r c f =
     let within : k < length cut = omega (arith, lt, sizes, sizes_2) in
     let next : drop k cut ≡ b ∷ drop (k + 1) cut = rw add-one (drop-cons cut k [] within) in
     let size : count ≡ length b = c ∙ ap (λ (o : Option ℕ). unwrap_or o 0) (f ∙ count_at p law k lt) in
-    let split : rest ≡ b ++ joined (drop (k + 1) cut) = r ∙ ap joined next in
+    let split : rest ≡ b ++ flat (drop (k + 1) cut) = r ∙ ap flat next in
     let lengths = ap length split in
-    let sum = length-append b (joined (drop (k + 1) cut)) in
+    let sum = length-append b (flat (drop (k + 1) cut)) in
     record {
-      block = ap (λ (m : ℕ). take m rest) size ∙ ap (take (length b)) split ∙ take-append_seam b (joined (drop (k + 1) cut));
-      behind = ap (λ (m : ℕ). drop m rest) size ∙ ap (drop (length b)) split ∙ drop-append_seam b (joined (drop (k + 1) cut));
+      block = ap (λ (m : ℕ). take m rest) size ∙ ap (take (length b)) split ∙ take-append_seam b (flat (drop (k + 1) cut));
+      behind = ap (λ (m : ℕ). drop m rest) size ∙ ap (drop (length b)) split ∙ drop-append_seam b (flat (drop (k + 1) cut));
       next = next;
       within = omega (arith, size, lengths, sum);
     }
@@ -127,7 +107,7 @@ put_next s bs k text new whole next put so_far =
     ∙ so_far
 
 -- the same where the leaders and the number are those of a graph of the program
-pub next_found : (p q : Program) → q ≡ p → BlocksCut p → (k count : ℕ) (items : List ℕ) (found : Option ℕ) (rest : List Placed) → items ≡ leaders q → k < length items → rest ≡ joined (drop k (cut_from p 0 p.instrs)) → count ≡ unwrap_or found 0 → found ≡ block_at q (get_or items k 0) → IsNextBlock p k count rest
+pub next_found : (p q : Program) → q ≡ p → BlocksCut p → (k count : ℕ) (items : List ℕ) (found : Option ℕ) (rest : List Placed) → items ≡ leaders q → k < length items → rest ≡ flat (drop k (cut_from p 0 p.instrs)) → count ≡ unwrap_or found 0 → found ≡ block_at q (get_or items k 0) → IsNextBlock p k count rest
 next_found p q same law k count items found rest is lt r c f =
     let e = is ∙ ap leaders same in
     next_block p law k count found rest (subst (λ xs. k < length xs) e lt) r c (f ∙ ap (λ o. block_at o (get_or items k 0)) same ∙ ap (λ xs. block_at p (get_or xs k 0)) e)

@@ -1,3 +1,4 @@
 mod Styles
 mod Matching
 mod Shown
+pub mod OneText

@@ -5,9 +5,10 @@ use Rattle.std.proofs.lemmas.List.Elements.{All-drop}
 use Rattle.flow.specs.Blocks.{cut_from}
 use Rattle.flow.specs.Cut.{IsWhole}
 use Rattle.flow.specs.Solving.{AreAllNeeds}
+use Rattle.flow.proofs.Cuts.{flat-cut}
 use Rattle.templates.specs.Style.{block_of}
 use Rattle.templates.specs.Jumps.{style_by}
-use Rattle.templates.proofs.Joined.{joined_cut, next_found, put_next}
+use Rattle.templates.proofs.Joined.{next_found, put_next}
 use Rattle.templates.proofs.blocks.put_blocks.Goals as goal
 
 pub loop-leader-init : goal.loop-leader-init
@@ -16,7 +17,7 @@ loop-leader-init c =
     let range = and_parts (top % 0x100 == 0) (nat_le 0x1000 top && nat_le top 0xFF00) c.instrs-rest.ensures.program.top in
     let most : top ≤ 0xFF00 = leb-true top 0xFF00 (and_parts (nat_le 0x1000 top) (nat_le top 0xFF00) range.1).1 in
     record {
-      rest = rw c.instrs-rest.ensures.value (sym (joined_cut c.args.program.now 0 c.args.program.now.instrs));
+      rest = rw c.instrs-rest.ensures.value (sym (flat-cut c.args.program.now 0 c.args.program.now.instrs));
       so_far = λ n all. refl;
       whole = λ k d lt. let laid = c.instrs-rest.ensures.laid k d lt in (laid.good, omega (arith, laid.below, most));
       most = let few = c.instrs-rest.ensures.few in omega (arith, few);

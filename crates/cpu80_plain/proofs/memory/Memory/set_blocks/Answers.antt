@@ -1,7 +1,7 @@
 use Rattle.std.proofs.Common.{ap, ◌∙◌}
-use Rattle.cpu80_bytes.specs.Call.{put_bytes}
+use Rattle.dialogue.specs.Bytes.{put_bytes}
+use Rattle.dialogue.proofs.Bytes.{put_blocks_more}
 use Rattle.cpu80_plain.specs.State.{mem_of}
-use Rattle.cpu80_plain.proofs.Writes.{put_blocks_more}
 use Rattle.cpu80_plain.proofs.memory.Memory.set_blocks.Goals as goal
 
 pub loop-block-preserved : goal.loop-block-preserved

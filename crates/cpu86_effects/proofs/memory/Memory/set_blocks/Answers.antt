@@ -1,7 +1,7 @@
 use Rattle.std.proofs.Common.{ap, ◌∙◌}
-use Rattle.cpu86_steps.specs.State.{put_bytes}
+use Rattle.dialogue.specs.Bytes.{put_bytes}
+use Rattle.dialogue.proofs.Bytes.{put_blocks_more}
 use Rattle.cpu86_effects.specs.State.{mem_of}
-use Rattle.cpu86_effects.proofs.Writes.{put_blocks_more}
 use Rattle.cpu86_effects.proofs.memory.Memory.set_blocks.Goals as goal
 
 pub loop-block-preserved : goal.loop-block-preserved

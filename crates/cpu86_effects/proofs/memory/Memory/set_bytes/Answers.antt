@@ -1,6 +1,6 @@
 use Rattle.std.proofs.Common.{◌∙◌, arith}
+use Rattle.dialogue.proofs.Bytes.{put_bytes_more}
 use Rattle.cpu86_effects.specs.State.{mem_of}
-use Rattle.cpu86_effects.proofs.Writes.{put_bytes_more}
 use Rattle.cpu86_effects.proofs.memory.Memory.set_bytes.Goals as goal
 
 pub loop-byte-preserved : goal.loop-byte-preserved

@@ -1,5 +1,6 @@
 use Rattle.std.proofs.Common.{◌≡◌, ℕ, [], ◌∷◌, ap, ◌∙◌}
-use Rattle.cpu86_steps.specs.State.{back, put_bytes}
+use Rattle.dialogue.specs.Bytes.{put_bytes}
+use Rattle.cpu86_steps.specs.State.{back}
 use Rattle.cpu86_steps.specs.Call.{spoiled}
 use Rattle.cpu86_effects.specs.State.{mem_of}
 use Rattle.cpu86_effects.proofs.memory.Memory.spoil.Goals as goal

@@ -1,5 +1,6 @@
 use Rattle.std.proofs.Common.{ap, ◌∙◌, sym}
-use Rattle.cpu86_steps.specs.State.{back, put_bytes}
+use Rattle.dialogue.specs.Bytes.{put_bytes}
+use Rattle.cpu86_steps.specs.State.{back}
 use Rattle.cpu86_effects.specs.State.{state_of, mem_of, with_mem}
 use Rattle.cpu86_effects.proofs.Calls.{asked, odd, written_back}
 use Rattle.cpu86_effects.proofs.processor.Processor.interrupt.Goals as goal
