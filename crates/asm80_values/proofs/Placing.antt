@@ -14,7 +14,7 @@ use Rattle.i80.specs.declared.Instr80.{Instr80}
 use Rattle.i80.specs.declared.Instr80.TheVariants.{Nop}
 use Rattle.i80.specs.Columns.{length80, is_well_formed}
 use Rattle.asm80_program.specs.declared.program.Placed.{Placed}
-use Rattle.asm80_program.specs.Program.{Program, covers, placed_in, is_start, cell_at, named_by, is_top, AreLaid, CellsAreLaid, IsLaid, NameStarts, IsCoded, AreCoded, IsProgram, program_of}
+use Rattle.asm80_program.specs.Program.{Program, covers, placed_in, is_start, cell_at, named_by, AreLaid, CellsAreLaid, IsLaid, NameStarts, IsCoded, AreCoded, IsProgram, program_of}
 use Rattle.asm80_program.proofs.Lookup.{top_range}
 use Rattle.asm80_operands.specs.Forms.{HoldsByte}
 use Rattle.asm80_operands.specs.declared.form.Form.{Form}

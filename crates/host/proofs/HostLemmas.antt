@@ -1,5 +1,6 @@
 -- What several calls of a host give together.
-use Rattle.std.proofs.Common.{◌≡◌, ℕ, ◌+◌, List, [], ◌++◌, Option, Some, None, refl, ap, ◌∙◌, append_assoc, append-nil, arith}
+use Rattle.std.proofs.Common.{◌≡◌, ℕ, ◌+◌, List, [], ◌++◌, take, drop, Option, Some, None, refl, ap, ◌∙◌, sym, append_assoc, append-nil, arith}
+use Rattle.std.proofs.Math.Seq.{take-add}
 use Rattle.host.specs.Host.{FileTold, Untold, Missing, Holds, HostState, rewritten, appended, said_more, OnlyReads, OnlyWrites, OnlySays}
 
 -- reads after reads
@@ -43,3 +44,14 @@ said_more-said_more (Some said) xs ys = ap Some (append_assoc said xs ys)
 pub said_more-nil : (s : Option (List ℕ)) → said_more s [] ≡ s
 said_more-nil None = refl
 said_more-nil (Some said) = ap Some (append-nil said)
+
+-- a file that is rewritten in pieces
+pub rewritten-take : (t : FileTold) (bytes : List ℕ) (n k : ℕ) → rewritten t (take (n + k) bytes) ≡ appended (rewritten t (take n bytes)) (take k (drop n bytes))
+rewritten-take t bytes n k = ap (rewritten t) (take-add n k bytes) ∙ sym (appended-rewritten t (take n bytes) (take k (drop n bytes)))
+
+-- bytes that are said in pieces
+pub said_more-take : (s : Option (List ℕ)) (bytes : List ℕ) (n k : ℕ) → said_more s (take (n + k) bytes) ≡ said_more (said_more s (take n bytes)) (take k (drop n bytes))
+said_more-take s bytes n k = ap (said_more s) (take-add n k bytes) ∙ sym (said_more-said_more s (take n bytes) (take k (drop n bytes)))
+
+-- for `grind`: what several calls of a host give together
+pub ruleset pieces = (rewritten-take, said_more-take, said_more-nil)

@@ -1,6 +1,6 @@
 -- What a walk's outcome means for the 8086 that runs the text: its parts, SP and memory have the values of the outcome's terms, and
 -- the machine comes to where the outcome's exit leads, or asks what it says.
-use Rattle.std.specs.Prelude.{◌≡◌, ◌≢◌, ◌<◌, ◌≤◌, ℕ, ◌+◌, ◌*◌, ◌/◌, ◌%◌, Bool, true, false, cond, List, [], ◌∷◌, ◌++◌, length, Option, Some, None, Result, Ok, ◌⊎◌}
+use Rattle.std.specs.Prelude.{◌≡◌, ◌≢◌, ◌<◌, ◌≤◌, ℕ, ◌+◌, ◌*◌, ◌/◌, ◌%◌, Bool, true, cond, List, [], ◌∷◌, ◌++◌, length, Option, Some, Ok, ◌⊎◌}
 use Rattle.cells.specs.declared.Place.{Place}
 use Rattle.cells.specs.declared.Place.TheVariants.{At as AtPlace, Exit as EndPlace}
 use Rattle.cells.specs.declared.Part.{Part}
