@@ -15,7 +15,7 @@ use Rattle.i80.specs.declared.Instr80.{Instr80}
 use Rattle.i80.specs.declared.Instr80.TheVariants.{Nop, Mov, Mvi, Lxi, Lda, Sta, Lhld, Shld, Ldax, Stax, Xchg, Xthl, Sphl, Pchl, Alu, AluI, Inr, Dcr, Inx, Dcx, Dad, Daa, Cma, Stc, Cmc, Rlc, Rrc, Ral, Rar, Push, Pop, Jmp, Jif, Call, Cif, Ret, Rif, Rst0, In, Out}
 use Rattle.base_arithmetic.specs.Arithmetic.{as_bit, sum8, carry4, difference8, turned_left, turned_right, bit7, bit0, daa_result, daa_carry, daa_excepted}
 use Rattle.base_arithmetic.specs.Operations.{flags_by, result_of, flags_of}
-use Rattle.dialogue.specs.Bytes.{put}
+use Rattle.dialogue.specs.ByteMemory.{put}
 use Rattle.cpu80_bytes.specs.State.{ByteFlags, ByteState, reg, with_reg, wrap, pair_word, with_bc, with_de, with_hl, with_word, with_a, with_flags, with_cy, next, put_word, byte_of}
 use Rattle.cpu80_bytes.specs.Flags.{settled, chosen_flags, flag_byte, flags_in_byte}
 

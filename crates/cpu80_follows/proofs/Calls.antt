@@ -23,7 +23,7 @@ use Rattle.dialogue.specs.Lawful.{IsLawful, IsShapeOver}
 use Rattle.dialogue.proofs.LawfulShapes.{made, made-lawful}
 use Rattle.dialogue.specs.Shape.{shape_of, request_of}
 use Rattle.dialogue.specs.Fits.{answer_fits, answer_in, answer_of, fits_row, fits, fits_event, dma_after}
-use Rattle.dialogue.specs.Bytes.{put, put_bytes, put_blocks, seen_by}
+use Rattle.dialogue.specs.ByteMemory.{put, put_bytes, put_blocks, seen_by}
 use Rattle.base_runs.specs.Run.{Answer, Ran, Asks, Ends, Stops}
 use Rattle.asm80_program.specs.Program.{Program, IsProgram}
 use Rattle.cpu80_steps.specs.State.{State80, num_of, wrap as wrap80}

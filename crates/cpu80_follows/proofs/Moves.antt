@@ -14,7 +14,7 @@ use Rattle.i80.specs.declared.Pair.TheVariants.{B as PairB, D as PairD, H as Pai
 use Rattle.i80.specs.declared.StackPair.{StackPair}
 use Rattle.i80.specs.declared.StackPair.TheVariants.{B as StackB, D as StackD, H as StackH, Psw}
 use Rattle.dialogue.specs.Tried.{try_then}
-use Rattle.dialogue.specs.Bytes.{put}
+use Rattle.dialogue.specs.ByteMemory.{put}
 use Rattle.base_arithmetic.specs.Arithmetic.{as_bit}
 use Rattle.base_arithmetic.specs.Operations.{flags_in}
 use Rattle.base_arithmetic.proofs.Bytes.{tested}

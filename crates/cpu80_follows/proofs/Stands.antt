@@ -11,7 +11,7 @@ use Rattle.i80.specs.declared.Reg.{Reg}
 use Rattle.i80.specs.declared.Reg.TheVariants.{A, B, C, D, E, H, L}
 use Rattle.dialogue.proofs.Tried.{ok_is, err_is_not, then_is}
 use Rattle.dialogue.specs.Tried.{try_then}
-use Rattle.dialogue.specs.Bytes.{put}
+use Rattle.dialogue.specs.ByteMemory.{put}
 use Rattle.cpu80_steps.specs.State.{Regs80, State80, reg80, with_reg80, num_or}
 use Rattle.cpu80_steps.specs.Memory.{put as put80}
 use Rattle.cpu80_bytes.specs.State.{ByteFlags, ByteRegs, ByteState, reg, with_reg}

@@ -6,7 +6,7 @@ use Rattle.cells.specs.declared.Place.TheVariants.{At}
 use Rattle.i80.specs.declared.Instr80.{Instr80}
 use Rattle.i80.specs.declared.Instr80.TheVariants.{Jmp, Jif}
 use Rattle.dialogue.specs.Shape.{request_of}
-use Rattle.dialogue.specs.Bytes.{seen_by}
+use Rattle.dialogue.specs.ByteMemory.{seen_by}
 use Rattle.cpu80_bytes.specs.State.{ByteState}
 use Rattle.cpu80_bytes.specs.Call.{Return, popped_return}
 use Rattle.cpu80_plain.specs.State.{state_of}

@@ -12,7 +12,7 @@ pub struct Memory {
 }
 
 impl Memory {
-    ghost use Rattle.dialogue.specs.Bytes.{put, put_bytes, put_blocks};
+    ghost use Rattle.dialogue.specs.ByteMemory.{put, put_bytes, put_blocks};
     ghost use Rattle.cpu80_bytes.specs.State.{word_at, put_word};
     ghost use Rattle.cpu80_plain.specs.State.{mem_of};
 

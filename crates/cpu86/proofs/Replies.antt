@@ -8,7 +8,7 @@ use Rattle.dialogue.specs.declared.request.Event.TheVariants.{Call, In}
 use Rattle.dialogue.specs.Table.{Row, row_of}
 use Rattle.dialogue.specs.Shape.{request_of}
 use Rattle.dialogue.specs.Fits.{fits_row, fits, fits_event}
-use Rattle.dialogue.specs.Bytes.{seen_by}
+use Rattle.dialogue.specs.ByteMemory.{seen_by}
 use Rattle.cpu86_steps.specs.State.{State86}
 use Rattle.cpu86_steps.specs.Call.{replied86}
 use Rattle.cpu86.specs.declared.cpu.Pending.{Pending}

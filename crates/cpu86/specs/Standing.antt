@@ -3,7 +3,7 @@ use Rattle.std.specs.Prelude.{ℕ, List, Option, Some, None}
 use Rattle.dialogue.specs.declared.request.Event.{Event}
 use Rattle.dialogue.specs.declared.request.Event.TheVariants.{Call, In, Out, End}
 use Rattle.dialogue.specs.Shape.{request_of}
-use Rattle.dialogue.specs.Bytes.{seen_by}
+use Rattle.dialogue.specs.ByteMemory.{seen_by}
 use Rattle.cpu86_steps.specs.State.{State86}
 use Rattle.cpu86_effects.specs.State.{state_of}
 use Rattle.cpu86.specs.declared.cpu.Pending.{Pending}

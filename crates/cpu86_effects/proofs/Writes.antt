@@ -3,7 +3,7 @@ use Rattle.std.proofs.Common.{◌≡◌, ℕ, ◌+◌, ◌<◌, ◌==◌, Bool, 
 use mathlib.Core.Path.{fun_ext}
 use Rattle.std.proofs.lemmas.Bool.Decides.{nat_tests}
 use Rattle.std.proofs.lemmas.List.{drop_more}
-use Rattle.dialogue.specs.Bytes.{put, put_bytes}
+use Rattle.dialogue.specs.ByteMemory.{put, put_bytes}
 use Rattle.cpu86_steps.specs.State.{wrap}
 use Rattle.cpu86_steps.specs.Start.{put_cells}
 use Rattle.cpu86_effects.specs.System.{six_at}

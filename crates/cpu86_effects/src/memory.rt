@@ -14,7 +14,7 @@ pub struct Memory {
 impl Memory {
     ghost use Rattle.cpu86_effects.specs.State.{mem_of};
     ghost use Rattle.cpu86_effects.specs.System.{six_at};
-    ghost use Rattle.dialogue.specs.Bytes.{put, put_bytes, put_blocks};
+    ghost use Rattle.dialogue.specs.ByteMemory.{put, put_bytes, put_blocks};
     ghost use Rattle.cpu86_steps.specs.State.{word_at, put_word};
     ghost use Rattle.cpu86_steps.specs.Call.{spoiled};
 

@@ -1,7 +1,7 @@
 // The processor: what an instruction reads and writes.
 ghost use Rattle.std.specs.Prelude.{◌≡◌, ◌+◌};
 ghost use Rattle.cpu86_effects.specs.State.{state_of, flags_of, with_mem};
-ghost use Rattle.dialogue.specs.Bytes.{put};
+ghost use Rattle.dialogue.specs.ByteMemory.{put};
 ghost use Rattle.cpu86_steps.specs.State.{reg8, reg16, with16, pointed, operand8, with_operand8, operand16, push, put_word};
 ghost use Rattle.cpu86_steps.specs.Effect.{set8, with_flags, with_cf, popped, with_pop};
 

@@ -3,7 +3,7 @@ ghost use Rattle.std.specs.Prelude.{◌≡◌, ◌<◌, true, Some};
 ghost use Rattle.std.specs.Result.{result_ok};
 ghost use Rattle.dialogue.specs.Shape.{shape_of};
 ghost use Rattle.dialogue.specs.Fits.{answer_fits, fits};
-ghost use Rattle.dialogue.specs.Bytes.{seen_by};
+ghost use Rattle.dialogue.specs.ByteMemory.{seen_by};
 ghost use Rattle.cpu86_steps.specs.Call.{chosen_regs, answered, after_reply};
 ghost use Rattle.cpu86_effects.specs.State.{regs_of, state_of};
 ghost use Rattle.cpu86_effects.specs.System.{IsInterrupt};

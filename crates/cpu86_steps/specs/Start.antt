@@ -2,7 +2,7 @@
 use Rattle.std.specs.Prelude.{◌≢◌, ℕ, ◌-◌, ◌/◌, ◌%◌, ◌^◌, ◌<◌, ◌&&◌, nat_lt, nat_le, cond, List, [], ◌∷◌, All, Option, slice_index}
 use Rattle.i86.specs.declared.Instr86.{Instr86}
 use Rattle.dialogue.specs.declared.request.Reply.{Reply}
-use Rattle.dialogue.specs.Bytes.{put}
+use Rattle.dialogue.specs.ByteMemory.{put}
 use Rattle.asm86_lines.specs.Image.{Image}
 use Rattle.base_runs.specs.Run.{Run, turns, start_run}
 use Rattle.cpu86_steps.specs.State.{State86}

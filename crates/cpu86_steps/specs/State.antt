@@ -10,7 +10,7 @@ use Rattle.i86.specs.declared.Operand8.{Operand8}
 use Rattle.i86.specs.declared.Operand8.TheVariants.{Reg, Mem}
 use Rattle.i86.specs.declared.Operand16.{Operand16}
 use Rattle.i86.specs.declared.Operand16.TheVariants.{Reg as Reg_16, Direct}
-use Rattle.dialogue.specs.Bytes.{put}
+use Rattle.dialogue.specs.ByteMemory.{put}
 
 pub record Flags86 : Type 0 where
   pub sf : Bool

@@ -1,7 +1,7 @@
 pub mod Cells
 pub mod Rows
 pub mod LawfulShapes
-pub mod Bytes
+pub mod ByteMemory
 pub mod Pages
 pub mod Tried
 pub mod Lines

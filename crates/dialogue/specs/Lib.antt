@@ -1,7 +1,7 @@
 pub mod Tried
 pub mod Table
 pub mod Shape
-pub mod Bytes
+pub mod ByteMemory
 pub mod Fits
 pub mod Places
 pub mod Lawful

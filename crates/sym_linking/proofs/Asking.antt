@@ -17,7 +17,7 @@ use Rattle.dialogue.specs.declared.table.Extent.{Extent}
 use Rattle.dialogue.specs.Table.{Row, row_of, padded}
 use Rattle.dialogue.specs.Shape.{Seen, argument_of, address_of, is_readable, range_of, is_within, range_within, ranges_within, has_room, ranges, shape_by, shape_in, shape_of, request_of}
 use Rattle.dialogue.specs.Fits.{answer_fits, kind_by, line_fits, writes_fit, fits, fits_row, answer_in, answer_of}
-use Rattle.dialogue.specs.Bytes.{seen_by as seen_by86}
+use Rattle.dialogue.specs.ByteMemory.{seen_by as seen_by86}
 use Rattle.base_runs.specs.Run.{Answer, Asks, Ends, Stops}
 use Rattle.asm80_program.specs.Program.{Program}
 use Rattle.cpu80_steps.specs.State.{State80, num_of}

@@ -16,7 +16,7 @@ use Rattle.dialogue.specs.declared.request.Request.{Request}
 use Rattle.dialogue.specs.declared.table.AnswerKind.{AnswerKind}
 use Rattle.dialogue.specs.declared.table.AnswerKind.TheVariants.{NoAnswer, ByteAnswer, WordAnswer}
 use Rattle.dialogue.specs.Fits.{answer_fits, answer_of}
-use Rattle.dialogue.specs.Bytes.{put_blocks}
+use Rattle.dialogue.specs.ByteMemory.{put_blocks}
 use Rattle.asm80_program.specs.Program.{Program}
 use Rattle.cpu80_steps.specs.State.{State80, Regs80, reg80}
 use Rattle.cpu80_steps.specs.Memory.{is_closed}

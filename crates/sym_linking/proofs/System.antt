@@ -7,7 +7,7 @@ use Rattle.cells.specs.declared.Cell.{Cell}
 use Rattle.cells.specs.declared.Cell.TheVariants.{Lo, Hi}
 use Rattle.cells.specs.declared.Rule.{Rule}
 use Rattle.dialogue.specs.declared.blocks.Block.{Block}
-use Rattle.dialogue.specs.Bytes.{put, put_bytes, put_blocks}
+use Rattle.dialogue.specs.ByteMemory.{put, put_bytes, put_blocks}
 use Rattle.asm86_lines.specs.declared.line.Label.{Label}
 use Rattle.asm86_lines.specs.declared.line.Label.TheVariants.{Sys as SysLabel}
 use Rattle.asm80_program.specs.Program.{Program}

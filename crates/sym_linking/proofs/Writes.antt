@@ -11,7 +11,7 @@ use Rattle.dialogue.specs.declared.request.Range.{Range}
 use Rattle.dialogue.specs.Shape.{all_cells, is_within}
 use Rattle.dialogue.specs.Fits.{fills, writes_fit, line_bytes_fit, line_fits}
 use Rattle.dialogue.proofs.Lines.{line_short}
-use Rattle.dialogue.specs.Bytes.{put, put_bytes, put_blocks}
+use Rattle.dialogue.specs.ByteMemory.{put, put_bytes, put_blocks}
 use Rattle.asm80_program.specs.Program.{Program}
 use Rattle.cpu80_steps.specs.Memory.{put as put80}
 use Rattle.cpu80_steps.specs.Call.{put_bytes as put_bytes80, put_blocks as put_blocks80}

@@ -10,7 +10,7 @@ use Rattle.i80.specs.declared.Reg.{Reg}
 use Rattle.i86.specs.declared.Instr86.{Instr86}
 use Rattle.i86.specs.Code.{Reads}
 use Rattle.dialogue.specs.declared.request.Event.TheVariants.{In as AskedIn, Out as AskedOut}
-use Rattle.dialogue.specs.Bytes.{put}
+use Rattle.dialogue.specs.ByteMemory.{put}
 use Rattle.base_arithmetic.specs.Arithmetic.{as_bit}
 use Rattle.base_runs.specs.Run.{Asks}
 use Rattle.asm86_lines.specs.declared.line.Label.{Label}

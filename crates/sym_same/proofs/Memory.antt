@@ -20,7 +20,7 @@ use Rattle.asm86_lines.specs.Order.{Reading, at_start, in_data, is_free, may_sta
 use Rattle.asm86_lines.specs.Image.{word_cells, cells_from, put_cell, by_address}
 use Rattle.asm80_program.specs.Program.{Program, cell_at}
 use Rattle.cpu80_steps.specs.Start.{cell_or_junk, start_cell80}
-use Rattle.dialogue.specs.Bytes.{put}
+use Rattle.dialogue.specs.ByteMemory.{put}
 use Rattle.cpu86_steps.specs.State.{wrap, put_word, back}
 use Rattle.cpu86_steps.specs.Start.{start_byte, put_cells}
 use Rattle.sym_blocks.specs.Stands.{Stands}

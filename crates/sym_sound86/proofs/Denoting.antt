@@ -4,7 +4,7 @@ use Rattle.std.proofs.lemmas.List.{length-append, append-nil}
 use Rattle.i86.specs.declared.Reg8.{Reg8}
 use Rattle.i86.specs.declared.Reg8.TheVariants.{Al, Cl, Dl, Bl, Ah, Ch, Dh, Bh}
 use Rattle.base_arithmetic.specs.Arithmetic.{as_bit}
-use Rattle.dialogue.specs.Bytes.{put}
+use Rattle.dialogue.specs.ByteMemory.{put}
 use Rattle.cpu86_steps.specs.State.{State86, Flags86, reg8, wrap, put_word, word_at}
 use Rattle.cpu86_steps.specs.Effect.{set8, with_flags}
 use Rattle.sym_terms.specs.Term.{Term, Loaded8, Loaded16}

@@ -1,7 +1,7 @@
 -- Loads and stores one after the other.
 use Rattle.std.proofs.Common.{◌≡◌, ℕ, List, [], ◌∷◌, ◌++◌, sym, ap, subst, append_assoc}
 use Rattle.std.proofs.lemmas.List.{append-nil}
-use Rattle.dialogue.specs.Bytes.{put}
+use Rattle.dialogue.specs.ByteMemory.{put}
 use Rattle.cpu86_steps.specs.State.{put_word}
 use Rattle.sym_terms.specs.Values86.{Env86, Load86, LoadedByte, LoadedWord}
 use Rattle.sym_blocks.specs.Outcome.{Action, Load8, Load16, Store8, Store16}

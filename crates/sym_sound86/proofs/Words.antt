@@ -3,7 +3,7 @@ use Rattle.std.proofs.Common.{◌≡◌, ◌≢◌, ℕ, ◌+◌, ◌-◌, ◌/�
 use Rattle.std.proofs.lemmas.Bool.Decides.{nat_tests}
 use Rattle.asm86_lines.specs.Layout.{distance16}
 use Rattle.cpu80_steps.specs.Call.{is_just_below}
-use Rattle.dialogue.specs.Bytes.{put, put_bytes}
+use Rattle.dialogue.specs.ByteMemory.{put, put_bytes}
 use Rattle.cpu86_steps.specs.State.{wrap, back, put_word, word_at, word}
 use Rattle.cpu86_steps.specs.Call.{chosen_six, spoiled}
 

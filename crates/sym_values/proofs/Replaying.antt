@@ -7,7 +7,7 @@ use Rattle.cells.specs.declared.Cell.{Cell}
 use Rattle.cells.specs.declared.Cell.TheVariants.{Num as NumCell}
 use Rattle.asm80_program.specs.Program.{Program}
 use Rattle.cpu80_steps.specs.Memory.{put as put80}
-use Rattle.dialogue.specs.Bytes.{put}
+use Rattle.dialogue.specs.ByteMemory.{put}
 use Rattle.cpu86_steps.specs.State.{word, wrap, put_word, word_at}
 use Rattle.sym_terms.specs.Term.{Term, is_word}
 use Rattle.sym_terms.specs.Values80.{Env80, Load80, LoadedByte, LoadedWord, word_of, Val80}

@@ -1,6 +1,6 @@
 use Rattle.std.proofs.Common.{ap, ◌∙◌}
-use Rattle.dialogue.specs.Bytes.{put_bytes}
-use Rattle.dialogue.proofs.Bytes.{put_blocks_more}
+use Rattle.dialogue.specs.ByteMemory.{put_bytes}
+use Rattle.dialogue.proofs.ByteMemory.{put_blocks_more}
 use Rattle.cpu80_plain.specs.State.{mem_of}
 use Rattle.cpu80_plain.proofs.memory.Memory.set_blocks.Goals as goal
 

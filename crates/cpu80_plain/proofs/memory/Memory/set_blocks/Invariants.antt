@@ -1,6 +1,6 @@
 use Rattle.std.proofs.Common.{◌≡◌, drop}
 use Rattle.cpu80_plain.specs.State.{mem_of}
-use Rattle.dialogue.specs.Bytes.{put_blocks}
+use Rattle.dialogue.specs.ByteMemory.{put_blocks}
 use Rattle.cpu80_plain.proofs.memory.Memory.set_blocks.Given as goal
 
 abbrev pub invariant-loop-block : goal.invariant-loop-block

@@ -1,5 +1,5 @@
 use Rattle.std.proofs.Common.{◌∙◌, arith}
-use Rattle.dialogue.proofs.Bytes.{put_bytes_more}
+use Rattle.dialogue.proofs.ByteMemory.{put_bytes_more}
 use Rattle.cpu80_plain.specs.State.{mem_of}
 use Rattle.cpu80_plain.proofs.memory.Memory.set_bytes.Goals as goal
 

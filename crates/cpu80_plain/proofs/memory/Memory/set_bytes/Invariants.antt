@@ -1,6 +1,6 @@
 use Rattle.std.proofs.Common.{◌≡◌, drop}
 use Rattle.cpu80_plain.specs.State.{mem_of}
-use Rattle.dialogue.specs.Bytes.{put_bytes}
+use Rattle.dialogue.specs.ByteMemory.{put_bytes}
 use Rattle.cpu80_plain.proofs.memory.Memory.set_bytes.Given as goal
 
 abbrev pub invariant-loop-byte : goal.invariant-loop-byte

@@ -1,6 +1,6 @@
 use Rattle.std.proofs.Common.{ap, ◌∙◌}
-use Rattle.dialogue.specs.Bytes.{put_bytes}
-use Rattle.dialogue.proofs.Bytes.{put_blocks_more}
+use Rattle.dialogue.specs.ByteMemory.{put_bytes}
+use Rattle.dialogue.proofs.ByteMemory.{put_blocks_more}
 use Rattle.cpu86_effects.specs.State.{mem_of}
 use Rattle.cpu86_effects.proofs.memory.Memory.set_blocks.Goals as goal
 

@@ -1,6 +1,6 @@
 use Rattle.std.proofs.Common.{◌≡◌, drop}
 use Rattle.cpu86_effects.specs.State.{mem_of}
-use Rattle.dialogue.specs.Bytes.{put_blocks}
+use Rattle.dialogue.specs.ByteMemory.{put_blocks}
 use Rattle.cpu86_effects.proofs.memory.Memory.set_blocks.Given as goal
 
 abbrev pub invariant-loop-block : goal.invariant-loop-block

@@ -1,6 +1,6 @@
 use Rattle.std.proofs.Common.{◌≡◌, drop}
 use Rattle.cpu86_effects.specs.State.{mem_of}
-use Rattle.dialogue.specs.Bytes.{put_bytes}
+use Rattle.dialogue.specs.ByteMemory.{put_bytes}
 use Rattle.cpu86_effects.proofs.memory.Memory.set_bytes.Given as goal
 
 abbrev pub invariant-loop-byte : goal.invariant-loop-byte

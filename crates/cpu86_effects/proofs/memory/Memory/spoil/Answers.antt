@@ -1,5 +1,5 @@
 use Rattle.std.proofs.Common.{◌≡◌, ℕ, [], ◌∷◌, ap, ◌∙◌}
-use Rattle.dialogue.specs.Bytes.{put_bytes}
+use Rattle.dialogue.specs.ByteMemory.{put_bytes}
 use Rattle.cpu86_steps.specs.State.{back}
 use Rattle.cpu86_steps.specs.Call.{spoiled}
 use Rattle.cpu86_effects.specs.State.{mem_of}

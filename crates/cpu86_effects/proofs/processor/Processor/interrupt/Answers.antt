@@ -1,5 +1,5 @@
 use Rattle.std.proofs.Common.{ap, ◌∙◌, sym}
-use Rattle.dialogue.specs.Bytes.{put_bytes}
+use Rattle.dialogue.specs.ByteMemory.{put_bytes}
 use Rattle.cpu86_steps.specs.State.{back}
 use Rattle.cpu86_effects.specs.State.{state_of, mem_of, with_mem}
 use Rattle.cpu86_effects.proofs.Calls.{asked, odd, written_back}

@@ -2,7 +2,7 @@
 use Rattle.std.proofs.Common.{◌≡◌, ℕ, ◌+◌, ◌%◌, ◌<◌, List, length, get_or, drop, sym, ap, ◌∙◌}
 use Rattle.std.proofs.lemmas.List.{drop_more}
 use Rattle.dialogue.specs.declared.blocks.Block.{Block}
-use Rattle.dialogue.specs.Bytes.{put, put_bytes, put_blocks}
+use Rattle.dialogue.specs.ByteMemory.{put, put_bytes, put_blocks}
 
 -- one more byte
 pub put_bytes_more : (m m' : ℕ → ℕ) (bs : List ℕ) (at i : ℕ) → i < length bs → m' ≡ put m at (get_or bs i 0) → put_bytes m' ((at + 1) % 0x10000) (drop (i + 1) bs) ≡ put_bytes m at (drop i bs)
