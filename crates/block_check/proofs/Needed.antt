@@ -1,39 +1,20 @@
--- The needs of a program are one set at each place, and its blocks are blocks to run.
-use Rattle.std.proofs.Common.{◌≡◌, ◌∙◌, ℕ, zero, suc, ◌+◌, length, Option, Some, None, refl, sym, ap, arith}
+-- The needs of a program are one set at each place, and a leader has a block to run.
+use Rattle.std.proofs.Common.{◌≡◌, ◌∙◌, ℕ, Option, Some, None, refl, sym}
 use Rattle.std.specs.Prelude.{is_some, cond}
 use Rattle.cells.specs.Parts.{Parts, nothing}
-use Rattle.i80.specs.Columns.{length80}
 use Rattle.asm80_program.specs.Program.{Program}
 use Rattle.flow.proofs.OneNeeds.{needs_once}
 use Rattle.flow.specs.declared.node.Node.TheVariants.{Start}
-use Rattle.flow.specs.Blocks.{block_at, IsLeader, IsStraight, BlocksCut}
-use Rattle.flow.specs.Blocks.{IsBlockOf}
+use Rattle.flow.specs.Blocks.{block_at, IsLeader, BlocksCut}
 use Rattle.flow.specs.Solving.{Needs, AreAllNeeds}
-use Rattle.sym_blocks.specs.Block80.{IsBlock, OnlyLastEnds, instrs_from}
+use Rattle.sym_blocks.specs.Block80.{IsBlock}
 use Rattle.sym_texts.specs.Needed.{needed_by}
+use Rattle.sym_texts.proofs.Blocks.{may_run}
 use Rattle.block_check.specs.Kept.{AreKept, KeepsNeeds}
 
 pub kept_once : (p : Program) (a : ℕ) (o : Option ℕ) (x y : Parts) → AreKept p a o x → AreKept p a o y → x ≡ y
 kept_once p a None x y f g = f ∙ sym g
 kept_once p a (Some count) x y f g = needs_once p (Start a) x y f g
-
-straight_whole : (p : Program) (a n : ℕ) → IsStraight p a n → length (instrs_from p a n) ≡ n
-straight_whole p a zero h = refl
-straight_whole p a (suc n) h = rw (h.1) (ap suc (straight_whole p (a + length80 h.0) n h.3))
-
-straight_ends : (p : Program) (a n : ℕ) → IsStraight p a n → OnlyLastEnds (instrs_from p a n)
-straight_ends p a zero h = tt
-straight_ends p a (suc zero) h = rw (h.1) tt
-straight_ends p a (suc (suc n)) h =
-    let rest = straight_ends p (a + length80 h.0) (suc n) h.3 in
-    rw (h.1, h.3.1) (h.2 (omega arith), rw (h.3.1) at rest)
-
--- a block of the cut is one to be run
-pub may_run : (p : Program) (a n : ℕ) → BlocksCut p → IsBlockOf p a n → IsBlock p a n
-may_run p a n cut h =
-    let size = cut.sizes a n h in
-    let straight = cut.straight a n h in
-    record { some = size.0; few = size.1; whole = straight_whole p a n straight; ends = straight_ends p a n straight }
 
 -- a leader's block
 pub leader_block : (p : Program) (a : ℕ) → BlocksCut p → IsLeader p a → (n : ℕ) × (block_at p a ≡ Some n) × IsBlock p a n

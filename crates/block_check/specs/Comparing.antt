@@ -12,7 +12,8 @@ use Rattle.sym_blocks.specs.Agree.{agrees, actions_agree, exit_agrees}
 use Rattle.sym_blocks.specs.BlockMatch.{kept_reason}
 use Rattle.sym_micro.specs.Stands.{trees_of_held, trees_of_actions, HeldIsGiven, ActionsAreGiven}
 use Rattle.sym_micro.specs.Exits.{tree_of_exit, ExitIsGiven}
-use Rattle.sym_run.specs.Outcomes.{OutcomeIds, OutcomeStands, Comes, WorkState}
+use Rattle.sym_run.specs.Outcomes.{OutcomeIds, OutcomeStands, Comes}
+pub use Rattle.sym_run.specs.Outcomes.{WorkState}
 use Rattle.block_check.specs.declared.block.Verdict.{Verdict}
 use Rattle.block_check.specs.declared.block.Verdict.TheVariants.{Shown, NotShown}
 

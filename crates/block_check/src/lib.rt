@@ -6,8 +6,7 @@ mod asked;
 mod block;
 mod exits;
 mod kept;
-mod laws;
 mod outcomes;
 
 pub use block::{Verdict, check, check_all_kept};
-pub use laws::blocks_may_run;
+pub use sym_run::{Index86, Reason, Work};

@@ -26,7 +26,7 @@ use Rattle.bdos_talk.specs.Replies.{IsBlock, IsReply}
 use Rattle.bdos_talk.specs.Talk.{Seen, told_status, replies_to, HasOneRun, SaysRun}
 use Rattle.bdos_emulation.specs.Courses.{why80, course80, course86}
 use Rattle.bdos_emulation.specs.Starts.{start_by}
-use Rattle.sym_same.specs.Same.{IsReplyBlock as SameBlock, IsReply as SameReply, Same}
+use Rattle.xlt_core.specs.Names.{IsReplyBlock as SameBlock, IsReply as SameReply, Same}
 use Rattle.cmd_words.specs.Words.{Both}
 use Rattle.cmd_run.specs.Runs86.{fill_by}
 use Rattle.cmd_both.specs.Runs.{prefix80, prefix86, limit86, course80_of, course86_of, Says80, Says86}

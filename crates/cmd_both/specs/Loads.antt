@@ -11,7 +11,7 @@ use Rattle.cmd_words.specs.Words.{Run80, Both}
 use Rattle.cmd_reports.specs.declared.stop.Stop.{Stop}
 use Rattle.cmd_reports.specs.declared.stop.Stop.TheVariants.{OutOfMemory, CodeTooLarge}
 use Rattle.cmd_run.specs.Runs80 as tagged
-use Rattle.sym_same.specs.Same.{Same}
+use Rattle.xlt_core.specs.Names.{Same}
 use Rattle.xlt_core.specs.declared.translation.Mode.TheVariants.{Lean}
 use Rattle.xlt_core.specs.Translation.{IsText, CodeFits, IsTooLarge}
 

@@ -12,9 +12,7 @@ use Rattle.asm86_image.specs.declared.fault.ImageFault.TheVariants.{Line}
 use Rattle.asm86_image.specs.Refusals.{ImageRefused, OneRefusal, NotBoth}
 use Rattle.asm80_program.specs.Program.{Program}
 use Rattle.asm80_source.specs.Source.{IsSource, SourceRule, IsNoSource, OfLine, OfProgram}
-use Rattle.xlt_validation.specs.declared.finding.Finding.{Finding}
-use Rattle.xlt_validation.specs.declared.finding.Finding.TheVariants.{Shown, NotShown as NotFound}
-use Rattle.xlt_validation.specs.Findings.{IsFinding, OneFinding}
+use Rattle.xlt_core.specs.Names.{Finding, Shown, NotShown as NotFound, IsFinding, OneFinding}
 use Rattle.cmd_words.specs.Words.{Check}
 use Rattle.cmd_reports.specs.declared.stop.Stop.{Stop}
 use Rattle.cmd_reports.specs.declared.stop.Stop.TheVariants.{OutOfMemory, NotShown}

@@ -15,7 +15,7 @@ use Rattle.xlt_core.specs.declared.translation.Mode.{Mode}
 use Rattle.xlt_core.specs.Translation.{IsText, code_size, CodeFits, IsTooLarge}
 use Rattle.xlt_core.proofs.OneText.{OneText}
 use Rattle.i86.specs.Decode.{HasReader}
-use Rattle.sym_same.specs.Same.{Same}
+use Rattle.xlt_core.specs.Names.{Same}
 use Rattle.cmd_reports.specs.declared.stop.Stop.{Stop}
 use Rattle.cmd_reports.specs.declared.stop.Stop.TheVariants.{CodeTooLarge}
 use Rattle.cmd_reports.specs.Lines.{named_line, memory_line}

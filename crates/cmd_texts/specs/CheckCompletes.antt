@@ -7,9 +7,7 @@ use Rattle.asm86_text.specs.Stream.{TextGives}
 use Rattle.asm86_image.specs.declared.fault.ImageFault.{ImageFault}
 use Rattle.asm80_program.specs.Program.{Program}
 use Rattle.asm80_source.specs.Source.{IsSource, IsNoSource, SourceRule}
-use Rattle.xlt_validation.specs.declared.finding.Finding.{Finding}
-use Rattle.xlt_validation.specs.declared.finding.Finding.TheVariants.{Shown, NotShown as NotFound}
-use Rattle.xlt_validation.specs.Findings.{IsFinding}
+use Rattle.xlt_core.specs.Names.{Finding, Shown, NotShown as NotFound, IsFinding}
 use Rattle.cmd_words.specs.Words.{Check}
 use Rattle.cmd_reports.specs.declared.stop.Stop.{Stop}
 use Rattle.cmd_reports.specs.declared.stop.Stop.TheVariants.{NotShown}

@@ -11,9 +11,7 @@ use Rattle.asm86_image.specs.Refusals.{ImageRefused}
 use Rattle.asm80_program.specs.Program.{Program}
 use Rattle.asm80_source.specs.Source.{IsSource}
 use Rattle.sym_blocks.specs.declared.reason.Reason.{Reason}
-use Rattle.sym_same.specs.Same.{Same}
-use Rattle.xlt_validation.specs.declared.finding.Finding.TheVariants.{Shown as IsFoundShown, NotShown as IsFoundNot}
-use Rattle.xlt_validation.specs.Findings.{IsFinding}
+use Rattle.xlt_core.specs.Names.{Same, Shown as IsFoundShown, NotShown as IsFoundNot, IsFinding}
 use Rattle.cmd_words.specs.Words.{Check}
 use Rattle.cmd_reports.specs.declared.stop.Stop.{Stop}
 use Rattle.cmd_reports.specs.declared.stop.Stop.TheVariants.{OutOfMemory, NotShown}

@@ -12,7 +12,7 @@ use Rattle.i86.specs.Decode.{HasReader}
 use Rattle.xlt_core.specs.declared.translation.Mode.{Mode}
 use Rattle.xlt_core.specs.declared.translation.Mode.TheVariants.{Plain, Lean}
 use Rattle.xlt_core.specs.Translation.{IsText, code_size, CodeFits, IsTooLarge}
-pub use Rattle.sym_same.specs.Same.{Same}
+pub use Rattle.xlt_core.specs.Names.{Same}
 use Rattle.cmd_reports.specs.declared.stop.Stop.TheVariants.{CodeTooLarge}
 use Rattle.cmd_reports.specs.Lines.{line_of, named_line, memory_line, translated_line}
 use Rattle.cmd_inputs.specs.Files.{IsWhole, NoneFailed, IsTold, input_limit}

@@ -15,7 +15,7 @@ use Rattle.flow.specs.Solving.{Needs, AreAllNeeds}
 use Rattle.sym_runs.specs.Runs86.{offsets_of}
 use Rattle.sym_runs.specs.Linked.{Linked}
 use Rattle.sym_texts.specs.Needed.{needed_by}
-use Rattle.sym_same.specs.Same.{IsReply}
+use Rattle.xlt_core.specs.Names.{IsReply}
 use Rattle.xlt_core.specs.declared.translation.Mode.{Mode}
 use Rattle.xlt_core.specs.Translation.{IsText, CodeFits}
 

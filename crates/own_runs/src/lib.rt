@@ -3,8 +3,7 @@
 
 ghost use Rattle.own_runs.specs.Laws.{OwnRunsBeginInStep};
 
-use sym_same::blocks_follow;
-use xlt_core::own_texts_are_shown;
+use xlt_core::{blocks_follow, own_texts_are_shown};
 
 /// A law: where the code of its text fits, in either mode, a program's run begins linked with that of its text. So lines match programs,
 /// linked runs and runs that follow one another are there.

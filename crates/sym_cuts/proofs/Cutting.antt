@@ -20,7 +20,7 @@ use Rattle.flow.specs.Blocks.{IsBlockOf}
 use Rattle.flow.specs.Solving.{Needs, AreAllNeeds}
 use Rattle.sym_blocks.specs.Block80.{IsBlock, instrs_from, address_after}
 use Rattle.sym_runs.specs.Linked.{HasBlock, IsFirstOf}
-use Rattle.sym_linking.specs.Cuts.{IsCut, ReturnsKeep}
+use Rattle.sym_runs.specs.Cuts.{IsCut, ReturnsKeep}
 use Rattle.sym_cuts.proofs.Names.{names_start, code_is_taken}
 use Rattle.sym_texts.specs.Needed.{needed_by}
 

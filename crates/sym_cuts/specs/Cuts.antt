@@ -2,7 +2,7 @@
 use Rattle.asm80_program.specs.Program.{Program, IsProgram}
 use Rattle.flow.specs.Blocks.{blocks}
 use Rattle.flow.specs.Solving.{Needs, AreAllNeeds}
-use Rattle.sym_linking.specs.Cuts.{IsCut, ReturnsKeep}
+use Rattle.sym_runs.specs.Cuts.{IsCut, ReturnsKeep}
 use Rattle.sym_texts.specs.Needed.{needed_by}
 
 -- the blocks are a cut: control comes to a block at its first instruction alone

@@ -1,10 +1,17 @@
-// Laws: the blocks of a program are a cut of it, and what is needed where control may return is needed at a return.
+// Laws: the blocks of a program are blocks to run and a cut of it, and what is needed where control may return is needed at a return.
 #![tactic(auto)]
 
+ghost use Rattle.sym_cuts.specs.Runs.{BlocksMayRun};
 ghost use Rattle.sym_cuts.specs.Cuts.{BlocksAreCuts, NeedsReturn};
 
-use block_check::blocks_may_run;
 use flow::{blocks_cut_the_program, needs_are_closed};
+
+/// A law: a block of a program's cut is one to be run: 1 to 16 instructions, of which the last alone may end it.
+pub fn blocks_may_run()
+    ensures { BlocksMayRun }
+{
+    blocks_cut_the_program();
+}
 
 /// A law: control comes to a program's blocks at their first instructions alone.
 pub fn blocks_are_cuts()

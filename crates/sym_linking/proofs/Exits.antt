@@ -14,7 +14,7 @@ use Rattle.sym_blocks.specs.Outcome.{Way, Goto, ByTerms, Call, Sys, SysReturn, B
 use Rattle.sym_blocks.specs.Block80.{Symbolic80, start80, goto, jump, call, asking, exit80, effect80, outcome_from, before_more, instrs_from, address_after, block80}
 use Rattle.sym_runs.specs.Linked.{HasBlock, IsFirstOf}
 use Rattle.sym_runs.specs.Runs80.{Takes80}
-use Rattle.sym_linking.specs.Cuts.{IsCut}
+use Rattle.sym_runs.specs.Cuts.{IsCut}
 
 -- a place behind a call: where an instruction starts there, it is the first of a block
 abbrev pub ComesBack : Program → List (ℕ × ℕ) → Place → Type 0

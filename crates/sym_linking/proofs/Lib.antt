@@ -1,10 +1,17 @@
-pub mod Exits
+mod Choosing
+mod Same
+mod Agreeing
+mod Replaying
+mod Reasons
+mod WaysAgree
+mod Meeting
+mod Exits
 pub mod Running
-pub mod Writes
-pub mod Asking
-pub mod Replying
+mod Writes
+mod Asking
+mod Replying
 pub mod Standing
 pub mod Going
-pub mod System
-pub mod Ways
+mod System
+mod Ways
 pub mod Linked

@@ -43,12 +43,12 @@ use Rattle.sym_runs.specs.Runs86.{with_loads, offsets_of, Leaves86, LeavesAsking
 use Rattle.sym_runs.specs.Runtime.{RuntimesRun86}
 use Rattle.sym_runs.specs.Linked.{HasBlock, StandsIn, places, Linked, Paired}
 use Rattle.sym_calls.specs.Sight.{WhoSeesMoreAsksTheSame}
-use Rattle.sym_values.specs.Linked.{EnvsStand, AgreeingTermsStand}
-use Rattle.sym_values.specs.Environments.{HasLabels}
+use Rattle.sym_linking.specs.Linked.{EnvsStand, AgreeingTermsStand}
+use Rattle.sym_linking.specs.Environments.{HasLabels}
 use Rattle.sym_sound86.proofs.Positions.{behind_is, offsets_are, offset_within, defined_here, place_is}
 use Rattle.dialogue.proofs.Tried.{err_is_not}
-use Rattle.sym_matching.specs.Matching.{BlocksStand, MatchingBlocksStand}
-use Rattle.sym_matching.proofs.Reasons.{walk_matches}
+use Rattle.sym_linking.specs.Matching.{BlocksStand, MatchingBlocksStand}
+use Rattle.sym_linking.proofs.Reasons.{walk_matches}
 use Rattle.sym_linking.specs.Linking.{WriteBytes, BlocksMatch, BlockLinks, BlocksAreLinked}
 use Rattle.sym_linking.proofs.Exits.{IsWayOf, way_in}
 use Rattle.sym_linking.proofs.Running.{moved, turn_is, run_turns, run_quiet, runs_any, leaves_quiet, leaves_stopped}

@@ -26,7 +26,7 @@ use Rattle.cpu86_steps.specs.Call.{chosen_regs, answered as answered86, after_re
 use Rattle.sym_blocks.specs.Stands.{Stands}
 use Rattle.sym_runs.specs.States.{IsCell, IsState80, IsState86}
 use Rattle.sym_runs.specs.Linked.{StandsIn}
-use Rattle.sym_values.specs.Replayed.{MemoryStands}
+use Rattle.sym_linking.specs.Replayed.{MemoryStands}
 use Rattle.sym_linking.specs.Linking.{AreBytes}
 use Rattle.sym_linking.proofs.Writes.{blocks_stand, blocks_same80, blocks_cells}
 use Rattle.sym_linking.proofs.Asking.{IsSight, ReplyFits}

@@ -25,8 +25,8 @@ use Rattle.sym_blocks.specs.BlockMatch.{Keeps, kept_at}
 use Rattle.sym_blocks.specs.Stands.{IsHalf, Stands}
 use Rattle.sym_runs.specs.States.{IsCell, IsState80, IsState86}
 use Rattle.sym_runs.specs.Linked.{IsFirstOf, StandsIn, places, Linked}
-use Rattle.sym_values.specs.Linked.{LoadsStand}
-use Rattle.sym_values.specs.Replayed.{MemoryStands}
+use Rattle.sym_linking.specs.Linked.{LoadsStand}
+use Rattle.sym_linking.specs.Replayed.{MemoryStands}
 
 pub record StatesStand (p : Program) (offset : Label → Option ℕ) (cut : List (ℕ × ℕ)) (keeps : Keeps) (t : State80) (u : State86) : Type 0 where
   pub first : IsFirstOf cut t.place

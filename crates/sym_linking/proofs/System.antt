@@ -21,14 +21,14 @@ use Rattle.sym_runs.specs.States.{IsCell, IsHeldPlace, IsState80, IsState86}
 use Rattle.sym_runs.specs.Runs80.{going_on}
 use Rattle.sym_runs.specs.Runs86.{GoesOnAt}
 use Rattle.sym_runs.specs.Linked.{IsFirstOf, places}
-use Rattle.sym_values.specs.Replayed.{MemoryStands}
+use Rattle.sym_linking.specs.Replayed.{MemoryStands}
 use Rattle.dialogue.proofs.Tried.{then_is, ok_is}
 use Rattle.cpu80_steps.proofs.Passing.{place_if_is}
 use Rattle.sym_sound80.proofs.Answering.{read_word_is}
 use Rattle.sym_sound80.proofs.Leaving.{place_is}
 use Rattle.sym_sound86.proofs.Words.{back_on, eq_true, lt_true, lt_false, at_least, spoiled_past, pushed_back, call_keeps}
 use Rattle.sym_sound86.proofs.Denoting.{word_put}
-use Rattle.sym_linking.specs.Cuts.{IsCut}
+use Rattle.sym_runs.specs.Cuts.{IsCut}
 use Rattle.sym_linking.proofs.Exits.{ComesBack}
 use Rattle.sym_linking.proofs.Writes.{AreWithin, blocks_past86}
 use Rattle.sym_linking.proofs.Asking.{IsSight}

@@ -50,10 +50,10 @@ use Rattle.sym_runs.specs.Runs86.{offsets_of, ComesBackTo, GoesOnAt, StandsAt, C
 use Rattle.sym_runs.specs.Runtime.{CallsSystem, EndsAfter, RuntimeRuns, RuntimesRun86, answers_moved}
 use Rattle.sym_runs.specs.Linked.{IsFirstOf, StandsIn, places}
 use Rattle.sym_calls.specs.Sight.{WhoSeesMoreAsksTheSame}
-use Rattle.sym_values.specs.Linked.{EnvsStand, AgreeingTermsStand}
-use Rattle.sym_values.specs.Replayed.{MemoryStands}
-use Rattle.sym_values.specs.Environments.{HasLabels}
-use Rattle.sym_values.proofs.Replaying.{put_word_stands}
+use Rattle.sym_linking.specs.Linked.{EnvsStand, AgreeingTermsStand}
+use Rattle.sym_linking.specs.Replayed.{MemoryStands}
+use Rattle.sym_linking.specs.Environments.{HasLabels}
+use Rattle.sym_linking.proofs.Replaying.{put_word_stands}
 use Rattle.dialogue.proofs.Tried.{then_is, ok_is}
 use Rattle.sym_sound80.proofs.Answering.{read_word_is, write_word_is}
 use Rattle.sym_linking.specs.Linking.{AreBytes, WriteBytes, BlocksMatch}

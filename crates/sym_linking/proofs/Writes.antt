@@ -18,8 +18,8 @@ use Rattle.cpu80_steps.specs.Call.{put_bytes as put_bytes80, put_blocks as put_b
 use Rattle.cpu86_steps.specs.State.{wrap}
 use Rattle.sym_runs.specs.States.{IsCell}
 use Rattle.sym_sound86.proofs.Words.{eq_false}
-use Rattle.sym_values.specs.Replayed.{MemoryStands}
-use Rattle.sym_values.proofs.Replaying.{put_stands}
+use Rattle.sym_linking.specs.Replayed.{MemoryStands}
+use Rattle.sym_linking.proofs.Replaying.{put_stands}
 use Rattle.sym_linking.specs.Linking.{AreBytes}
 
 -- each block is within memory, and its cells pass

@@ -1,2 +1,5 @@
-pub mod Cuts
+pub mod Linked
+pub mod Replayed
+pub mod Environments
+pub mod Matching
 pub mod Linking

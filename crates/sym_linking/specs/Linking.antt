@@ -21,7 +21,7 @@ use Rattle.sym_blocks.specs.Sorts.{StatementsAreCoded}
 use Rattle.sym_runs.specs.Runs86.{offsets_of}
 use Rattle.sym_runs.specs.Runtime.{HasRuntime}
 use Rattle.sym_runs.specs.Linked.{HasBlock, Linked, Paired}
-use Rattle.sym_linking.specs.Cuts.{IsCut, ReturnsKeep}
+use Rattle.sym_runs.specs.Cuts.{IsCut, ReturnsKeep}
 
 -- what replies write are bytes
 abbrev pub AreBytes : List Block → Type 0

@@ -14,7 +14,7 @@ use Rattle.sym_blocks.specs.BlockMatch.{Keeps}
 use Rattle.sym_blocks.specs.Sorts.{StatementsAreCoded}
 use Rattle.sym_runs.specs.Runs86.{offsets_of}
 use Rattle.sym_runs.specs.Linked.{Paired}
-use Rattle.sym_linking.specs.Cuts.{IsCut, ReturnsKeep}
+use Rattle.sym_runs.specs.Cuts.{IsCut, ReturnsKeep}
 use Rattle.sym_texts.specs.Matches.{Matches, DataAreCoded}
 use Rattle.sym_same.specs.Same.{IsReply, Same}
 

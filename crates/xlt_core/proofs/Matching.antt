@@ -16,10 +16,10 @@ use Rattle.templates_plain.specs.Plain.{plain, plain_statements}
 use Rattle.sym_blocks.specs.Block80.{IsBlock}
 use Rattle.sym_blocks.specs.BlockMatch.{Keeps, block_reason}
 use Rattle.sym_runs.specs.Linked.{HasBlock, IsFirstOf}
-use Rattle.sym_linking.specs.Cuts.{IsCut, ReturnsKeep}
+use Rattle.sym_runs.specs.Cuts.{IsCut, ReturnsKeep}
 use Rattle.sym_texts.specs.Matches.{or_next, blocks_reason}
 use Rattle.sym_same.specs.Laws.{IsMatch}
-use Rattle.sym_plain.specs.Plain.{OnesAreBlocks, PlainBlocksMatch}
+use Rattle.sym_own.specs.Own.{OnesAreBlocks, PlainBlocksMatch}
 use Rattle.templates_plain.proofs.NumberedLines.{statements-numbered}
 use Rattle.sym_cuts.proofs.Names.{names_start}
 use Rattle.sym_cuts.proofs.Cutting.{taken_has}

@@ -1,2 +1,3 @@
 pub mod Translation
 pub mod Validation
+pub mod Names

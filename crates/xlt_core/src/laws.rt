@@ -22,8 +22,7 @@ ghost use Rattle.xlt_core.specs.Translation.{IsText, CodeFits};
 
 use own_texts::{lean_jumps_reach, own_text_stands, plain_is_a_style, text_reads_back};
 use sym_cuts::{blocks_are_cuts, needs_return};
-use sym_own::{own_texts_match, styles_respect_needs};
-use sym_plain::{ones_are_blocks, plain_blocks_match};
+use sym_own::{ones_are_blocks, own_texts_match, plain_blocks_match, styles_respect_needs};
 use sym_same::matches_is_same;
 use templates::lean_texts_are_one;
 use xlt_validation::findings_are_one;

@@ -11,10 +11,8 @@ use asm86_lines::Line86;
 use flow::Graph;
 use std::alloc::{AllocError, Global};
 use sym_cuts::{blocks_are_cuts, needs_return};
-use sym_run::{Index86, Work};
 use sym_same::matches_is_same;
-use text_parts::lines_are_coded;
-use xlt_validation::{Finding, validate_in};
+use xlt_validation::{Finding, Index86, Work, lines_are_coded, validate_in};
 
 /// A law, of every program and lines with an image that are found to be shown: the image makes the program's system calls in their
 /// order, and ends where the program ends.

@@ -11,7 +11,7 @@ use Rattle.sym_blocks.specs.declared.reason.Reason.TheVariants.{Opening, Runtime
 use Rattle.sym_blocks.specs.Block80.{block80}
 use Rattle.sym_blocks.specs.Walk86.{walk86}
 use Rattle.sym_runs.specs.Runtime.{HasRuntime}
-use Rattle.sym_run.specs.Outcomes.{WorkState}
+use Rattle.block_check.specs.Comparing.{WorkState}
 use Rattle.sym_texts.specs.Matches.{HasOpening, Finds}
 use Rattle.sym_texts.specs.Needed.{needed_by}
 use Rattle.text_parts.specs.Parts.{DataStandIn}

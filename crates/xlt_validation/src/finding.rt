@@ -1,5 +1,5 @@
 // What is found of a text.
-use sym_run::Reason;
+use block_check::Reason;
 
 /// What is found of a text.
 #[derive(Clone, Copy, PartialEq, Eq)]

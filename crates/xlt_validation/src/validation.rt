@@ -14,9 +14,8 @@ use crate::finding::Finding;
 use asm80_program::Program80;
 use asm86_image::Image86;
 use asm86_lines::{Stmt86, cells_are_sorted};
-use block_check::{Verdict, check};
+use block_check::{Index86, Reason, Verdict, Work, check};
 use flow::{Graph, blocks_cut_the_program};
-use sym_run::{Index86, Reason, Work};
 use text_parts::{data_stand, has_opening, has_runtime};
 
 /// What is found of a text, looked at in the order of the opening, the runtime, the data, and the blocks, ascending, by the solved

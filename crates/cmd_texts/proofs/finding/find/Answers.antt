@@ -1,8 +1,6 @@
 use Rattle.std.proofs.Common.{◌≡◌, sym, subst}
 use Rattle.asm86_lines.specs.Image.{image_of}
-use Rattle.sym_same.specs.Same.{Same}
-use Rattle.xlt_validation.specs.declared.finding.Finding.{Finding}
-use Rattle.xlt_validation.specs.Findings.{IsFinding, IfShown}
+use Rattle.xlt_core.specs.Names.{Same, Finding, IsFinding, IfShown}
 use Rattle.cmd_reports.specs.declared.stop.Stop.TheVariants.{OutOfMemory}
 use Rattle.cmd_inputs.proofs.Told.{judged}
 use Rattle.cmd_texts.specs.Checks.{FindStops, not_shown, no_memory}

@@ -23,9 +23,9 @@ use Rattle.sym_blocks.specs.Sorts.{WayIsSorted, StatementsAreCoded}
 use Rattle.sym_runs.specs.Runs80.{env80, BlockRuns80, BlockLeaves80}
 use Rattle.sym_runs.specs.Runs86.{with_loads, offsets_of, WalkRuns86}
 use Rattle.sym_runs.specs.Linked.{StandsIn, places, Linked}
-use Rattle.sym_values.specs.Linked.{EnvsStand}
-use Rattle.sym_values.specs.Replayed.{MemoryStands}
-use Rattle.sym_values.specs.Environments.{HasLabels}
+use Rattle.sym_linking.specs.Linked.{EnvsStand}
+use Rattle.sym_linking.specs.Replayed.{MemoryStands}
+use Rattle.sym_linking.specs.Environments.{HasLabels}
 
 -- Both machines run the block. What they have loaded and what stands in memory then stand for one another, and so do SP and the parts
 -- that are kept where the 8080 goes. The ways that they go agree; and where the text calls the system by INT 224 itself, no part is

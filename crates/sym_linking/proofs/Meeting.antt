@@ -24,13 +24,13 @@ use Rattle.sym_blocks.specs.Sorts.{OutcomeIsSorted, StepsKeepSorts}
 use Rattle.sym_runs.specs.Runs80.{env80, BlockRuns80, BlockLeaves80, BlocksRun80}
 use Rattle.sym_runs.specs.Runs86.{with_loads, offsets_of, WalkRuns86, WalksRun86}
 use Rattle.sym_runs.specs.Linked.{StandsIn, places}
-use Rattle.sym_values.specs.Linked.{WordStands, EnvsStand, AgreeingTermsStand}
-use Rattle.sym_values.specs.Replayed.{ReplayedStand, AgreeingActionsStand}
-use Rattle.sym_values.specs.Environments.{HasEnvs, LinkedRunsHaveEnvs}
-use Rattle.sym_values.proofs.Same.{word_is}
-use Rattle.sym_matching.specs.Matching.{BlocksStand, MatchingBlocksStand}
-use Rattle.sym_matching.proofs.Reasons.{Matches, walk_matches, kept_agrees, none_lost}
-use Rattle.sym_matching.proofs.Ways.{ways_meet, way_sorted, kept_way, goes_on}
+use Rattle.sym_linking.specs.Linked.{WordStands, EnvsStand, AgreeingTermsStand}
+use Rattle.sym_linking.specs.Replayed.{ReplayedStand, AgreeingActionsStand}
+use Rattle.sym_linking.specs.Environments.{HasEnvs, LinkedRunsHaveEnvs}
+use Rattle.sym_linking.proofs.Same.{word_is}
+use Rattle.sym_linking.specs.Matching.{BlocksStand, MatchingBlocksStand}
+use Rattle.sym_linking.proofs.Reasons.{Matches, walk_matches, kept_agrees, none_lost}
+use Rattle.sym_linking.proofs.WaysAgree.{ways_meet, way_sorted, kept_way, goes_on}
 
 or_false : (a b : Bool) → a ≡ false → (a || b) ≡ true → b ≡ true
 or_false a b e h = subst (λ z. (z || b) ≡ true) e h

@@ -15,8 +15,8 @@ use Rattle.sym_terms.specs.Laws.{IsMadeAs, MadeTermsKeepValues, MadeTermsHaveSor
 use Rattle.sym_terms.proofs.Equal.{same_term-true}
 use Rattle.sym_blocks.specs.Agree.{has_unknown, same_known, agrees}
 use Rattle.sym_blocks.specs.Stands.{Stands}
-use Rattle.sym_values.specs.Linked.{WordStands, EnvsStand, AgreeingTermsStand}
-use Rattle.sym_values.proofs.Same.{IsFor, is_for_stands, may_knows, SameStands, same_stands}
+use Rattle.sym_linking.specs.Linked.{WordStands, EnvsStand, AgreeingTermsStand}
+use Rattle.sym_linking.proofs.Same.{IsFor, is_for_stands, may_knows, SameStands, same_stands}
 
 not_is : (b : Bool) → not b ≡ true → b ≡ false
 not_is true e = absurd (cc)

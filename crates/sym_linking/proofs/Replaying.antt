@@ -19,8 +19,8 @@ use Rattle.sym_blocks.specs.Agree.{agrees, action_agrees, actions_agree}
 use Rattle.sym_blocks.specs.Stands.{Stands}
 use Rattle.sym_runs.specs.Runs80.{with_load as with_load80, Replays80}
 use Rattle.sym_runs.specs.Runs86.{with_load as with_load86, Replays86}
-use Rattle.sym_values.specs.Linked.{WordStands, LoadsStand, EnvsStand, AgreeingTermsStand}
-use Rattle.sym_values.specs.Replayed.{MemoryStands, ReplayedStand, AgreeingActionsStand}
+use Rattle.sym_linking.specs.Linked.{WordStands, LoadsStand, EnvsStand, AgreeingTermsStand}
+use Rattle.sym_linking.specs.Replayed.{MemoryStands, ReplayedStand, AgreeingActionsStand}
 
 -- one load more on either side
 loads_snoc8 : (offset : Place → Option ℕ) (xs : List Load80) (ys : List Load86) (c : Cell) (n : ℕ) → LoadsStand offset xs ys → Stands offset c n → LoadsStand offset (xs ++ LoadedByte c ∷ []) (ys ++ LoadedByte86 n ∷ [])

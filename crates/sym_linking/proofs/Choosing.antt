@@ -24,8 +24,8 @@ use Rattle.sym_runs.specs.States.{IsCell}
 use Rattle.sym_runs.specs.Runs80.{env80}
 use Rattle.sym_runs.specs.Runs86.{part86}
 use Rattle.sym_runs.specs.Linked.{places, Linked}
-use Rattle.sym_values.specs.Linked.{StartStands}
-use Rattle.sym_values.specs.Environments.{HasLabels, HasEnvs}
+use Rattle.sym_linking.specs.Linked.{StartStands}
+use Rattle.sym_linking.specs.Environments.{HasLabels, HasEnvs}
 
 -- a byte with five flags
 

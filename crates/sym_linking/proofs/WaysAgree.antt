@@ -13,8 +13,8 @@ use Rattle.sym_blocks.specs.BlockMatch.{Keeps, kept_by, kept_by_exit, is_last, i
 use Rattle.sym_blocks.specs.Sorts.{WayIsSorted, ExitIsSorted}
 use Rattle.sym_runs.specs.Runs80.{Takes80}
 use Rattle.sym_runs.specs.Runs86.{Takes86}
-use Rattle.sym_values.specs.Linked.{EnvsStand, AgreeingTermsStand}
-use Rattle.sym_matching.proofs.Reasons.{in_first, in_second}
+use Rattle.sym_linking.specs.Linked.{EnvsStand, AgreeingTermsStand}
+use Rattle.sym_linking.proofs.Reasons.{in_first, in_second}
 
 one_agrees : (a b : Way) → exit_agrees (One a) (One b) ≡ true → way_agrees a b ≡ true
 one_agrees (Goto q) b h = h

@@ -15,8 +15,8 @@ use Rattle.sym_runs.specs.States.{IsHeldPlace}
 use Rattle.sym_runs.specs.Runs80.{env80}
 use Rattle.sym_runs.specs.Runs86.{IsEnv86}
 use Rattle.sym_runs.specs.Linked.{places, Linked}
-use Rattle.sym_values.specs.Linked.{EnvsStand}
-use Rattle.sym_values.specs.Replayed.{MemoryStands}
+use Rattle.sym_linking.specs.Linked.{EnvsStand}
+use Rattle.sym_linking.specs.Replayed.{MemoryStands}
 
 -- each place that a register or a cell may hold has a label in the code
 abbrev pub HasLabels : Program → (Label → Option ℕ) → Type 0

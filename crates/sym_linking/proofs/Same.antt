@@ -17,7 +17,7 @@ use Rattle.sym_terms.specs.Values80.{Env80, Load80, LoadedByte, LoadedWord, Byte
 use Rattle.sym_terms.specs.Values86.{Env86, Load86, LoadedByte as LoadedByte86, LoadedWord as LoadedWord86, Number, Result as Result86, MayBe, Adjusts, Val86}
 use Rattle.sym_blocks.specs.Agree.{has_unknown}
 use Rattle.sym_blocks.specs.Stands.{IsHalf, Stands}
-use Rattle.sym_values.specs.Linked.{WordStands, LoadsStand, EnvsStand}
+use Rattle.sym_linking.specs.Linked.{WordStands, LoadsStand, EnvsStand}
 
 -- a cell stands for a number, of which it is not said that it is a byte
 abbrev pub IsFor : (Place → Option ℕ) → Cell → ℕ → Type 0

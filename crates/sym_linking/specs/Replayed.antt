@@ -12,7 +12,7 @@ use Rattle.sym_blocks.specs.Agree.{actions_agree}
 use Rattle.sym_blocks.specs.Stands.{Stands}
 use Rattle.sym_runs.specs.Runs80.{Replays80}
 use Rattle.sym_runs.specs.Runs86.{Replays86}
-use Rattle.sym_values.specs.Linked.{EnvsStand}
+use Rattle.sym_linking.specs.Linked.{EnvsStand}
 
 -- each cell that is not closed stands for the 8086's, and those are bytes
 pub record MemoryStands (p : Program) (offset : Place → Option ℕ) (m : ℕ → Cell) (n : ℕ → ℕ) : Type 0 where

@@ -1,3 +1,0 @@
-pub mod Reasons
-mod Ways
-mod Meeting

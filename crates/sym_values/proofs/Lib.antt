@@ -1,4 +1,0 @@
-mod Choosing
-pub mod Same
-mod Agreeing
-pub mod Replaying
