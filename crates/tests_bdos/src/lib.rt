@@ -1,8 +1,11 @@
-// The calls of the BDOS, over public calls: their table, start pages, replies, and the answers of the console and of ports.
+// The calls of the BDOS, over public calls: their table, start pages, replies, the answers of the console and of ports, and disks that
+// are full, in their order and in their files.
 #![tactic(auto)]
 
 #[cfg(test)]
 mod console;
+#[cfg(test)]
+mod disks;
 #[cfg(test)]
 mod memory;
 #[cfg(test)]

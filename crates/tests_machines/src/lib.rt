@@ -1,5 +1,6 @@
-// The two machines, over their public calls: single instructions of the 8086 and calls of the system, the decimal adjustment of
-// the 8080, and both machines driven step by step. The rules by which a program leaves the profile are cases of `cases_cmd`.
+// The machines, over their public calls: single instructions of the 8086 and calls of the system, the decimal adjustment of the 8080,
+// both machines driven step by step, and the 8080 over plain bytes: side by side with the tagged machine, where it stops, what its
+// choices give, and what a reply leaves. The rules by which a program leaves the profile are cases of `cases_cmd`.
 #![tactic(auto)]
 
 #[cfg(test)]
@@ -12,6 +13,16 @@ mod machine80;
 mod machine86;
 #[cfg(test)]
 mod moves86;
+#[cfg(test)]
+mod plain_choices;
+#[cfg(test)]
+mod plain_programs;
+#[cfg(test)]
+mod plain_replies;
+#[cfg(test)]
+mod plain_sides;
+#[cfg(test)]
+mod plain_stops;
 #[cfg(test)]
 mod states86;
 #[cfg(test)]

@@ -1,5 +1,5 @@
 // What is unknown is the choice's.
-use crate::programs::{program, sent};
+use crate::plain_programs::{program, sent};
 use std::test::Fail;
 
 // XRA leaves AC unknown, and PUSH PSW stores bits 1, 3 and 5 that mean nothing: of 44H, which is Z and P, bit 4 is AC.

@@ -1,5 +1,5 @@
 // Where the machine stops, and where it ends.
-use crate::programs::{machine, program, reply};
+use crate::plain_programs::{machine, program, reply};
 use cpu80::StepPlain::{self, Asked, Ended, Ran, Stopped};
 use std::test::Fail;
 

@@ -3,7 +3,7 @@ ghost use Rattle.std.specs.Prelude.{IfOk};
 ghost use Rattle.asm80_program.specs.Program.{Program};
 ghost use Rattle.cpu80.specs.Machine.{IsMachineOf};
 
-use crate::programs::{machine_with, program};
+use crate::plain_programs::{machine_with, program};
 use asm80_values::Program80;
 use cpu80::{Cpu80, Plain80, Step80, StepPlain, plain_follows};
 use dialogue::{Block, Blocks, Bytes, Event, Page, Range, Reply, Request};

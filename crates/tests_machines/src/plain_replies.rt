@@ -1,5 +1,5 @@
 // What a reply leaves in the registers and flags.
-use crate::programs::{machine, program, reply, sent};
+use crate::plain_programs::{machine, program, reply, sent};
 use cpu80::StepPlain;
 use dialogue::Event;
 use std::test::Fail;
