@@ -6,9 +6,8 @@ ghost use Rattle.sym_own.specs.Own.{OwnBlocksMatch, OwnTextsMatch, StylesRespect
 use flow::{blocks_cut_the_program, needs_are_closed};
 use sym_blocks::steps_keep_sorts;
 use sym_exits::{exits_agree, statements_are_passed, templates_are_walked};
-use sym_rows::{pairs_may_go, rows_agree, rows_keep_sorts};
-
 pub use sym_plain::{ones_are_blocks, plain_blocks_match};
+use sym_rows::{pairs_may_go, rows_agree, rows_keep_sorts};
 
 /// A law: a text of a program in a style that respects what is needed matches each block of the program, with what is needed kept.
 pub fn own_blocks_match()

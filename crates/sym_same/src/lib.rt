@@ -4,9 +4,8 @@
 
 ghost use Rattle.sym_same.specs.Laws.{BlocksFollow, MatchesIsSame};
 
-use sym_sound86::sound_86;
-
 pub use sym_linking::block_is_linked;
+use sym_sound86::sound_86;
 
 /// A law, of every program and lines with an image that match it by a cut and some parts that are kept: as far as the 8080's run has
 /// come without leaving the profile, there are numbers of turns after which the two runs are paired, from each start page, memory,
