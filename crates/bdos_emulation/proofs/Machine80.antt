@@ -8,8 +8,8 @@ use Rattle.base_runs.specs.Run.{Answer, Ran, Asks, Ends, Stops, Stopped}
 use Rattle.asm80_program.specs.Program.{Program}
 use Rattle.cpu80_steps.specs.State.{State80}
 use Rattle.cpu80_steps.specs.Step.{step80, replied80, machine80}
-use Rattle.cpu80.specs.declared.processor.Step80.TheVariants.{Ran as DidRun, Asked, Ended as DidEnd, Left as DidLeave}
-use Rattle.cpu80.specs.Machine.{IsStep}
+use Rattle.cpu80_tagged.specs.declared.processor.Step80.TheVariants.{Ran as DidRun, Asked, Ended as DidEnd, Left as DidLeave}
+use Rattle.cpu80_tagged.specs.Machine.{IsStep}
 use Rattle.bdos_talk.specs.declared.emulator.Why.TheVariants.{Left}
 use Rattle.bdos_talk.specs.declared.emulator.Turn.TheVariants.{Ran as HasRun, Asks as HasAsked, Ended, Stopped as HasStopped}
 use Rattle.bdos_talk.specs.Turns.{Course, IsTurn}

@@ -16,9 +16,9 @@ use Rattle.cpu86_steps.specs.State.{State86}
 use Rattle.cpu86_steps.specs.Call.{Stop, NoInstruction, StackSegment, OddCall}
 use Rattle.cpu86_steps.specs.Start.{Start, run86}
 use Rattle.cpu86_steps.specs.Step.{machine86}
-use Rattle.cpu80.specs.declared.processor.Cpu80.{Cpu80}
-use Rattle.cpu80.specs.State.{state_of, asks}
-use Rattle.cpu80.specs.Machine.{IsMachineOf}
+use Rattle.cpu80_tagged.specs.declared.processor.Cpu80.{Cpu80}
+use Rattle.cpu80_tagged.specs.State.{state_of, asks}
+use Rattle.cpu80_tagged.specs.Machine.{IsMachineOf}
 use Rattle.cpu86.specs.declared.cpu.Cpu86.{Cpu86}
 use Rattle.cpu86.specs.Standing.{standing, code_of}
 use Rattle.bdos_talk.specs.declared.emulator.Why.{Why}

@@ -3,7 +3,7 @@ ghost use Rattle.std.specs.Prelude.{◌≡◌, IfOk};
 
 use asm80_program::Program80;
 use bdos_talk::{Emulator, Turn, Why};
-use cpu80::{Cpu80, Step80};
+use cpu80_tagged::{Cpu80, Step80};
 use dialogue::{Event, Page, Reply};
 use std::alloc::{AllocError, Global};
 
@@ -16,8 +16,8 @@ pub struct Tagged80<'a> {
 
 impl<'a> Tagged80<'a> {
     ghost use Rattle.cpu80_steps.specs.Start.{start80};
-    ghost use Rattle.cpu80.specs.State.{state_of};
-    ghost use Rattle.cpu80.specs.Machine.{IsMachineOf};
+    ghost use Rattle.cpu80_tagged.specs.State.{state_of};
+    ghost use Rattle.cpu80_tagged.specs.Machine.{IsMachineOf};
 
     /// The machine as its program begins, with a start page.
     pub fn new(
@@ -37,8 +37,8 @@ impl<'a> Tagged80<'a> {
 impl<'a> Emulator for Tagged80<'a> {
     ghost use Rattle.std.specs.Prelude.{refl, []};
     ghost use Rattle.cpu80_steps.specs.Step.{machine80, replied80};
-    ghost use Rattle.cpu80.specs.State.{state_of};
-    ghost use Rattle.cpu80.specs.Machine.{IsMachineOf};
+    ghost use Rattle.cpu80_tagged.specs.State.{state_of};
+    ghost use Rattle.cpu80_tagged.specs.Machine.{IsMachineOf};
     ghost use Rattle.bdos_emulation.specs.Courses.{why80, course80_from, Waits80};
     ghost use Rattle.bdos_talk.proofs.OneRun.{one_run};
 

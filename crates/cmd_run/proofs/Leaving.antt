@@ -26,7 +26,7 @@ use Rattle.cpu80_steps.specs.Call.{Return, ask, ask_after, call_by, is_just_belo
 use Rattle.cells.specs.Conditions.{holds}
 use Rattle.cpu80_steps.specs.Step.{go_to, go_on, leave_to, go_by, go_back, jump, enter, call, where_holds, ask_event, ask_port, sent, act, act_at, step_at, step80, return_at, replied_to, replied80, machine80}
 use Rattle.cpu80_steps.specs.Start.{start80, run80}
-use Rattle.cpu80.proofs.Places.{GoesOn, Returns, goes_on, returns_to}
+use Rattle.cpu80_tagged.proofs.Places.{GoesOn, Returns, goes_on, returns_to}
 use Rattle.bdos_talk.specs.declared.emulator.Why.TheVariants.{Left, NoInstruction, StackSegment, OddCall}
 use Rattle.bdos_talk.specs.declared.running.RunEnd.{RunEnd}
 use Rattle.bdos_talk.specs.declared.running.RunEnd.TheVariants.{Ended, Stopped as HasStopped, StepLimit, InputEnded, NoDrive}

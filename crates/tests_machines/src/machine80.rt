@@ -2,7 +2,7 @@
 // writes the byte in E.
 ghost use Rattle.std.specs.Prelude.{[], ◌∷◌, IfOk};
 ghost use Rattle.asm80_program.specs.Program.{IsProgram, program_of};
-ghost use Rattle.cpu80.specs.Machine.{IsMachineOf};
+ghost use Rattle.cpu80_tagged.specs.Machine.{IsMachineOf};
 
 use asm80_program::{Placed, Program80};
 use cells::Place::{At, Exit};

@@ -1,7 +1,7 @@
 // Both machines of the 8080 side by side: where the tagged one stays in the profile, the one over plain bytes asks the same.
 ghost use Rattle.std.specs.Prelude.{IfOk};
 ghost use Rattle.asm80_program.specs.Program.{Program};
-ghost use Rattle.cpu80.specs.Machine.{IsMachineOf};
+ghost use Rattle.cpu80_tagged.specs.Machine.{IsMachineOf};
 
 use crate::plain_programs::{machine_with, program};
 use asm80_values::Program80;

@@ -1,6 +1,6 @@
 // Both machines run the program to its end: `cpu80` and `cpu86`.
 ghost use Rattle.std.specs.Prelude.{◌≡◌, ◌^◌, IfOk, length};
-ghost use Rattle.cpu80.specs.Machine.{IsMachineOf};
+ghost use Rattle.cpu80_tagged.specs.Machine.{IsMachineOf};
 
 use crate::calls::nothing;
 use crate::source::program;

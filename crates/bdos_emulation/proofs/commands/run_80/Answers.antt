@@ -4,7 +4,7 @@ use Rattle.std.proofs.lemmas.Result.{IfOk-weaker}
 use Rattle.dialogue.specs.declared.request.Reply.{Reply}
 use Rattle.cpu80_steps.specs.Start.{start80}
 use Rattle.cpu80_steps.specs.Step.{machine80}
-use Rattle.cpu80.specs.State.{state_of}
+use Rattle.cpu80_tagged.specs.State.{state_of}
 use Rattle.bdos_talk.specs.declared.fault.TalkFault.TheVariants.{Memory}
 use Rattle.bdos_talk.specs.Talk.{Seen, SaysRun, IsCutOff}
 use Rattle.bdos_talk.specs.Turns.{nothing}

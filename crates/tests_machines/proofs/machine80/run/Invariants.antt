@@ -1,4 +1,4 @@
-use Rattle.cpu80.specs.Machine.{IsMachineOf}
+use Rattle.cpu80_tagged.specs.Machine.{IsMachineOf}
 use Rattle.tests_machines.proofs.machine80.run.Given as goal
 
 abbrev pub invariant-loop-count : goal.invariant-loop-count

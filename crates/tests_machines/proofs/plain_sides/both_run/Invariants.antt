@@ -1,5 +1,5 @@
 use Rattle.asm80_program.specs.Program.{program_of}
-use Rattle.cpu80.specs.Machine.{IsMachineOf}
+use Rattle.cpu80_tagged.specs.Machine.{IsMachineOf}
 use Rattle.tests_machines.proofs.plain_sides.both_run.Given as goal
 
 abbrev pub invariant-loop-count : goal.invariant-loop-count

@@ -1,6 +1,6 @@
 use Rattle.std.proofs.Common.{subst, ap}
-use Rattle.cpu80.specs.State.{state_of}
-use Rattle.cpu80.specs.Machine.{IsAsked}
+use Rattle.cpu80_tagged.specs.State.{state_of}
+use Rattle.cpu80_tagged.specs.Machine.{IsAsked}
 use Rattle.bdos_emulation.specs.Courses.{course80_from}
 use Rattle.bdos_emulation.proofs.Machine80.{ended80, left80, stayed80, still80, asked80}
 use Rattle.bdos_emulation.proofs.tagged.Tagged80Emulator.turn.Goals as goal

@@ -1,5 +1,0 @@
-use Rattle.cpu80.proofs.Called.{calls_give_runs as the_law}
-use Rattle.cpu80.proofs.runs.calls_give_runs.Goals as goal
-
-pub returns : goal.returns
-returns c = the_law

@@ -1,6 +1,0 @@
-use Rattle.cpu80_steps.specs.Start.{start_cell80}
-use Rattle.cpu80.proofs.Starts.{Filled}
-use Rattle.cpu80.proofs.start.start_memory.Given as goal
-
-abbrev pub invariant-loop-at : goal.invariant-loop-at
-invariant-loop-at l = Filled (start_cell80 l.program l.page) l.memory.items l.at

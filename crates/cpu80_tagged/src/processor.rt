@@ -1,0 +1,275 @@
+// The machine: registers, flags and 64K of cells, and the three calls that drive it.
+ghost use Rattle.std.specs.Prelude.{◌≡◌, length};
+
+use crate::memory::{make, put_blocks, spoil};
+use crate::replies::answered;
+use asm80_program::Program80;
+use cells::{Cell, Flags, Place, Rule};
+use cpu80_effects::area::Area;
+use cpu80_effects::draft::{Draft, Write};
+use cpu80_effects::numbers::number_in;
+use cpu80_effects::registers::Registers;
+use cpu80_effects::sight::Sight;
+use cpu80_effects::turn::{Question, Return, Turn};
+use dialogue::{
+    Blocks, Event, Reply, Request, Shape, answer_of, dma_after, fits, fits_event, request_of,
+    shape_of,
+};
+use std::alloc::{AllocError, Global};
+
+/// What a step answered: the instruction ran; it asks the system or a port and waits for a reply; the program has ended; or it
+/// left the profile by a rule.
+#[derive(Clone, Copy, PartialEq, Eq)]
+pub enum Step80 {
+    Ran,
+    Asked,
+    Ended,
+    Left(Rule),
+}
+
+/// Whether a machine runs, waits for a reply, or has ended.
+#[derive(Clone, Copy)]
+pub enum Phase {
+    Running,
+    Asking(Question, Return),
+    Ended,
+}
+
+/// The tagged 8080 with 64K of cells. It keeps which of them its program has closed, so that each step is fast.
+#[derive(Drop)]
+pub struct Cpu80 {
+    pub(crate) alloc: Global,
+    pub(crate) registers: Registers,
+    pub(crate) flags: Flags,
+    pub(crate) sp: u16,
+    pub(crate) memory: Vec<Cell>,
+    pub(crate) closed: Vec<bool>,
+    pub(crate) place: Place,
+    pub(crate) dma: u16,
+    pub(crate) phase: Phase,
+    ghost full: { length memory.items ≡ 65536 },
+    ghost all_closed: { length closed.items ≡ 65536 },
+}
+
+impl Cpu80 {
+    ghost use Rattle.std.specs.Prelude.{IfOk, true, false, All};
+    ghost use Rattle.dialogue.specs.Fits.{fits};
+    ghost use Rattle.dialogue.specs.Shape.{seen_by};
+    ghost use Rattle.asm80_program.specs.Program.{Program};
+    ghost use Rattle.cpu80_steps.specs.Step.{step80};
+    ghost use Rattle.cpu80_effects.specs.Draft.{memory_of};
+    ghost use Rattle.cpu80_effects.specs.Sight.{byte_over, writable_over, closed_in};
+    ghost use Rattle.cpu80_tagged.specs.State.{state_of, asks, seen_of, shape_in};
+    ghost use Rattle.cpu80_tagged.specs.Reply.{Fits, taken};
+    ghost use Rattle.cpu80_tagged.specs.Machine.{IsMachineOf, IsStep, has_asked, IsAsked, IsReply};
+
+    /// The place of the instruction that comes next, that asks, or that ended the program.
+    pub fn place(&self) -> Place
+        ensures { result ≡ (state_of self.now).place }
+    {
+        self.place
+    }
+
+    /// One instruction. Where it leaves the profile nothing changes; while it asks, and after the end, it answers the same
+    /// again.
+    pub fn step(&mut self, program: &Program80) -> Step80
+        requires { IsMachineOf program.now self.old }
+        ensures step { IsStep (step80 program.now (state_of self.old)) result (state_of self.old) (state_of self.new) }
+        ensures asked { asks self.new ≡ has_asked result }
+        ensures machine { IsMachineOf program.now self.new }
+    {
+        match self.phase {
+            Phase::Running => self.run(program),
+            Phase::Asking(_, _) => Step80::Asked,
+            Phase::Ended => Step80::Ended,
+        }
+    }
+
+    // A step of a machine that runs, on a draft that is kept only where the instruction ran.
+    fn run(&mut self, program: &Program80) -> Step80
+        requires machine { IsMachineOf program.now self.old }
+        requires runs { self.old.phase ≡ Phase.Running }
+        ensures step { IsStep (step80 program.now (state_of self.old)) result (state_of self.old) (state_of self.new) }
+        ensures asked { asks self.new ≡ has_asked result }
+        ensures machine { IsMachineOf program.now self.new }
+    {
+        let area = Area {
+            program,
+            closed: self.closed.as_slice(),
+        };
+        let mut draft = Draft {
+            registers: self.registers,
+            flags: self.flags,
+            sp: self.sp,
+            memory: self.memory.as_slice(),
+            place: self.place,
+            dma: self.dma,
+            write: Write::Nothing,
+        };
+        let outcome = draft.step(&area);
+        let Draft {
+            registers,
+            flags,
+            sp,
+            memory: _,
+            place,
+            dma,
+            write,
+        } = draft;
+        match outcome {
+            Ok(turn) => match turn {
+                Turn::Ran => {
+                    make(self.memory.as_mut_slice(), write);
+                    self.registers = registers;
+                    self.flags = flags;
+                    self.sp = sp;
+                    self.place = place;
+                    self.dma = dma;
+                    Step80::Ran
+                }
+                Turn::Asked(question, back) => {
+                    self.phase = Phase::Asking(question, back);
+                    Step80::Asked
+                }
+                Turn::Ended => {
+                    self.phase = Phase::Ended;
+                    Step80::Ended
+                }
+            },
+            Err(rule) => Step80::Left(rule),
+        }
+    }
+
+    // What a call sees of memory.
+    fn sight(&self, is_popped: bool) -> Sight<'_>
+        ensures { seen_by (byte_over (closed_in result.closed.now) (memory_of result.memory.now) result.sp) (writable_over (closed_in result.closed.now) result.sp result.is_popped) ≡ seen_of self.now is_popped }
+    {
+        Sight {
+            memory: self.memory.as_slice(),
+            closed: self.closed.as_slice(),
+            sp: self.sp,
+            is_popped,
+        }
+    }
+
+    // The shape of the call that the registers make.
+    fn shape(&self, is_popped: bool) -> Result<Shape, Rule>
+        ensures { result ≡ shape_in self.now is_popped }
+    {
+        shape_of(
+            number_in(self.registers.c),
+            number_in(self.registers.d),
+            number_in(self.registers.e),
+            self.dma,
+            &self.sight(is_popped),
+        )
+    }
+
+    /// What it asks, a call with the memory that it reads: none exactly where it does not ask.
+    pub fn asked(&self, alloc: Global) -> Result<Option<Event>, AllocError>
+        ensures idle { asks self.now ≡ false → result ≡ Ok None }
+        ensures asked { (p : Program) → IsMachineOf p self.now → IfOk result (IsAsked p self.now) }
+    {
+        let Phase::Asking(question, back) = self.phase else {
+            return Ok(None);
+        };
+        match question {
+            Question::System => self.asked_call(alloc, back),
+            Question::In(port) => Ok(Some(Event::In(port))),
+            Question::Out(port, byte) => Ok(Some(Event::Out(port, byte))),
+        }
+    }
+
+    // The call that it asks.
+    fn asked_call(&self, alloc: Global, back: Return) -> Result<Option<Event>, AllocError>
+        requires { self.now.phase ≡ Phase.Asking Question.System back }
+        ensures { (p : Program) → IsMachineOf p self.now → IfOk result (IsAsked p self.now) }
+    {
+        match self.shape(back.is_popped) {
+            Ok(shape) => {
+                let request = request_of(alloc, shape, &self.sight(back.is_popped))?;
+                Ok(Some(Event::Call(request)))
+            }
+            Err(_) => Ok(None),
+        }
+    }
+
+    /// Takes a reply to what it asks, and runs on: false exactly where it does not ask or the reply does not fit.
+    pub fn reply(&mut self, reply: &Reply) -> bool
+        ensures { (p : Program) → IsMachineOf p self.old → IsReply p self.old reply.now result self.new }
+    {
+        let Phase::Asking(question, back) = self.phase else {
+            return false;
+        };
+        match question {
+            Question::System => self.reply_to_call(back, reply),
+            Question::In(port) => self.reply_to_in(back, port, reply),
+            Question::Out(port, byte) => self.reply_to_out(back, port, byte, reply),
+        }
+    }
+
+    // The reply to a call of the system.
+    fn reply_to_call(&mut self, back: Return, reply: &Reply) -> bool
+        requires { self.old.phase ≡ Phase.Asking Question.System back }
+        ensures { (p : Program) → IsMachineOf p self.old → IsReply p self.old reply.now result self.new }
+    {
+        let Ok(shape) = self.shape(back.is_popped) else {
+            return false;
+        };
+        // a reply is judged by the shape alone
+        let request = Request {
+            shape,
+            blocks: Blocks::from_vec(Vec::new(self.alloc)),
+        };
+        if !fits(&request, reply) {
+            return false;
+        }
+        self.take(back, &request, reply);
+        true
+    }
+
+    // The reply to an IN: its byte is put into A.
+    fn reply_to_in(&mut self, back: Return, port: u8, reply: &Reply) -> bool
+        requires { self.old.phase ≡ Phase.Asking (Question.In port) back }
+        ensures { (p : Program) → IsMachineOf p self.old → IsReply p self.old reply.now result self.new }
+    {
+        if !fits_event(&Event::In(port), reply) {
+            return false;
+        }
+        self.registers.a = Cell::Num(reply.answer as u8);
+        self.place = back.place;
+        self.phase = Phase::Running;
+        true
+    }
+
+    // The reply to an OUT.
+    fn reply_to_out(&mut self, back: Return, port: u8, byte: u8, reply: &Reply) -> bool
+        requires { self.old.phase ≡ Phase.Asking (Question.Out port byte) back }
+        ensures { (p : Program) → IsMachineOf p self.old → IsReply p self.old reply.now result self.new }
+    {
+        if !fits_event(&Event::Out(port, byte), reply) {
+            return false;
+        }
+        self.place = back.place;
+        self.phase = Phase::Running;
+        true
+    }
+
+    // Takes a reply to a call that fits.
+    fn take(&mut self, back: Return, request: &Request, reply: &Reply)
+        requires fit { fits request.now reply.now ≡ true }
+        requires within { All Fits reply.now.writes }
+        ensures state { state_of self.new ≡ taken (closed_in self.old.closed.items) (state_of self.old) back request.now reply.now }
+        ensures closed { self.new.closed.items ≡ self.old.closed.items }
+        ensures phase { self.new.phase ≡ Phase.Running }
+    {
+        put_blocks(self.memory.as_mut_slice(), reply.writes.as_slice());
+        spoil(self.memory.as_mut_slice(), self.closed.as_slice(), self.sp);
+        self.registers = answered(answer_of(request), reply.answer);
+        self.flags = Flags::unknown();
+        self.dma = dma_after(request, self.dma);
+        self.sp = back.sp;
+        self.place = back.place;
+        self.phase = Phase::Running;
+    }
+}
