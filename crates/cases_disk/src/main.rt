@@ -1,4 +1,4 @@
-// Answers each case of the standard input: calls of a small BDOS one after another, over a memory of 64K, and disk files.
+// Answers each case of the standard input: calls of a small BDOS one after another, over a memory of 64K, disk files, and start pages.
 #![tactic(auto)]
 
 mod cases;

@@ -53,11 +53,11 @@ fn push_block(alloc: Global, text: &mut String, block: &Block) -> Result<(), All
     write!(text, " {at:04x}:{bytes}")
 }
 
-/// The files of a disk, each with the number of its records.
+/// How many files and records a disk has, and its files, each with the number of its records.
 pub fn disk_text(alloc: Global, disk: &Disk) -> Result<String, AllocError> {
-    let mut text = String::new(alloc);
     let files = disk.files().len();
-    write!(text, "{files}")?;
+    let records = disk.record_count();
+    let mut text = format!(in alloc; "{files}/{records}")?;
     for file in disk.files() {
         push_file(alloc, &mut text, file)?;
     }
