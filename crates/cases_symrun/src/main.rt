@@ -1,12 +1,15 @@
-// Answers each case of the standard input: what a block and the text at its label come to.
+// Answers each case of the standard input: what a block and the text at its label come to; and of programs the blocks, the needs, the
+// flags that are saved, and plain and lean texts.
 #![tactic(auto)]
 
 mod agreeing;
 mod answers;
 mod blocks;
+mod graphs;
 mod running;
 mod shown;
 mod sources;
+mod texts;
 
 use answers::answer;
 use std::alloc::Global;

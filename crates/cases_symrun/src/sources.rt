@@ -1,4 +1,7 @@
 // Programs and texts of cases.
+ghost use Rattle.std.specs.Prelude.{◌≡◌, true};
+ghost use Rattle.asm80_program.specs.Program.{is_top};
+
 use asm80_program::Program80;
 use asm80_text::Lines;
 use asm80_values::assemble;
@@ -25,13 +28,27 @@ fn push_times(text: &mut String, count: u32, line: &str) -> Result<(), AllocErro
     Ok(())
 }
 
-/// The program of a case, from 0100H on.
-pub fn program_of(alloc: Global, case: &str) -> anyhow::Result<Program80> {
+/// Whether a program area may have the top.
+pub fn is_top(top: u16) -> bool
+    ensures { result ≡ is_top top }
+{
+    top % 0x100 == 0 && 0x1000 <= top && top <= 0xFF00
+}
+
+/// The program of a case, from 0100H on and below a top.
+pub fn program_below(alloc: Global, case: &str, top: u16) -> anyhow::Result<Program80>
+    requires { is_top top ≡ true }
+{
     let source = lines_of(alloc, case, "ORG 100H\n")?;
     let mut reader = Lines::new(alloc)?;
     reader.feed(source.as_bytes())?;
     let statements = reader.finish()?;
-    Ok(assemble(alloc, &statements, 0xF000)?)
+    Ok(assemble(alloc, &statements, top)?)
+}
+
+/// The program of a case, from 0100H on and below F000H.
+pub fn program_of(alloc: Global, case: &str) -> anyhow::Result<Program80> {
+    program_below(alloc, case, 0xF000)
 }
 
 // The statements of a case behind CSEG.
