@@ -54,16 +54,23 @@ pub fn answer(alloc: Global, state: &mut State, case: &str) -> anyhow::Result<St
     }
 }
 
-// Bytes of hexadecimal digits; `-` is none.
+// Adds the bytes of hexadecimal digits, with `*` and a number so often.
+fn push_piece(alloc: Global, bytes: &mut Vec<u8>, part: &str) -> anyhow::Result<()> {
+    let (piece, count) = part.split_once('*').unwrap_or((part, "1"));
+    let count = count.parse::<u32>()?;
+    let piece = hex::decode(alloc, piece)?;
+    for _ in 0..count {
+        bytes.extend_from_slice(piece.as_slice())?;
+    }
+    Ok(())
+}
+
+// Bytes in pieces; `-` is none.
 fn bytes_of(alloc: Global, text: &str) -> anyhow::Result<Vec<u8>> {
     let mut bytes = Vec::new(alloc);
     if text != "-" {
         for part in text.split(',') {
-            let (piece, count) = part.split_once('*').unwrap_or((part, "1"));
-            let piece = hex::decode(alloc, piece)?;
-            for _ in 0..count.parse::<u32>()? {
-                bytes.extend_from_slice(piece.as_slice())?;
-            }
+            push_piece(alloc, &mut bytes, part)?;
         }
     }
     Ok(bytes)

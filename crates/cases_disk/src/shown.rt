@@ -26,7 +26,12 @@ pub fn bytes_text(alloc: Global, bytes: &[u8]) -> Result<String, AllocError> {
 
 // How many bytes in front are this one.
 fn run_of(bytes: &[u8], byte: u8) -> usize {
-    bytes.iter().take_while(|other| **other == byte).count()
+    for (count, other) in bytes.iter().enumerate() {
+        if *other != byte {
+            return count;
+        }
+    }
+    bytes.len()
 }
 
 /// What a call is answered: the answer, and what it writes where.
