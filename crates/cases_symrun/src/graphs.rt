@@ -4,7 +4,7 @@ use cells::{Keep, Part};
 use flow::{Graph, saves};
 use std::alloc::{AllocError, Global};
 
-const PARTS: [(&str, Part); 12] = [
+static PARTS: [(&str, Part); 12] = [
     (" A", Part::A),
     (" B", Part::B),
     (" C", Part::C),
@@ -21,9 +21,9 @@ const PARTS: [(&str, Part); 12] = [
 
 fn push_parts(text: &mut String, parts: Keep) -> Result<(), AllocError> {
     text.push_str("parts")?;
-    for (name, part) in PARTS {
-        if parts.has(part) {
-            text.push_str(name)?;
+    for (name, part) in &PARTS {
+        if parts.has(*part) {
+            text.push_str(*name)?;
         }
     }
     Ok(())
@@ -39,18 +39,12 @@ fn parts_text(alloc: Global, parts: Option<Keep>) -> Result<String, AllocError> 
     Ok(text)
 }
 
-fn push_block(text: &mut String, at: u16, count: Option<u32>) -> Result<(), AllocError> {
-    match count {
-        Some(count) => write!(text, "{at:04x} {count}"),
-        None => write!(text, "{at:04x} none"),
-    }
-}
-
+// The leaders of blocks, each with the number of its instructions.
 fn push_blocks(text: &mut String, graph: &Graph) -> Result<(), AllocError> {
     let mut before = "";
     for leader in graph.leaders() {
-        text.push_str(before)?;
-        push_block(text, *leader, graph.block(*leader))?;
+        let count = graph.block(*leader).unwrap_or(0);
+        write!(text, "{before}{leader:04x} {count}")?;
         before = ", ";
     }
     Ok(())
@@ -67,9 +61,10 @@ pub fn blocks_text(alloc: Global, program: &Program80) -> Result<String, AllocEr
 /// How many instructions the block at an address has.
 pub fn block_text(alloc: Global, program: &Program80, at: u16) -> Result<String, AllocError> {
     let graph = Graph::of(alloc, program)?;
-    let mut text = String::new(alloc);
-    push_block(&mut text, at, graph.block(at))?;
-    Ok(text)
+    match graph.block(at) {
+        Some(count) => format!(in alloc; "{count}"),
+        None => String::from_str(alloc, "none"),
+    }
 }
 
 /// What is needed at an address.

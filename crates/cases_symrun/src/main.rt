@@ -12,7 +12,11 @@ mod sources;
 mod texts;
 
 use answers::answer;
-use std::alloc::Global;
+use std::alloc::{AllocError, Global};
+
+fn with_answer(alloc: Global, line: &str, answer: &str) -> Result<String, AllocError> {
+    format!(in alloc; "{line} => {answer}")
+}
 
 // Empty lines and those that begin with `#` are no cases, and stand between the answers as they are.
 fn told(alloc: Global, line: &str) -> anyhow::Result<String> {
@@ -20,7 +24,7 @@ fn told(alloc: Global, line: &str) -> anyhow::Result<String> {
         return Ok(String::from_str(alloc, line)?);
     }
     let answer = answer(alloc, line)?;
-    Ok(format!(in alloc; "{line} => {answer}")?)
+    Ok(with_answer(alloc, line, answer.as_str())?)
 }
 
 fn main(rt: HostRuntime) -> anyhow::Result<()> {

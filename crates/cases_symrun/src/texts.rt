@@ -10,13 +10,10 @@ const LINES_BEFORE: usize = 8;
 
 // A line without its CR LF.
 fn push_line(text: &mut String, line: &[u8]) -> Result<(), AllocError> {
-    for byte in line {
-        match *byte {
-            b'\r' | b'\n' => {}
-            byte => text.push(char::from(byte))?,
-        }
+    match std::str::from_utf8(line) {
+        Ok(line) => text.push_str(line.trim_end()),
+        Err(_) => text.push_str("no text"),
     }
-    Ok(())
 }
 
 fn push_lines(text: &mut String, lines: &[Line86]) -> Result<(), AllocError> {
