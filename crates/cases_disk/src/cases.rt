@@ -6,7 +6,7 @@ use crate::memory::{Memory, request};
 use crate::shown::{bytes_text, disk_text, reply_text};
 use anyhow::bail;
 use bdos_small::{Answer, Bdos, Disk, DiskFault};
-use dialogue::{Request, dma_after};
+use dialogue::{Page, Request, dma_after};
 use std::alloc::{AllocError, Global};
 
 /// Where the cases have their file control block.
@@ -47,22 +47,30 @@ pub fn answer(alloc: Global, state: &mut State, case: &str) -> anyhow::Result<St
         }
         ("call", [function]) => call(alloc, state, *function, "005C"),
         ("call", [function, de]) => call(alloc, state, *function, *de),
+        ("page", [tail]) => page(alloc, *tail),
         ("out", _) => Ok(bytes_text(alloc, state.bdos.disk().write(alloc)?.as_slice())?),
         ("files", _) => Ok(disk_text(alloc, state.bdos.disk())?),
         _ => bail!("no such case: {case}"),
     }
 }
 
-// Bytes of hexadecimal digits; `-` is none.
+// Adds the bytes of hexadecimal digits, with `*` and a number so often.
+fn push_piece(alloc: Global, bytes: &mut Vec<u8>, part: &str) -> anyhow::Result<()> {
+    let (piece, count) = part.split_once('*').unwrap_or((part, "1"));
+    let count = count.parse::<u32>()?;
+    let piece = hex::decode(alloc, piece)?;
+    for _ in 0..count {
+        bytes.extend_from_slice(piece.as_slice())?;
+    }
+    Ok(())
+}
+
+// Bytes in pieces; `-` is none.
 fn bytes_of(alloc: Global, text: &str) -> anyhow::Result<Vec<u8>> {
     let mut bytes = Vec::new(alloc);
     if text != "-" {
         for part in text.split(',') {
-            let (piece, count) = part.split_once('*').unwrap_or((part, "1"));
-            let piece = hex::decode(alloc, piece)?;
-            for _ in 0..count.parse::<u32>()? {
-                bytes.extend_from_slice(piece.as_slice())?;
-            }
+            push_piece(alloc, &mut bytes, part)?;
         }
     }
     Ok(bytes)
@@ -124,6 +132,15 @@ fn put_fcb(
     state.memory.put(FCB + 32, &[*cr]);
     state.memory.put(FCB + 33, random);
     put_name(alloc, state, FCB + 1, name)
+}
+
+// The start page of a tail.
+fn page(alloc: Global, tail: &str) -> anyhow::Result<String> {
+    let tail = bytes_of(alloc, tail)?;
+    match Page::of_tail(tail.as_slice()) {
+        Some(page) => Ok(bytes_text(alloc, page.bytes())?),
+        None => Ok(String::from_str(alloc, "no page")?),
+    }
 }
 
 // Calls the BDOS with a function, and writes what it replies.

@@ -1,4 +1,4 @@
-// Answers each case of the standard input: calls of a small BDOS one after another, over a memory of 64K, and disk files.
+// Answers each case of the standard input: calls of a small BDOS one after another, over a memory of 64K, disk files, and start pages.
 #![tactic(auto)]
 
 mod cases;
@@ -6,18 +6,24 @@ mod memory;
 mod shown;
 
 use cases::{State, answer};
-use std::alloc::Global;
+use std::alloc::{AllocError, Global};
+
+// A line with its answer behind it, if there is one.
+fn with_answer(alloc: Global, line: &str, answer: &str) -> Result<String, AllocError> {
+    if answer.is_empty() {
+        String::from_str(alloc, line)
+    } else {
+        format!(in alloc; "{line} => {answer}")
+    }
+}
 
 // Empty lines and those that begin with `#` are no cases, and stand between the answers as they are.
 fn told(alloc: Global, state: &mut State, line: &str) -> anyhow::Result<String> {
     if line.is_empty() || line.starts_with('#') {
-        return Ok(String::from_str(alloc, line)?);
+        return Ok(with_answer(alloc, line, "")?);
     }
     let answer = answer(alloc, state, line)?;
-    if answer.is_empty() {
-        return Ok(String::from_str(alloc, line)?);
-    }
-    Ok(format!(in alloc; "{line} => {answer}")?)
+    Ok(with_answer(alloc, line, answer.as_str())?)
 }
 
 fn main(rt: HostRuntime) -> anyhow::Result<()> {

@@ -19,11 +19,9 @@ impl Memory {
 
     /// Writes bytes from an address up, as far as there are cells.
     pub fn put(&mut self, at: usize, bytes: &[u8]) {
-        for (k, byte) in bytes.iter().enumerate() {
-            if let Some(cell) = self.cells.get_mut(at.saturating_add(k)) {
-                *cell = *byte;
-            }
-        }
+        let from = at.min(self.cells.len());
+        let count = bytes.len().min(self.cells.len() - from);
+        self.cells[from..from + count].copy_from_slice(&bytes[..count]);
     }
 
     /// Writes the blocks of a reply.
@@ -35,14 +33,14 @@ impl Memory {
 }
 
 impl View for Memory {
-    ghost use Rattle.std.specs.Prelude.{Some, true, slice_index};
+    ghost use Rattle.std.specs.Prelude.{true, slice_get};
 
-    ghost byte_at = { λ m at. Some (slice_index m.cells.items at) };
+    ghost byte_at = { λ m at. slice_get m.cells.items at };
 
     ghost is_writable = { λ _ _. true };
 
     fn byte(&self, at: u16) -> Option<u8> {
-        Some(self.cells.get(usize::from(at)).copied().unwrap_or(0))
+        self.cells.get(usize::from(at)).copied()
     }
 
     fn writable(&self, _at: u16) -> bool {

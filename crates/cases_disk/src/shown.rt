@@ -26,7 +26,12 @@ pub fn bytes_text(alloc: Global, bytes: &[u8]) -> Result<String, AllocError> {
 
 // How many bytes in front are this one.
 fn run_of(bytes: &[u8], byte: u8) -> usize {
-    bytes.iter().take_while(|other| **other == byte).count()
+    for (count, other) in bytes.iter().enumerate() {
+        if *other != byte {
+            return count;
+        }
+    }
+    bytes.len()
 }
 
 /// What a call is answered: the answer, and what it writes where.
@@ -53,11 +58,11 @@ fn push_block(alloc: Global, text: &mut String, block: &Block) -> Result<(), All
     write!(text, " {at:04x}:{bytes}")
 }
 
-/// The files of a disk, each with the number of its records.
+/// How many files and records a disk has, and its files, each with the number of its records.
 pub fn disk_text(alloc: Global, disk: &Disk) -> Result<String, AllocError> {
-    let mut text = String::new(alloc);
     let files = disk.files().len();
-    write!(text, "{files}")?;
+    let records = disk.record_count();
+    let mut text = format!(in alloc; "{files}/{records}")?;
     for file in disk.files() {
         push_file(alloc, &mut text, file)?;
     }

@@ -2,16 +2,18 @@
 ghost use Rattle.cases_symrun.specs.Given.{BothAreGiven};
 
 use crate::agreeing::{number_held, number_stored, outcomes_agree};
+use crate::graphs::{block_text, blocks_text, need_text, return_text, saves_text};
 use crate::running::run_both;
 use crate::shown::{exit_text, reason_text};
-use crate::sources::{plain_index, program_of, text_index};
+use crate::sources::{is_top, plain_index, program_below, program_of, text_index};
+use crate::texts::{lean_lines, whole_text};
 use anyhow::bail;
 use asm80_program::Program80;
 use cells::{Keep, Part};
 use std::alloc::{AllocError, Global};
 use sym_run::{Index86, Work};
 
-/// The answer of a case: `walk N PROGRAM | TEXT`, `plain N PROGRAM` or `alone PROGRAM`.
+/// The answer of a case, as the standard input says.
 pub fn answer(alloc: Global, case: &str) -> anyhow::Result<String> {
     let (kind, rest) = case.split_once(' ').unwrap_or((case, ""));
     let (count, counted) = rest.split_once(' ').unwrap_or(("", rest));
@@ -19,7 +21,45 @@ pub fn answer(alloc: Global, case: &str) -> anyhow::Result<String> {
         "alone" => alone(alloc, rest),
         "plain" => plain(alloc, count.parse::<u32>()?, counted),
         "walk" => walk(alloc, count.parse::<u32>()?, counted),
-        _ => bail!("no such case: {case}"),
+        "blocks" => blocks(alloc, rest),
+        "return" => at_return(alloc, rest),
+        "lean" => lean(alloc, count.parse::<usize>()?, counted),
+        "text" => text(alloc, u16::from_str_radix(count, 16)?, counted),
+        _ => at_address(alloc, kind, u16::from_str_radix(count, 16)?, counted),
+    }
+}
+
+fn blocks(alloc: Global, source: &str) -> anyhow::Result<String> {
+    let program = program_of(alloc, source)?;
+    Ok(blocks_text(alloc, &program)?)
+}
+
+fn at_return(alloc: Global, source: &str) -> anyhow::Result<String> {
+    let program = program_of(alloc, source)?;
+    Ok(return_text(alloc, &program)?)
+}
+
+fn lean(alloc: Global, count: usize, source: &str) -> anyhow::Result<String> {
+    let program = program_of(alloc, source)?;
+    Ok(lean_lines(alloc, &program, count)?)
+}
+
+fn text(alloc: Global, top: u16, source: &str) -> anyhow::Result<String> {
+    if !is_top(top) {
+        bail!("no top: {top}");
+    }
+    let program = program_below(alloc, source, top)?;
+    Ok(whole_text(alloc, &program)?)
+}
+
+// What is asked of an address.
+fn at_address(alloc: Global, kind: &str, at: u16, source: &str) -> anyhow::Result<String> {
+    let program = program_of(alloc, source)?;
+    match kind {
+        "block" => Ok(block_text(alloc, &program, at)?),
+        "need" => Ok(need_text(alloc, &program, at)?),
+        "saves" => Ok(saves_text(alloc, &program, at)?),
+        _ => bail!("no such case: {kind}"),
     }
 }
 

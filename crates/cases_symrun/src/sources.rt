@@ -1,8 +1,12 @@
 // Programs and texts of cases.
+ghost use Rattle.std.specs.Prelude.{◌≡◌, true};
+ghost use Rattle.asm80_program.specs.Program.{is_top};
+
 use asm80_program::Program80;
 use asm80_text::Lines;
+use asm80_tokens::{ReadFault, Stmt80};
 use asm80_values::assemble;
-use asm86::{Line86, Text86};
+use asm86::{Line86, Text86, TextFault};
 use std::alloc::{AllocError, Global};
 use sym_run::Index86;
 use templates::plain_text;
@@ -25,22 +29,44 @@ fn push_times(text: &mut String, count: u32, line: &str) -> Result<(), AllocErro
     Ok(())
 }
 
-/// The program of a case, from 0100H on.
-pub fn program_of(alloc: Global, case: &str) -> anyhow::Result<Program80> {
-    let source = lines_of(alloc, case, "ORG 100H\n")?;
+/// Whether a program area may have the top.
+pub fn is_top(top: u16) -> bool
+    ensures { result ≡ is_top top }
+{
+    top % 0x100 == 0 && 0x1000 <= top && top <= 0xFF00
+}
+
+fn statements_of(alloc: Global, source: &str) -> Result<Vec<Stmt80>, ReadFault> {
     let mut reader = Lines::new(alloc)?;
     reader.feed(source.as_bytes())?;
-    let statements = reader.finish()?;
-    Ok(assemble(alloc, &statements, 0xF000)?)
+    reader.finish()
+}
+
+/// The program of a case, from 0100H on and below a top.
+pub fn program_below(alloc: Global, case: &str, top: u16) -> anyhow::Result<Program80>
+    requires { is_top top ≡ true }
+{
+    let source = lines_of(alloc, case, "ORG 100H\n")?;
+    let statements = statements_of(alloc, source.as_str())?;
+    Ok(assemble(alloc, &statements, top)?)
+}
+
+/// The program of a case, from 0100H on and below F000H.
+pub fn program_of(alloc: Global, case: &str) -> anyhow::Result<Program80> {
+    program_below(alloc, case, 0xF000)
+}
+
+fn read_text(alloc: Global, text: &str) -> Result<Vec<Line86>, TextFault> {
+    let mut reader = Text86::new(alloc)?;
+    reader.feed(text.as_bytes())?;
+    reader.feed(b"END\n")?;
+    reader.finish()
 }
 
 // The statements of a case behind CSEG.
 fn text_of(alloc: Global, case: &str) -> anyhow::Result<Vec<Line86>> {
     let text = lines_of(alloc, case, "CSEG\n")?;
-    let mut reader = Text86::new(alloc)?;
-    reader.feed(text.as_bytes())?;
-    reader.feed(b"END\n")?;
-    Ok(reader.finish()?)
+    Ok(read_text(alloc, text.as_str())?)
 }
 
 /// The statements of a case by their labels.

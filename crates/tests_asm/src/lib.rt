@@ -1,6 +1,7 @@
 // Sources and texts over the public calls of their crates. Of the source language: the limits of sources and names, faults that stay,
-// and a program that is asked by addresses. Of ASM-86 texts: lines by their statements, what a reader tells when, and plain texts.
-// What single sources, lines and texts are read as, and their images, are the cases of `cases_asm80` and `cases_asm86`.
+// and a program that is asked by addresses. Of ASM-86 texts: lines by their statements, and what a reader tells when.
+// What single sources, lines and texts are read as, and their images, are the cases of `cases_asm80` and `cases_asm86`; plain texts are
+// those of `cases_symrun`.
 #![tactic(auto)]
 
 #[cfg(test)]
@@ -9,8 +10,6 @@ mod lines80;
 mod lines86;
 #[cfg(test)]
 mod names80;
-#[cfg(test)]
-mod plain_texts;
 #[cfg(test)]
 mod program80;
 #[cfg(test)]

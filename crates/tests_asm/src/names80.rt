@@ -17,21 +17,20 @@ fn many_names(alloc: Global, last: &[u8]) -> Result<Vec<Stmt80>, ReadFault> {
     lines.finish()
 }
 
-// Last lines, and the rule that each breaks.
-const LAST: [(&[u8], Option<AsmRule>); 5] = [
-    (b"", None),
-    (b"NOP", None),
-    (b"N8192:", Some(AsmRule::V7)),
-    (b"N8192 EQU", Some(AsmRule::V7)),
-    (b"N8191: NOP", Some(AsmRule::V2)),
+// Last lines, and the fault that there is.
+const LAST: [(&str, Option<AsmFault>); 5] = [
+    ("", None),
+    ("NOP", None),
+    ("N8192:", Some(AsmFault::Refused(8195, AsmRule::V7))),
+    ("N8192 EQU", Some(AsmFault::Refused(8195, AsmRule::V7))),
+    ("N8191: NOP", Some(AsmFault::Refused(8195, AsmRule::V2))),
 ];
 
 #[test]
 fn names_have_a_limit(rt: HostRuntime) -> Result<(), Fail> {
-    for (last, rule) in LAST {
-        let statements = many_names(rt.alloc(), last)?;
-        let fault = assemble(rt.alloc(), &statements, 0xF000).err();
-        assert!(rt; fault == rule.map(|rule| AsmFault::Refused(8195, rule)));
+    for (last, want) in &LAST {
+        let statements = many_names(rt.alloc(), last.as_bytes())?;
+        assert!(rt; assemble(rt.alloc(), &statements, 0xF000).err() == *want);
     }
     Ok(())
 }

@@ -1,4 +1,5 @@
 // A small program with a data byte, asked by addresses.
+use asm80_program::Program80;
 use asm80_text::Lines;
 use asm80_values::assemble;
 use cells::Cell;
@@ -8,7 +9,9 @@ use std::test::Fail;
 const ONE_LETTER: &[u8] = b"ORG 100H\nMVI C,2\nMVI E,41H\nCALL 5\nJMP 0\nDB 41H";
 
 // Addresses, and what is there: the line of an instruction that starts and the instruction, a data cell, and whether it is code.
-const THERE: [(u16, Option<u32>, Option<Instr80>, Option<Cell>, bool); 7] = [
+type There = (u16, Option<u32>, Option<Instr80>, Option<Cell>, bool);
+
+static THERE: [There; 7] = [
     (0xFF, None, None, None, false),
     (
         0x100,
@@ -30,22 +33,24 @@ const THERE: [(u16, Option<u32>, Option<Instr80>, Option<Cell>, bool); 7] = [
     (0x10A, None, None, Some(Cell::Num(0x41)), false),
 ];
 
+fn is_there(program: &Program80, there: &There) -> bool {
+    let (at, line, instr, cell, is_code) = *there;
+    program.line_at(at) == line
+        && program.instr_at(at) == instr
+        && program.cell_at(at) == cell
+        && program.is_code(at) == is_code
+}
+
 #[test]
 fn a_program_answers_by_address(rt: HostRuntime) -> Result<(), Fail> {
     let mut lines = Lines::new(rt.alloc())?;
     lines.feed(ONE_LETTER)?;
     let program = assemble(rt.alloc(), &lines.finish()?, 0xF000)?;
-    for (at, line, instr, cell, is_code) in THERE {
-        assert!(rt;
-            program.line_at(at) == line && program.instr_at(at) == instr,
-            "at {at}"
-        );
-        assert!(rt;
-            program.cell_at(at) == cell && program.is_code(at) == is_code,
-            "at {at}"
-        );
+    for there in &THERE {
+        assert!(rt; is_there(&program, there));
     }
-    assert!(rt; program.starts() == [0x100, 0x102, 0x104, 0x107].as_slice());
-    assert!(rt; program.top() == 0xF000);
+    assert!(rt;
+        program.starts() == [0x100, 0x102, 0x104, 0x107].as_slice() && program.top() == 0xF000
+    );
     Ok(())
 }

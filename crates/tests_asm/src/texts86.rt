@@ -12,7 +12,7 @@ fn a_fault_is_told_as_soon_as_its_line_is_complete_and_stays(rt: HostRuntime) ->
     ];
     let mut reader = Text86::new(rt.alloc())?;
     for (piece, answer) in pieces {
-        assert!(rt; reader.feed(piece) == answer, "{piece:?}");
+        assert!(rt; reader.feed(piece) == answer);
     }
     assert!(rt; reader.finish().err() == Some(fault));
     Ok(())

@@ -1,5 +1,5 @@
 // The tests of what several families stand on: values of the tagged 8080, sets of addresses, lines that are held, the
-// instructions of both machines, and the hosts.
+// instructions of both machines, and the host of real files.
 #![tactic(auto)]
 
 #[cfg(test)]

@@ -19,7 +19,7 @@ fn one_carriage_return_before_the_line_feed_is_no_part_of_the_line(rt: HostRunti
         (b"\rHLT", b"\rHLT"),
     ];
     for (line, want) in rows {
-        assert!(rt; without_cr(line) == want, "{line:?}");
+        assert!(rt; without_cr(line) == want);
     }
 }
 

@@ -1,15 +1,9 @@
-// The calls of the BDOS, over public calls: their table, start pages, replies, the answers of the console and of ports, and disks that
-// are full, in their order and in their files.
+// The calls of the BDOS, over public calls: their table, the rules that they break, replies, and the answers of ports. What single calls
+// are answered, the console's too, disks, and start pages are the cases of `cases_disk`.
 #![tactic(auto)]
 
 #[cfg(test)]
-mod console;
-#[cfg(test)]
-mod disks;
-#[cfg(test)]
 mod memory;
-#[cfg(test)]
-mod pages;
 #[cfg(test)]
 mod ports;
 #[cfg(test)]

@@ -64,6 +64,3 @@ pub(crate) fn request(
         Err(_) => Ok(None),
     }
 }
-
-/// Blocks, each an address and its bytes.
-pub(crate) type Listed = &'static [(u16, &'static [u8])];

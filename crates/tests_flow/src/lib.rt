@@ -1,16 +1,7 @@
-// Tests of needs, blocks, saves and lean texts, over their public calls.
+// What is solved of a graph, and in how many steps: a proof alone. Needs, blocks, saves and lean texts of programs are the cases of
+// `cases_symrun`.
 #![tactic(auto)]
 
-#[cfg(test)]
-mod blocks;
-#[cfg(test)]
-mod edges;
-#[cfg(test)]
-mod lean;
-#[cfg(test)]
-mod saves;
-#[cfg(test)]
-mod sources;
 mod steps;
 
 pub use steps::solve_six_edges;

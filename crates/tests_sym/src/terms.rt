@@ -166,18 +166,21 @@ fn chain(terms: &mut Terms) -> Option<Term> {
 #[test]
 fn equations(rt: HostRuntime) -> Result<(), Fail> {
     let mut terms = Terms::new(rt.alloc(), 100)?;
-    assert!(rt; halves_of_a_number(&mut terms) == Some(true));
-    assert!(rt; halves_of_a_word(&mut terms) == Some(true));
-    assert!(rt; halves_of_a_join(&mut terms) == Some(true));
-    assert!(rt; halves_of_an_adjusted_word(&mut terms) == Some(true));
-    assert!(rt; flag_bytes(&mut terms) == Some(true));
-    assert!(rt; sums(&mut terms) == Some(true));
-    assert!(rt; sums_with_nothing(&mut terms) == Some(true));
-    assert!(rt; flags(&mut terms) == Some(true));
-    assert!(rt; carries(&mut terms) == Some(true));
-    assert!(rt; half_carries(&mut terms) == Some(true));
-    assert!(rt; unknowns(&mut terms) == Some(true));
-    assert!(rt; turned_words(&mut terms) == Some(true));
+    let found = [
+        halves_of_a_number(&mut terms),
+        halves_of_a_word(&mut terms),
+        halves_of_a_join(&mut terms),
+        halves_of_an_adjusted_word(&mut terms),
+        flag_bytes(&mut terms),
+        sums(&mut terms),
+        sums_with_nothing(&mut terms),
+        flags(&mut terms),
+        carries(&mut terms),
+        half_carries(&mut terms),
+        unknowns(&mut terms),
+        turned_words(&mut terms),
+    ];
+    assert!(rt; found == [Some(true); 12]);
     Ok(())
 }
 
@@ -192,8 +195,8 @@ fn no_room(rt: HostRuntime) -> Result<(), Fail> {
 fn chains(rt: HostRuntime) -> Result<(), Fail> {
     let mut terms = Terms::new(rt.alloc(), 5002)?;
     let first = chain(&mut terms);
-    assert!(rt; first != None);
-    assert!(rt; terms.mark().0 == 5002);
-    assert!(rt; chain(&mut terms) == first);
+    let length = terms.mark().0;
+    let second = chain(&mut terms);
+    assert!(rt; first != None && length == 5002 && second == first);
     Ok(())
 }
