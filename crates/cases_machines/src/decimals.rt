@@ -97,7 +97,12 @@ pub fn answer(alloc: Global) -> Result<String, AllocError> {
     let memory = vec![in alloc; Junk; 0x1_0000]?;
     let mut count = 0u32;
     for case in 0..1024u16 {
-        if is_adjusted(memory.as_slice(), (case / 4) as u8, case & 2 != 0, case & 1 != 0) {
+        if is_adjusted(
+            memory.as_slice(),
+            (case / 4) as u8,
+            case & 2 != 0,
+            case & 1 != 0,
+        ) {
             count = count.saturating_add(1);
         }
     }

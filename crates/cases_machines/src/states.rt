@@ -1,9 +1,9 @@
 // States of the 8086 as words, `ax=1122`, `flags=SZ` or `2100=7e`, a place and what stands there.
+use crate::words::{push_byte, push_word};
 use cpu86_effects::flags::Flags;
 use cpu86_effects::processor::Processor;
 use cpu86_effects::registers::Registers;
 use cpu86_effects::start::start_memory;
-use crate::words::{push_byte, push_word};
 use i86::Reg16;
 use std::alloc::{AllocError, Global};
 
@@ -101,7 +101,11 @@ pub fn push_changes(
     if before.flags.flag_byte(0) != after.flags.flag_byte(0) {
         push_flags(text, after.flags)?;
     }
-    push_bytes(text, before.memory.bytes.as_slice(), after.memory.bytes.as_slice())
+    push_bytes(
+        text,
+        before.memory.bytes.as_slice(),
+        after.memory.bytes.as_slice(),
+    )
 }
 
 fn push_words(text: &mut String, before: &[u16], after: &[u16]) -> Result<(), AllocError> {

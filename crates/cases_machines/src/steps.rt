@@ -70,7 +70,14 @@ fn call(
         Interrupt::Asks(shape) => {
             push_shape(text, shape)?;
             match number_of(words, "answer") {
-                Some(answer) => reply(alloc, text, processor, shape, (answer % 0x1_0000) as u16, words),
+                Some(answer) => reply(
+                    alloc,
+                    text,
+                    processor,
+                    shape,
+                    (answer % 0x1_0000) as u16,
+                    words,
+                ),
                 None => Ok(()),
             }
         }
