@@ -1,7 +1,5 @@
 // Machines with the programs of cases.
-ghost use Rattle.std.specs.Prelude.{◌≡◌, ◌<◌, ◌^◌, length, true, IfOk};
-ghost use Rattle.asm86_lines.specs.Image.{statements};
-ghost use Rattle.asm86_lines.specs.Order.{at_start, in_order};
+ghost use Rattle.std.specs.Prelude.{◌≡◌, length, IfOk};
 
 use crate::machines::{Both80, Bytes80, Bytes86, Tagged80};
 use crate::scripts::script;
