@@ -1,0 +1,55 @@
+// Answers each case of the standard input: what an instruction of the 8086 changes, and what the machines answer, step by step.
+#![tactic(auto)]
+
+mod decimals;
+mod events;
+mod machines;
+mod programs;
+mod scripts;
+mod states;
+mod steps;
+mod talks;
+mod words;
+
+use programs::Case;
+use std::alloc::{AllocError, Global};
+use std::io;
+
+// The answer of a case, if it is one.
+fn answer(alloc: Global, line: &str) -> Result<Option<String>, AllocError> {
+    let mut parts = line.split(" | ");
+    let head = parts.next().unwrap_or("");
+    let (kind, options) = head.split_once(' ').unwrap_or((head, ""));
+    if kind == "step86" {
+        return steps::answer(alloc, options);
+    }
+    if kind == "daa80" {
+        return Ok(Some(decimals::answer(alloc)?));
+    }
+    let source = parts.next().unwrap_or("");
+    let words = parts.next().unwrap_or("");
+    let tail = parts.next().unwrap_or("");
+    let case = Case {
+        kind,
+        options,
+        source,
+        words,
+        tail,
+    };
+    programs::answer(alloc, &case)
+}
+
+fn main(rt: HostRuntime) -> io::Result<()> {
+    for line in rt.lines(rt.alloc()) {
+        let line = line?;
+        if line.is_empty() || line.starts_with('#') {
+            println!(rt; "{line}")?;
+        } else {
+            match answer(rt.alloc(), line.as_str())? {
+                Some(answer) => println!(rt; "{line} =>{answer}")?,
+                None => println!(rt; "{line} => no such case")?,
+            }
+        }
+    }
+    Ok(())
+}

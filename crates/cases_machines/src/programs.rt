@@ -1,0 +1,132 @@
+// Machines with the programs of cases.
+ghost use Rattle.std.specs.Prelude.{◌≡◌, length, IfOk};
+
+use crate::machines::{Both80, Bytes80, Bytes86, Tagged80};
+use crate::scripts::script;
+use crate::words::number_of;
+use asm80_program::Program80;
+use asm80_text::Lines;
+use asm80_values::assemble;
+use asm86_image::{Image86, image};
+use asm86_text::Text86;
+use cpu80::{Cpu80, Plain80};
+use cpu86::{Cpu86, Start86};
+use dialogue::Page;
+use std::alloc::{AllocError, Global};
+
+/// Registers are 0, and the stack is not in the data segment.
+const START: Start86 = Start86 {
+    ax: 0,
+    cx: 0,
+    dx: 0,
+    bx: 0,
+    sp: 0,
+    si: 0,
+    ds: 0,
+    ss: 1,
+    flags: 0,
+};
+
+/// A case: its machine, the options `fill=HEX` and `choice=HEX`, the lines of the source, the words of what the machine is asked to
+/// do, and the tail of the command.
+#[derive(Clone, Copy)]
+pub struct Case<'a> {
+    pub kind: &'a str,
+    pub options: &'a str,
+    pub source: &'a str,
+    pub words: &'a str,
+    pub tail: &'a str,
+}
+
+/// What the machine of a case answers; None where its source or its tail is faulty.
+pub fn answer(alloc: Global, case: &Case<'_>) -> Result<Option<String>, AllocError> {
+    let Some(page) = Page::of_tail(case.tail.as_bytes()) else {
+        return Ok(None);
+    };
+    if case.kind == "run86" {
+        return answer86(alloc, case, &page);
+    }
+    match program80(alloc, case.source)? {
+        Some(program) => answer80(alloc, case, &program, &page),
+        None => Ok(None),
+    }
+}
+
+fn choice_of(case: &Case<'_>) -> u128 {
+    number_of(case.options, "choice").unwrap_or(0)
+}
+
+// Memory as it is before a program is put into it.
+fn fill_of(alloc: Global, case: &Case<'_>) -> Result<Vec<u8>, AllocError>
+    ensures { IfOk result (λ v. length v.items ≡ 0x10000) }
+{
+    let byte = number_of(case.options, "fill").unwrap_or(0);
+    vec![in alloc; (byte % 256) as u8; 0x1_0000]
+}
+
+fn answer80(
+    alloc: Global,
+    case: &Case<'_>,
+    program: &Program80,
+    page: &Page,
+) -> Result<Option<String>, AllocError> {
+    let choice = choice_of(case);
+    let cpu = Cpu80::new(alloc, program, page)?;
+    let mut tagged = Tagged80 { cpu, program };
+    if case.kind == "tagged80" {
+        return Ok(Some(script(alloc, &mut tagged, choice, case.words)?));
+    }
+    let fill = fill_of(alloc, case)?;
+    let cpu = Plain80::new(alloc, program, page, fill.as_slice())?;
+    let mut bytes = Bytes80 { cpu, program };
+    if case.kind == "bytes80" {
+        return Ok(Some(script(alloc, &mut bytes, choice, case.words)?));
+    }
+    let mut both = Both80 { tagged, bytes };
+    Ok(Some(script(alloc, &mut both, choice, case.words)?))
+}
+
+fn answer86(alloc: Global, case: &Case<'_>, page: &Page) -> Result<Option<String>, AllocError> {
+    let Some(image) = image86(alloc, case.source)? else {
+        return Ok(None);
+    };
+    let fill = fill_of(alloc, case)?;
+    let cpu = Cpu86::new(alloc, &image, START, page, fill.as_slice())?;
+    let mut machine = Bytes86 { cpu };
+    Ok(Some(script(alloc, &mut machine, choice_of(case), case.words)?))
+}
+
+// A first line, the lines of a source, and a last line.
+fn lines_of(alloc: Global, first: &str, source: &str, last: &str) -> Result<String, AllocError> {
+    let mut text = String::from_str(alloc, first)?;
+    for letter in source.chars() {
+        text.push(if letter == '\\' { '\n' } else { letter })?;
+    }
+    text.push_str(last)?;
+    Ok(text)
+}
+
+// The program of a source from 100H on, below 0F000H.
+fn program80(alloc: Global, source: &str) -> Result<Option<Program80>, AllocError> {
+    let text = lines_of(alloc, "ORG 100H\n", source, "\n")?;
+    let mut lines = Lines::new(alloc)?;
+    // a fault stands, and is told at the end
+    let _ = lines.feed(text.as_bytes());
+    match lines.finish() {
+        Ok(statements) => Ok(assemble(alloc, statements.as_slice(), 0xF000).ok()),
+        Err(_) => Ok(None),
+    }
+}
+
+// The image of a text of code.
+fn image86(alloc: Global, source: &str) -> Result<Option<Image86>, AllocError> {
+    let text = lines_of(alloc, "CSEG\n", source, "\nEND\n")?;
+    let Ok(mut lines) = Text86::new(alloc) else {
+        return Ok(None);
+    };
+    let _ = lines.feed(text.as_bytes());
+    match lines.finish() {
+        Ok(lines) => Ok(image(alloc, lines.as_slice()).ok()),
+        Err(_) => Ok(None),
+    }
+}
