@@ -3,7 +3,7 @@
 ghost use Rattle.std.specs.Prelude.{◌≡◌, ℕ, List};
 ghost use Rattle.std.specs.List.{list_any};
 ghost use Rattle.asm80_tokens.specs.Tree.{operand_of};
-ghost use Rattle.base_addresses.specs.Addresses.{has_address, is_among, StandsFor};
+ghost use Rattle.base.specs.Addresses.{has_address, is_among, StandsFor};
 ghost use Rattle.asm80_names.specs.Scopes.{scope_of};
 ghost use Rattle.asm80_source.specs.Values.{is_no_value, operand_has_unknown, operand_divides_by_zero, operand_number, operand_place, operand_places_inside};
 
@@ -12,7 +12,7 @@ use crate::values::{
     divides_by_zero, has_place_within, has_register, has_unknown, number_of, place_alone,
 };
 use asm80_tokens::Arg;
-use base_addresses::AddressSet;
+use base::AddressSet;
 
 /// Whether an operand is a string of two or more characters, or has a register's name.
 pub fn is_no_value(arg: &Arg) -> bool

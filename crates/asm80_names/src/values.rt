@@ -4,7 +4,7 @@ ghost use Rattle.std.specs.Prelude.{◌≡◌, ◌||◌, false, cond, is_none, o
 ghost use Rattle.std.specs.List.{list_any};
 ghost use Rattle.asm80_tokens.specs.Tree.{tree_of};
 ghost use Rattle.asm80_tokens.specs.Words.{is_register};
-ghost use Rattle.base_addresses.specs.Addresses.{has_address};
+ghost use Rattle.base.specs.Addresses.{has_address};
 ghost use Rattle.asm80_names.specs.Scopes.{scope_of};
 ghost use Rattle.asm80_source.specs.Values.{meaning_of_name, number_of, has_register, has_unknown, divides, divides_by_zero, is_zero, place_of_name, places_in, places_inside, place_alone};
 ghost use Rattle.asm80_source.specs.Walk.{meaning_in, meaning_of, or_unknown};
@@ -13,7 +13,7 @@ use crate::arithmetic::{binary, divides, inverted, negated};
 use crate::scope::Scope;
 use asm80_source::Meaning;
 use asm80_tokens::{Expr, Name80, is_register};
-use base_addresses::AddressSet;
+use base::AddressSet;
 
 // What a name stands for; a register's name is no value.
 fn meaning_of_name(scope: &Scope<'_>, name: &Name80) -> Option<Meaning>

@@ -1,5 +1,5 @@
 -- What a setting stands for.
-use Rattle.base_addresses.specs.Addresses.{has_address}
+use Rattle.base.specs.Addresses.{has_address}
 use Rattle.asm80_names.specs.Scopes.{scope_of}
 use Rattle.asm80_operands.specs.declared.setting.Setting.{Setting}
 use Rattle.asm80_source.specs.Items.{Setting as Seen}

@@ -6,7 +6,7 @@ ghost use Rattle.asm80_source.specs.Items.{value, byte, code_address};
 
 use asm80_names::{Scope, operand_number, operand_place};
 use asm80_tokens::Arg;
-use base_addresses::AddressSet;
+use base::AddressSet;
 
 /// Where operands are evaluated: what they see, and the addresses at which instructions start.
 #[derive(Clone, Copy)]

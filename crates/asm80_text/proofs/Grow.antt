@@ -6,7 +6,7 @@ use Rattle.asm80_tokens.specs.declared.fault.ReadFault.{ReadFault}
 use Rattle.asm80_tokens.specs.declared.fault.ReadFault.TheVariants.{Syntax}
 use Rattle.asm80_tokens.specs.Tree.{Statement}
 use Rattle.asm80_text.specs.Line.{LineGives}
-use Rattle.base_lines.specs.Cut.{without_cr}
+use Rattle.base.specs.Cut.{without_cr}
 use Rattle.asm80_text.specs.Stream.{LinesGive, none_left, next, fails}
 
 -- ---- lines

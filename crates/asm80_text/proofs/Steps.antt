@@ -9,12 +9,12 @@ use Rattle.asm80_tokens.specs.declared.fault.ReadFault.TheVariants.{Syntax, Memo
 use Rattle.asm80_tokens.specs.declared.stmt.Stmt80.{Stmt80}
 use Rattle.asm80_tokens.specs.Tree.{statement_of}
 use Rattle.asm80_text.specs.Line.{LineGives, late, long}
-use Rattle.base_lines.specs.Held.{with_byte, Holds}
-use Rattle.base_lines.specs.Cut.{Cut, without_cr, last_line}
+use Rattle.base.specs.Held.{with_byte, Holds}
+use Rattle.base.specs.Cut.{Cut, without_cr, last_line}
 use Rattle.asm80_text.specs.Stream.{IsPlain, IsStream, open_yet, closed, complete, LinesGive, none_left, StreamGives}
 use Rattle.asm80_text.specs.Reader.{Reader, After, rule_of_long, EndsLineBy, EndsLine, AddsBy, EndsStreamBy, EndsStream, Finishes}
-use Rattle.base_lines.proofs.Cuts.{cut_byte, cut_line, map_push}
-use Rattle.base_lines.proofs.Holding.{holds_byte}
+use Rattle.base.proofs.Cuts.{cut_byte, cut_line, map_push}
+use Rattle.base.proofs.Holding.{holds_byte}
 use Rattle.asm80_text.proofs.Grow.{length_map, reads_on, reads_fault, stands}
 
 pub after_none : (reader : Reader) → reader.statements ≡ [] → reader.held ≡ Some [] → reader.number ≡ 0 → reader.is_closed ≡ false → reader.fault ≡ None → After [] reader

@@ -7,9 +7,9 @@ use Rattle.asm80_tokens.specs.declared.fault.ReadFault.{ReadFault}
 use Rattle.asm80_tokens.specs.declared.fault.ReadFault.TheVariants.{Syntax, Memory}
 use Rattle.asm80_tokens.specs.declared.stmt.Stmt80.{Stmt80}
 use Rattle.asm80_tokens.specs.Tree.{Statement, statement_of}
-use Rattle.base_lines.specs.Held.{Holds}
+use Rattle.base.specs.Held.{Holds}
 use Rattle.asm80_text.specs.Line.{LineGives}
-use Rattle.base_lines.specs.Cut.{without_cr}
+use Rattle.base.specs.Cut.{without_cr}
 use Rattle.asm80_text.specs.Stream.{IsStream, complete, LinesGive, StreamGives}
 
 -- the statements so far, the line that is not complete yet, the number of complete lines, whether the byte 1AH has

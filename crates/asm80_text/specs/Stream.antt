@@ -4,7 +4,7 @@ use Rattle.asm80_tokens.specs.declared.fault.LineRule.{LineRule}
 use Rattle.asm80_tokens.specs.declared.fault.ReadFault.{ReadFault}
 use Rattle.asm80_tokens.specs.declared.fault.ReadFault.TheVariants.{Syntax}
 use Rattle.asm80_tokens.specs.Tree.{Statement}
-use Rattle.base_lines.specs.Cut.{Cut, without_cr, last_line}
+use Rattle.base.specs.Cut.{Cut, without_cr, last_line}
 use Rattle.asm80_text.specs.Line.{LineGives}
 
 -- neither LF nor the byte 1AH

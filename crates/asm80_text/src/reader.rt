@@ -6,13 +6,13 @@ ghost use Rattle.asm80_tokens.specs.declared.fault.ReadFault.TheVariants.{Memory
 ghost use Rattle.asm80_tokens.specs.declared.fault.LineRule.{LineRule};
 ghost use Rattle.asm80_tokens.specs.Tree.{Statement};
 ghost use Rattle.asm80_tokens.specs.WellFormed.{AreWellFormed};
-ghost use Rattle.base_lines.specs.Held.{with_byte};
+ghost use Rattle.base.specs.Held.{with_byte};
 ghost use Rattle.asm80_text.specs.Stream.{HoldsFault, StreamGives};
 ghost use Rattle.asm80_text.specs.Reader.{Adds, After, Agrees, EndsLine, EndsStream, Finishes, answer_of, rule_of_long};
 
 use crate::line::{MOST_LINES, read_line};
 use asm80_tokens::{LineRule, ReadFault, Stmt80};
-use base_lines::{HeldLine, without_cr};
+use base::{HeldLine, without_cr};
 use std::alloc::{AllocError, Global};
 use std::marker::Model;
 use std::mem;

@@ -4,7 +4,7 @@ use Rattle.std.specs.Option.{option_or, option_to_list}
 use Rattle.std.proofs.Math.Path.{fun_ext}
 use Rattle.asm80_tokens.specs.declared.stmt.Stmt80.{Stmt80}
 use Rattle.asm80_tokens.specs.Tree.{statement_of}
-use Rattle.base_addresses.specs.Addresses.{has_address, StandsFor}
+use Rattle.base.specs.Addresses.{has_address, StandsFor}
 use Rattle.asm80_walk.specs.declared.walked.Taken.{Taken}
 use Rattle.asm80_walk.specs.declared.walked.AsmFault.TheVariants.{Refused}
 use Rattle.asm80_walk.specs.Walked.{StandsFor as StandsForRow, Stand}

@@ -2,7 +2,7 @@
 use Rattle.std.specs.Prelude.{◌≡◌, ℕ, ◌^◌, ◌<◌, ◌||◌, Bool, true, false, cond, List, map, filter, Option, Some, None, Result, Ok, Err}
 use Rattle.asm80_tokens.specs.declared.stmt.Stmt80.{Stmt80}
 use Rattle.asm80_tokens.specs.Tree.{statement_of}
-use Rattle.base_addresses.specs.Addresses.{has_address}
+use Rattle.base.specs.Addresses.{has_address}
 use Rattle.asm80_operands.specs.declared.fault.FormFault.{FormFault}
 use Rattle.asm80_operands.specs.declared.fault.FormFault.TheVariants.{Rule, Memory as NoRoom}
 use Rattle.asm80_walk.specs.declared.walked.Taken.{Taken}

@@ -2,7 +2,7 @@
 ghost use Rattle.std.specs.Prelude.{◌≡◌, ◌||◌, ℕ, [], ◌++◌, cond, find, List, IfOk, Some, None};
 ghost use Rattle.std.specs.List.{list_any};
 ghost use Rattle.std.specs.Option.{option_or};
-ghost use Rattle.base_addresses.specs.Addresses.{has_address, StandsFor};
+ghost use Rattle.base.specs.Addresses.{has_address, StandsFor};
 ghost use Rattle.asm80_source.specs.Walk.{Walk, Row};
 ghost use Rattle.asm80_source.specs.Items.{items as rows_that_fill, starts_in};
 ghost use Rattle.asm80_source.specs.Layout.{layout_fault};
@@ -11,7 +11,7 @@ ghost use Rattle.asm80_values.specs.Items.{AreItems, cells_of_item, overlap_from
 use crate::item::{Item, address_of_cell};
 use asm80_operands::Form;
 use asm80_source::AsmRule;
-use base_addresses::AddressSet;
+use base::AddressSet;
 use std::alloc::{AllocError, Global};
 
 // Whether a cell of an item is in a set.

@@ -1,6 +1,6 @@
 // The second walk: the operands of instructions, DB and DW.
 ghost use Rattle.std.specs.Prelude.{◌≡◌, ◌||◌, ℕ, List, option_to_list, map, Some, OnOk, IfOk, MatchResult};
-ghost use Rattle.base_addresses.specs.Addresses.{has_address, is_among, StandsFor};
+ghost use Rattle.base.specs.Addresses.{has_address, is_among, StandsFor};
 ghost use Rattle.asm80_tokens.specs.declared.stmt.Stmt80.{Stmt80};
 ghost use Rattle.asm80_tokens.specs.Tree.{Statement, operand_of, statement_of};
 ghost use Rattle.asm80_operands.specs.Forms.{IsForm};
@@ -15,7 +15,7 @@ use asm80_operands::{Form, FormFault, Setting, form_of, kinds_of};
 use asm80_source::{NameKind, Operation};
 use asm80_tokens::{Arg, Stmt80};
 use asm80_walk::{AsmFault, Taken, Walked, size_of};
-use base_addresses::AddressSet;
+use base::AddressSet;
 use std::alloc::{AllocError, Global};
 
 fn is_instruction(operation: Option<Operation>) -> bool

@@ -9,7 +9,7 @@ use Rattle.asm86_lines.specs.declared.line.Stmt86.{Stmt86}
 use Rattle.asm86_lines.specs.Image.{statements}
 use Rattle.asm86_lines.specs.Order.{Reading, after, at_start, in_order, is_end, is_empty, may_stand}
 use Rattle.asm86_lines.specs.Written.{line_of, text_of}
-use Rattle.base_lines.specs.Cut.{ended, without_cr}
+use Rattle.base.specs.Cut.{ended, without_cr}
 use Rattle.asm86_text.specs.Stream.{IsNotLf, numbered, are_in_order, has_end, Adds, Ended, LinesGive, next, ends, TextGives}
 use Rattle.asm86_text.specs.Back.{AreWritten}
 use Rattle.asm86_line_reader.specs.Line.{LineGives}

@@ -7,12 +7,12 @@ use Rattle.std.proofs.lemmas.List.{take_more, length-map, append-nil, length-app
 use Rattle.asm86_lines.specs.declared.line.Line86.{Line86}
 use Rattle.asm86_text.specs.declared.fault.TextFault.{TextFault}
 use Rattle.asm86_text.specs.declared.fault.TextFault.TheVariants.{Line, Memory}
-use Rattle.base_lines.specs.Held.{with_byte, Holds}
+use Rattle.base.specs.Held.{with_byte, Holds}
 use Rattle.asm86_text.specs.Stream.{IsNotLf, has_end, Ending, Open, Ended, Broken, LinesGive, none_left, next, ends, breaks}
 use Rattle.asm86_text.specs.Reader.{Reader, IsBehind, IsOf, After, ReadsBy, Reads}
-use Rattle.base_lines.specs.Cut.{Cut, without_cr}
-use Rattle.base_lines.proofs.Holding.{holds_byte}
-use Rattle.base_lines.proofs.Cuts.{cut_byte, cut_line, map_push}
+use Rattle.base.specs.Cut.{Cut, without_cr}
+use Rattle.base.proofs.Holding.{holds_byte}
+use Rattle.base.proofs.Cuts.{cut_byte, cut_line, map_push}
 use Rattle.asm86_text.proofs.Lines.{true_false, open_not_ended, reads_on, stands, open_without_end, ended_with_end}
 
 pub after_none : (reader : Reader) → reader.lines ≡ [] → reader.number ≡ 0 → reader.held ≡ Some [] → reader.fault ≡ None → After [] reader

@@ -8,10 +8,10 @@ use Rattle.asm86_lines.specs.declared.line.TextRule.{TextRule}
 use Rattle.asm86_lines.specs.declared.line.TextRule.TheVariants.{M6}
 use Rattle.asm86_text.specs.declared.fault.TextFault.{TextFault}
 use Rattle.asm86_text.specs.declared.fault.TextFault.TheVariants.{Line, Memory}
-use Rattle.base_lines.specs.Cut.{Cut, without_cr, last_line}
+use Rattle.base.specs.Cut.{Cut, without_cr, last_line}
 use Rattle.asm86_text.specs.Stream.{IsNotLf, has_end, Ending, Open, Ended, Broken, LinesGive, outcome_of, TextGives, HoldsFault}
 use Rattle.asm86_text.specs.Reader.{Reader, IsBehind, IsOf, After, AfterAll, answer_of, Finishes, Agrees, ReadsRest}
-use Rattle.base_lines.proofs.Cuts.{one_cut}
+use Rattle.base.proofs.Cuts.{one_cut}
 use Rattle.asm86_text.proofs.Lines.{true_false, reads_on, stands, open_without_end, ended_with_end, one_run}
 use Rattle.asm86_text.proofs.Steps.{no_fault, Opened, given, done_not_open}
 

@@ -10,9 +10,9 @@ use Rattle.asm86_line_reader.specs.Line.{LineGives}
 use Rattle.asm86_text.specs.declared.fault.TextFault.{TextFault}
 use Rattle.asm86_text.specs.declared.fault.TextFault.TheVariants.{Line, Memory}
 use Rattle.asm86_text.specs.declared.listing.Listing.{Listing}
-use Rattle.base_lines.specs.Held.{Holds}
+use Rattle.base.specs.Held.{Holds}
 use Rattle.asm86_text.specs.Place.{IsAfter}
-use Rattle.base_lines.specs.Cut.{Cut, without_cr, last_line}
+use Rattle.base.specs.Cut.{Cut, without_cr, last_line}
 use Rattle.asm86_text.specs.Stream.{IsNotLf, numbered, are_in_order, Adds, Breaks, Ending, Open, Ended, Broken, LinesGive, TextGives}
 
 -- the statements so far, the number of lines read, the line that is not complete yet, and the fault

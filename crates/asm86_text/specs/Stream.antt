@@ -9,7 +9,7 @@ use Rattle.asm86_lines.specs.declared.line.TextRule.TheVariants.{M5, M6}
 use Rattle.asm86_lines.specs.Image.{statements}
 use Rattle.asm86_lines.specs.Order.{at_start, in_order, is_end}
 use Rattle.asm86_line_reader.specs.Line.{LineGives}
-use Rattle.base_lines.specs.Cut.{Cut, without_cr, last_line}
+use Rattle.base.specs.Cut.{Cut, without_cr, last_line}
 
 -- the bytes of a line
 abbrev pub IsNotLf : ℕ → Type 0

@@ -6,15 +6,15 @@ ghost use Rattle.asm86_lines.specs.Image.{statements};
 ghost use Rattle.asm86_lines.specs.Order.{at_start, in_order};
 ghost use Rattle.asm86_text.specs.declared.fault.TextFault.{TextFault};
 ghost use Rattle.asm86_text.specs.declared.fault.TextFault.TheVariants.{Line, Memory};
-ghost use Rattle.base_lines.specs.Cut.{without_cr};
-ghost use Rattle.base_lines.specs.Held.{with_byte, Holds};
+ghost use Rattle.base.specs.Cut.{without_cr};
+ghost use Rattle.base.specs.Held.{with_byte, Holds};
 ghost use Rattle.asm86_text.specs.Reader.{After, AfterAll, Agrees, Finishes, Reads, ReadsRest, answer_of};
 ghost use Rattle.asm86_text.specs.Stream.{HoldsFault, TextGives, has_end};
 
 use crate::fault::TextFault;
 use crate::listing::Listing;
 use asm86_lines::{Line86, TextRule};
-use base_lines::{HeldLine, without_cr};
+use base::{HeldLine, without_cr};
 use std::alloc::{AllocError, Global};
 use std::marker::Model;
 use std::mem;

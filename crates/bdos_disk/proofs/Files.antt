@@ -12,8 +12,8 @@ use Rattle.std.proofs.lemmas.List.{length-set, length-append, length-replicate}
 use Rattle.std.proofs.lemmas.List.Edits.{length-insert, length-remove}
 use Rattle.std.proofs.lemmas.Option.{slice_get-get_or, slice_get_past}
 use Rattle.std.proofs.lemmas.Slice.Eq.{bytes_eq-Decides}
-use Rattle.bdos_names.specs.Names.{is_name_byte, is_name, is_before, is_after}
-use Rattle.bdos_names.proofs.Order.{before_trans, before_back, before_cases, before_differs_back, after_later}
+use Rattle.bdos_disk.specs.Names.{is_name_byte, is_name, is_before, is_after}
+use Rattle.bdos_disk.proofs.Order.{before_trans, before_back, before_cases, before_differs_back, after_later}
 use Rattle.bdos_disk.specs.Stored.{Stored, zero_record}
 use Rattle.bdos_disk.specs.Disks.{IsFile, AreFilesAfter, records_in, IsDisk, has_name, file_named, with_file, without_file, with_records, growth, written_at}
 

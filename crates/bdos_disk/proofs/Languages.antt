@@ -7,10 +7,10 @@ use Rattle.std.proofs.lemmas.List.Elements.{All-nil, All-cons, All-head, All-tai
 use Rattle.std.proofs.Math.Seq.{take-add}
 use Rattle.std.proofs.lemmas.List.Sums.{sum_by-cons}
 use Rattle.std.proofs.lemmas.List.Concat.{flat_map-append}
-use Rattle.bdos_names.specs.Names.{is_name, is_before, highest}
-use Rattle.bdos_names.specs.Spelled.{BreaksAt}
-use Rattle.bdos_names.proofs.Going.{highest_lawful, upto_then, upto_lt}
-use Rattle.bdos_names.proofs.Highest.{highest_falls, next_highest, below_highest}
+use Rattle.bdos_disk.specs.Names.{is_name, is_before, highest}
+use Rattle.bdos_disk.specs.Spelled.{BreaksAt}
+use Rattle.bdos_disk.proofs.Going.{highest_lawful, upto_then, upto_lt}
+use Rattle.bdos_disk.proofs.Highest.{highest_falls, next_highest, below_highest}
 use Rattle.bdos_disk.specs.Stored.{Stored}
 use Rattle.bdos_disk.specs.Disks.{AreFilesAfter, records_in}
 use Rattle.bdos_disk.specs.DiskFile.{mark, word, all_records}

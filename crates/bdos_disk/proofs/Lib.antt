@@ -1,3 +1,6 @@
+pub mod Order
+pub mod Going
+pub mod Highest
 pub mod Files
 pub mod Parts
 pub mod Languages

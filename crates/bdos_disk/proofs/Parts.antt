@@ -2,7 +2,7 @@
 use Rattle.std.proofs.Common.{◌≡◌, ℕ, suc, ◌+◌, ◌≤◌, List, [], ◌∷◌, ◌++◌, length, take, drop, refl, sym, ap, ◌∙◌, inl, inr, subst, arith, append_assoc}
 use Rattle.std.proofs.lemmas.Bool.{cases_lt}
 use Rattle.std.proofs.lemmas.List.{length-append, length-take-le, take-append-drop, take-append-le, take_at, drop_at}
-use Rattle.bdos_names.specs.Spelled.{BreaksAt}
+use Rattle.bdos_disk.specs.Spelled.{BreaksAt}
 
 -- two ways to part a list
 pub same_front : (p q u v : List ℕ) → p ++ u ≡ q ++ v → length p ≡ length q → (p ≡ q) × (u ≡ v)

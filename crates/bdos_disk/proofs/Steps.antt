@@ -5,11 +5,11 @@ use Rattle.std.specs.List.{All}
 use Rattle.std.proofs.lemmas.List.{append-nil, length-append, length-drop, length-replicate, take-append-drop, drop-drop}
 use Rattle.std.proofs.lemmas.List.Elements.{All-nil, All-replicate}
 use Rattle.std.proofs.lemmas.List.Sums.{sum_by-cons}
-use Rattle.bdos_names.specs.Names.{is_before, is_after, highest, IsNameBetween}
-use Rattle.bdos_names.specs.Spelled.{BreaksAt}
+use Rattle.bdos_disk.specs.Names.{is_before, is_after, highest, IsNameBetween}
+use Rattle.bdos_disk.specs.Spelled.{BreaksAt}
 use Rattle.std.proofs.lemmas.List.Concat.{flat_map-append}
-use Rattle.bdos_names.proofs.Going.{name_parts, upto_lt}
-use Rattle.bdos_names.proofs.Highest.{highest_falls}
+use Rattle.bdos_disk.proofs.Going.{name_parts, upto_lt}
+use Rattle.bdos_disk.proofs.Highest.{highest_falls}
 use Rattle.bdos_disk.specs.Stored.{Stored, zero_record}
 use Rattle.bdos_disk.specs.Disks.{records_in}
 use Rattle.bdos_disk.specs.DiskFile.{word, all_records, file_bytes, files_bytes}

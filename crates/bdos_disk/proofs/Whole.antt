@@ -5,8 +5,8 @@ use Rattle.std.proofs.lemmas.Bool.{cases_lt}
 use Rattle.std.proofs.lemmas.List.{append-nil, length-append, length-take-le, length-drop, take-append-drop, take-take, take_at}
 use Rattle.std.proofs.lemmas.List.Elements.{All-nil}
 use Rattle.std.proofs.lemmas.List.Sums.{sum_by-cons}
-use Rattle.bdos_names.specs.Spelled.{BreaksAt}
-use Rattle.bdos_names.proofs.Going.{name_parts, highest_lawful}
+use Rattle.bdos_disk.specs.Spelled.{BreaksAt}
+use Rattle.bdos_disk.proofs.Going.{name_parts, highest_lawful}
 use Rattle.bdos_disk.specs.declared.reading.Stop.{Stop}
 use Rattle.bdos_disk.specs.declared.reading.Stop.TheVariants.{At, Memory}
 use Rattle.bdos_disk.specs.Stored.{Stored}

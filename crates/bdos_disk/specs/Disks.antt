@@ -3,7 +3,7 @@
 use Rattle.std.specs.Prelude.{◌≡◌, ℕ, ◌+◌, ◌-◌, ◌≤◌, ◌&&◌, not, Bool, true, cond, List, [], ◌∷◌, ◌++◌, map, length, replicate, slice_set, Option, Some, None}
 use Rattle.std.specs.List.{All, filter, find, list_any, sum_by}
 use Rattle.std.specs.Str.{bytes_eq}
-use Rattle.bdos_names.specs.Names.{is_name, is_before, is_after, matches}
+use Rattle.bdos_disk.specs.Names.{is_name, is_before, is_after, matches}
 use Rattle.bdos_disk.specs.Stored.{Stored, zero_record}
 
 -- a file that a disk may have

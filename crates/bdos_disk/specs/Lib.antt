@@ -1,3 +1,5 @@
+pub mod Names
+pub mod Spelled
 pub mod Stored
 pub mod Disks
 pub mod DiskFile

@@ -1,7 +1,7 @@
 -- What a disk file is read as, part by part.
 use Rattle.std.specs.Prelude.{◌≡◌, ℕ, ◌+◌, ◌≤◌, List, ◌++◌, length, drop, Option}
 use Rattle.std.specs.List.{All}
-use Rattle.bdos_names.specs.Names.{IsNameBetween}
+use Rattle.bdos_disk.specs.Names.{IsNameBetween}
 use Rattle.bdos_disk.specs.declared.reading.Stop.{Stop}
 use Rattle.bdos_disk.specs.declared.reading.Stop.TheVariants.{At, Memory}
 use Rattle.bdos_disk.specs.declared.fault.DiskFault.{DiskFault}

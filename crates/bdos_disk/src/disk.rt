@@ -2,12 +2,12 @@
 ghost use Rattle.std.specs.Prelude.{◌≡◌, ◌<◌, ◌≤◌, ◌+◌, true, [], None, length, insert, slice_get, slice_set, IsSome, IfSome, OnOk, OnErr, vec_len, vec_capacity};
 ghost use Rattle.std.specs.List.{filter, position};
 ghost use Rattle.std.specs.Option.{option_copied};
-ghost use Rattle.bdos_names.specs.Names.{is_name, is_before};
+ghost use Rattle.bdos_disk.specs.Names.{is_name, is_before};
 ghost use Rattle.bdos_disk.specs.Disks.{IsDisk, records_in, file_named, next_matching, any_matching, without_matching, with_file, without_file, with_records, growth, written_at, has_name};
 
 use crate::file::File;
+use crate::name::Name;
 use crate::record::Record;
-use bdos_names::Name;
 use std::alloc::{AllocError, Global};
 use std::marker::Model;
 

@@ -2,8 +2,8 @@
 ghost use Rattle.std.specs.Prelude.{◌≡◌, ◌<◌, [], OnOk, OnErr};
 ghost use Rattle.bdos_disk.specs.Disks.{written_at};
 
+use crate::name::Name;
 use crate::record::Record;
-use bdos_names::Name;
 use std::alloc::{AllocError, Global};
 use std::marker::Model;
 

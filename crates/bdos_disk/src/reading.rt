@@ -1,8 +1,8 @@
 // The disk file that is read.
 ghost use Rattle.std.specs.Prelude.{◌≡◌, true, ◌+◌, ◌*◌, ◌^◌, ◌<◌, ◌≤◌, ◌++◌, None, length, drop, MatchResult, IfOk};
 ghost use Rattle.std.specs.List.{All};
-ghost use Rattle.bdos_names.specs.Names.{is_after, highest};
-ghost use Rattle.bdos_names.specs.Spelled.{BreaksAt};
+ghost use Rattle.bdos_disk.specs.Names.{is_after, highest};
+ghost use Rattle.bdos_disk.specs.Spelled.{BreaksAt};
 ghost use Rattle.bdos_disk.specs.Disks.{IsDisk};
 ghost use Rattle.bdos_disk.specs.DiskFile.{mark, word, files_bytes, all_records, disk_file, IsBadAt};
 ghost use Rattle.bdos_disk.specs.Reading.{AreFiles, IsNextFile, StopsBy, behind, fault_of, IsFaultOf};
@@ -11,8 +11,9 @@ use crate::disk::{Disk, MOST_FILES, MOST_RECORDS};
 use crate::fault::DiskFault;
 use crate::file::File;
 use crate::kept::MARK;
+use crate::name::{NAME_LENGTH, Name};
 use crate::record::{RECORD_LENGTH, Record};
-use bdos_names::{NAME_LENGTH, Name, read_name};
+use crate::spelling::read_name;
 use std::alloc::{AllocError, Global};
 
 /// Why a reading stops: at a place in the bytes, or because memory ran out.

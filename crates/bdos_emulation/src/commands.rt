@@ -12,7 +12,7 @@ use crate::plain::Plain86;
 use crate::tagged::Tagged80;
 use asm80_program::Program80;
 use asm86_image::Image86;
-use bdos_ports::Devices;
+use bdos_small::Devices;
 use bdos_talk::{Conversation, TalkFault, converse};
 use cpu86::Start86;
 use dialogue::Page;

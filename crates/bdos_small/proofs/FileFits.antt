@@ -8,7 +8,7 @@ use Rattle.dialogue.specs.declared.request.Request.{Request}
 use Rattle.dialogue.specs.Table.{row_of}
 use Rattle.dialogue.specs.Fits.{fits}
 use Rattle.dialogue.specs.Lawful.{IsLawful}
-use Rattle.bdos_names.specs.Names.{is_after, low_seven, name_in}
+use Rattle.bdos_disk.specs.Names.{is_after, low_seven, name_in}
 use Rattle.bdos_disk.specs.Stored.{Stored}
 use Rattle.bdos_disk.specs.Disks.{IsDisk, records_in, has_match, file_named, has_name, first_matching, next_matching, any_matching, growth, written_at, with_file, without_file, with_records, without_matching}
 use Rattle.bdos_disk.proofs.Files.{IsKept, found_on_disk}

@@ -4,7 +4,7 @@
 use Rattle.std.specs.Prelude.{ℕ, ◌+◌, ◌*◌, ◌==◌, ◌&&◌, ◌||◌, nat_le, nat_lt, Bool, cond, List, [], length, Option, Some, None, is_none, slice_get, slice_index}
 use Rattle.dialogue.specs.declared.request.Request.{Request}
 use Rattle.dialogue.specs.declared.request.Reply.{Reply}
-use Rattle.bdos_names.specs.Names.{is_name, name_in}
+use Rattle.bdos_disk.specs.Names.{is_name, name_in}
 use Rattle.bdos_disk.specs.Stored.{Stored}
 use Rattle.bdos_disk.specs.Disks.{records_in, file_named, first_matching, next_matching, any_matching, without_matching, with_file, without_file, with_records, growth, written_at}
 use Rattle.bdos_small.specs.declared.directory.Search.{Search}

@@ -3,3 +3,5 @@ pub mod Fcb
 pub mod Calls
 pub mod Files
 pub mod Small
+pub mod Supply
+pub mod Events

@@ -6,10 +6,10 @@ use Rattle.dialogue.specs.declared.request.Reply.{Reply}
 use Rattle.dialogue.specs.declared.request.Event.{Event}
 use Rattle.dialogue.specs.declared.request.Event.TheVariants.{End}
 use Rattle.dialogue.specs.Fits.{fits_event}
-use Rattle.bdos_ports.specs.declared.devices.EventAnswer.{EventAnswer}
-use Rattle.bdos_ports.specs.declared.devices.EventAnswer.TheVariants.{Reply as Replies, InputEnded as NoInput, NoDrive as Refuses}
-use Rattle.bdos_ports.specs.Supply.{Supply}
-use Rattle.bdos_ports.specs.Events.{EventAnswered, event_answer}
+use Rattle.bdos_small.specs.declared.devices.EventAnswer.{EventAnswer}
+use Rattle.bdos_small.specs.declared.devices.EventAnswer.TheVariants.{Reply as Replies, InputEnded as NoInput, NoDrive as Refuses}
+use Rattle.bdos_small.specs.Supply.{Supply}
+use Rattle.bdos_small.specs.Events.{EventAnswered, event_answer}
 use Rattle.base_runs.specs.Run.{Waiting, Over}
 use Rattle.host.specs.Host.{HostState, said_more, Says}
 use Rattle.cmd_files.specs.Transfer.{CutsLine}

@@ -5,7 +5,7 @@ use Rattle.std.proofs.Common.{⊎_elim}
 use Rattle.dialogue.specs.declared.request.Reply.{Reply}
 use Rattle.base_runs.specs.Run.{Status, Going, Waiting, Over, Stopped, IsNotStopped}
 use Rattle.host.specs.Host.{HostState}
-use Rattle.bdos_ports.specs.Supply.{Supply}
+use Rattle.bdos_small.specs.Supply.{Supply}
 use Rattle.bdos_talk.specs.declared.emulator.Why.{Why}
 use Rattle.bdos_talk.specs.declared.running.Conversation.{Conversation}
 use Rattle.bdos_talk.specs.declared.running.RunEnd.{RunEnd}

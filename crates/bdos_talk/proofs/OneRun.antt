@@ -6,10 +6,10 @@ use Rattle.dialogue.specs.declared.request.Event.{Event}
 use Rattle.dialogue.specs.declared.request.Event.TheVariants.{End}
 use Rattle.dialogue.specs.Fits.{fits_event}
 use Rattle.std.specs.Prelude.{Option, Some, None}
-use Rattle.bdos_ports.specs.declared.devices.EventAnswer.{EventAnswer}
-use Rattle.bdos_ports.specs.declared.devices.EventAnswer.TheVariants.{Reply as Replies, InputEnded, NoDrive}
-use Rattle.bdos_ports.specs.Supply.{Supply}
-use Rattle.bdos_ports.specs.Events.{EventAnswered, event_answer}
+use Rattle.bdos_small.specs.declared.devices.EventAnswer.{EventAnswer}
+use Rattle.bdos_small.specs.declared.devices.EventAnswer.TheVariants.{Reply as Replies, InputEnded, NoDrive}
+use Rattle.bdos_small.specs.Supply.{Supply}
+use Rattle.bdos_small.specs.Events.{EventAnswered, event_answer}
 use Rattle.base_runs.specs.Run.{Answer, Ran, Asks, Ends, Stops, Machine, Run, Status, Going, Waiting, Over, Stopped, choice_at, turns, IsFrontOf}
 use Rattle.base_runs.proofs.Turns.{IsStill, turns_add, turns_grow, still_turns}
 use Rattle.bdos_talk.specs.declared.emulator.Why.{Why}

@@ -3,9 +3,9 @@ use Rattle.std.specs.Prelude.{◌≡◌, ℕ, ◌+◌, ◌≤◌, suc, List, [],
 use Rattle.dialogue.specs.declared.request.Reply.{Reply}
 use Rattle.dialogue.specs.declared.request.Event.{Event}
 use Rattle.dialogue.specs.Fits.{fits_event}
-use Rattle.bdos_ports.specs.declared.devices.EventAnswer.TheVariants.{Reply as Replies}
-use Rattle.bdos_ports.specs.Supply.{Supply}
-use Rattle.bdos_ports.specs.Events.{event_answer}
+use Rattle.bdos_small.specs.declared.devices.EventAnswer.TheVariants.{Reply as Replies}
+use Rattle.bdos_small.specs.Supply.{Supply}
+use Rattle.bdos_small.specs.Events.{event_answer}
 use Rattle.base_runs.specs.Run.{Status, Waiting, Over, Stopped}
 use Rattle.host.specs.Host.{HostState, SameSaid, Says, SameFaults, WriteFailed}
 use Rattle.cmd_files.specs.Transfer.{CutsLine}

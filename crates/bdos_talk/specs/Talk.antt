@@ -2,10 +2,10 @@
 use Rattle.std.specs.Prelude.{◌≡◌, ℕ, suc, ◌<◌, ◌≤◌, List, [], ◌∷◌, ◌++◌, Option, Some, None, All}
 use Rattle.dialogue.specs.declared.request.Reply.{Reply}
 use Rattle.dialogue.specs.declared.request.Event.{Event}
-use Rattle.bdos_ports.specs.declared.devices.EventAnswer.{EventAnswer}
-use Rattle.bdos_ports.specs.declared.devices.EventAnswer.TheVariants.{Reply as Replies, InputEnded as Ends, NoDrive as Refuses}
-use Rattle.bdos_ports.specs.Supply.{Supply}
-use Rattle.bdos_ports.specs.Events.{EventAnswered, event_answer}
+use Rattle.bdos_small.specs.declared.devices.EventAnswer.{EventAnswer}
+use Rattle.bdos_small.specs.declared.devices.EventAnswer.TheVariants.{Reply as Replies, InputEnded as Ends, NoDrive as Refuses}
+use Rattle.bdos_small.specs.Supply.{Supply}
+use Rattle.bdos_small.specs.Events.{EventAnswered, event_answer}
 use Rattle.base_runs.specs.Run.{Status, Going, Waiting, Over, Stopped, Run, IsNotStopped, IsFrontOf}
 use Rattle.host.specs.Host.{HostState, Says, SameFaults, WriteFailed}
 use Rattle.cmd_files.specs.Transfer.{CutsLine}

@@ -10,7 +10,7 @@ use crate::emulator::{Emulator, Turn, Why};
 use crate::fault::TalkFault;
 use crate::lines::say_event;
 use crate::replies::reply_is_in_range;
-use bdos_ports::{Devices, EventAnswer};
+use bdos_small::{Devices, EventAnswer};
 use dialogue::Event;
 use host::Host;
 use std::alloc::{AllocError, Global};

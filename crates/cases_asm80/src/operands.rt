@@ -10,7 +10,7 @@ use asm80_operands::{Form, Setting, form_of};
 use asm80_source::{Meaning, NameKind};
 use asm80_tokens::{Arg, ReadFault, Stmt80};
 use asm80_walk::{operation_of, walk};
-use base_addresses::AddressSet;
+use base::AddressSet;
 use cells::Cell;
 use std::alloc::{AllocError, Global};
 

@@ -19,16 +19,16 @@ use Rattle.cpu86_steps.specs.State.{State86}
 use Rattle.cpu86_steps.specs.Call.{Stop}
 use Rattle.base_runs.specs.Fill.{IsFill}
 use Rattle.cpu86_steps.specs.Start.{IsStart, AreChoices, run86}
-use Rattle.bdos_ports.specs.Supply.{Supply}
+use Rattle.bdos_small.specs.Supply.{Supply}
 use Rattle.bdos_talk.specs.declared.emulator.Why.{Why}
 use Rattle.bdos_talk.specs.declared.running.Conversation.{Conversation}
 use Rattle.bdos_talk.specs.Replies.{IsBlock, IsReply}
 use Rattle.bdos_talk.specs.Talk.{Seen, told_status, replies_to, HasOneRun, SaysRun}
 use Rattle.bdos_emulation.specs.Courses.{why80, course80, course86}
 use Rattle.bdos_emulation.specs.Starts.{start_by}
-use Rattle.xlt_core.specs.Names.{IsReplyBlock as SameBlock, IsReply as SameReply, Same}
+use Rattle.xlt_translation.specs.Names.{IsReplyBlock as SameBlock, IsReply as SameReply, Same}
 use Rattle.cmd_words.specs.Words.{Both}
-use Rattle.cmd_run.specs.Runs86.{fill_by}
+use Rattle.cmd_run80.specs.Supplies.{fill_by}
 use Rattle.cmd_both.specs.Runs.{prefix80, prefix86, limit86, course80_of, course86_of, Says80, Says86}
 
 -- what a choice gives is in its ranges

@@ -11,7 +11,7 @@ use Rattle.bdos_disk.specs.declared.fault.DiskFault.{DiskFault}
 use Rattle.bdos_disk.specs.declared.fault.DiskFault.TheVariants.{Bad, Memory}
 use Rattle.bdos_disk.specs.DiskFile.{IsBadAt}
 use Rattle.bdos_disk.specs.Reading.{IsFaultOf}
-use Rattle.bdos_ports.specs.Supply.{Supply}
+use Rattle.bdos_small.specs.Supply.{Supply}
 use Rattle.bdos_talk.specs.declared.fault.TalkFault.TheVariants.{Unsaid as Untold}
 use Rattle.bdos_talk.specs.declared.running.Conversation.{Conversation}
 use Rattle.cmd_reports.specs.declared.stop.Stop.{Stop}
@@ -21,19 +21,19 @@ use Rattle.cmd_reports.specs.Said.{whole, failed, no_memory as unfinished, Close
 use Rattle.cmd_inputs.specs.Files.{input_limit, NoneFailed, IsTold}
 use Rattle.cmd_inputs.specs.Sources.{SourceStops, of_line as LineStops, of_program as ProgramStops}
 use Rattle.cmd_inputs.proofs.Told.{told_whole, read_stops, not_unsaid, closes_reads, closes_status, memory_status}
-use Rattle.cmd_run.specs.Ends.{steps_of}
-use Rattle.cmd_run.specs.Keeping.{kept_name}
-use Rattle.cmd_run.specs.Supplies.{Given, SupplyIsTold, HasDisk, stop_of_disk}
-use Rattle.cmd_run.specs.Outcomes.{IsOnly, HasStatus}
-use Rattle.cmd_run.specs.Runs80 as tagged
-use Rattle.cmd_run.specs.Completes80 as source_comes
-use Rattle.cmd_run.proofs.Told.{told_given, supply_stops}
-use Rattle.cmd_run.proofs.Kept.{kept_counted, lost_by_memory, closes_writes}
-use Rattle.cmd_run.proofs.Disks.{DiskLaw, disk_or_none}
-use Rattle.cmd_run.proofs.Completing80.{OneProgram, OneRefusal, NotBoth, only_run, refused, no_devices}
-use Rattle.xlt_core.specs.declared.translation.Mode.TheVariants.{Lean}
-use Rattle.xlt_core.specs.Translation.{IsText, code_size, CodeFits, IsTooLarge}
-use Rattle.xlt_core.proofs.OneText.{OneText}
+use Rattle.cmd_run80.specs.Ends.{steps_of}
+use Rattle.cmd_run80.specs.Keeping.{kept_name}
+use Rattle.cmd_run80.specs.Supplies.{Given, SupplyIsTold, HasDisk, stop_of_disk}
+use Rattle.cmd_run80.specs.Outcomes.{IsOnly, HasStatus}
+use Rattle.cmd_run80.specs.Runs80 as tagged
+use Rattle.cmd_run80.specs.Completes80 as source_comes
+use Rattle.cmd_run80.proofs.Told.{told_given, supply_stops}
+use Rattle.cmd_run80.proofs.Kept.{kept_counted, lost_by_memory, closes_writes}
+use Rattle.cmd_run80.proofs.Disks.{DiskLaw, disk_or_none}
+use Rattle.cmd_run80.proofs.Completing80.{OneProgram, OneRefusal, NotBoth, only_run, refused, no_devices}
+use Rattle.xlt_translation.specs.declared.translation.Mode.TheVariants.{Lean}
+use Rattle.xlt_translation.specs.Translation.{IsText, code_size, CodeFits, IsTooLarge}
+use Rattle.xlt_translation.proofs.OneText.{OneText}
 use Rattle.cmd_both.specs.Lasts.{EndsBy}
 use Rattle.cmd_both.specs.Loads.{source_of, LeanStops, is_large, no_room, LoadStops, unloaded as Unloaded, no_image, no_memory as MemoryStops}
 use Rattle.cmd_both.specs.Runs.{HasBoth, HasCut, in_first, in_second}

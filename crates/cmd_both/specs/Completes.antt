@@ -4,16 +4,16 @@ use Rattle.asm80_program.specs.Program.{Program}
 use Rattle.asm80_source.specs.Source.{IsSource}
 use Rattle.asm86_lines.specs.declared.line.Line86.{Line86}
 use Rattle.host.specs.Host.{HostState}
-use Rattle.bdos_ports.specs.Supply.{Supply}
+use Rattle.bdos_small.specs.Supply.{Supply}
 use Rattle.cmd_words.specs.Words.{Both}
 use Rattle.cmd_reports.specs.declared.stop.Stop.{Stop}
 use Rattle.cmd_reports.specs.declared.stop.Stop.TheVariants.{CodeTooLarge}
 use Rattle.cmd_inputs.specs.Files.{input_limit, NoneFailed, IsTold}
-use Rattle.cmd_run.specs.Supplies.{Given, SupplyIsTold, HasDisk}
-use Rattle.cmd_run.specs.Outcomes.{HasStatus}
-use Rattle.cmd_run.specs.Completes80 as tagged
-use Rattle.xlt_core.specs.declared.translation.Mode.TheVariants.{Lean}
-use Rattle.xlt_core.specs.Translation.{IsText, CodeFits, IsTooLarge}
+use Rattle.cmd_run80.specs.Supplies.{Given, SupplyIsTold, HasDisk}
+use Rattle.cmd_run80.specs.Outcomes.{HasStatus}
+use Rattle.cmd_run80.specs.Completes80 as tagged
+use Rattle.xlt_translation.specs.declared.translation.Mode.TheVariants.{Lean}
+use Rattle.xlt_translation.specs.Translation.{IsText, CodeFits, IsTooLarge}
 use Rattle.cmd_both.specs.Loads.{source_of}
 
 -- where there is a program to run, over devices with a disk, the code of its lean text fits

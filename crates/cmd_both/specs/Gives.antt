@@ -8,11 +8,11 @@ use Rattle.cmd_words.specs.Words.{Both}
 use Rattle.cmd_reports.specs.declared.stop.Stop.{Stop}
 use Rattle.cmd_reports.specs.declared.stop.Stop.TheVariants.{OutOfMemory}
 use Rattle.cmd_reports.specs.Said.{Closes}
-use Rattle.cmd_run.specs.declared.halt.Halt.{Halt}
-use Rattle.cmd_run.specs.declared.halt.Halt.TheVariants.{By, Unsaid}
-use Rattle.cmd_run.specs.Ends.{steps_of, unsaid_status}
-use Rattle.cmd_run.specs.Keeping.{kept_name, Keeps, KeepStops}
-use Rattle.cmd_run.specs.Runs80.{IsLineOf}
+use Rattle.cmd_run80.specs.declared.halt.Halt.{Halt}
+use Rattle.cmd_run80.specs.declared.halt.Halt.TheVariants.{By, Unsaid}
+use Rattle.cmd_run80.specs.Ends.{steps_of, unsaid_status}
+use Rattle.cmd_run80.specs.Keeping.{kept_name, Keeps, KeepStops}
+use Rattle.cmd_run80.specs.Runs80.{IsLineOf}
 use Rattle.cmd_both.specs.Lasts.{EndsBy}
 use Rattle.cmd_both.specs.Loads.{LoadStops}
 use Rattle.cmd_both.specs.Runs.{HasBoth, HasCut}

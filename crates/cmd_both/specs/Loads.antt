@@ -6,14 +6,14 @@ use Rattle.asm80_program.specs.Program.{Program}
 use Rattle.asm86_lines.specs.declared.line.Line86.{Line86}
 use Rattle.asm86_lines.specs.Image.{Image, IsImage}
 use Rattle.host.specs.Host.{HostState, SameFaults}
-use Rattle.bdos_ports.specs.Supply.{Supply}
+use Rattle.bdos_small.specs.Supply.{Supply}
 use Rattle.cmd_words.specs.Words.{Run80, Both}
 use Rattle.cmd_reports.specs.declared.stop.Stop.{Stop}
 use Rattle.cmd_reports.specs.declared.stop.Stop.TheVariants.{OutOfMemory, CodeTooLarge}
-use Rattle.cmd_run.specs.Runs80 as tagged
-use Rattle.xlt_core.specs.Names.{Same}
-use Rattle.xlt_core.specs.declared.translation.Mode.TheVariants.{Lean}
-use Rattle.xlt_core.specs.Translation.{IsText, CodeFits, IsTooLarge}
+use Rattle.cmd_run80.specs.Runs80 as tagged
+use Rattle.xlt_translation.specs.Names.{Same}
+use Rattle.xlt_translation.specs.declared.translation.Mode.TheVariants.{Lean}
+use Rattle.xlt_translation.specs.Translation.{IsText, CodeFits, IsTooLarge}
 
 -- what `both` does on the 8080 is what `run80` does by these words
 abbrev pub source_of : Both → Run80

@@ -8,14 +8,14 @@ use Rattle.base_runs.specs.Run.{IsFrontOf}
 use Rattle.asm80_program.specs.Program.{Program}
 use Rattle.asm86_lines.specs.Image.{Image}
 use Rattle.host.specs.Host.{HostState, SameFaults, OnlyReads, OnlySays}
-use Rattle.bdos_ports.specs.Supply.{Supply}
+use Rattle.bdos_small.specs.Supply.{Supply}
 use Rattle.bdos_talk.specs.declared.fault.TalkFault.{TalkFault}
 use Rattle.bdos_talk.specs.declared.running.Conversation.{Conversation}
 use Rattle.bdos_talk.specs.Talk.{Seen, SaysRun, IsCutOff}
 use Rattle.bdos_emulation.specs.Courses.{course80, course86}
 use Rattle.bdos_emulation.specs.Starts.{start_by}
 use Rattle.cmd_words.specs.Words.{Both}
-use Rattle.cmd_run.specs.Runs86.{fill_by}
+use Rattle.cmd_run80.specs.Supplies.{fill_by}
 use Rattle.cmd_both.specs.Loads.{Loads}
 
 abbrev pub prefix80 : List ℕ

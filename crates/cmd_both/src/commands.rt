@@ -2,7 +2,7 @@
 ghost use Rattle.std.specs.Prelude.{◌≡◌, true, IfOk, IfErr};
 ghost use Rattle.asm80_program.specs.Program.{is_top};
 ghost use Rattle.cmd_words.specs.ReadCommands.{both_read};
-ghost use Rattle.cmd_run.specs.Keeping.{DiskAlone};
+ghost use Rattle.cmd_run80.specs.Keeping.{DiskAlone};
 ghost use Rattle.cmd_both.specs.Lasts.{IsMade, came_of, steps_of};
 ghost use Rattle.cmd_both.specs.Gives.{HasCome, IsHalted, Gives};
 ghost use Rattle.cmd_both.specs.Completes.{Completes};
@@ -12,11 +12,11 @@ use crate::making::make_runs;
 use asm80_values::source_has_one_outcome;
 use bdos_disk::disks_read_back;
 use cmd_reports::say_stop;
-use cmd_run::{Halt, keep_disk, kept_name, line_of, steps_of, unsaid_status};
+use cmd_run80::{Halt, keep_disk, kept_name, line_of, steps_of, unsaid_status};
 use cmd_words::Both;
 use host::Host;
 use std::alloc::Global;
-use xlt_core::own_texts_are_same;
+use xlt_translation::own_texts_are_same;
 
 /// Runs the source of a command on both machines over devices of the same bytes, the 8080 first, says each event of their dialogues and
 /// then what the 8080's run came to, and answers the status. The top of the program area is a multiple of 100H from 1000H to 0FF00H.

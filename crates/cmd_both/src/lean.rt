@@ -2,8 +2,8 @@
 ghost use Rattle.std.specs.Prelude.{◌≡◌, ◌^◌, ◌<◌, IfOk, IfErr, length, vec_len};
 ghost use Rattle.asm80_program.specs.Program.{Program, IsProgram};
 ghost use Rattle.asm86_lines.specs.Image.{Assembles, IsImage};
-ghost use Rattle.xlt_core.specs.declared.translation.Mode.TheVariants.{Lean};
-ghost use Rattle.xlt_core.specs.Translation.{IsText, CodeFits, HasNoText};
+ghost use Rattle.xlt_translation.specs.declared.translation.Mode.TheVariants.{Lean};
+ghost use Rattle.xlt_translation.specs.Translation.{IsText, CodeFits, HasNoText};
 ghost use Rattle.cmd_both.specs.Loads.{HasLean, LeanStops};
 
 use asm80_program::Program80;
@@ -11,7 +11,7 @@ use asm86_image::{Image86, image};
 use asm86_lines::Line86;
 use cmd_reports::Stop;
 use std::alloc::{AllocError, Global};
-use xlt_core::{CoreFault, Mode, own_texts_are_same, translate};
+use xlt_translation::{CoreFault, Mode, own_texts_are_same, translate};
 
 /// The image of a program's lean text, or that its code is too large. A program's own text assembles where its code fits.
 pub fn lean_image<'a>(alloc: Global, program: &Program80) -> Result<Image86, Stop<'a>>

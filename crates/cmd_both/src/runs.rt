@@ -5,13 +5,13 @@ ghost use Rattle.i86.specs.Code.{Reads};
 ghost use Rattle.host.specs.Host.{SameFaults, OnlySays};
 ghost use Rattle.cpu80_steps.specs.Start.{IsPage};
 ghost use Rattle.cmd_words.specs.ReadCommands.{both_read};
-ghost use Rattle.cmd_run.specs.Runs86.{fill_by};
+ghost use Rattle.cmd_run80.specs.Supplies.{fill_by};
 ghost use Rattle.cmd_both.specs.Runs.{limit86, Says80, Cuts80, Says86, Cuts86};
 
 use asm80_program::Program80;
 use asm86_image::Image86;
 use bdos_emulation::{Conversation, TalkFault, run_80, run_86};
-use bdos_ports::Devices;
+use bdos_small::Devices;
 use cmd_words::Both;
 use dialogue::Page;
 use host::Host;

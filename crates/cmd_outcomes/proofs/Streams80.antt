@@ -3,8 +3,8 @@ use Rattle.std.proofs.Common.{ℕ, List, [], ◌∷◌, ◌++◌, Bool, true, Op
 use Rattle.std.proofs.lemmas.Bool.{cases_eq}
 use Rattle.asm80_tokens.specs.declared.fault.ReadFault.{ReadFault}
 use Rattle.asm80_tokens.specs.Tree.{Statement}
-use Rattle.base_lines.specs.Cut.{Cut}
-use Rattle.base_lines.proofs.Cuts.{cut_byte, cut_line}
+use Rattle.base.specs.Cut.{Cut}
+use Rattle.base.proofs.Cuts.{cut_byte, cut_line}
 use Rattle.asm80_text.specs.Stream.{IsPlain, IsStream, closed, complete, StreamGives}
 use Rattle.cmd_outcomes.proofs.Lines80.{lines_give}
 

@@ -9,8 +9,8 @@ use Rattle.asm80_source.specs.Assembly.{refusal, IsAssembled}
 use Rattle.asm80_source.specs.Source.{IsSource, faulty, refused}
 use Rattle.asm80_program.specs.Program.{Program}
 use Rattle.asm86_lines.specs.declared.line.Line86.{Line86}
-use Rattle.xlt_core.specs.declared.translation.Mode.TheVariants.{Lean}
-use Rattle.xlt_core.specs.Translation.{IsText, CodeFits, IsTooLarge}
+use Rattle.xlt_translation.specs.declared.translation.Mode.TheVariants.{Lean}
+use Rattle.xlt_translation.specs.Translation.{IsText, CodeFits, IsTooLarge}
 use Rattle.cmd_reports.specs.declared.stop.Stop.{Stop}
 use Rattle.cmd_inputs.specs.Sources.{SourceStops, of_line, of_program}
 use Rattle.sample_lines.specs.Sample.{sample_text, sample_statements}

@@ -11,11 +11,11 @@ use Rattle.asm80_program.specs.Program.{Program, IsProgram}
 use Rattle.asm80_source.specs.Source.{IsSource, SourceRule, IsNoSource, OfLine, OfProgram}
 use Rattle.asm86_lines.specs.declared.line.Line86.{Line86}
 use Rattle.cmd_words.specs.Words.{Translate}
-use Rattle.xlt_core.specs.declared.translation.Mode.{Mode}
-use Rattle.xlt_core.specs.Translation.{IsText, code_size, CodeFits, IsTooLarge}
-use Rattle.xlt_core.proofs.OneText.{OneText}
+use Rattle.xlt_translation.specs.declared.translation.Mode.{Mode}
+use Rattle.xlt_translation.specs.Translation.{IsText, code_size, CodeFits, IsTooLarge}
+use Rattle.xlt_translation.proofs.OneText.{OneText}
 use Rattle.i86.specs.Decode.{HasReader}
-use Rattle.xlt_core.specs.Names.{Same}
+use Rattle.xlt_translation.specs.Names.{Same}
 use Rattle.cmd_reports.specs.declared.stop.Stop.{Stop}
 use Rattle.cmd_reports.specs.declared.stop.Stop.TheVariants.{CodeTooLarge}
 use Rattle.cmd_reports.specs.Lines.{named_line, memory_line}

@@ -6,7 +6,7 @@ use Rattle.asm86_lines.specs.Written.{text_of}
 use Rattle.asm80_program.specs.Program.{Program}
 use Rattle.asm80_source.specs.Source.{IsSource, OfLine, OfProgram}
 use Rattle.cmd_words.specs.Words.{Translate}
-use Rattle.xlt_core.specs.Translation.{IsText, CodeFits}
+use Rattle.xlt_translation.specs.Translation.{IsText, CodeFits}
 use Rattle.cmd_reports.specs.declared.stop.Stop.{Stop}
 use Rattle.cmd_inputs.specs.Files.{IsWhole, input_limit}
 use Rattle.cmd_inputs.specs.Sources.{SourceStops, of_line, of_program}

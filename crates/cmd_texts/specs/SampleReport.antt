@@ -4,8 +4,8 @@ use Rattle.std.specs.Fmt.{decimal}
 use Rattle.asm86_lines.specs.declared.line.Line86.{Line86}
 use Rattle.asm80_program.specs.Program.{Program}
 use Rattle.asm80_source.specs.Source.{IsSource}
-use Rattle.xlt_core.specs.declared.translation.Mode.TheVariants.{Lean}
-use Rattle.xlt_core.specs.Translation.{IsText, code_size, CodeFits}
+use Rattle.xlt_translation.specs.declared.translation.Mode.TheVariants.{Lean}
+use Rattle.xlt_translation.specs.Translation.{IsText, code_size, CodeFits}
 use Rattle.cmd_flags.specs.declared.savings.Saving.{Saving}
 use Rattle.cmd_flags.specs.Report.{sums, saves_any, AreSavings}
 use Rattle.sample_lines.specs.Sample.{sample_lines, sample_text}

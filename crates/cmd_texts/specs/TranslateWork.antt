@@ -10,8 +10,8 @@ use Rattle.cmd_reports.specs.declared.stop.Stop.{Stop}
 use Rattle.cmd_reports.specs.declared.stop.Stop.TheVariants.{OutOfMemory, CodeTooLarge}
 use Rattle.cmd_inputs.specs.Files.{ReadStops, input_limit}
 use Rattle.cmd_inputs.specs.Sources.{stop_of_rule}
-use Rattle.xlt_core.specs.declared.translation.Mode.{Mode}
-use Rattle.xlt_core.specs.Translation.{IsTooLarge}
+use Rattle.xlt_translation.specs.declared.translation.Mode.{Mode}
+use Rattle.xlt_translation.specs.Translation.{IsTooLarge}
 use Rattle.cmd_texts.specs.Writing.{Writes, WriteStops}
 use Rattle.cmd_texts.specs.Translates.{line_of_text, Accepts, Refuses, Exceeds}
 

@@ -9,10 +9,10 @@ use Rattle.asm80_source.specs.Source.{IsSource, SourceRule, IsNoSource}
 use Rattle.cmd_files.specs.Transfer.{IsLonger, CutsLine}
 use Rattle.cmd_words.specs.Words.{Translate}
 use Rattle.i86.specs.Decode.{HasReader}
-use Rattle.xlt_core.specs.declared.translation.Mode.{Mode}
-use Rattle.xlt_core.specs.declared.translation.Mode.TheVariants.{Plain, Lean}
-use Rattle.xlt_core.specs.Translation.{IsText, code_size, CodeFits, IsTooLarge}
-pub use Rattle.xlt_core.specs.Names.{Same}
+use Rattle.xlt_translation.specs.declared.translation.Mode.{Mode}
+use Rattle.xlt_translation.specs.declared.translation.Mode.TheVariants.{Plain, Lean}
+use Rattle.xlt_translation.specs.Translation.{IsText, code_size, CodeFits, IsTooLarge}
+pub use Rattle.xlt_translation.specs.Names.{Same}
 use Rattle.cmd_reports.specs.declared.stop.Stop.TheVariants.{CodeTooLarge}
 use Rattle.cmd_reports.specs.Lines.{line_of, named_line, memory_line, translated_line}
 use Rattle.cmd_inputs.specs.Files.{IsWhole, NoneFailed, IsTold, input_limit}

@@ -2,8 +2,8 @@
 ghost use Rattle.std.specs.Prelude.{◌≡◌, ◌<◌, ◌^◌, IfOk, length};
 ghost use Rattle.std.specs.String.{string_bytes};
 ghost use Rattle.asm80_source.specs.Source.{IsSource};
-ghost use Rattle.xlt_core.specs.declared.translation.Mode.TheVariants.{Lean};
-ghost use Rattle.xlt_core.specs.Translation.{IsText, CodeFits};
+ghost use Rattle.xlt_translation.specs.declared.translation.Mode.TheVariants.{Lean};
+ghost use Rattle.xlt_translation.specs.Translation.{IsText, CodeFits};
 ghost use Rattle.sample_lines.specs.Sample.{sample_text};
 ghost use Rattle.cmd_texts.specs.SampleReport.{counts_of, sample_top, IsLineOf};
 ghost use Rattle.cmd_texts.specs.SampleWork.{counts_read};
@@ -18,7 +18,7 @@ use cmd_inputs::program_of_bytes;
 use sample_lines::{line_count, sample_is_read, sample_text};
 use sample_program::{sample_code_fits, sample_is_accepted};
 use std::alloc::{AllocError, Global};
-use xlt_core::{CoreFault, Mode, translate};
+use xlt_translation::{CoreFault, Mode, translate};
 
 /// The top of the program area that a made source is for.
 const TOP: u16 = 0xF000;

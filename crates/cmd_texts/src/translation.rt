@@ -4,8 +4,8 @@ ghost use Rattle.std.specs.String.{string_bytes};
 ghost use Rattle.host.specs.Host.{SameFaults, OnlyWrites, Rewrites, WriteFailed};
 ghost use Rattle.asm86_lines.specs.Written.{text_of};
 ghost use Rattle.asm80_program.specs.Program.{Program, is_top};
-ghost use Rattle.xlt_core.specs.declared.translation.Mode.{Mode};
-ghost use Rattle.xlt_core.specs.Translation.{IsText, CodeFits, HasNoText};
+ghost use Rattle.xlt_translation.specs.declared.translation.Mode.{Mode};
+ghost use Rattle.xlt_translation.specs.Translation.{IsText, CodeFits, HasNoText};
 ghost use Rattle.cmd_words.specs.ReadCommands.{translate_read};
 ghost use Rattle.cmd_reports.specs.declared.stop.Stop.TheVariants.{OutOfMemory};
 ghost use Rattle.cmd_texts.specs.Translates.{mode_of, line_of_text, Gives, Completes};
@@ -22,7 +22,7 @@ use cmd_reports::{Stop, say_done, say_stop, translated_line};
 use cmd_words::Translate;
 use host::Host;
 use std::alloc::{AllocError, Global};
-use xlt_core::{CoreFault, Mode, own_texts_are_same};
+use xlt_translation::{CoreFault, Mode, own_texts_are_same};
 
 // The text of a program, and the line that says how much it is.
 #[derive(Drop)]
@@ -90,7 +90,7 @@ fn lines_of<'a>(alloc: Global, program: &Program80, mode: Mode) -> Result<Vec<Li
     ensures few { IfOk result (λ lines. vec_len lines < 2 ^ 20) }
     ensures stopped { IfErr result (TextStops mode program.now) }
 {
-    match xlt_core::translate(alloc, program, mode) {
+    match xlt_translation::translate(alloc, program, mode) {
         Ok(lines) => Ok(lines),
         Err(fault) => Err(stop_of(fault)),
     }

@@ -1,13 +1,13 @@
 // The blocks of a program, found in one pass.
 
 ghost use Rattle.std.specs.Prelude.{◌≡◌, ◌+◌, ◌-◌, ◌<◌, ◌≤◌, ◌++◌, ◌∷◌, [], ◌||◌, ℕ, true, map, filter_map, if◌then◌else◌, All, IfOk, OnOk, option_to_list};
-ghost use Rattle.base_addresses.specs.Addresses.{has_address, is_among};
+ghost use Rattle.base.specs.Addresses.{has_address, is_among};
 ghost use Rattle.asm80_program.specs.Program.{Program};
 ghost use Rattle.flow.specs.Blocks.{target_placed, is_entered, blocks, leaders};
 ghost use Rattle.flow.specs.Cut.{Marks, ends_before, closed, blocks_from, extents, IsWhole};
 
 use asm80_program::{Placed, Program80};
-use base_addresses::AddressSet;
+use base::AddressSet;
 use i80::{Goal, Instr80};
 use std::alloc::{AllocError, Global};
 

@@ -15,9 +15,9 @@ use Rattle.flow.specs.Solving.{Needs, AreAllNeeds}
 use Rattle.sym_runs.specs.Runs86.{offsets_of}
 use Rattle.sym_runs.specs.Linked.{Linked}
 use Rattle.sym_texts.specs.Needed.{needed_by}
-use Rattle.xlt_core.specs.Names.{IsReply}
-use Rattle.xlt_core.specs.declared.translation.Mode.{Mode}
-use Rattle.xlt_core.specs.Translation.{IsText, CodeFits}
+use Rattle.xlt_translation.specs.Names.{IsReply}
+use Rattle.xlt_translation.specs.declared.translation.Mode.{Mode}
+use Rattle.xlt_translation.specs.Translation.{IsText, CodeFits}
 
 -- Before its first instruction the 8080 is linked with the 8086 after at most seven instructions, those of the opening: whatever
 -- start page, fill of memory, start, choices and replies there are.

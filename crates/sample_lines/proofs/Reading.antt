@@ -2,7 +2,7 @@
 use Rattle.std.proofs.Common.{◌≡◌, ℕ, suc, ◌+◌, ◌≤◌, List, [], ◌∷◌, ◌++◌, true, None, length, map, refl, sym, ap, ◌∙◌, arith}
 use Rattle.std.specs.List.{flat_map, AllByRecursion}
 use Rattle.std.proofs.lemmas.List.{append-nil}
-use Rattle.base_lines.specs.Cut.{ended, Cut, without_cr}
+use Rattle.base.specs.Cut.{ended, Cut, without_cr}
 use Rattle.asm80_text.specs.Stream.{IsPlain, closed, LinesGive, none_left, next, StreamGives}
 use Rattle.sample_lines.specs.Written.{Written, line_text, text_of, statements_from, statements_of}
 use Rattle.sample_lines.specs.Sample.{sample_lines}

@@ -9,7 +9,7 @@ use Rattle.asm80_tokens.specs.Tokens.{Lexes, ends, blank, token, Got, token_at}
 use Rattle.asm80_tokens.specs.Tree.{Operand}
 use Rattle.asm80_text.specs.Statement.{IsOperand, AreOperands, last, more, IsBody, bare, full, unlabeled, with_colon, IsStatement, unnumbered, AreStatements, none_left, next}
 use Rattle.asm80_text.specs.Line.{is_bang, open_after, most_open, is_deep, begins_with_colon, has_reserved_label, parts_of, formed, TextGives, sound, IsRemark, LineGives, told}
-use Rattle.base_lines.specs.Cut.{without_cr}
+use Rattle.base.specs.Cut.{without_cr}
 use Rattle.sample_lines.specs.Written.{Argument, Written, label_text, more_arguments, arguments_text, line_text, statement_at}
 use Rattle.sample_lines.proofs.Each.{each_append, each_last}
 use Rattle.sample_lines.proofs.Lexemes.{IsParted, IsInk, Lexeme}

@@ -1,5 +1,5 @@
 // Sets of addresses.
-use base_addresses::AddressSet;
+use base::AddressSet;
 use std::test::Fail;
 
 #[test]

@@ -2,8 +2,7 @@
 ghost use Rattle.dialogue.specs.Lawful.{IsLawfulEvent};
 
 use crate::memory::request;
-use bdos_ports::{Devices, EventAnswer};
-use bdos_small::Disk;
+use bdos_small::{Devices, Disk, EventAnswer};
 use dialogue::Event;
 use std::alloc::{AllocError, Global};
 

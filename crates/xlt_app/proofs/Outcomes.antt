@@ -9,12 +9,12 @@ use Rattle.cmd_reports.specs.Said.{IsRefusedWords, SaysLast, Closes, said, unsai
 use Rattle.cmd_reports.specs.Lines.{memory_line}
 use Rattle.cmd_inputs.specs.Files.{no_memory}
 use Rattle.cmd_texts.specs.Translates as translation
-use Rattle.cmd_texts.specs.Checks as checking
+use Rattle.cmd_check.specs.Checks as checking
 use Rattle.cmd_texts.specs.Samples as making
 use Rattle.cmd_flags.specs.Listing as listing
-use Rattle.cmd_run.specs.Runs80 as source
-use Rattle.cmd_run.specs.Runs86 as text
-use Rattle.cmd_run.specs.Keeping.{DiskAlone}
+use Rattle.cmd_run80.specs.Runs80 as source
+use Rattle.cmd_run86.specs.Runs86 as text
+use Rattle.cmd_run80.specs.Keeping.{DiskAlone}
 use Rattle.cmd_both.specs.Gives as both
 use Rattle.cmd_both.specs.Loads as both_loads
 use Rattle.xlt_app.specs.Top.{Headline, CheckedHeadline, IsStatus, refused as words_are_refused, no_memory as words_want_memory, Outcomes, Answers}

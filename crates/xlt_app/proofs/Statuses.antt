@@ -10,14 +10,14 @@ use Rattle.cmd_reports.specs.declared.stop.Stop.TheVariants.{SourceLine, SourceP
 use Rattle.cmd_reports.specs.Lines.{status_of, ended_line, both_line}
 use Rattle.cmd_reports.specs.Said.{IsDone, whole, failed, no_memory, Closes, said, unsaid}
 use Rattle.std.specs.List.{concat}
-use Rattle.cmd_run.specs.Ends.{unsaid_status}
-use Rattle.cmd_run.specs.Lasts.{EndsBy}
+use Rattle.cmd_run80.specs.Ends.{unsaid_status}
+use Rattle.cmd_run80.specs.Lasts.{EndsBy}
 use Rattle.cmd_both.specs.Lasts.{EndsBy as BothEndBy}
 use Rattle.cmd_texts.specs.Translates as translation
-use Rattle.cmd_texts.specs.Checks as checking
+use Rattle.cmd_check.specs.Checks as checking
 use Rattle.cmd_flags.specs.Listing as listing
-use Rattle.cmd_run.specs.Runs80 as source
-use Rattle.cmd_run.specs.Runs86 as text
+use Rattle.cmd_run80.specs.Runs80 as source
+use Rattle.cmd_run86.specs.Runs86 as text
 use Rattle.cmd_texts.specs.Samples as making
 use Rattle.cmd_both.specs.Gives as both
 use Rattle.xlt_app.specs.Top.{IsStatus, Answers}

@@ -12,15 +12,15 @@ use Rattle.cmd_reports.specs.Said.{IsRefusedWords, SaysLast}
 use Rattle.cmd_inputs.specs.Texts.{HasImage}
 use Rattle.cmd_texts.specs.Translates as translation
 use Rattle.cmd_texts.specs.Translates.{Same}
-use Rattle.cmd_texts.specs.Checks as checking
-use Rattle.cmd_texts.specs.CheckCompletes as checking_completes
+use Rattle.cmd_check.specs.Checks as checking
+use Rattle.cmd_check.specs.Completes as checking_completes
 use Rattle.cmd_texts.specs.Samples as making
 use Rattle.cmd_flags.specs.Listing as listing
-use Rattle.cmd_run.specs.Runs80 as source
-use Rattle.cmd_run.specs.Completes80 as source_completes
-use Rattle.cmd_run.specs.Runs86 as text
-use Rattle.cmd_run.specs.Completes86 as text_completes
-use Rattle.cmd_run.specs.Keeping.{DiskAlone}
+use Rattle.cmd_run80.specs.Runs80 as source
+use Rattle.cmd_run80.specs.Completes80 as source_completes
+use Rattle.cmd_run86.specs.Runs86 as text
+use Rattle.cmd_run86.specs.Completes86 as text_completes
+use Rattle.cmd_run80.specs.Keeping.{DiskAlone}
 use Rattle.cmd_both.specs.Gives as both
 use Rattle.cmd_both.specs.Completes as both_completes
 

@@ -8,11 +8,13 @@ ghost use Rattle.cmd_words.specs.Words.{Translate, Check, Translates, Checks, Is
 ghost use Rattle.xlt_app.specs.Top.{Headline, CheckedHeadline, Outcomes, Answers, IsAsked};
 
 use cmd_both::both;
+use cmd_check::check;
 pub use cmd_files::{write_bytes, write_out};
 use cmd_flags::flags;
 use cmd_reports::{Stop, say_stop, words_refused};
-use cmd_run::{run80, run86};
-use cmd_texts::{check, sample, translate};
+use cmd_run80::run80;
+use cmd_run86::run86;
+use cmd_texts::{sample, translate};
 use cmd_words::{Command, read_words, words_are_one_command};
 use host::Host;
 use std::alloc::{AllocError, Global};

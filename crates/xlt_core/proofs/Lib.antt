@@ -1,4 +1,1 @@
-mod Styles
-mod Matching
 mod Shown
-pub mod OneText

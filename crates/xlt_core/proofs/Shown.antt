@@ -1,14 +1,19 @@
--- What is shown matches, and so means the same.
-use Rattle.std.proofs.Common.{◌≡◌, ℕ, List, Option, Some, None, refl}
+-- What is shown matches, and so means the same; and the one thing that is found of a match is that it is shown.
+use Rattle.std.proofs.Common.{◌≡◌, ℕ, List, length, Option, Some, None, refl, subst}
 use Rattle.asm86_lines.specs.declared.line.Line86.{Line86}
-use Rattle.asm80_program.specs.Program.{Program}
+use Rattle.asm86_lines.specs.Image.{Assembles, image_of, statements}
+use Rattle.asm80_program.specs.Program.{Program, IsProgram}
 use Rattle.flow.specs.Blocks.{blocks}
+use Rattle.flow.specs.Solving.{Needs, AreAllNeeds}
 use Rattle.sym_blocks.specs.declared.reason.Reason.{Reason}
 use Rattle.sym_blocks.specs.BlockMatch.{Keeps}
-use Rattle.sym_cuts.specs.Cuts.{BlocksAreCuts, NeedsReturn}
-use Rattle.sym_texts.specs.Matches.{Matches, Finds, opening, runtime, cells, blocks as by_blocks}
+use Rattle.sym_blocks.specs.Sorts.{StatementsAreCoded}
+use Rattle.sym_texts.specs.Matches.{Matches, DataAreCoded, Finds, opening, runtime, cells, blocks as by_blocks}
 use Rattle.sym_texts.specs.Needed.{needed_by}
-use Rattle.sym_same.specs.Laws.{MatchesIsSame}
+use Rattle.xlt_translation.specs.Names.{Same, IsMatch}
+use Rattle.xlt_validation.specs.declared.finding.Finding.{Finding}
+use Rattle.xlt_validation.specs.declared.finding.Finding.TheVariants.{Shown}
+use Rattle.xlt_validation.specs.Findings.{IsFinding, OneFinding}
 use Rattle.xlt_core.specs.Validation.{ShownIsSame}
 
 no_reason : (x : ℕ × Reason) → Some x ≡ None → ⊥
@@ -20,13 +25,16 @@ matched p lines cut keeps _ (runtime has none) e = absurd (no_reason _ e)
 matched p lines cut keeps _ (cells has runs none) e = absurd (no_reason _ e)
 matched p lines cut keeps _ (by_blocks has runs stand) e = record { opening = has; runtime = runs; cells = stand; blocks = e }
 
-pub shown_same : MatchesIsSame → BlocksAreCuts → NeedsReturn → ShownIsSame
-shown_same same cuts returns p lines count is assembles coded data_coded f = same p lines (blocks p) (needed_by p f.needs) (record {
-  program = is;
-  assembles = assembles;
-  coded = coded;
-  data_coded = data_coded;
-  is_cut = cuts p is;
-  returns = returns p f.needs f.are;
-  matches = matched p lines (blocks p) (needed_by p f.needs) None f.finds refl;
-})
+pub shown_same : ((p : Program) (n : Needs) (lines : List Line86) → IsProgram p → AreAllNeeds p n → Assembles lines → StatementsAreCoded (statements lines) → DataAreCoded (statements lines) → Matches p lines (blocks p) (needed_by p n) → Same p (image_of lines)) → ShownIsSame
+shown_same same p lines count is assembles coded data_coded f =
+    same p f.needs lines is f.are assembles coded data_coded (matched p lines (blocks p) (needed_by p f.needs) None f.finds refl)
+
+pub only_shown : OneFinding → (p : Program) (n : Needs) (lines : List Line86) (finding : Finding) → AreAllNeeds p n → IsMatch p lines (blocks p) (needed_by p n) → IsFinding p lines finding → finding ≡ Shown (length (blocks p))
+only_shown one p n lines finding needs m is =
+    one p lines finding (Shown (length (blocks p))) is
+    (record {
+      needs = n;
+      are = needs;
+      finds = subst (Finds p lines (blocks p) (needed_by p n)) m.matches.blocks (by_blocks m.matches.opening m.matches.runtime m.matches.cells);
+      counts = refl;
+    })

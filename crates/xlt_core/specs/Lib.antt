@@ -1,3 +1,2 @@
-pub mod Translation
 pub mod Validation
 pub mod Names

@@ -1,61 +1,19 @@
-// Laws of the texts that a program is translated to.
-
-ghost use Rattle.std.specs.Prelude.{◌≡◌, List, length, Ok};
-ghost use Rattle.i86.specs.Decode.{HasReader};
+// What is found of the texts that a program is translated to.
+ghost use Rattle.std.specs.Prelude.{◌≡◌, List, length};
 ghost use Rattle.asm80_program.specs.Program.{Program, IsProgram};
 ghost use Rattle.asm86_lines.specs.declared.line.Line86.{Line86};
-ghost use Rattle.asm86_lines.specs.Image.{Assembles, image_of};
-ghost use Rattle.asm86_lines.specs.Written.{text_of};
-ghost use Rattle.asm86_text.specs.Stream.{TextGives};
 ghost use Rattle.flow.specs.Blocks.{blocks};
 ghost use Rattle.flow.specs.Solving.{Needs, AreAllNeeds};
-ghost use Rattle.templates_plain.specs.Plain.{plain};
 ghost use Rattle.sym_texts.specs.Needed.{needed_by};
-ghost use Rattle.sym_texts.specs.Ones.{ones, all_kept};
-ghost use Rattle.sym_same.specs.Same.{Same};
-ghost use Rattle.sym_same.specs.Laws.{IsMatch};
+ghost use Rattle.xlt_translation.specs.declared.translation.Mode.{Mode};
+ghost use Rattle.xlt_translation.specs.Translation.{IsText, CodeFits};
+ghost use Rattle.xlt_translation.specs.Names.{IsMatch};
 ghost use Rattle.xlt_validation.specs.declared.finding.Finding.{Finding};
 ghost use Rattle.xlt_validation.specs.declared.finding.Finding.TheVariants.{Shown};
 ghost use Rattle.xlt_validation.specs.Findings.{IsFinding};
-ghost use Rattle.xlt_core.specs.declared.translation.Mode.{Mode};
-ghost use Rattle.xlt_core.specs.Translation.{IsText, CodeFits};
 
-use own_texts::{lean_jumps_reach, own_text_stands, plain_is_a_style, text_reads_back};
-use sym_cuts::{blocks_are_cuts, needs_return};
-use sym_own::{ones_are_blocks, own_texts_match, plain_blocks_match, styles_respect_needs};
-use sym_same::matches_is_same;
-use templates::lean_texts_are_one;
+use xlt_translation::modes_match;
 use xlt_validation::findings_are_one;
-
-/// A law, of every program and mode: its text reads back as its lines, and it has one. Where the code fits into a segment, the lines
-/// assemble to an image with one reader of its code, and that image makes the program's system calls in their order, and ends where the
-/// program ends.
-pub fn own_texts_are_same()
-    ensures reads_back { (mode : Mode) (p : Program) (lines : List Line86) → IsProgram p → IsText mode p lines → TextGives (text_of lines) (Ok lines) }
-    ensures assembles { (mode : Mode) (p : Program) (lines : List Line86) → IsProgram p → IsText mode p lines → CodeFits lines → Assembles lines }
-    ensures reader { (mode : Mode) (p : Program) (lines : List Line86) → IsProgram p → IsText mode p lines → CodeFits lines → HasReader (image_of lines).code }
-    ensures same { (mode : Mode) (p : Program) (lines : List Line86) → IsProgram p → IsText mode p lines → CodeFits lines → Same p (image_of lines) }
-    ensures one { (mode : Mode) (p : Program) (xs ys : List Line86) → IsText mode p xs → IsText mode p ys → xs ≡ ys }
-{
-    text_reads_back();
-    lean_texts_are_one();
-    own_text_stands();
-    plain_is_a_style();
-    lean_jumps_reach();
-    plain_matches_alone();
-    own_texts_are_shown();
-    matches_is_same();
-}
-
-/// A law: where its code fits, a program's plain text matches the program, each instruction alone and all parts kept.
-pub fn plain_matches_alone()
-    ensures { (p : Program) → IsProgram p → CodeFits (plain p) → IsMatch p (plain p) (ones p) (all_kept p) }
-{
-    own_text_stands();
-    plain_is_a_style();
-    ones_are_blocks();
-    plain_blocks_match();
-}
 
 /// A law: where its code fits, a program's text matches the program, block by block and with what is needed kept, in either mode; so
 /// whatever is found of it is that all blocks are shown.
@@ -63,13 +21,6 @@ pub fn own_texts_are_shown()
     ensures matches { (mode : Mode) (p : Program) (n : Needs) (lines : List Line86) → IsProgram p → AreAllNeeds p n → IsText mode p lines → CodeFits lines → IsMatch p lines (blocks p) (needed_by p n) }
     ensures shown { (mode : Mode) (p : Program) (lines : List Line86) (finding : Finding) → IsProgram p → IsText mode p lines → CodeFits lines → IsFinding p lines finding → finding ≡ Shown (length (blocks p)) }
 {
-    own_text_stands();
-    plain_is_a_style();
-    lean_jumps_reach();
-    lean_texts_are_one();
-    own_texts_match();
-    styles_respect_needs();
-    blocks_are_cuts();
-    needs_return();
+    modes_match();
     findings_are_one();
 }

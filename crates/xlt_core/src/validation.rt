@@ -1,7 +1,7 @@
 // Whether a text means the same as its program.
 ghost use Rattle.std.specs.Prelude.{◌≡◌, ◌<◌, ◌^◌, IfOk, length};
 ghost use Rattle.asm86_lines.specs.Image.{Assembles, IsImage, image_of};
-ghost use Rattle.sym_same.specs.Same.{Same};
+ghost use Rattle.xlt_translation.specs.Names.{Same};
 ghost use Rattle.xlt_validation.specs.Findings.{IsFinding, IfShown};
 ghost use Rattle.xlt_core.specs.Validation.{ShownIsSame};
 
@@ -10,8 +10,7 @@ use asm86_image::{Image86, image};
 use asm86_lines::Line86;
 use flow::Graph;
 use std::alloc::{AllocError, Global};
-use sym_cuts::{blocks_are_cuts, needs_return};
-use sym_same::matches_is_same;
+use xlt_translation::matching_blocks_are_same;
 use xlt_validation::{Finding, Index86, Work, lines_are_coded, validate_in};
 
 /// A law, of every program and lines with an image that are found to be shown: the image makes the program's system calls in their
@@ -19,9 +18,7 @@ use xlt_validation::{Finding, Index86, Work, lines_are_coded, validate_in};
 pub fn shown_is_same()
     ensures { ShownIsSame }
 {
-    blocks_are_cuts();
-    needs_return();
-    matches_is_same();
+    matching_blocks_are_same();
 }
 
 /// What is found of lines with an image, of which there are fewer than 2^28: whether they do what the program does, and else the first

@@ -14,7 +14,7 @@ use Rattle.sym_runs.specs.Runtime.{HasRuntime}
 use Rattle.block_check.specs.Comparing.{WorkState}
 use Rattle.sym_texts.specs.Matches.{HasOpening, Finds}
 use Rattle.sym_texts.specs.Needed.{needed_by}
-use Rattle.text_parts.specs.Parts.{DataStandIn}
+use Rattle.xlt_validation.specs.Parts.{DataStandIn}
 use Rattle.block_check.specs.Comparing.{HoldsOutcomes}
 use Rattle.xlt_validation.specs.declared.finding.Finding.{Finding}
 use Rattle.xlt_validation.specs.declared.finding.Finding.TheVariants.{Shown, NotShown}

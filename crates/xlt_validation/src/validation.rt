@@ -10,13 +10,14 @@ ghost use Rattle.sym_texts.specs.Matches.{blocks_reason};
 ghost use Rattle.sym_texts.specs.Needed.{needed_by};
 ghost use Rattle.xlt_validation.specs.Findings.{reason_in, Counts, IsFinding, AreOf, HasFrame, Lacks, HoldsLast, IfShown};
 
+use crate::data::data_stand;
 use crate::finding::Finding;
+use crate::frame::{has_opening, has_runtime};
 use asm80_program::Program80;
 use asm86_image::Image86;
 use asm86_lines::{Stmt86, cells_are_sorted};
 use block_check::{Index86, Reason, Verdict, Work, check};
 use flow::{Graph, blocks_cut_the_program};
-use text_parts::{data_stand, has_opening, has_runtime};
 
 /// What is found of a text, looked at in the order of the opening, the runtime, the data, and the blocks, ascending, by the solved
 /// graph of its program. The text and the image are of the same lines. It takes no memory; after `Shown` the work is as the check of the

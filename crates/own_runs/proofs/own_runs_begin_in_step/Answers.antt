@@ -11,7 +11,7 @@ use Rattle.own_runs.proofs.own_runs_begin_in_step.Goals as goal
 
 pub returns : goal.returns
 returns c = λ mode p n lines fetch page fill start choices replies program needs text fits reads is_page is_fill is_start are_choices are_replies.
-    let match = c.own_texts_are_shown.ensures.matches mode p n lines program needs text fits in
+    let match = c.modes_match.ensures mode p n lines program needs text fits in
     let f = c.blocks_follow.ensures p lines (blocks p) (needed_by p n) fetch page fill start choices replies 0 match reads is_page is_fill is_start are_choices are_replies tt in
     let low = f.low in
     let fast = f.fast in

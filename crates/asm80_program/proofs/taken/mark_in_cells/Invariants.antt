@@ -1,5 +1,5 @@
 use Rattle.std.proofs.Common.{◌≡◌, ◌||◌, ℕ, filter_map, take}
-use Rattle.base_addresses.specs.Addresses.{has_address, is_among}
+use Rattle.base.specs.Addresses.{has_address, is_among}
 use Rattle.asm80_program.specs.Taken.{place_in_cell}
 use Rattle.asm80_program.proofs.taken.mark_in_cells.Given as goal
 

@@ -1,6 +1,6 @@
 use Rattle.std.proofs.Common.{◌≡◌, ℕ, Bool, filter, IfOk, subst}
 use Rattle.std.proofs.Math.Path.{fun_ext}
-use Rattle.base_addresses.specs.Addresses.{has_address}
+use Rattle.base.specs.Addresses.{has_address}
 use Rattle.asm80_program.specs.Taken.{is_taken}
 use Rattle.asm80_program.proofs.taken.taken_of.Goals as goal
 use Rattle.asm80_program.proofs.Marks.{found_all}

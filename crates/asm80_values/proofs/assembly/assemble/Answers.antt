@@ -1,6 +1,6 @@
 use Rattle.std.proofs.Common.{◌≡◌, map, List, None, refl, sym, ◌∙◌}
 use Rattle.asm80_tokens.specs.Tree.{Statement, statement_of}
-use Rattle.base_addresses.specs.Addresses.{StandsFor}
+use Rattle.base.specs.Addresses.{StandsFor}
 use Rattle.asm80_walk.specs.Walked.{IsWalked}
 use Rattle.asm80_source.specs.Walk.{rows, walked}
 use Rattle.asm80_source.specs.Items.{starts_in}

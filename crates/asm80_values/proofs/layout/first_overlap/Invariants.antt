@@ -1,5 +1,5 @@
 use Rattle.std.proofs.Common.{◌≡◌, ℕ, List, [], drop}
-use Rattle.base_addresses.specs.Addresses.{StandsFor}
+use Rattle.base.specs.Addresses.{StandsFor}
 use Rattle.asm80_values.specs.Items.{overlap_from}
 use Rattle.asm80_values.proofs.layout.first_overlap.Given as goal
 

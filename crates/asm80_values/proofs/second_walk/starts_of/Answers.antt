@@ -2,7 +2,7 @@ use Rattle.std.proofs.Common.{◌≡◌, List, ℕ, length, take, map, ap, ◌�
 use Rattle.std.specs.List.{filter_map}
 use Rattle.std.proofs.Math.Seq.{take-length}
 use Rattle.asm80_tokens.specs.Tree.{statement_of}
-use Rattle.base_addresses.specs.Addresses.{is_among}
+use Rattle.base.specs.Addresses.{is_among}
 use Rattle.asm80_walk.specs.declared.walked.Taken.{Taken}
 use Rattle.asm80_source.specs.Walk.{rows}
 use Rattle.asm80_values.specs.Second.{start_of}

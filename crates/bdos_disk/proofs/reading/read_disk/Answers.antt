@@ -1,6 +1,6 @@
 use Rattle.std.proofs.Common.{◌≡◌, ℕ, List, ◌+◌, ◌≤◌, ◌++◌, None, length, drop, sym, ap, ◌∙◌, subst, arith}
 use Rattle.std.proofs.lemmas.List.{take_rest, drop-drop, length-append, length-drop}
-use Rattle.bdos_names.specs.Spelled.{BreaksAt}
+use Rattle.bdos_disk.specs.Spelled.{BreaksAt}
 use Rattle.bdos_disk.specs.DiskFile.{mark, word, files_bytes, disk_file, IsBadAt}
 use Rattle.bdos_disk.specs.Reading.{AreFiles, StopsBy}
 use Rattle.bdos_disk.proofs.Whole.{stops_behind, bad_mark, bad_count, bad_files, bad_behind, whole_disk}

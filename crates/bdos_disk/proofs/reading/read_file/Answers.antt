@@ -1,7 +1,7 @@
 use Rattle.std.proofs.Common.{◌≡◌, ◌+◌, ◌-◌, ◌*◌, ◌<◌, ◌≤◌, ◌++◌, length, take, drop, refl, ap, ◌∙◌, subst, arith}
 use Rattle.std.proofs.lemmas.List.{length-drop, drop-drop, take_rest}
-use Rattle.bdos_names.specs.Spelled.{BreaksAt}
-use Rattle.bdos_names.proofs.Going.{name_parts}
+use Rattle.bdos_disk.specs.Spelled.{BreaksAt}
+use Rattle.bdos_disk.proofs.Going.{name_parts}
 use Rattle.bdos_disk.specs.DiskFile.{word, files_bytes}
 use Rattle.bdos_disk.specs.Reading.{AreFiles}
 use Rattle.bdos_disk.proofs.Steps.{name_breaks, count_breaks, records_break, named_front, next_file}

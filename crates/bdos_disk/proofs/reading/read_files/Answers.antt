@@ -1,7 +1,7 @@
 use Rattle.std.proofs.Common.{◌≡◌, ℕ, ◌+◌, ◌-◌, None, Some, [], ◌∷◌, ◌++◌, List, length, drop, sym, ap, ◌∙◌, subst}
 use Rattle.std.specs.Prelude.{if◌then◌else◌}
 use Rattle.std.proofs.lemmas.List.{take_rest}
-use Rattle.bdos_names.specs.Spelled.{BreaksAt}
+use Rattle.bdos_disk.specs.Spelled.{BreaksAt}
 use Rattle.bdos_disk.specs.DiskFile.{files_bytes}
 use Rattle.bdos_disk.specs.Reading.{AreFiles, IsNextFile, StopsBy}
 use Rattle.bdos_disk.proofs.Steps.{StillReading, still_breaks, still_next}

@@ -1,11 +1,11 @@
 use Rattle.std.proofs.Common.{◌≡◌, ℕ, ◌∙◌, sym, subst}
 use Rattle.asm80_program.specs.Program.{Program}
-use Rattle.bdos_ports.specs.Supply.{Supply}
+use Rattle.bdos_small.specs.Supply.{Supply}
 use Rattle.cmd_words.specs.ReadCommands.{both_read}
 use Rattle.cmd_reports.specs.declared.stop.Stop.TheVariants.{OutOfMemory}
-use Rattle.cmd_run.specs.declared.halt.Halt.TheVariants.{By}
-use Rattle.cmd_run.specs.Keeping.{kept_name, Keeps, KeepStops}
-use Rattle.cmd_run.specs.Runs80.{IsLineOf}
+use Rattle.cmd_run80.specs.declared.halt.Halt.TheVariants.{By}
+use Rattle.cmd_run80.specs.Keeping.{kept_name, Keeps, KeepStops}
+use Rattle.cmd_run80.specs.Runs80.{IsLineOf}
 use Rattle.cmd_inputs.proofs.Told.{judged}
 use Rattle.cmd_both.specs.Lasts.{came_of, steps_of}
 use Rattle.cmd_both.specs.Gives.{IsHalted, no_line, unkept}

@@ -1,11 +1,11 @@
 use Rattle.std.proofs.Common.{◌≡◌, sym, subst}
 use Rattle.cmd_words.specs.ReadCommands.{both_read}
 use Rattle.cmd_reports.specs.declared.stop.Stop.TheVariants.{OutOfMemory}
-use Rattle.cmd_run.specs.declared.halt.Halt.TheVariants.{By}
-use Rattle.cmd_run.specs.Ends.{Halts}
-use Rattle.cmd_run.specs.Supplies.{Given, given_of, HasDisk, DiskStops}
-use Rattle.cmd_run.specs.Runs80 as tagged
-use Rattle.cmd_run.proofs.Disks.{one_supply}
+use Rattle.cmd_run80.specs.declared.halt.Halt.TheVariants.{By}
+use Rattle.cmd_run80.specs.Ends.{Halts}
+use Rattle.cmd_run80.specs.Supplies.{Given, given_of, HasDisk, DiskStops}
+use Rattle.cmd_run80.specs.Runs80 as tagged
+use Rattle.cmd_run80.proofs.Disks.{one_supply}
 use Rattle.cmd_inputs.proofs.Told.{judged}
 use Rattle.cmd_both.specs.Loads.{source_of, LoadStops, unloaded, no_image, no_memory}
 use Rattle.cmd_both.proofs.Running.{halts_for}

@@ -1,8 +1,8 @@
 use Rattle.std.proofs.Common.{◌≡◌, [], ◌∷◌, refl, sym, subst}
 use Rattle.bdos_emulation.specs.Starts.{start_by}
 use Rattle.cmd_words.specs.ReadCommands.{both_read}
-use Rattle.cmd_run.specs.Ends.{halt_of_talk}
-use Rattle.cmd_run.specs.Runs86.{fill_by}
+use Rattle.cmd_run80.specs.Ends.{halt_of_talk}
+use Rattle.cmd_run80.specs.Supplies.{fill_by}
 use Rattle.cmd_inputs.proofs.Told.{judged}
 use Rattle.cmd_both.specs.Gives.{IsHalted}
 use Rattle.cmd_both.proofs.Running.{filled, unloaded_halts, cut_halts, first_cut, second_halts, both_made}

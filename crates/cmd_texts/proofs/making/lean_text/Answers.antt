@@ -1,6 +1,6 @@
 use Rattle.std.proofs.Common.{subst}
-use Rattle.xlt_core.specs.declared.translation.Mode.TheVariants.{Lean}
-use Rattle.xlt_core.specs.Translation.{HasNoText}
+use Rattle.xlt_translation.specs.declared.translation.Mode.TheVariants.{Lean}
+use Rattle.xlt_translation.specs.Translation.{HasNoText}
 use Rattle.cmd_texts.proofs.SampleMaking.{never_large}
 use Rattle.cmd_texts.proofs.making.lean_text.Goals as goal
 

@@ -1,5 +1,5 @@
 use Rattle.std.proofs.Common.{subst}
-use Rattle.xlt_core.specs.Translation.{HasNoText}
+use Rattle.xlt_translation.specs.Translation.{HasNoText}
 use Rattle.cmd_texts.specs.TranslateWork.{is_large, no_room}
 use Rattle.cmd_texts.proofs.translation.stop_of.Goals as goal
 

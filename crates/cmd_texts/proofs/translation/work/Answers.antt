@@ -3,7 +3,7 @@ use Rattle.asm86_lines.specs.Written.{text_of}
 use Rattle.asm80_source.specs.Source.{IsSource}
 use Rattle.cmd_words.specs.ReadCommands.{translate_read}
 use Rattle.cmd_inputs.specs.Sources.{SourceGives}
-use Rattle.xlt_core.specs.Translation.{IsText}
+use Rattle.xlt_translation.specs.Translation.{IsText}
 use Rattle.cmd_texts.specs.TranslateWork.{TextStops, StopsBy, unread}
 use Rattle.cmd_inputs.proofs.Told.{judged}
 use Rattle.cmd_texts.proofs.TranslateWorking.{source_stop, text_stop, write_stop, works}

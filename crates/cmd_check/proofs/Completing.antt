@@ -1,0 +1,126 @@
+-- The status of `check` is that of the one thing that it comes to.
+use Rattle.std.proofs.Common.{◌≡◌, ◌∙◌, ℕ, ◌⊎◌, inl, inr, ⊎_elim, List, refl, sym, ap, subst}
+use Rattle.std.specs.Prelude.{Result, Ok, Err}
+use Rattle.host.specs.Host.{HostState}
+use Rattle.asm86_lines.specs.declared.line.Line86.{Line86}
+use Rattle.asm86_lines.specs.declared.line.TextRule.{TextRule}
+use Rattle.asm86_lines.specs.Image.{Assembles, image_of}
+use Rattle.asm86_text.specs.Stream.{TextGives}
+use Rattle.asm86_text.proofs.Outcomes.{same_lines, same_fault, no_lines}
+use Rattle.asm86_image.specs.declared.fault.ImageFault.{ImageFault}
+use Rattle.asm86_image.specs.declared.fault.ImageFault.TheVariants.{Line}
+use Rattle.asm86_image.specs.Refusals.{ImageRefused, OneRefusal, NotBoth}
+use Rattle.asm80_program.specs.Program.{Program}
+use Rattle.asm80_source.specs.Source.{IsSource, SourceRule, IsNoSource, OfLine, OfProgram}
+use Rattle.xlt_core.specs.Names.{Finding, Shown, NotShown as NotFound, IsFinding, OneFinding}
+use Rattle.cmd_words.specs.Words.{Check}
+use Rattle.cmd_reports.specs.declared.stop.Stop.{Stop}
+use Rattle.cmd_reports.specs.declared.stop.Stop.TheVariants.{OutOfMemory, NotShown}
+use Rattle.cmd_reports.specs.Lines.{status_of}
+use Rattle.cmd_reports.specs.Said.{IsDone, whole, failed, no_memory, Closes}
+use Rattle.cmd_inputs.specs.Files.{NoneFailed, IsTold, input_limit, text_limit}
+use Rattle.cmd_inputs.specs.Sources.{of_line, of_program, stop_of_rule}
+use Rattle.cmd_inputs.specs.Texts.{IsNoImage, unread, refused as image_refused, stop_of_image}
+use Rattle.cmd_inputs.proofs.Told.{told_whole, read_stops, not_unsaid, closes_reads, closes_status, memory_status}
+use Rattle.cmd_check.specs.Checks.{Reads, Loads, Shows, not_shown, no_memory as memory_wanting, Stops, no_source, no_text, refused as source_refused, no_image as image_wanting, unlike, out_of_memory, Gives, shown, stopped}
+use Rattle.cmd_check.specs.Completes.{came_of, Comes, refused, no_image, found, status_by, IsOnly, Completes}
+
+-- what is known of sources and texts
+pub record Laws : Type 0 where
+  pub program : (bytes : List ℕ) (top : ℕ) (p q : Program) → IsSource bytes top p → IsSource bytes top q → p ≡ q
+  pub refusal : (bytes : List ℕ) (top m n : ℕ) (r s : SourceRule) → IsNoSource bytes top m r → IsNoSource bytes top n s → (m ≡ n) × (r ≡ s)
+  pub apart : (bytes : List ℕ) (top n : ℕ) (p : Program) (r : SourceRule) → IsSource bytes top p → IsNoSource bytes top n r → ⊥
+  pub reading : (text : List ℕ) (a b : Result (List Line86) (ℕ × TextRule)) → TextGives text a → TextGives text b → a ≡ b
+  pub refuses : OneRefusal
+  pub not_both : NotBoth
+  pub finding : OneFinding
+
+module _ (law : Laws) (c : Check) where
+  -- a text that has an image has no fault
+  has_none : (text : List ℕ) (lines : List Line86) (fault : ImageFault) → TextGives text (Ok lines) → Assembles lines → IsNoImage text fault → ⊥
+  has_none text lines _ gives stands (unread {line = n} {rule = r} y) = no_lines lines (n, r) (law.reading text (Ok lines) (Err (n, r)) gives y)
+  has_none text lines fault gives stands (image_refused others y r) =
+      law.not_both lines (image_of lines) fault (record { assembles = stands; is = refl })
+      (subst (λ l. ImageRefused l fault) (same_lines others lines (law.reading text (Ok others) (Ok lines) y gives)) r)
+
+  one_fault : (text : List ℕ) (a b : ImageFault) → IsNoImage text a → IsNoImage text b → a ≡ b
+  one_fault text _ _ (unread {line = n} {rule = r} x) (unread {line = m} {rule = s} y) =
+      ap (λ (z : ℕ × TextRule). Line z.0 z.1) (same_fault (n, r) (m, s) (law.reading text (Err (n, r)) (Err (m, s)) x y))
+  one_fault text _ b (unread {line = n} {rule = r} x) (image_refused lines y s) = absurd (no_lines lines (n, r) (law.reading text (Ok lines) (Err (n, r)) y x))
+  one_fault text a _ (image_refused lines x r) (unread {line = n} {rule = s} y) = absurd (no_lines lines (n, s) (law.reading text (Ok lines) (Err (n, s)) x y))
+  one_fault text a b (image_refused lines x r) (image_refused others y s) =
+      law.refuses others a b (subst (λ l. ImageRefused l a) (same_lines lines others (law.reading text (Ok lines) (Ok others) x y)) r) s
+
+  -- each outcome is the only one
+  after_refusal : (source text : List ℕ) (line : ℕ) (rule : SourceRule) → IsNoSource source c.top line rule → (r : Result ℕ Stop) → Comes c source text r → r ≡ Err (stop_of_rule line rule)
+  after_refusal source text line rule none r (refused n s other e) =
+      let same = law.refusal source c.top n line s rule other none in
+      e ∙ (ap (λ k. Err (stop_of_rule k s)) same.0 ∙ ap (λ k. Err (stop_of_rule line k)) same.1)
+  after_refusal source text line rule none r (no_image p fault is n e) = absurd (law.apart source c.top line p rule is none)
+  after_refusal source text line rule none r (found p lines f is gives stands h e) = absurd (law.apart source c.top line p rule is none)
+
+  after_fault : (source text : List ℕ) (p : Program) (fault : ImageFault) → IsSource source c.top p → IsNoImage text fault → (r : Result ℕ Stop) → Comes c source text r → r ≡ Err (stop_of_image fault)
+  after_fault source text p fault is none r (refused n s other e) = absurd (law.apart source c.top n p s is other)
+  after_fault source text p fault is none r (no_image q other also n e) = e ∙ ap (λ k. Err (stop_of_image k)) (one_fault text other fault n none)
+  after_fault source text p fault is none r (found q lines f also gives stands h e) = absurd (has_none text lines fault gives stands none)
+
+  after_finding : (source text : List ℕ) (p : Program) (lines : List Line86) (f : Finding) → IsSource source c.top p → TextGives text (Ok lines) → Assembles lines → IsFinding p lines f → (r : Result ℕ Stop) → Comes c source text r → r ≡ came_of f
+  after_finding source text p lines f is gives stands h r (refused n s other e) = absurd (law.apart source c.top n p s is other)
+  after_finding source text p lines f is gives stands h r (no_image q fault also n e) = absurd (has_none text lines fault gives stands n)
+  after_finding source text p lines f is gives stands h r (found q others g also give stand k e) =
+      let one = law.program source c.top q p also is in
+      let same = same_lines others lines (law.reading text (Ok others) (Ok lines) give gives) in
+      e ∙ ap came_of (law.finding p lines g f (subst (λ l. IsFinding p l g) same (subst (λ (z : Program). IsFinding z others g) one k)) h)
+
+  module _ (old new : HostState) (none : NoneFailed old new) (source text : List ℕ) (first : IsTold old c.source input_limit source) (second : IsTold old c.text text_limit text) (status : ℕ) where
+    abbrev Answer : Type 0
+    Answer = (status ≡ 5) ⊎ ((r : Result ℕ Stop) × IsOnly c source text r × (status ≡ status_by r))
+
+    source_is : (mid : HostState) (s t : List ℕ) → Reads c old mid s t → s ≡ source
+    source_is mid s t r = told_whole old c.source input_limit source s first r.source_file
+
+    text_is : (mid : HostState) (s t : List ℕ) → Reads c old mid s t → t ≡ text
+    text_is mid s t r = told_whole old c.text text_limit text t second r.text_file
+
+    by_finding : (mid : HostState) (p : Program) (lines : List Line86) (l : Loads c old mid p lines) (f : Finding) → IsFinding p lines f → status ≡ status_by (came_of f) → Answer
+    by_finding mid p lines l f h e =
+        let is = subst (λ b. IsSource b c.top p) (source_is mid l.source l.text l.reads) l.is_source in
+        let gives = subst (λ b. TextGives b (Ok lines)) (text_is mid l.source l.text l.reads) l.gives in
+        inr (came_of f, record { comes = found p lines f is gives l.stands.assembles h refl; only = after_finding source text p lines f is gives l.stands.assembles h }, e)
+
+    stopping : (stop : Stop) (is : IsOnly c source text (Err stop)) → (status ≡ 5) ⊎ (status ≡ status_of stop) → Answer
+    stopping stop is s = ⊎_elim (λ e. inl e) (λ e. inr (Err stop, is, e)) s
+
+    by_refusal : (mid : HostState) (s t : List ℕ) → Reads c old mid s t → (line : ℕ) (rule : SourceRule) → IsNoSource s c.top line rule → (status ≡ 5) ⊎ (status ≡ status_of (stop_of_rule line rule)) → Answer
+    by_refusal mid s t r line rule wrong e =
+        let here = subst (λ b. IsNoSource b c.top line rule) (source_is mid s t r) wrong in
+        stopping (stop_of_rule line rule) (record { comes = refused line rule here refl; only = after_refusal source text line rule here }) e
+
+    by_stop : (mid : HostState) (stop : Stop) → Stops c old mid stop → Closes stop mid new status → Answer
+    by_stop mid stop (no_source only s) closes =
+        inl (memory_status stop mid new status (read_stops old mid new c.source input_limit source stop none (closes_reads stop mid new status closes) first s) closes)
+    by_stop mid stop (no_text bytes w only s) closes =
+        inl (memory_status stop mid new status (read_stops old mid new c.text text_limit text stop none (closes_reads stop mid new status closes) second s) closes)
+    by_stop mid _ (source_refused s t r (of_line {line = line} {rule = rule} wrong)) closes = by_refusal mid s t r line (OfLine rule) wrong (closes_status (stop_of_rule line (OfLine rule)) mid new status closes)
+    by_stop mid _ (source_refused s t r (of_program {line = line} {rule = rule} wrong)) closes = by_refusal mid s t r line (OfProgram rule) wrong (closes_status (stop_of_rule line (OfProgram rule)) mid new status closes)
+    by_stop mid stop (image_wanting s t p fault r is wrong e) closes =
+        let source_here = subst (λ b. IsSource b c.top p) (source_is mid s t r) is in
+        let here = subst (λ b. IsNoImage b fault) (text_is mid s t r) wrong in
+        stopping (stop_of_image fault) (record { comes = no_image p fault source_here here refl; only = after_fault source text p fault source_here here })
+        (subst (λ k. (status ≡ 5) ⊎ (status ≡ status_of k)) e (closes_status stop mid new status closes))
+    by_stop mid _ (unlike p lines l (not_shown {at = at} {reason = reason} h)) closes =
+        ⊎_elim (λ e. inl e) (λ e. by_finding mid p lines l (NotFound at reason) h e) (closes_status (NotShown at reason) mid new status closes)
+    by_stop mid _ (unlike p lines l memory_wanting) closes = inl (memory_status OutOfMemory mid new status refl closes)
+    by_stop mid _ (out_of_memory only) closes = inl (memory_status OutOfMemory mid new status refl closes)
+
+    done : (mid : HostState) (line : List ℕ) → Shows c old mid line → (n : ℕ) → n ≡ status → IsDone line mid new n → Answer
+    done mid line h _ e (whole only s same) = by_finding mid h.program h.lines h.loads (Shown h.blocks) h.shown.finding (sym e)
+    done mid line h _ e (failed s) = absurd (not_unsaid old mid new none h.loads.reads.counted s.failed)
+    done mid line h _ e (no_memory s) = inl (sym e)
+
+    by_gift : Gives c old new status → Answer
+    by_gift (shown mid line h d) = done mid line h status refl d
+    by_gift (stopped mid stop s closes) = by_stop mid stop s closes
+
+  pub completes : (old new : HostState) (status : ℕ) → Gives c old new status → Completes c old new status
+  completes old new status gives none source text first second = by_gift old new none source text first second status gives

@@ -1,0 +1,57 @@
+// The work of `check`: a source and a text in, and what is found of them said.
+ghost use Rattle.std.specs.Prelude.{◌≡◌, true, IfOk, IfErr};
+ghost use Rattle.std.specs.String.{string_bytes};
+ghost use Rattle.host.specs.Host.{SameFiles};
+ghost use Rattle.asm80_program.specs.Program.{is_top};
+ghost use Rattle.cmd_words.specs.ReadCommands.{check_read};
+ghost use Rattle.cmd_check.specs.Checks.{Shows, Stops, Gives};
+ghost use Rattle.cmd_check.specs.Completes.{Completes};
+
+use crate::finding::find;
+use crate::inputs::load;
+use asm80_values::source_has_one_outcome;
+use asm86_image::images_exclude_refusals;
+use asm86_text::text_has_one_reading;
+use cmd_reports::{Stop, say_done, say_stop, shown_line};
+use cmd_words::Check;
+use host::Host;
+use std::alloc::Global;
+use xlt_core::findings_are_one;
+
+/// Checks the text of a command beside its source, says what is found, and answers the status. The command's top is one that a
+/// program area may have.
+pub fn check<H: Host>(alloc: Global, host: &mut H, command: &Check<'_>) -> u8
+    requires { is_top command.now.top ≡ true }
+    ensures gives { Gives (check_read command.now) (H.state host.old) (H.state host.new) result }
+    ensures files { SameFiles (H.state host.old) (H.state host.new) }
+    ensures completes { Completes (check_read command.now) (H.state host.old) (H.state host.new) result }
+{
+    source_has_one_outcome();
+    text_has_one_reading();
+    images_exclude_refusals();
+    findings_are_one();
+    carry_out(alloc, host, command)
+}
+
+// The work, and what is said.
+fn carry_out<H: Host>(alloc: Global, host: &mut H, command: &Check<'_>) -> u8
+    requires { is_top command.now.top ≡ true }
+    ensures gives { Gives (check_read command.now) (H.state host.old) (H.state host.new) result }
+    ensures files { SameFiles (H.state host.old) (H.state host.new) }
+{
+    match work(alloc, host, command) {
+        Ok(line) => say_done(host, line.as_str()),
+        Err(stop) => say_stop(alloc, host, stop),
+    }
+}
+
+// The line of a text that is shown.
+fn work<'a, H: Host>(alloc: Global, host: &mut H, command: &Check<'a>) -> Result<String, Stop<'a>>
+    requires { is_top command.now.top ≡ true }
+    ensures worked { IfOk result (λ line. Shows (check_read command.now) (H.state host.old) (H.state host.new) (string_bytes line)) }
+    ensures stopped { IfErr result (Stops (check_read command.now) (H.state host.old) (H.state host.new)) }
+{
+    let loaded = load(alloc, host, command)?;
+    let count = find(alloc, &loaded.program, loaded.lines.as_slice())?;
+    Ok(shown_line(alloc, count)?)
+}

@@ -1,9 +1,0 @@
-pub mod Leaving
-pub mod Loading
-pub mod Working
-pub mod Sources
-pub mod Told
-pub mod Completing80
-pub mod Completing86
-pub mod Kept
-pub mod Disks

@@ -1,0 +1,3 @@
+mod Loading
+mod Working
+mod Completing86

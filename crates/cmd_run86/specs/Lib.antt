@@ -1,0 +1,2 @@
+pub mod Runs86
+pub mod Completes86

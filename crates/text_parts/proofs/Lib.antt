@@ -1,4 +1,0 @@
-mod Frames
-mod Cells
-mod Same
-mod Numbers

@@ -1,0 +1,3 @@
+mod Styles
+mod Matching
+pub mod OneText
