@@ -35,22 +35,28 @@ impl State {
 pub fn answer(alloc: Global, state: &mut State, case: &str) -> anyhow::Result<String> {
     let (kind, text) = case.split_once(' ').unwrap_or((case, ""));
     let words: Vec<&str> = text.split(' ').collect(alloc)?;
-    match (kind, words.as_slice()) {
+    answer_of(alloc, state, kind, words.as_slice())
+}
+
+fn answer_of(
+    alloc: Global,
+    state: &mut State,
+    kind: &str,
+    words: &[&str],
+) -> anyhow::Result<String> {
+    match (kind, words) {
         ("empty", [input]) => start(alloc, state, Disk::empty(alloc), *input),
         ("disk", [bytes, input]) => read(alloc, state, *bytes, *input),
         ("fcb", [drive, name, fields]) => put_fcb(alloc, state, *drive, *name, *fields),
         ("second", [name]) => put_name(alloc, state, FCB + 17, *name),
         ("put", [at, bytes]) => put(alloc, state, *at, *bytes),
-        ("dma", [at]) => {
-            state.dma = u16::from_str_radix(*at, 16)?;
-            Ok(String::new(alloc))
-        }
+        ("dma", [at]) => put_dma(alloc, state, *at),
         ("call", [function]) => call(alloc, state, *function, "005C"),
         ("call", [function, de]) => call(alloc, state, *function, *de),
         ("page", [tail]) => page(alloc, *tail),
-        ("out", _) => Ok(bytes_text(alloc, state.bdos.disk().write(alloc)?.as_slice())?),
+        ("out", _) => out(alloc, state),
         ("files", _) => Ok(disk_text(alloc, state.bdos.disk())?),
-        _ => bail!("no such case: {case}"),
+        _ => bail!("no such case: {kind}"),
     }
 }
 
@@ -100,6 +106,18 @@ fn put(alloc: Global, state: &mut State, at: &str, bytes: &str) -> anyhow::Resul
     let at = u16::from_str_radix(at, 16)?;
     state.memory.put(usize::from(at), bytes.as_slice());
     Ok(String::new(alloc))
+}
+
+// Sets the DMA address.
+fn put_dma(alloc: Global, state: &mut State, at: &str) -> anyhow::Result<String> {
+    state.dma = u16::from_str_radix(at, 16)?;
+    Ok(String::new(alloc))
+}
+
+// The disk's file.
+fn out(alloc: Global, state: &State) -> anyhow::Result<String> {
+    let bytes = state.bdos.disk().write(alloc)?;
+    Ok(bytes_text(alloc, bytes.as_slice())?)
 }
 
 // Puts a name into memory; `_` is a blank.

@@ -70,28 +70,74 @@ fn answer80(
     program: &Program80,
     page: &Page,
 ) -> Result<Option<String>, AllocError> {
-    let choice = choice_of(case);
+    match case.kind {
+        "tagged80" => tagged80(alloc, case, program, page),
+        "bytes80" => bytes80(alloc, case, program, page),
+        _ => both80(alloc, case, program, page),
+    }
+}
+
+fn tagged80(
+    alloc: Global,
+    case: &Case<'_>,
+    program: &Program80,
+    page: &Page,
+) -> Result<Option<String>, AllocError> {
     let cpu = Cpu80::new(alloc, program, page)?;
-    let mut tagged = Tagged80 { cpu, program };
-    if case.kind == "tagged80" {
-        return Ok(Some(script(alloc, &mut tagged, choice, case.words)?));
-    }
+    let mut machine = Tagged80 { cpu, program };
+    Ok(Some(script(alloc, &mut machine, choice_of(case), case.words)?))
+}
+
+fn bytes80(
+    alloc: Global,
+    case: &Case<'_>,
+    program: &Program80,
+    page: &Page,
+) -> Result<Option<String>, AllocError> {
+    let cpu = plain80(alloc, case, program, page)?;
+    let mut machine = Bytes80 { cpu, program };
+    Ok(Some(script(alloc, &mut machine, choice_of(case), case.words)?))
+}
+
+fn both80(
+    alloc: Global,
+    case: &Case<'_>,
+    program: &Program80,
+    page: &Page,
+) -> Result<Option<String>, AllocError> {
+    let cpu = Cpu80::new(alloc, program, page)?;
+    let tagged = Tagged80 { cpu, program };
+    let cpu = plain80(alloc, case, program, page)?;
+    let bytes = Bytes80 { cpu, program };
+    let mut machine = Both80 { tagged, bytes };
+    Ok(Some(script(alloc, &mut machine, choice_of(case), case.words)?))
+}
+
+fn plain80(
+    alloc: Global,
+    case: &Case<'_>,
+    program: &Program80,
+    page: &Page,
+) -> Result<Plain80, AllocError> {
     let fill = fill_of(alloc, case)?;
-    let cpu = Plain80::new(alloc, program, page, fill.as_slice())?;
-    let mut bytes = Bytes80 { cpu, program };
-    if case.kind == "bytes80" {
-        return Ok(Some(script(alloc, &mut bytes, choice, case.words)?));
-    }
-    let mut both = Both80 { tagged, bytes };
-    Ok(Some(script(alloc, &mut both, choice, case.words)?))
+    Plain80::new(alloc, program, page, fill.as_slice())
 }
 
 fn answer86(alloc: Global, case: &Case<'_>, page: &Page) -> Result<Option<String>, AllocError> {
-    let Some(image) = image86(alloc, case.source)? else {
-        return Ok(None);
-    };
+    match image86(alloc, case.source)? {
+        Some(image) => bytes86(alloc, case, &image, page),
+        None => Ok(None),
+    }
+}
+
+fn bytes86(
+    alloc: Global,
+    case: &Case<'_>,
+    image: &Image86,
+    page: &Page,
+) -> Result<Option<String>, AllocError> {
     let fill = fill_of(alloc, case)?;
-    let cpu = Cpu86::new(alloc, &image, START, page, fill.as_slice())?;
+    let cpu = Cpu86::new(alloc, image, START, page, fill.as_slice())?;
     let mut machine = Bytes86 { cpu };
     Ok(Some(script(alloc, &mut machine, choice_of(case), case.words)?))
 }

@@ -42,12 +42,29 @@ fn answer<M: Machine>(
     match name {
         "step" => step_text(alloc, machine.step(choice)),
         "place" => place_text(alloc, machine.place()),
-        "asked" => event_text(alloc, machine.asked(alloc)?.as_ref()),
+        "asked" => asked_text(alloc, machine),
         "reply" => reply_text(alloc, machine.reply(&reply(alloc, value), choice)),
-        "write" => reply_text(alloc, machine.reply(&writing(alloc)?, choice)),
+        "write" => write_text(alloc, machine, choice),
         "run" => run(alloc, machine, choice, value),
         _ => String::from_str(alloc, "no such word"),
     }
+}
+
+fn asked_text<M: Machine>(alloc: Global, machine: &M) -> Result<String, AllocError> {
+    let event = machine.asked(alloc)?;
+    event_text(alloc, event.as_ref())
+}
+
+fn write_text<M: Machine>(
+    alloc: Global,
+    machine: &mut M,
+    choice: u128,
+) -> Result<String, AllocError>
+    requires { M.runs machine.old }
+    ensures { M.runs machine.new }
+{
+    let reply = writing(alloc)?;
+    reply_text(alloc, machine.reply(&reply, choice))
 }
 
 fn step_text(alloc: Global, step: Step) -> Result<String, AllocError> {

@@ -67,9 +67,13 @@ fn at_address(alloc: Global, kind: &str, at: u16, source: &str) -> anyhow::Resul
 fn walk(alloc: Global, count: u32, case: &str) -> anyhow::Result<String> {
     let (source, text) = case.split_once(" | ").unwrap_or((case, ""));
     let program = program_of(alloc, source)?;
+    walk_of(alloc, &program, count, text)
+}
+
+fn walk_of(alloc: Global, program: &Program80, count: u32, text: &str) -> anyhow::Result<String> {
     let index = text_index(alloc, text)?;
     let mut work = Work::new(alloc)?;
-    walked(alloc, &mut work, &program, &index, count)
+    walked(alloc, &mut work, program, &index, count)
 }
 
 fn walked(
@@ -113,10 +117,24 @@ fn agrees_text(work: &Work) -> &'static str
 // Both exits of the block at 0100H with the plain text, what C and E hold as numbers, and what its stores of numbers are.
 fn plain(alloc: Global, count: u32, source: &str) -> anyhow::Result<String> {
     let program = program_of(alloc, source)?;
-    let index = plain_index(alloc, &program)?;
+    plain_of(alloc, &program, count)
+}
+
+fn plain_of(alloc: Global, program: &Program80, count: u32) -> anyhow::Result<String> {
+    let index = plain_index(alloc, program)?;
     let mut work = Work::new(alloc)?;
-    match run_both(&mut work, &program, &index, 0x100, count, Keep::all()) {
-        Some(Ok(())) => Ok(plain_text(alloc, &work)?),
+    plainly_run(alloc, &mut work, program, &index, count)
+}
+
+fn plainly_run(
+    alloc: Global,
+    work: &mut Work,
+    program: &Program80,
+    index: &Index86,
+    count: u32,
+) -> anyhow::Result<String> {
+    match run_both(work, program, index, 0x100, count, Keep::all()) {
+        Some(Ok(())) => Ok(plain_text(alloc, work)?),
         _ => bail!("no outcomes"),
     }
 }
@@ -160,9 +178,17 @@ fn push_store(text: &mut String, numbers: Option<(u16, u16)>) -> Result<(), Allo
 // How many instructions, each alone, agree with their plain templates.
 fn alone(alloc: Global, source: &str) -> anyhow::Result<String> {
     let program = program_of(alloc, source)?;
-    let index = plain_index(alloc, &program)?;
+    alone_of(alloc, &program)
+}
+
+fn alone_of(alloc: Global, program: &Program80) -> anyhow::Result<String> {
+    let index = plain_index(alloc, program)?;
     let mut work = Work::new(alloc)?;
-    match agreeing(&mut work, &program, &index) {
+    count_text(alloc, agreeing(&mut work, program, &index))
+}
+
+fn count_text(alloc: Global, count: Option<u32>) -> anyhow::Result<String> {
+    match count {
         Some(count) => Ok(format!(in alloc; "{count} agree")?),
         None => bail!("no outcomes"),
     }

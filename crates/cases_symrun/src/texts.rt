@@ -26,15 +26,20 @@ fn push_lines(text: &mut String, lines: &[Line86]) -> Result<(), AllocError> {
     Ok(())
 }
 
-/// So many lines of the lean text of a program, from the first one of its instructions on.
-pub fn lean_lines(alloc: Global, program: &Program80, count: usize) -> Result<String, AllocError> {
-    let graph = Graph::solved(alloc, program)?;
-    let lines = lean_text(alloc, program, &graph)?;
+// So many of these lines, from the first one of the instructions on.
+fn first_lines(alloc: Global, lines: &[Line86], count: usize) -> Result<String, AllocError> {
     let mut text = String::new(alloc);
     let (_, behind) = lines.split_at(LINES_BEFORE.min(lines.len()));
     let (first, _) = behind.split_at(count.min(behind.len()));
     push_lines(&mut text, first)?;
     Ok(text)
+}
+
+/// So many lines of the lean text of a program, from the first one of its instructions on.
+pub fn lean_lines(alloc: Global, program: &Program80, count: usize) -> Result<String, AllocError> {
+    let graph = Graph::solved(alloc, program)?;
+    let lines = lean_text(alloc, program, &graph)?;
+    first_lines(alloc, lines.as_slice(), count)
 }
 
 /// The plain text of a program: the number of its lines and that of the last one, the size of its code in bytes, and all lines.

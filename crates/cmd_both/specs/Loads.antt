@@ -5,7 +5,7 @@ use Rattle.i86.specs.Decode.{HasReader}
 use Rattle.asm80_program.specs.Program.{Program}
 use Rattle.asm86_lines.specs.declared.line.Line86.{Line86}
 use Rattle.asm86_lines.specs.Image.{Image, IsImage}
-use Rattle.host.specs.Host.{HostState, SameFaults}
+use Rattle.host.specs.Host.{HostState, SameFaults, OnlyReads}
 use Rattle.bdos_small.specs.Supply.{Supply}
 use Rattle.cmd_words.specs.Words.{Run80, Both}
 use Rattle.cmd_reports.specs.declared.stop.Stop.{Stop}
@@ -37,6 +37,12 @@ module _ (c : Both) (old : HostState) where
   pub record Loads (program : Program) (image : Image) (supply : Supply) : Type 0 where
     pub source : tagged.Loads (source_of c) old program supply
     pub lean : HasLean program image
+
+  -- the same, and no call of the host failed up to this state
+  pub record HasLoaded (program : Program) (image : Image) (supply : Supply) (new : HostState) : Type 0 where
+    pub loads : Loads program image supply
+    pub reads : OnlyReads old new
+    pub counted : SameFaults old new
 
   -- why there is nothing to run: as in `run80`; or the code of the lean text is too large, which is told behind the disk; or memory
   -- ran out

@@ -1,18 +1,19 @@
 // What there is before the runs.
 ghost use Rattle.std.specs.Prelude.{◌≡◌, true, IfOk, IfErr, OnOk, length};
 ghost use Rattle.host.specs.Host.{SameFaults, OnlyReads};
-ghost use Rattle.asm80_program.specs.Program.{is_top};
+ghost use Rattle.asm80_program.specs.Program.{IsProgram, is_top};
 ghost use Rattle.cmd_words.specs.ReadCommands.{both_read};
 ghost use Rattle.cmd_run80.specs.Ends.{Halts};
 ghost use Rattle.cmd_run80.specs.Supplies.{fill_by};
-ghost use Rattle.cmd_run80.specs.Supplies.{given_of};
-ghost use Rattle.cmd_both.specs.Loads.{Loads, LoadStops};
+ghost use Rattle.cmd_run80.specs.Supplies.{given_of, HasDisk, DiskStops};
+ghost use Rattle.cmd_both.specs.Loads.{HasLean, LeanStops, Loads, LoadStops};
 
 use crate::lean::lean_image;
 use asm80_program::Program80;
 use asm86_image::Image86;
 use bdos_disk::disks_read_back;
 use bdos_small::Devices;
+use cmd_reports::Stop;
 use cmd_run80::{Halt, Named, Supplies, devices_of, fill_of, read_program};
 use cmd_words::Both;
 use host::Host;
@@ -44,21 +45,61 @@ pub fn load<'a, H: Host>(
     ensures counted { OnOk result (SameFaults (H.state host.old) (H.state host.new)) }
     ensures stopped { IfErr result (Halts (LoadStops (both_read command.now) (H.state host.old) (H.state host.new))) }
 {
-    disks_read_back();
     let named = read_program(alloc, host, command.source, command.top, &command.run)?;
     let Named { program, supplies } = named;
-    let copied = copy_of(alloc, &supplies)?;
-    let devices = devices_of(alloc, supplies)?;
-    let second = devices_of(alloc, copied)?;
-    let image = lean_image(alloc, &program)?;
-    let fill = fill_of(alloc, command.choice)?;
+    let devices = two_devices(alloc, supplies)?;
+    let text = filled_image(alloc, &program, command.choice)?;
     Ok(Loaded {
         program,
-        image,
-        fill,
-        devices,
-        second,
+        image: text.image,
+        fill: text.fill,
+        devices: devices.first,
+        second: devices.second,
     })
+}
+
+// Two sets of devices of the same bytes.
+#[derive(Drop)]
+struct TwoDevices {
+    first: Devices,
+    second: Devices,
+}
+
+// The devices of these bytes, and those of the same bytes once more.
+fn two_devices<'a>(alloc: Global, supplies: Supplies) -> Result<TwoDevices, Stop<'a>>
+    ensures first { IfOk result (λ d. HasDisk (given_of supplies.input.items supplies.disk.items supplies.ports.items) d.first) }
+    ensures second { IfOk result (λ d. d.second ≡ d.first) }
+    ensures stopped { IfErr result (DiskStops supplies.disk.items) }
+{
+    disks_read_back();
+    let copied = copy_of(alloc, &supplies)?;
+    let first = devices_of(alloc, supplies)?;
+    let second = devices_of(alloc, copied)?;
+    Ok(TwoDevices { first, second })
+}
+
+// What the 8086 begins with: the image of a program's lean text, and the bytes that fill its memory.
+#[derive(Drop)]
+struct FilledImage {
+    image: Image86,
+    fill: Vec<u8>,
+}
+
+// The image of the program's lean text, and the bytes by the choice.
+fn filled_image<'a>(
+    alloc: Global,
+    program: &Program80,
+    choice: u128,
+) -> Result<FilledImage, Stop<'a>>
+    requires { IsProgram program.now }
+    ensures lean { IfOk result (λ f. HasLean program.now f.image) }
+    ensures fill { IfOk result (λ f. f.fill.items ≡ fill_by choice) }
+    ensures fill_len { IfOk result (λ f. length f.fill.items ≡ 0x10000) }
+    ensures stopped { IfErr result (LeanStops program.now) }
+{
+    let image = lean_image(alloc, program)?;
+    let fill = fill_of(alloc, choice)?;
+    Ok(FilledImage { image, fill })
 }
 
 // The same bytes once more.

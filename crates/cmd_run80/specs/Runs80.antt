@@ -77,6 +77,12 @@ module _ (c : Run80) (old : HostState) where
     pub supplied : IsSupplied c.run old given
     pub devices : HasDisk given supply
 
+  -- the same, and no call of the host failed up to this state
+  pub record HasLoaded (program : Program) (supply : Supply) (new : HostState) : Type 0 where
+    pub loads : Loads program supply
+    pub reads : OnlyReads old new
+    pub counted : SameFaults old new
+
   -- why there is nothing to run: the source, or what the devices have, was not read, or the source has no
   -- program, or the disk's file is none, or memory ran out
   pub data LoadStops (new : HostState) : Stop → Type 0 where

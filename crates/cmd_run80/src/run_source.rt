@@ -1,6 +1,6 @@
 // The work of `run80`: a source's program runs on the tagged 8080 over devices.
 ghost use Rattle.std.specs.Prelude.{◌≡◌, ℕ, true, IfOk, IfErr, OnOk};
-ghost use Rattle.host.specs.Host.{SameFaults, OnlyReads};
+ghost use Rattle.host.specs.Host.{HostState, SameFaults, OnlyReads};
 ghost use Rattle.asm80_program.specs.Program.{is_top};
 ghost use Rattle.cmd_words.specs.ReadCommands.{run_options_read, run80_read};
 ghost use Rattle.bdos_talk.specs.declared.running.RunEnd.TheVariants.{Stopped};
@@ -9,7 +9,7 @@ ghost use Rattle.cmd_run80.specs.Keeping.{DiskAlone};
 ghost use Rattle.cmd_run80.specs.Lasts.{IsMade, came_of};
 ghost use Rattle.cmd_run80.specs.Completes80.{Completes};
 ghost use Rattle.cmd_run80.specs.Supplies.{given_of};
-ghost use Rattle.cmd_run80.specs.Runs80.{words_of, IsLineAt, IsLineOf, Names, Loads, LoadStops, HasCome, IsHalted, Gives};
+ghost use Rattle.cmd_run80.specs.Runs80.{words_of, IsLineAt, IsLineOf, Names, Loads, HasLoaded, LoadStops, HasCome, IsHalted, Gives};
 
 use crate::ends::steps_of;
 use crate::halt::{Halt, unsaid_status};
@@ -75,26 +75,38 @@ fn work<'a, H: Host>(alloc: Global, host: &mut H, command: &Run80<'a>) -> Result
     ensures came { IfOk result (λ last. HasCome (run80_read command.now) (H.state host.old) (H.state host.new) (came_of last)) }
     ensures halted { IfErr result (IsHalted (run80_read command.now) (H.state host.old) (H.state host.new)) }
 {
-    let loaded = load(alloc, host, command)?;
-    let Loaded { program, devices } = loaded;
-    let mut devices = devices;
+    let mut loaded = load(alloc, host, command)?;
+    run_loaded(alloc, host, command, &mut loaded)
+}
+
+// The run of what was loaded, and the disk that it leaves.
+fn run_loaded<'a, H: Host>(
+    alloc: Global,
+    host: &mut H,
+    command: &Run80<'a>,
+    loaded: &mut Loaded,
+) -> Result<Last<'a>, Halt<'a>>
+    ensures made { IfOk result IsMade }
+    ensures came { IfOk result (λ last. (begin : HostState) → HasLoaded (run80_read command.now) begin loaded.old.program loaded.old.devices (H.state host.old) → HasCome (run80_read command.now) begin (H.state host.new) (came_of last)) }
+    ensures halted { IfErr result (λ halt. (begin : HostState) → HasLoaded (run80_read command.now) begin loaded.old.program loaded.old.devices (H.state host.old) → IsHalted (run80_read command.now) begin (H.state host.new) halt) }
+{
     let limit = u64::from(command.run.steps);
     let ran = run_80(
         alloc,
-        &program,
+        &loaded.program,
         &command.run.page,
-        &mut devices,
+        &mut loaded.devices,
         limit,
         host,
         b"",
     )?;
-    let line = line_of(&program, ran.end);
+    let line = line_of(&loaded.program, ran.end);
     let last = last_of(alloc, steps_of(ran, command.run.steps, line))?;
     keep_disk(
         alloc,
         host,
         kept_name(command.run.out_disk, ran.end),
-        devices.disk(),
+        loaded.devices.disk(),
     )?;
     Ok(last)
 }

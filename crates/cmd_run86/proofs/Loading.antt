@@ -20,9 +20,9 @@ module _ (c : Run86) (old new : HostState) (text : List ℕ) (given : Given) (fi
   lines_stop _ (breaks {line = line} {rule = rule} h) = no_image (Line line rule) text given file supplied same (unread h) refl
 
   -- a text whose lines have no image
-  pub image_stops : (lines made : List Line86) → made ≡ lines → TextGives text (Ok lines) → (fault : ImageFault) → (fault ≡ Memory) ⊎ ImageRefused made fault → LoadStops c old new (stop_of_image fault)
-  image_stops lines made e reads fault h =
+  pub image_stops : (lines : List Line86) → TextGives text (Ok lines) → (fault : ImageFault) → (fault ≡ Memory) ⊎ ImageRefused lines fault → LoadStops c old new (stop_of_image fault)
+  image_stops lines reads fault h =
       ⊎_elim
       (λ m. subst (λ f. LoadStops c old new (stop_of_image f)) (sym m) nothing)
-      (λ r. no_image fault text given file supplied same (refused lines reads (subst (λ l. ImageRefused l fault) e r)) refl)
+      (λ r. no_image fault text given file supplied same (refused lines reads r) refl)
       h

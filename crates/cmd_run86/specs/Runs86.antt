@@ -53,6 +53,12 @@ module _ (c : Run86) (old : HostState) where
     pub supplied : IsSupplied c.run old given
     pub devices : HasDisk given supply
 
+  -- the same, and no call of the host failed up to this state
+  pub record HasLoaded (image : Image) (supply : Supply) (new : HostState) : Type 0 where
+    pub loads : Loads image supply
+    pub reads : OnlyReads old new
+    pub counted : SameFaults old new
+
   -- why there is nothing to run: the text, or what the devices have, was not read, or the text has no image, or
   -- the disk's file is none, or memory ran out
   pub data LoadStops (new : HostState) : Stop → Type 0 where

@@ -1,8 +1,7 @@
 // The work of `run86`: a text's image runs over devices, by a choice.
 ghost use Rattle.std.specs.Prelude.{◌≡◌, ℕ, [], Option, IfOk, IfErr, OnOk, length};
-ghost use Rattle.host.specs.Host.{SameFaults, OnlyReads, OnlySays};
+ghost use Rattle.host.specs.Host.{HostState, SameFaults, OnlySays};
 ghost use Rattle.cmd_words.specs.ReadCommands.{run86_read};
-ghost use Rattle.cmd_run80.specs.Ends.{Halts};
 ghost use Rattle.i86.specs.declared.Instr86.{Instr86};
 ghost use Rattle.i86.specs.Code.{Reads};
 ghost use Rattle.bdos_talk.specs.Talk.{SaysRun};
@@ -10,31 +9,19 @@ ghost use Rattle.cmd_run80.specs.Keeping.{DiskAlone};
 ghost use Rattle.cmd_run80.specs.Supplies.{fill_by};
 ghost use Rattle.cmd_run80.specs.Lasts.{IsMade, came_of};
 ghost use Rattle.cmd_run86.specs.Completes86.{Completes};
-ghost use Rattle.cmd_run86.specs.Runs86.{course_of, Loads, LoadStops, IsCut, HasCome, IsHalted, Gives};
+ghost use Rattle.cmd_run86.specs.Runs86.{course_of, HasLoaded, IsCut, HasCome, IsHalted, Gives};
 
-use asm86_image::{Image86, image, images_exclude_refusals};
+use crate::inputs::{Loaded, load};
+use asm86_image::{Image86, images_exclude_refusals};
 use asm86_text::text_has_one_reading;
 use bdos_disk::disks_read_back;
 use bdos_emulation::{Conversation, TalkFault, run_86};
 use bdos_small::Devices;
-use cmd_inputs::read_text;
 use cmd_reports::say_stop;
-use cmd_run80::{
-    Halt, Last, devices_of, fill_of, keep_disk, kept_name, last_of, read_supplies, say_ending,
-    steps_of, unsaid_status,
-};
+use cmd_run80::{Halt, Last, keep_disk, kept_name, last_of, say_ending, steps_of, unsaid_status};
 use cmd_words::Run86;
 use host::Host;
-use i86::decode_at;
 use std::alloc::Global;
-
-// What is there before the run: the image, the bytes that fill the memory, and the devices.
-#[derive(Drop)]
-struct Loaded {
-    image: Image86,
-    fill: Vec<u8>,
-    devices: Devices,
-}
 
 /// Runs the text of a command over devices, says each event of its dialogue and then what the run came to, and answers the
 /// status.
@@ -67,47 +54,39 @@ fn work<'a, H: Host>(alloc: Global, host: &mut H, command: &Run86<'a>) -> Result
     ensures came { IfOk result (λ last. HasCome (run86_read command.now) (H.state host.old) (H.state host.new) (came_of last)) }
     ensures halted { IfErr result (IsHalted (run86_read command.now) (H.state host.old) (H.state host.new)) }
 {
-    let loaded = load(alloc, host, command)?;
-    let Loaded {
-        image,
-        fill,
-        devices,
-    } = loaded;
-    let mut devices = devices;
-    let ran = run(alloc, host, command, &image, fill.as_slice(), &mut devices)?;
+    let mut loaded = load(alloc, host, command)?;
+    run_loaded(alloc, host, command, &mut loaded)
+}
+
+// The run of what was loaded, and the disk that it leaves.
+fn run_loaded<'a, H: Host>(
+    alloc: Global,
+    host: &mut H,
+    command: &Run86<'a>,
+    loaded: &mut Loaded,
+) -> Result<Last<'a>, Halt<'a>>
+    requires fill { loaded.old.fill.items ≡ fill_by command.now.choice }
+    requires fill_len { length loaded.old.fill.items ≡ 0x10000 }
+    ensures made { IfOk result IsMade }
+    ensures came { IfOk result (λ last. (begin : HostState) → HasLoaded (run86_read command.now) begin loaded.old.image loaded.old.devices (H.state host.old) → HasCome (run86_read command.now) begin (H.state host.new) (came_of last)) }
+    ensures halted { IfErr result (λ halt. (begin : HostState) → HasLoaded (run86_read command.now) begin loaded.old.image loaded.old.devices (H.state host.old) → IsHalted (run86_read command.now) begin (H.state host.new) halt) }
+{
+    let ran = run(
+        alloc,
+        host,
+        command,
+        &loaded.image,
+        loaded.fill.as_slice(),
+        &mut loaded.devices,
+    )?;
     let last = last_of(alloc, steps_of(ran, command.run.steps, 0))?;
     keep_disk(
         alloc,
         host,
         kept_name(command.run.out_disk, ran.end),
-        devices.disk(),
+        loaded.devices.disk(),
     )?;
     Ok(last)
-}
-
-// Reads the files, the text as its lines, and makes their image and the devices. That a line or the disk is refused is told once all
-// files are read.
-fn load<'a, H: Host>(alloc: Global, host: &mut H, command: &Run86<'a>) -> Result<Loaded, Halt<'a>>
-    ensures only { OnlyReads (H.state host.old) (H.state host.new) }
-    ensures loaded { IfOk result (λ l. Loads (run86_read command.now) (H.state host.old) l.image l.devices) }
-    ensures fill { IfOk result (λ l. l.fill.items ≡ fill_by command.now.choice) }
-    ensures fill_len { IfOk result (λ l. length l.fill.items ≡ 0x10000) }
-    ensures counted { OnOk result (SameFaults (H.state host.old) (H.state host.new)) }
-    ensures stopped { IfErr result (Halts (LoadStops (run86_read command.now) (H.state host.old) (H.state host.new))) }
-{
-    let text = read_text(alloc, host, command.text)?;
-    let supplies = read_supplies(alloc, host, &command.run)?;
-    let lines = text?;
-    let image = image(alloc, lines.as_slice())?;
-    // for its contract alone: the code has one reader
-    let _ = decode_at(image.code(), 0);
-    let devices = devices_of(alloc, supplies)?;
-    let fill = fill_of(alloc, command.choice)?;
-    Ok(Loaded {
-        image,
-        fill,
-        devices,
-    })
 }
 
 // Runs the image over devices.

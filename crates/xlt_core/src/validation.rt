@@ -1,6 +1,6 @@
 // Whether a text means the same as its program.
-ghost use Rattle.std.specs.Prelude.{◌≡◌, ◌<◌, ◌^◌, IfOk, length};
-ghost use Rattle.asm86_lines.specs.Image.{Assembles, IsImage, image_of};
+ghost use Rattle.std.specs.Prelude.{◌≡◌, ◌<◌, ◌^◌, IfOk, IsTrue, length};
+ghost use Rattle.asm86_lines.specs.Image.{Assembles, IsImage, image_of, statements};
 ghost use Rattle.xlt_translation.specs.Names.{Same};
 ghost use Rattle.xlt_validation.specs.Findings.{IsFinding, IfShown};
 ghost use Rattle.xlt_core.specs.Validation.{ShownIsSame};
@@ -43,9 +43,28 @@ fn look(alloc: Global, program: &Program80, lines: &[Line86]) -> Result<Finding,
 {
     let graph = Graph::solved(alloc, program)?;
     let text = Index86::of(alloc, lines)?;
+    look_by(alloc, program, lines, &graph, &text)
+}
+
+// The same over the graph and the statements by their labels. A function owns at most two of the parts, since what is proved of its
+// ways out grows with each that has to be dropped.
+fn look_by(
+    alloc: Global,
+    program: &Program80,
+    lines: &[Line86],
+    graph: &Graph,
+    text: &Index86,
+) -> Result<Finding, AllocError>
+    requires assembles { Assembles lines.now }
+    requires few { length lines.now < 2 ^ 28 }
+    requires solved { IsTrue graph.now.is_solved }
+    requires program { graph.now.program ≡ program.now }
+    requires stated { text.now ≡ statements lines.now }
+    ensures { IfOk result (IsFinding program.now lines.now) }
+{
     let image = image_of(alloc, lines)?;
     let mut work = Work::new(alloc)?;
-    Ok(validate_in(&mut work, program, &graph, &text, &image))
+    Ok(validate_in(&mut work, program, graph, text, &image))
 }
 
 // The image of lines that have one, so that memory alone can be wanting.

@@ -1,57 +1,38 @@
-use Rattle.std.proofs.Common.{◌≡◌, ℕ, ◌∙◌, sym, subst}
-use Rattle.asm80_program.specs.Program.{Program}
-use Rattle.bdos_small.specs.Supply.{Supply}
+use Rattle.std.proofs.Common.{◌≡◌, sym, subst}
+use Rattle.std.proofs.lemmas.Result.{IfOk-weaker, IfErr-weaker}
+use Rattle.host.specs.Host.{HostState}
 use Rattle.cmd_words.specs.ReadCommands.{both_read}
-use Rattle.cmd_reports.specs.declared.stop.Stop.TheVariants.{OutOfMemory}
-use Rattle.cmd_run80.specs.declared.halt.Halt.TheVariants.{By}
-use Rattle.cmd_run80.specs.Keeping.{kept_name, Keeps, KeepStops}
-use Rattle.cmd_run80.specs.Runs80.{IsLineOf}
 use Rattle.cmd_inputs.proofs.Told.{judged}
 use Rattle.cmd_both.specs.Lasts.{came_of, steps_of}
-use Rattle.cmd_both.specs.Gives.{IsHalted, no_line, unkept}
-use Rattle.cmd_both.proofs.Running.{come, lose}
+use Rattle.cmd_both.specs.Loads.{HasLoaded}
+use Rattle.cmd_both.specs.Gives.{HasCome, IsHalted}
+use Rattle.cmd_both.proofs.Running.{unloaded_halts}
 use Rattle.cmd_both.proofs.commands.work.Goals as goal
 
--- there was no room for the last line
-pub returns-in_err-last-clause-halted : goal.returns-in_err-last-clause-halted
-returns-in_err-last-clause-halted g c =
+pub returns-in_err-loaded-clause-halted : goal.returns-in_err-loaded-clause-halted
+returns-in_err-loaded-clause-halted g c =
     let command = both_read c.args.command.now in
     let old = g.H.Host.state c.args.host.now in
-    let new = g.H.Host.state c.make_runs.new.host in
-    let m = c.in_ok-made.made in
-    judged c.from_residual-in_err-last.result (λ h. h ≡ By OutOfMemory) (IsHalted command old new) c.from_residual-in_err-last.ensures.1
-    (λ h is. subst (IsHalted command old new) (sym is) (no_line m.first m.second c.in_ok-made.ensures.made.runs))
-
--- the disk was not written
-pub returns-in_err-keep_disk-clause-halted : goal.returns-in_err-keep_disk-clause-halted
-returns-in_err-keep_disk-clause-halted g c =
-    let command = both_read c.args.command.now in
-    let old = g.H.Host.state c.args.host.now in
-    let new = g.H.Host.state c.make_runs.new.host in
-    let kept = g.H.Host.state c.keep_disk.new.host in
-    let stop = c.in_err-keep_disk.field-0.0 in
-    let m = c.in_ok-made.made in
-    let has = c.in_ok-made.ensures.made in
-    let stops : KeepStops (kept_name command.run.out_disk m.first.end) m.devices.system.disk new kept stop =
-    subst (λ d. KeepStops (kept_name command.run.out_disk m.first.end) d new kept stop) c.disk.ensures
-    (subst (λ n. KeepStops n c.disk.result.now new kept stop) c.kept_name.ensures c.in_err-keep_disk.ensures.stopped) in
-    judged c.from_residual-in_err-keep_disk.result (λ h. h ≡ By stop) (IsHalted command old kept) c.from_residual-in_err-keep_disk.ensures.1
-    (λ h is. subst (IsHalted command old kept) (sym is)
-    (unkept (lose command old new m.first m.second has.runs kept stop
-    (subst (λ (s : Supply). KeepStops (kept_name command.run.out_disk m.first.end) s.system.disk new kept stop) (sym has.left) stops))))
+    let new = g.H.Host.state c.load.new.host in
+    judged c.from_residual.result (λ h. h ≡ c.in_err-loaded.field-0.0) (IsHalted command old new) c.from_residual.ensures.1
+    (λ h is. subst (IsHalted command old new) (sym is) (unloaded_halts command old new c.in_err-loaded.field-0.0 c.in_err-loaded.ensures.only c.in_err-loaded.ensures.stopped))
 
 pub returns-clause-came : goal.returns-clause-came
 returns-clause-came g c =
     let command = both_read c.args.command.now in
     let old = g.H.Host.state c.args.host.now in
-    let new = g.H.Host.state c.make_runs.new.host in
-    let kept = g.H.Host.state c.keep_disk.new.host in
-    let m = c.in_ok-made.made in
-    let has = c.in_ok-made.ensures.made in
-    let keeps : Keeps (kept_name command.run.out_disk m.first.end) m.devices.system.disk new kept =
-    subst (λ d. Keeps (kept_name command.run.out_disk m.first.end) d new kept) c.disk.ensures
-    (subst (λ n. Keeps n c.disk.result.now new kept) c.kept_name.ensures c.in_ok-keep_disk.ensures.kept) in
-    come command old new m.first m.second has.runs c.line_of-line.result (came_of c.in_ok-last.last) (steps_of c.in_ok-last.last) kept
-    (subst (λ (p : Program). (n : ℕ) → IsLineOf p m.first.end n → c.line_of-line.result ≡ n) (sym has.program) c.line_of-line.ensures)
-    (c.in_ok-last.ensures.came ∙ c.steps_of-came.ensures) c.in_ok-last.ensures.steps
-    (subst (λ (s : Supply). Keeps (kept_name command.run.out_disk m.first.end) s.system.disk new kept) (sym has.left) keeps)
+    let start = g.H.Host.state c.load.new.host in
+    let new = g.H.Host.state c.run_loaded.new.host in
+    let l = c.in_ok-loaded.loaded in
+    let e = c.in_ok-loaded.ensures in
+    IfOk-weaker c.run_loaded.result (λ last. (begin : HostState) → HasLoaded command begin l.program l.image l.devices start → HasCome command begin new (came_of last) (steps_of last)) (λ last. HasCome command old new (came_of last) (steps_of last)) (λ last h. h old (record { loads = e.loaded; reads = e.only; counted = e.counted })) c.run_loaded.ensures.came
+
+pub returns-clause-halted : goal.returns-clause-halted
+returns-clause-halted g c =
+    let command = both_read c.args.command.now in
+    let old = g.H.Host.state c.args.host.now in
+    let start = g.H.Host.state c.load.new.host in
+    let new = g.H.Host.state c.run_loaded.new.host in
+    let l = c.in_ok-loaded.loaded in
+    let e = c.in_ok-loaded.ensures in
+    IfErr-weaker c.run_loaded.result (λ halt. (begin : HostState) → HasLoaded command begin l.program l.image l.devices start → IsHalted command begin new halt) (IsHalted command old new) (λ halt h. h old (record { loads = e.loaded; reads = e.only; counted = e.counted })) c.run_loaded.ensures.halted

@@ -1,18 +1,14 @@
-use Rattle.std.proofs.Common.{◌≡◌, sym, subst}
-use Rattle.i86.specs.Decode.{HasReader}
-use Rattle.i86.specs.Decoder.{decoded}
+use Rattle.std.proofs.Common.{◌≡◌, ⊎_elim, sym, subst}
 use Rattle.cmd_words.specs.ReadCommands.{run86_read}
-use Rattle.cmd_reports.specs.declared.stop.Stop.TheVariants.{OutOfMemory}
 use Rattle.cmd_run80.specs.declared.halt.Halt.TheVariants.{By}
 use Rattle.cmd_run80.specs.Ends.{Halts}
-use Rattle.asm86_lines.specs.Image.{IsImage}
 use Rattle.cmd_inputs.specs.Texts.{stop_of_image, BytesGiveLines}
 use Rattle.cmd_run80.specs.Supplies.{given_of}
 use Rattle.cmd_run86.specs.Runs86.{LoadStops, no_text, no_supply, no_disk, no_memory}
 use Rattle.cmd_inputs.proofs.Told.{judged}
 use Rattle.cmd_run80.proofs.Loading.{supply_before, faults_before, supply_stops_before}
 use Rattle.cmd_run86.proofs.Loading.{lines_stop, image_stops}
-use Rattle.cmd_run86.proofs.run_text.load.Goals as goal
+use Rattle.cmd_run86.proofs.inputs.load.Goals as goal
 
 pub returns-in_err-text-clause-stopped : goal.returns-in_err-text-clause-stopped
 returns-in_err-text-clause-stopped g c =
@@ -63,11 +59,11 @@ returns-in_err-image-clause-stopped g c =
     (λ h is. subst (Halts (LoadStops command old new)) (sym is)
     (image_stops command old new first.read.bytes given first.read.file (supply_before old mid new first.only first.counted command.run given second.read)
     (faults_before old mid new first.only first.counted second.counted)
-    c.in_ok-lines.lines.items c.as_slice.result.now c.as_slice.ensures.value (subst (BytesGiveLines first.read.bytes) c.in_ok-lines.was first.read.gives) c.in_err-image.field-0.0 c.in_err-image.ensures.answer))
+    c.in_ok-lines.lines.items (subst (BytesGiveLines first.read.bytes) c.in_ok-lines.was first.read.gives) c.in_err-image.field-0.0 c.in_err-image.ensures.answer))
 
--- the disk's file is none
-pub returns-in_err-devices-clause-stopped : goal.returns-in_err-devices-clause-stopped
-returns-in_err-devices-clause-stopped g c =
+-- the disk's file is none, or memory ran out
+pub returns-in_err-equipment-clause-stopped : goal.returns-in_err-equipment-clause-stopped
+returns-in_err-equipment-clause-stopped g c =
     let command = run86_read c.args.command.now in
     let old = g.H.Host.state c.args.host.now in
     let mid = g.H.Host.state c.read_text.new.host in
@@ -77,23 +73,18 @@ returns-in_err-devices-clause-stopped g c =
     let s = c.in_ok-supplies.supplies in
     let given = given_of s.input.items s.disk.items s.ports.items in
     let image = c.in_ok-image.image in
-    judged c.from_residual-in_err-devices.result (λ h. h ≡ By c.in_err-devices.field-0.0) (Halts (LoadStops command old new)) c.from_residual-in_err-devices.ensures.1
+    judged c.from_residual-in_err-equipment.result (λ h. h ≡ By c.in_err-equipment.field-0.0) (Halts (LoadStops command old new)) c.from_residual-in_err-equipment.ensures.1
     (λ h is. subst (Halts (LoadStops command old new)) (sym is)
+    (⊎_elim
     (no_disk first.read.bytes given image first.read.file (supply_before old mid new first.only first.counted command.run given second.read)
     (faults_before old mid new first.only first.counted second.counted)
     (record {
       lines = c.in_ok-lines.lines.items;
       reads = subst (BytesGiveLines first.read.bytes) c.in_ok-lines.was first.read.gives;
-      assembled = subst (λ l. IsImage l image) c.as_slice.ensures.value c.in_ok-image.ensures.answer;
-    })
-    c.in_err-devices.ensures.stopped))
-
-pub returns-in_err-fill-clause-stopped : goal.returns-in_err-fill-clause-stopped
-returns-in_err-fill-clause-stopped g c =
-    let old = g.H.Host.state c.args.host.now in
-    let new = g.H.Host.state c.read_supplies.new.host in
-    judged c.from_residual-in_err-fill.result (λ h. h ≡ By OutOfMemory) (Halts (LoadStops (run86_read c.args.command.now) old new)) c.from_residual-in_err-fill.ensures.1
-    (λ h is. subst (Halts (LoadStops (run86_read c.args.command.now) old new)) (sym is) no_memory)
+      assembled = c.in_ok-image.ensures.answer;
+    }))
+    (λ m. subst (LoadStops command old new) (sym m) no_memory)
+    c.in_err-equipment.ensures.stopped))
 
 pub returns-clause-loaded : goal.returns-clause-loaded
 returns-clause-loaded g c =
@@ -111,10 +102,10 @@ returns-clause-loaded g c =
       assembled = record {
         lines = c.in_ok-lines.lines.items;
         reads = subst (BytesGiveLines first.read.bytes) c.in_ok-lines.was first.read.gives;
-        assembled = subst (λ l. IsImage l image) c.as_slice.ensures.value c.in_ok-image.ensures.answer;
+        assembled = c.in_ok-image.ensures.answer;
       };
-      reader = subst HasReader c.code.ensures (decoded c.code.result.now, c.decode_at.ensures.reader);
+      reader = c.in_ok-image.ensures.reader;
       given = given;
       supplied = supply_before old mid new first.only first.counted (run86_read c.args.command.now).run given second.read;
-      devices = c.in_ok-devices.ensures.devices;
+      devices = c.in_ok-equipment.ensures.devices;
     }

@@ -1,0 +1,90 @@
+// What there is before the run.
+ghost use Rattle.std.specs.Prelude.{◌≡◌, ◌⊎◌, ◌^◌, ◌<◌, true, IfOk, IfErr, MatchResult, OnOk, length};
+ghost use Rattle.i86.specs.Decode.{HasReader};
+ghost use Rattle.host.specs.Host.{SameFaults, OnlyReads};
+ghost use Rattle.asm86_lines.specs.Order.{at_start, in_order};
+ghost use Rattle.asm86_lines.specs.Image.{IsImage, statements};
+ghost use Rattle.asm86_image.specs.declared.fault.ImageFault.TheVariants.{Memory};
+ghost use Rattle.asm86_image.specs.Refusals.{ImageRefused};
+ghost use Rattle.cmd_words.specs.ReadCommands.{run86_read};
+ghost use Rattle.cmd_reports.specs.declared.stop.Stop.TheVariants.{OutOfMemory};
+ghost use Rattle.cmd_run80.specs.Ends.{Halts};
+ghost use Rattle.cmd_run80.specs.Supplies.{given_of, fill_by, HasDisk, DiskStops};
+ghost use Rattle.cmd_run86.specs.Runs86.{Loads, LoadStops};
+
+use asm86_image::{Image86, ImageFault, image};
+use asm86_lines::Line86;
+use bdos_small::Devices;
+use cmd_inputs::read_text;
+use cmd_reports::Stop;
+use cmd_run80::{Halt, Supplies, devices_of, fill_of, read_supplies};
+use cmd_words::Run86;
+use host::Host;
+use i86::decode_at;
+use std::alloc::Global;
+
+/// The image, the bytes that fill the memory, and the devices.
+#[derive(Drop)]
+pub struct Loaded {
+    pub image: Image86,
+    pub fill: Vec<u8>,
+    pub devices: Devices,
+}
+
+/// Reads the files, the text as its lines, and makes their image and the devices. That a line or the disk is refused is told once all
+/// files are read.
+pub fn load<'a, H: Host>(
+    alloc: Global,
+    host: &mut H,
+    command: &Run86<'a>,
+) -> Result<Loaded, Halt<'a>>
+    ensures only { OnlyReads (H.state host.old) (H.state host.new) }
+    ensures loaded { IfOk result (λ l. Loads (run86_read command.now) (H.state host.old) l.image l.devices) }
+    ensures fill { IfOk result (λ l. l.fill.items ≡ fill_by command.now.choice) }
+    ensures fill_len { IfOk result (λ l. length l.fill.items ≡ 0x10000) }
+    ensures counted { OnOk result (SameFaults (H.state host.old) (H.state host.new)) }
+    ensures stopped { IfErr result (Halts (LoadStops (run86_read command.now) (H.state host.old) (H.state host.new))) }
+{
+    let text = read_text(alloc, host, command.text)?;
+    let supplies = read_supplies(alloc, host, &command.run)?;
+    let lines = text?;
+    let image = read_image(alloc, lines)?;
+    let equipment = equipment_of(alloc, supplies, command.choice)?;
+    Ok(Loaded {
+        image,
+        fill: equipment.fill,
+        devices: equipment.devices,
+    })
+}
+
+// The image of a text's lines, whose code has one reader.
+fn read_image(alloc: Global, lines: Vec<Line86>) -> Result<Image86, ImageFault>
+    requires order { in_order at_start (statements lines.items) ≡ true }
+    requires few { length lines.items < 2 ^ 28 }
+    ensures answer { MatchResult result (IsImage lines.items) (λ fault. (fault ≡ Memory) ⊎ ImageRefused lines.items fault) }
+    ensures reader { IfOk result (λ image. HasReader image.code) }
+{
+    let image = image(alloc, lines.as_slice())?;
+    // for its contract alone: the code has one reader
+    let _ = decode_at(image.code(), 0);
+    Ok(image)
+}
+
+// What the run has besides the image: the bytes that fill the memory, and the devices.
+#[derive(Drop)]
+struct Equipment {
+    fill: Vec<u8>,
+    devices: Devices,
+}
+
+// The devices of what was read, and the bytes by the choice.
+fn equipment_of<'a>(alloc: Global, supplies: Supplies, choice: u128) -> Result<Equipment, Stop<'a>>
+    ensures devices { IfOk result (λ e. HasDisk (given_of supplies.input.items supplies.disk.items supplies.ports.items) e.devices) }
+    ensures fill { IfOk result (λ e. e.fill.items ≡ fill_by choice) }
+    ensures fill_len { IfOk result (λ e. length e.fill.items ≡ 0x10000) }
+    ensures stopped { IfErr result (λ stop. DiskStops supplies.disk.items stop ⊎ (stop ≡ OutOfMemory)) }
+{
+    let devices = devices_of(alloc, supplies)?;
+    let fill = fill_of(alloc, choice)?;
+    Ok(Equipment { fill, devices })
+}
