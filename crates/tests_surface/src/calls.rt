@@ -43,31 +43,37 @@ fn line_request(alloc: Global) -> Result<Option<Request>, AllocError> {
 }
 
 #[test]
-fn a_call_is_asked_and_answered(rt: HostRuntime) -> Result<(), Fail> {
-    let alloc = rt.alloc();
+fn a_call_is_asked(rt: HostRuntime) -> Result<(), Fail> {
     assert!(rt; shape_of(Some(3), None, None, 0x80, &Dollars).err() == Some(Rule::P9));
-    let Some(request) = line_request(alloc)? else {
-        return Err("a request")?;
-    };
+    let request = line_request(rt.alloc())?.ok_or("a request")?;
     let Shape { arg, reads, .. } = request.shape;
     assert!(rt; arg == ArgWord::Word(0x200) && reads[0] == Some(Range { at: 0x200, len: 1 }));
     let [block] = request.blocks.as_slice() else {
         return Err("one block")?;
     };
     assert!(rt; block.at == 0x200 && block.bytes.as_slice() == b"$".as_slice());
-    assert!(rt; !fits(&request, &nothing(alloc)));
-    // A line of one character.
+    Ok(())
+}
+
+// A line of one character.
+fn line_reply(alloc: Global) -> Result<Reply, AllocError> {
     let line = Bytes::from_vec(Vec::from_slice(alloc, &[1, b'A'])?);
     let mut writes = Vec::new(alloc);
     writes.push(Block {
         at: 0x201,
         bytes: line,
     })?;
-    let reply = Reply {
+    Ok(Reply {
         answer: 0,
         writes: Blocks::from_vec(writes),
-    };
-    assert!(rt; fits(&request, &reply));
+    })
+}
+
+#[test]
+fn a_call_is_answered(rt: HostRuntime) -> Result<(), Fail> {
+    let request = line_request(rt.alloc())?.ok_or("a request")?;
+    assert!(rt; !fits(&request, &nothing(rt.alloc())));
+    assert!(rt; fits(&request, &line_reply(rt.alloc())?));
     let event = Event::Call(request);
     assert!(rt; matches!(event, Event::Call(_)) && !matches!(event, Event::End));
     Ok(())

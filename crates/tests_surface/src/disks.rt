@@ -94,25 +94,33 @@ fn assert_copies(rt: &impl Abort, alloc: Global, call: &Call) -> Result<(), Fail
 
 const OPTIONS: [&str; 6] = ["--disk", "D", "--out-disk", "E", "--tail", "A.TXT B.TXT"];
 
-#[test]
-fn a_file_is_copied_on_each_machine(rt: HostRuntime) -> Result<(), Fail> {
-    let alloc = rt.alloc();
-    let [a, b, c, d, e, f] = OPTIONS;
-    let mut host = MemHost::new(alloc);
-    host.put("P", COPIER)?;
-    let words = list_of(alloc, &["translate", "P", "OUT", "--plain"])?;
-    assert!(rt; xlt(alloc, words, &mut host) == 0);
-    let text = host.file("OUT").ok_or("a text")?;
-    for (command, file) in [("run80", COPIER), ("run86", text)] {
-        let call = Call {
-            file,
-            words: &[command, "P", a, b, c, d, e, f],
-            count: 1,
-            wanted: b"0f 13 16 1a 14 15 14 10 09 end ended ",
-        };
-        assert_copies(&rt, alloc, &call)?;
+// The copier on one machine.
+fn call_of<'a>(words: &'a [&'a str; 8], file: &'a [u8]) -> Call<'a> {
+    Call {
+        file,
+        words,
+        count: 1,
+        wanted: b"0f 13 16 1a 14 15 14 10 09 end ended ",
     }
-    Ok(())
+}
+
+#[test]
+fn a_file_is_copied_on_the_8080(rt: HostRuntime) -> Result<(), Fail> {
+    let [a, b, c, d, e, f] = OPTIONS;
+    let words = ["run80", "P", a, b, c, d, e, f];
+    assert_copies(&rt, rt.alloc(), &call_of(&words, COPIER))
+}
+
+#[test]
+fn a_file_is_copied_on_the_8086(rt: HostRuntime) -> Result<(), Fail> {
+    let [a, b, c, d, e, f] = OPTIONS;
+    let words = ["run86", "P", a, b, c, d, e, f];
+    let mut host = MemHost::new(rt.alloc());
+    host.put("P", COPIER)?;
+    let given = list_of(rt.alloc(), &["translate", "P", "OUT", "--plain"])?;
+    assert!(rt; xlt(rt.alloc(), given, &mut host) == 0);
+    let text = host.file("OUT").ok_or("a text")?;
+    assert_copies(&rt, rt.alloc(), &call_of(&words, text))
 }
 
 #[test]

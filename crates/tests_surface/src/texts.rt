@@ -10,8 +10,8 @@ use std::alloc::{AllocError, Global};
 use std::test::Fail;
 use templates::{Sequence, plain_text, prologue, runtime, template};
 
-/// The plain text of the program, as it is written.
-pub fn written(alloc: Global) -> Result<Vec<u8>, Fail> {
+// The plain text of the program, as it is written.
+fn written(alloc: Global) -> Result<Vec<u8>, Fail> {
     let lines: Vec<Line86> = plain_text(alloc, &program(alloc)?)?;
     let mut text = Vec::new(alloc);
     for line in &lines {
@@ -31,6 +31,15 @@ pub fn image_of(alloc: Global, text: &[u8]) -> Result<Image86, ImageFault> {
         Ok(lines) => image(alloc, lines.as_slice()),
         Err(TextFault::Line(line, rule)) => Err(ImageFault::Line(line, rule)),
         Err(TextFault::Memory) => Err(ImageFault::Memory),
+    }
+}
+
+/// The image of that text.
+pub fn written_image(alloc: Global) -> Result<Image86, Fail> {
+    let text = written(alloc)?;
+    match image_of(alloc, text.as_slice()) {
+        Ok(image) => Ok(image),
+        Err(_) => Err("an image")?,
     }
 }
 
@@ -54,10 +63,7 @@ fn statements_of_an_instruction(rt: HostRuntime) {
 
 #[test]
 fn a_written_text_has_an_image(rt: HostRuntime) -> Result<(), Fail> {
-    let alloc = rt.alloc();
-    let Ok(image) = image_of(alloc, written(alloc)?.as_slice()) else {
-        return Err("an image")?;
-    };
+    let image = written_image(rt.alloc())?;
     // MOV SI,0F000H.
     assert!(rt; image.code().starts_with(&[0xBE, 0x00, 0xF0]) && image.code().len() == 44);
     assert!(rt; image.cells().first().copied() == Some((0x10A, 0x42)));
