@@ -5,7 +5,11 @@
 //
 // The answer is the status of each call, what is said, where ` / ` parts the lines, and behind an arrow, if OUT no longer holds
 // `before`, what it holds, of a long text its length. An empty line and one that begins with `#` are repeated.
+//
+// A line that begins with `xlt` is words alone, whose answer is the command that they are, or `none`.
 #![tactic(auto)]
+
+mod words;
 
 use host::MemHost;
 use std::alloc::{AllocError, Global};
@@ -115,6 +119,8 @@ fn main(rt: HostRuntime) -> io::Result<()> {
         let line = line?;
         if line.is_empty() || line.starts_with('#') {
             println!(rt; "{line}")?;
+        } else if line.starts_with("xlt") {
+            println!(rt; "{}", words::told(rt.alloc(), line.as_str())?)?;
         } else {
             println!(rt; "{}", answer(rt.alloc(), line.as_str())?)?;
         }

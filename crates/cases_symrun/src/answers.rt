@@ -2,6 +2,7 @@
 ghost use Rattle.cases_symrun.specs.Given.{BothAreGiven};
 
 use crate::agreeing::{number_held, number_stored, outcomes_agree};
+use crate::codes::{bare_text, code_text};
 use crate::graphs::{block_text, blocks_text, need_text, return_text, saves_text};
 use crate::running::run_both;
 use crate::shown::{exit_text, reason_text};
@@ -19,6 +20,8 @@ pub fn answer(alloc: Global, case: &str) -> anyhow::Result<String> {
     let (count, counted) = rest.split_once(' ').unwrap_or(("", rest));
     match kind {
         "alone" => alone(alloc, rest),
+        "code" => code_text(alloc, rest),
+        "bare" => bare_text(alloc, rest),
         "plain" => plain(alloc, count.parse::<u32>()?, counted),
         "walk" => walk(alloc, count.parse::<u32>()?, counted),
         "blocks" => blocks(alloc, rest),

@@ -1,10 +1,11 @@
-// Answers each case of the standard input: what a block and the text at its label come to; and of programs the blocks, the needs, the
-// flags that are saved, and plain and lean texts.
+// Answers each case of the standard input: what a block and the text at its label come to; of programs the blocks, the needs, the
+// flags that are saved, and plain and lean texts; and the bytes of templates.
 #![tactic(auto)]
 
 mod agreeing;
 mod answers;
 mod blocks;
+mod codes;
 mod graphs;
 mod running;
 mod shown;

@@ -1,11 +1,7 @@
-// What the words of a command line are read as, a case a line: blanks part the words behind `xlt`, `""` is a word without a letter,
-// and `~` and `^` are a blank and a tab in a word. The answer is the command that they are, or `none`. An empty line and one that
-// begins with `#` are repeated.
-#![tactic(auto)]
-
+// What the words of a command line are read as: blanks part the words behind `xlt`, `""` is a word without a letter, and `~` and `^`
+// are a blank and a tab in a word.
 use cmd_words::{Command, RunOptions, read_words};
 use std::alloc::{AllocError, Global};
-use std::io;
 
 fn word_of(alloc: Global, text: &str) -> Result<String, AllocError> {
     let mut word = String::new(alloc);
@@ -79,23 +75,12 @@ fn command_text(alloc: Global, command: &Command) -> Result<String, AllocError> 
     }
 }
 
-fn told(alloc: Global, line: &str) -> Result<String, AllocError> {
+/// The command that the words are, or `none`.
+pub fn told(alloc: Global, line: &str) -> Result<String, AllocError> {
     let words = words_of(alloc, line)?;
     let text = match read_words(alloc, words.as_slice())? {
         Some(command) => command_text(alloc, &command)?,
         None => String::from_str(alloc, "none")?,
     };
     format!(in alloc; "{line} => {text}")
-}
-
-fn main(rt: HostRuntime) -> io::Result<()> {
-    for line in rt.lines(rt.alloc()) {
-        let line = line?;
-        if line.is_empty() || line.starts_with('#') {
-            println!(rt; "{line}")?;
-        } else {
-            println!(rt; "{}", told(rt.alloc(), line.as_str())?)?;
-        }
-    }
-    Ok(())
 }
