@@ -1,5 +1,5 @@
 -- The files of a run, read one after the other.
-use Rattle.std.proofs.Common.{◌≡◌, ℕ, inl, inr, ⊎_elim, List, refl, sym, ◌∙◌, subst}
+use Rattle.std.proofs.Common.{ℕ, inl, inr, ⊎_elim, List, sym, ◌∙◌, subst}
 use Rattle.std.specs.Prelude.{Option, Some, None}
 use Rattle.host.specs.Host.{HostState, HasRisen, OnlyReads, SameFaults}
 use Rattle.cmd_files.specs.Transfer.{IsLonger}

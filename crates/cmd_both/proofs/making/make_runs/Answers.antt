@@ -2,8 +2,6 @@ use Rattle.std.proofs.Common.{◌≡◌, [], ◌∷◌, refl, sym, subst}
 use Rattle.host.specs.Host.{HostState}
 use Rattle.bdos_emulation.specs.Starts.{start_by}
 use Rattle.cmd_words.specs.ReadCommands.{both_read}
-use Rattle.cmd_reports.specs.declared.stop.Stop.{Stop}
-use Rattle.cmd_run80.specs.declared.halt.Halt.{Halt}
 use Rattle.cmd_run80.specs.Ends.{halt_of_talk}
 use Rattle.cmd_run80.specs.Supplies.{fill_by}
 use Rattle.cmd_inputs.proofs.Told.{judged}

@@ -1,5 +1,4 @@
 use Rattle.std.proofs.Common.{◌≡◌, [], ◌∙◌, sym, subst}
-use Rattle.std.specs.Prelude.{option_copied}
 use Rattle.host.specs.Host.{HostState}
 use Rattle.cmd_words.specs.ReadCommands.{run80_read}
 use Rattle.cmd_reports.specs.declared.stop.Stop.TheVariants.{OutOfMemory}

@@ -1,4 +1,4 @@
-use Rattle.std.proofs.Common.{sym, subst}
+use Rattle.std.proofs.Common.{subst}
 use Rattle.bdos_disk.specs.Reading.{IsFaultOf}
 use Rattle.cmd_run80.proofs.supplies.devices_of.Goals as goal
 

@@ -1,5 +1,4 @@
 use Rattle.std.specs.Prelude.{option_copied}
-use Rattle.std.proofs.Common.{◌∙◌}
 use Rattle.std.proofs.lemmas.Result.{err_from_is_err_and}
 use Rattle.host.proofs.HostLemmas.{OnlyReads-trans}
 use Rattle.cmd_run80.specs.Supplies.{no_input, no_disk_file, no_ports}

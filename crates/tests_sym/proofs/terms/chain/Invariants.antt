@@ -1,4 +1,3 @@
-use Rattle.std.proofs.Common.{◌≡◌}
 use Rattle.sym_terms.specs.Term.{is_bit, is_byte}
 use Rattle.sym_terms.specs.Trees.{IsA}
 use Rattle.tests_sym.proofs.terms.chain.Given as goal
