@@ -4,7 +4,7 @@ use Rattle.cells.specs.declared.Rule.{Rule}
 use Rattle.cells.specs.declared.Place.{Place}
 use Rattle.dialogue.specs.declared.request.Reply.{Reply}
 use Rattle.dialogue.specs.declared.request.Event.{Event}
-use Rattle.base_runs.specs.Run.{Answer, Ran, Asks, Ends, Stops, Stopped}
+use Rattle.dialogue.specs.Run.{Answer, Ran, Asks, Ends, Stops, Stopped}
 use Rattle.asm80_program.specs.Program.{Program}
 use Rattle.cpu80_steps.specs.State.{State80}
 use Rattle.cpu80_steps.specs.Step.{step80, replied80, machine80}

@@ -9,7 +9,7 @@ use Rattle.asm86_lines.specs.Image.{Image}
 use Rattle.i86.specs.Decoder.{decoded}
 use Rattle.dialogue.specs.declared.request.Reply.{Reply}
 use Rattle.dialogue.specs.declared.request.Event.{Event}
-use Rattle.base_runs.specs.Run.{Answer, Ran, Asks, Ends, Stops, choice_at}
+use Rattle.dialogue.specs.Run.{Answer, Ran, Asks, Ends, Stops, choice_at}
 use Rattle.cpu86_steps.specs.State.{State86}
 use Rattle.cpu86_steps.specs.Call.{Stop, replied86}
 use Rattle.cpu86_steps.specs.Start.{Start, start86}

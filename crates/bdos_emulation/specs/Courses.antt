@@ -6,7 +6,7 @@ use Rattle.i86.specs.Code.{Reads}
 use Rattle.i86.specs.Decoder.{decoded}
 use Rattle.dialogue.specs.declared.request.Reply.{Reply}
 use Rattle.dialogue.specs.declared.request.Event.{Event}
-use Rattle.base_runs.specs.Run.{Asks}
+use Rattle.dialogue.specs.Run.{Asks}
 use Rattle.asm80_program.specs.Program.{Program}
 use Rattle.asm86_lines.specs.Image.{Image}
 use Rattle.cpu80_steps.specs.State.{State80}

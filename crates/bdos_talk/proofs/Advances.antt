@@ -10,7 +10,7 @@ use Rattle.bdos_small.specs.declared.devices.EventAnswer.{EventAnswer}
 use Rattle.bdos_small.specs.declared.devices.EventAnswer.TheVariants.{Reply as Replies, InputEnded as NoInput, NoDrive as Refuses}
 use Rattle.bdos_small.specs.Supply.{Supply}
 use Rattle.bdos_small.specs.Events.{EventAnswered, event_answer}
-use Rattle.base_runs.specs.Run.{Waiting, Over}
+use Rattle.dialogue.specs.Run.{Waiting, Over}
 use Rattle.host.specs.Host.{HostState, said_more, Says}
 use Rattle.cmd_files.specs.Transfer.{CutsLine}
 use Rattle.bdos_talk.specs.declared.emulator.Turn.TheVariants.{Ran, Asks, Ended}

@@ -3,7 +3,7 @@ use Rattle.std.proofs.Common.{◌≡◌, ℕ, suc, ◌+◌, ◌-◌, ◌≤◌, 
 use Rattle.std.specs.Prelude.{All}
 use Rattle.std.proofs.lemmas.List.{append-nil}
 use Rattle.std.proofs.lemmas.List.Elements.{All-nil, All-append}
-use Rattle.base_runs.specs.Run.{Going, Stopped, IsNotStopped}
+use Rattle.dialogue.specs.Run.{Going, Stopped, IsNotStopped}
 use Rattle.host.specs.Host.{HostState, HasRisen, said_more, SameFaults}
 use Rattle.dialogue.specs.declared.request.Event.{Event}
 use Rattle.bdos_small.specs.Supply.{Supply}

@@ -3,7 +3,7 @@ use Rattle.std.proofs.Common.{◌≡◌, ℕ, suc, ◌≤◌, ◌<◌, List, [],
 use Rattle.std.proofs.lemmas.Bool.{cases_lt}
 use Rattle.std.proofs.Common.{⊎_elim}
 use Rattle.dialogue.specs.declared.request.Reply.{Reply}
-use Rattle.base_runs.specs.Run.{Status, Going, Waiting, Over, Stopped, IsNotStopped}
+use Rattle.dialogue.specs.Run.{Status, Going, Waiting, Over, Stopped, IsNotStopped}
 use Rattle.host.specs.Host.{HostState}
 use Rattle.bdos_small.specs.Supply.{Supply}
 use Rattle.bdos_talk.specs.declared.emulator.Why.{Why}

@@ -10,8 +10,8 @@ use Rattle.bdos_small.specs.declared.devices.EventAnswer.{EventAnswer}
 use Rattle.bdos_small.specs.declared.devices.EventAnswer.TheVariants.{Reply as Replies, InputEnded, NoDrive}
 use Rattle.bdos_small.specs.Supply.{Supply}
 use Rattle.bdos_small.specs.Events.{EventAnswered, event_answer}
-use Rattle.base_runs.specs.Run.{Answer, Ran, Asks, Ends, Stops, Machine, Run, Status, Going, Waiting, Over, Stopped, choice_at, turns, IsFrontOf}
-use Rattle.base_runs.proofs.Turns.{IsStill, turns_add, turns_grow, still_turns}
+use Rattle.dialogue.specs.Run.{Answer, Ran, Asks, Ends, Stops, Machine, Run, Status, Going, Waiting, Over, Stopped, choice_at, turns, IsFrontOf}
+use Rattle.dialogue.proofs.Turns.{IsStill, turns_add, turns_grow, still_turns}
 use Rattle.bdos_talk.specs.declared.emulator.Why.{Why}
 use Rattle.bdos_talk.specs.Talk.{Seen, told_status, seen, reply_then, reply_from, replies_to, IsAt, HasOneRun}
 use Rattle.bdos_talk.specs.Turns.{Past, Course, nothing, after_ran, after_asked, standing, taken, course_from}

@@ -4,8 +4,8 @@ use Rattle.dialogue.specs.declared.request.Reply.{Reply}
 use Rattle.dialogue.specs.declared.request.Event.{Event}
 use Rattle.dialogue.specs.declared.request.Event.TheVariants.{End}
 use Rattle.dialogue.specs.Fits.{fits_event}
-use Rattle.base_runs.specs.Run.{Answer, Ran, Asks, Ends, Stops, Machine, Run, Going, Waiting, Over, Stopped, choice_at, settle, turns}
-use Rattle.base_runs.proofs.Turns.{still_turns}
+use Rattle.dialogue.specs.Run.{Answer, Ran, Asks, Ends, Stops, Machine, Run, Going, Waiting, Over, Stopped, choice_at, settle, turns}
+use Rattle.dialogue.proofs.Turns.{still_turns}
 use Rattle.bdos_talk.specs.declared.emulator.Why.{Why}
 use Rattle.bdos_talk.specs.Talk.{seen}
 use Rattle.bdos_talk.specs.Turns.{Past, after_ran, after_asked, standing, taken, course_from}

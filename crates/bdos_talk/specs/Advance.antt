@@ -6,7 +6,7 @@ use Rattle.dialogue.specs.Fits.{fits_event}
 use Rattle.bdos_small.specs.declared.devices.EventAnswer.TheVariants.{Reply as Replies}
 use Rattle.bdos_small.specs.Supply.{Supply}
 use Rattle.bdos_small.specs.Events.{event_answer}
-use Rattle.base_runs.specs.Run.{Status, Waiting, Over, Stopped}
+use Rattle.dialogue.specs.Run.{Status, Waiting, Over, Stopped}
 use Rattle.host.specs.Host.{HostState, SameSaid, Says, SameFaults, WriteFailed}
 use Rattle.cmd_files.specs.Transfer.{CutsLine}
 use Rattle.bdos_talk.specs.declared.emulator.Why.{Why}

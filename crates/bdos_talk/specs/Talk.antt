@@ -6,7 +6,7 @@ use Rattle.bdos_small.specs.declared.devices.EventAnswer.{EventAnswer}
 use Rattle.bdos_small.specs.declared.devices.EventAnswer.TheVariants.{Reply as Replies, InputEnded as Ends, NoDrive as Refuses}
 use Rattle.bdos_small.specs.Supply.{Supply}
 use Rattle.bdos_small.specs.Events.{EventAnswered, event_answer}
-use Rattle.base_runs.specs.Run.{Status, Going, Waiting, Over, Stopped, Run, IsNotStopped, IsFrontOf}
+use Rattle.dialogue.specs.Run.{Status, Going, Waiting, Over, Stopped, Run, IsNotStopped, IsFrontOf}
 use Rattle.host.specs.Host.{HostState, Says, SameFaults, WriteFailed}
 use Rattle.cmd_files.specs.Transfer.{CutsLine}
 use Rattle.bdos_talk.specs.declared.emulator.Why.{Why}

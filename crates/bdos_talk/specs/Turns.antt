@@ -5,7 +5,7 @@ use Rattle.dialogue.specs.declared.request.Event.{Event}
 use Rattle.dialogue.specs.declared.request.Event.TheVariants.{End}
 use Rattle.dialogue.specs.Fits.{fits_event}
 use Rattle.dialogue.specs.Lawful.{IsLawfulEvent}
-use Rattle.base_runs.specs.Run.{Machine, Status, Going, Waiting, Over, Stopped, turns}
+use Rattle.dialogue.specs.Run.{Machine, Status, Going, Waiting, Over, Stopped, turns}
 use Rattle.bdos_talk.specs.declared.emulator.Why.{Why}
 use Rattle.bdos_talk.specs.declared.emulator.Turn.{Turn}
 use Rattle.bdos_talk.specs.declared.emulator.Turn.TheVariants.{Ran, Asks, Ended, Stopped as HasStopped}

@@ -8,8 +8,8 @@ use Rattle.flow.specs.declared.node.Node.TheVariants.{Start}
 use Rattle.flow.specs.Blocks.{block_at, IsLeader, BlocksCut}
 use Rattle.flow.specs.Solving.{Needs, AreAllNeeds}
 use Rattle.sym_blocks.specs.Block80.{IsBlock}
-use Rattle.sym_texts.specs.Needed.{needed_by}
-use Rattle.sym_texts.proofs.Blocks.{may_run}
+use Rattle.sym_runs.specs.Needed.{needed_by}
+use Rattle.sym_runs.proofs.Blocks.{may_run}
 use Rattle.block_check.specs.Kept.{AreKept, KeepsNeeds}
 
 pub kept_once : (p : Program) (a : ℕ) (o : Option ℕ) (x y : Parts) → AreKept p a o x → AreKept p a o y → x ≡ y

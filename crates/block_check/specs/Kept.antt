@@ -3,7 +3,7 @@ use Rattle.std.specs.Prelude.{◌≡◌, ℕ, Option, Some, None, IsTrue}
 use Rattle.cells.specs.Parts.{Parts, nothing}
 use Rattle.sym_blocks.specs.Outcome.{Exit, One, Sys}
 use Rattle.sym_blocks.specs.BlockMatch.{Keeps, kept_at}
-use Rattle.sym_texts.specs.Ones.{all_kept}
+use Rattle.sym_runs.specs.Ones.{all_kept}
 use Rattle.asm80_program.specs.Program.{Program}
 use Rattle.flow.specs.declared.node.Node.TheVariants.{Start, Return}
 use Rattle.flow.specs.Blocks.{block_at}

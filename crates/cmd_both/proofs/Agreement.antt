@@ -7,8 +7,8 @@ use Rattle.i86.specs.declared.Instr86.{Instr86}
 use Rattle.i86.specs.Code.{Reads}
 use Rattle.dialogue.specs.declared.blocks.Block.{Block}
 use Rattle.dialogue.specs.declared.request.Reply.{Reply}
-use Rattle.base_runs.specs.Run.{Status, Going, Waiting, Over, Stopped, IsNotStopped, IsFrontOf}
-use Rattle.base_runs.specs.Same.{SameDialogue}
+use Rattle.dialogue.specs.Run.{Status, Going, Waiting, Over, Stopped, IsNotStopped, IsFrontOf}
+use Rattle.dialogue.specs.Same.{SameDialogue}
 use Rattle.cells.specs.declared.Rule.{Rule}
 use Rattle.asm80_program.specs.Program.{Program}
 use Rattle.asm86_lines.specs.Image.{Image}
@@ -17,7 +17,7 @@ use Rattle.cpu80_steps.specs.State.{State80}
 use Rattle.cpu80_steps.specs.Start.{IsPage, run80}
 use Rattle.cpu86_steps.specs.State.{State86}
 use Rattle.cpu86_steps.specs.Call.{Stop}
-use Rattle.base_runs.specs.Fill.{IsFill}
+use Rattle.dialogue.specs.Fill.{IsFill}
 use Rattle.cpu86_steps.specs.Start.{IsStart, AreChoices, run86}
 use Rattle.bdos_small.specs.Supply.{Supply}
 use Rattle.bdos_talk.specs.declared.emulator.Why.{Why}

@@ -14,10 +14,10 @@ use Rattle.bdos_disk.specs.Reading.{IsFaultOf}
 use Rattle.bdos_small.specs.Supply.{Supply}
 use Rattle.bdos_talk.specs.declared.fault.TalkFault.TheVariants.{Unsaid as Untold}
 use Rattle.bdos_talk.specs.declared.running.Conversation.{Conversation}
-use Rattle.cmd_reports.specs.declared.stop.Stop.{Stop}
-use Rattle.cmd_reports.specs.declared.stop.Stop.TheVariants.{CodeTooLarge, OutOfMemory}
-use Rattle.cmd_reports.specs.Lines.{status_of}
-use Rattle.cmd_reports.specs.Said.{whole, failed, no_memory as unfinished, Closes}
+use Rattle.cmd_inputs.specs.declared.stop.Stop.{Stop}
+use Rattle.cmd_inputs.specs.declared.stop.Stop.TheVariants.{CodeTooLarge, OutOfMemory}
+use Rattle.cmd_inputs.specs.Lines.{status_of}
+use Rattle.cmd_inputs.specs.Said.{whole, failed, no_memory as unfinished, Closes}
 use Rattle.cmd_inputs.specs.Files.{input_limit, NoneFailed, IsTold}
 use Rattle.cmd_inputs.specs.Sources.{SourceStops, of_line as LineStops, of_program as ProgramStops}
 use Rattle.cmd_inputs.proofs.Told.{told_whole, read_stops, not_unsaid, closes_reads, closes_status, memory_status}

@@ -7,14 +7,14 @@ use Rattle.asm80_program.specs.Program.{Program}
 use Rattle.asm86_lines.specs.Image.{Image}
 use Rattle.host.specs.Host.{HostState, SameFiles, OnlyReads, OnlySays, SameFaults}
 use Rattle.cpu80_steps.specs.Start.{IsPage}
-use Rattle.base_runs.specs.Fill.{IsFill}
+use Rattle.dialogue.specs.Fill.{IsFill}
 use Rattle.cmd_words.specs.Words.{Both}
 use Rattle.bdos_small.specs.Supply.{Supply}
 use Rattle.bdos_talk.specs.declared.fault.TalkFault.{TalkFault}
 use Rattle.bdos_talk.specs.declared.fault.TalkFault.TheVariants.{Unsaid as Untold, Memory as NoMemory}
 use Rattle.bdos_talk.specs.declared.running.Conversation.{Conversation}
 use Rattle.bdos_talk.specs.Talk.{HasOneRun}
-use Rattle.cmd_reports.specs.declared.stop.Stop.{Stop}
+use Rattle.cmd_inputs.specs.declared.stop.Stop.{Stop}
 use Rattle.cmd_run80.specs.declared.halt.Halt.{Halt}
 use Rattle.cmd_run80.specs.declared.halt.Halt.TheVariants.{By, Unsaid}
 use Rattle.cmd_run80.specs.Ends.{steps_of, Halts, halt_of_talk}
@@ -22,9 +22,9 @@ use Rattle.cmd_run80.specs.Keeping.{is_kept, kept_name, Keeps, KeepStops, DiskAl
 use Rattle.cmd_run80.specs.Runs80.{IsLineOf}
 use Rattle.cmd_run80.specs.Supplies.{fill_by}
 use Rattle.cmd_run80.proofs.Leaving.{end_has_line}
-use Rattle.cmd_reports.proofs.Said.{closes_files}
+use Rattle.cmd_inputs.proofs.Said.{closes_files}
 use Rattle.cmd_run80.proofs.Kept.{same_alone, alone_behind, alone_kept, alone_lost}
-use Rattle.cmd_reports.specs.Lines.{both_line}
+use Rattle.cmd_inputs.specs.Lines.{both_line}
 use Rattle.cmd_inputs.proofs.Told.{done_files}
 use Rattle.cmd_both.specs.Lasts.{EndsBy}
 use Rattle.cmd_both.specs.Loads.{Loads, LoadStops}

@@ -6,8 +6,8 @@ use Rattle.asm86_lines.specs.declared.line.Line86.{Line86}
 use Rattle.host.specs.Host.{HostState}
 use Rattle.bdos_small.specs.Supply.{Supply}
 use Rattle.cmd_words.specs.Words.{Both}
-use Rattle.cmd_reports.specs.declared.stop.Stop.{Stop}
-use Rattle.cmd_reports.specs.declared.stop.Stop.TheVariants.{CodeTooLarge}
+use Rattle.cmd_inputs.specs.declared.stop.Stop.{Stop}
+use Rattle.cmd_inputs.specs.declared.stop.Stop.TheVariants.{CodeTooLarge}
 use Rattle.cmd_inputs.specs.Files.{input_limit, NoneFailed, IsTold}
 use Rattle.cmd_run80.specs.Supplies.{Given, SupplyIsTold, HasDisk}
 use Rattle.cmd_run80.specs.Outcomes.{HasStatus}

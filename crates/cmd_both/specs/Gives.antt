@@ -5,9 +5,9 @@ use Rattle.host.specs.Host.{HostState, OnlyReads}
 use Rattle.bdos_talk.specs.declared.fault.TalkFault.TheVariants.{Unsaid as Untold, Memory as NoMemory}
 use Rattle.bdos_talk.specs.declared.running.Conversation.{Conversation}
 use Rattle.cmd_words.specs.Words.{Both}
-use Rattle.cmd_reports.specs.declared.stop.Stop.{Stop}
-use Rattle.cmd_reports.specs.declared.stop.Stop.TheVariants.{OutOfMemory}
-use Rattle.cmd_reports.specs.Said.{Closes}
+use Rattle.cmd_inputs.specs.declared.stop.Stop.{Stop}
+use Rattle.cmd_inputs.specs.declared.stop.Stop.TheVariants.{OutOfMemory}
+use Rattle.cmd_inputs.specs.Said.{Closes}
 use Rattle.cmd_run80.specs.declared.halt.Halt.{Halt}
 use Rattle.cmd_run80.specs.declared.halt.Halt.TheVariants.{By, Unsaid}
 use Rattle.cmd_run80.specs.Ends.{steps_of, unsaid_status}

@@ -2,9 +2,9 @@
 use Rattle.std.specs.Prelude.{◌≡◌, ℕ, Result, Ok, Err}
 use Rattle.std.specs.String.{string_bytes}
 use Rattle.host.specs.Host.{HostState}
-use Rattle.cmd_reports.specs.declared.stop.Stop.{Stop}
-use Rattle.cmd_reports.specs.Lines.{both_line, line_of}
-use Rattle.cmd_reports.specs.Said.{IsDone, Closes}
+use Rattle.cmd_inputs.specs.declared.stop.Stop.{Stop}
+use Rattle.cmd_inputs.specs.Lines.{both_line, line_of}
+use Rattle.cmd_inputs.specs.Said.{IsDone, Closes}
 use Rattle.cmd_both.specs.declared.last.Last.{Last}
 use Rattle.cmd_both.specs.declared.last.Last.TheVariants.{Ended, Stopped}
 

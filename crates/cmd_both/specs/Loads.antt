@@ -8,8 +8,8 @@ use Rattle.asm86_lines.specs.Image.{Image, IsImage}
 use Rattle.host.specs.Host.{HostState, SameFaults, OnlyReads}
 use Rattle.bdos_small.specs.Supply.{Supply}
 use Rattle.cmd_words.specs.Words.{Run80, Both}
-use Rattle.cmd_reports.specs.declared.stop.Stop.{Stop}
-use Rattle.cmd_reports.specs.declared.stop.Stop.TheVariants.{OutOfMemory, CodeTooLarge}
+use Rattle.cmd_inputs.specs.declared.stop.Stop.{Stop}
+use Rattle.cmd_inputs.specs.declared.stop.Stop.TheVariants.{OutOfMemory, CodeTooLarge}
 use Rattle.cmd_run80.specs.Runs80 as tagged
 use Rattle.xlt_translation.specs.Names.{Same}
 use Rattle.xlt_translation.specs.declared.translation.Mode.TheVariants.{Lean}

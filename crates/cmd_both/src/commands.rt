@@ -15,7 +15,7 @@ use crate::loading::{Loaded, load};
 use crate::making::make_runs;
 use asm80_values::source_has_one_outcome;
 use bdos_disk::disks_read_back;
-use cmd_reports::say_stop;
+use cmd_inputs::say_stop;
 use cmd_run80::{Halt, keep_disk, kept_name, line_of, steps_of, unsaid_status};
 use cmd_words::Both;
 use host::Host;

@@ -2,7 +2,7 @@
 ghost use Rattle.std.specs.Prelude.{◌≡◌, IfOk};
 ghost use Rattle.cmd_both.specs.Lasts.{IsMade, came_of, steps_of, EndsBy};
 
-use cmd_reports::{Stop, both_line, say_done, say_made};
+use cmd_inputs::{Stop, both_line, say_done, say_made};
 use host::Host;
 use std::alloc::{AllocError, Global};
 

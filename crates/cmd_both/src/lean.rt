@@ -9,7 +9,7 @@ ghost use Rattle.cmd_both.specs.Loads.{HasLean, LeanStops};
 use asm80_program::Program80;
 use asm86_image::{Image86, image};
 use asm86_lines::Line86;
-use cmd_reports::Stop;
+use cmd_inputs::Stop;
 use std::alloc::{AllocError, Global};
 use xlt_translation::{CoreFault, Mode, own_texts_are_same, translate};
 

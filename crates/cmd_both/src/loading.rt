@@ -13,7 +13,7 @@ use asm80_program::Program80;
 use asm86_image::Image86;
 use bdos_disk::disks_read_back;
 use bdos_small::Devices;
-use cmd_reports::Stop;
+use cmd_inputs::Stop;
 use cmd_run80::{Halt, Named, Supplies, devices_of, fill_of, read_program};
 use cmd_words::Both;
 use host::Host;

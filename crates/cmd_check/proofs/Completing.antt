@@ -14,10 +14,10 @@ use Rattle.asm80_program.specs.Program.{Program}
 use Rattle.asm80_source.specs.Source.{IsSource, SourceRule, IsNoSource, OfLine, OfProgram}
 use Rattle.xlt_core.specs.Names.{Finding, Shown, NotShown as NotFound, IsFinding, OneFinding}
 use Rattle.cmd_words.specs.Words.{Check}
-use Rattle.cmd_reports.specs.declared.stop.Stop.{Stop}
-use Rattle.cmd_reports.specs.declared.stop.Stop.TheVariants.{OutOfMemory, NotShown}
-use Rattle.cmd_reports.specs.Lines.{status_of}
-use Rattle.cmd_reports.specs.Said.{IsDone, whole, failed, no_memory, Closes}
+use Rattle.cmd_inputs.specs.declared.stop.Stop.{Stop}
+use Rattle.cmd_inputs.specs.declared.stop.Stop.TheVariants.{OutOfMemory, NotShown}
+use Rattle.cmd_inputs.specs.Lines.{status_of}
+use Rattle.cmd_inputs.specs.Said.{IsDone, whole, failed, no_memory, Closes}
 use Rattle.cmd_inputs.specs.Files.{NoneFailed, IsTold, input_limit, text_limit}
 use Rattle.cmd_inputs.specs.Sources.{of_line, of_program, stop_of_rule}
 use Rattle.cmd_inputs.specs.Texts.{IsNoImage, unread, refused as image_refused, stop_of_image}

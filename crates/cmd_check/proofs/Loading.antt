@@ -10,8 +10,8 @@ use Rattle.asm86_image.specs.declared.fault.ImageFault.TheVariants.{Line}
 use Rattle.asm80_program.specs.Program.{Program}
 use Rattle.asm80_source.specs.Source.{IsSource}
 use Rattle.cmd_words.specs.Words.{Check}
-use Rattle.cmd_reports.specs.declared.stop.Stop.{Stop}
-use Rattle.cmd_reports.specs.Lines.{shown_line}
+use Rattle.cmd_inputs.specs.declared.stop.Stop.{Stop}
+use Rattle.cmd_inputs.specs.Lines.{shown_line}
 use Rattle.cmd_inputs.specs.Files.{IsWhole, ReadStops, failed, too_long, no_memory, input_limit, text_limit}
 use Rattle.cmd_inputs.specs.Texts.{unread, refused as image_refused, stop_of_image, LinesStop, breaks}
 use Rattle.cmd_check.specs.Checks.{ImageStops, Reads, Stops, no_source, no_text, refused, no_image, unlike, out_of_memory}

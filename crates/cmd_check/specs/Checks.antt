@@ -13,10 +13,10 @@ use Rattle.asm80_source.specs.Source.{IsSource}
 use Rattle.sym_blocks.specs.declared.reason.Reason.{Reason}
 use Rattle.xlt_core.specs.Names.{Same, Shown as IsFoundShown, NotShown as IsFoundNot, IsFinding}
 use Rattle.cmd_words.specs.Words.{Check}
-use Rattle.cmd_reports.specs.declared.stop.Stop.{Stop}
-use Rattle.cmd_reports.specs.declared.stop.Stop.TheVariants.{OutOfMemory, NotShown}
-use Rattle.cmd_reports.specs.Lines.{shown_line}
-use Rattle.cmd_reports.specs.Said.{IsDone, Closes}
+use Rattle.cmd_inputs.specs.declared.stop.Stop.{Stop}
+use Rattle.cmd_inputs.specs.declared.stop.Stop.TheVariants.{OutOfMemory, NotShown}
+use Rattle.cmd_inputs.specs.Lines.{shown_line}
+use Rattle.cmd_inputs.specs.Said.{IsDone, Closes}
 use Rattle.cmd_inputs.specs.Files.{IsWhole, ReadStops, input_limit, text_limit}
 use Rattle.cmd_inputs.specs.Sources.{SourceStops}
 use Rattle.cmd_inputs.specs.Texts.{IsNoImage, stop_of_image}

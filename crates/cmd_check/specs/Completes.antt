@@ -9,9 +9,9 @@ use Rattle.asm80_program.specs.Program.{Program}
 use Rattle.asm80_source.specs.Source.{IsSource, IsNoSource, SourceRule}
 use Rattle.xlt_core.specs.Names.{Finding, Shown, NotShown as NotFound, IsFinding}
 use Rattle.cmd_words.specs.Words.{Check}
-use Rattle.cmd_reports.specs.declared.stop.Stop.{Stop}
-use Rattle.cmd_reports.specs.declared.stop.Stop.TheVariants.{NotShown}
-use Rattle.cmd_reports.specs.Lines.{status_of}
+use Rattle.cmd_inputs.specs.declared.stop.Stop.{Stop}
+use Rattle.cmd_inputs.specs.declared.stop.Stop.TheVariants.{NotShown}
+use Rattle.cmd_inputs.specs.Lines.{status_of}
 use Rattle.cmd_inputs.specs.Files.{NoneFailed, IsTold, input_limit, text_limit}
 use Rattle.cmd_inputs.specs.Sources.{stop_of_rule}
 use Rattle.cmd_inputs.specs.Texts.{IsNoImage, stop_of_image}

@@ -12,7 +12,7 @@ use crate::inputs::load;
 use asm80_values::source_has_one_outcome;
 use asm86_image::images_exclude_refusals;
 use asm86_text::text_has_one_reading;
-use cmd_reports::{Stop, say_done, say_stop, shown_line};
+use cmd_inputs::{Stop, say_done, say_stop, shown_line};
 use cmd_words::Check;
 use host::Host;
 use std::alloc::Global;

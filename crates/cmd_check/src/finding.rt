@@ -5,7 +5,7 @@ ghost use Rattle.cmd_check.specs.Checks.{IsShown, FindStops};
 
 use asm80_program::Program80;
 use asm86_lines::Line86;
-use cmd_reports::Stop;
+use cmd_inputs::Stop;
 use std::alloc::Global;
 use xlt_core::{Finding, validate};
 

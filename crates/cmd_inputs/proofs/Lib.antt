@@ -1,2 +1,4 @@
 pub mod Giving
 pub mod Told
+pub mod Said
+pub mod Lines

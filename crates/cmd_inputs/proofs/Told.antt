@@ -4,10 +4,10 @@ use Rattle.std.specs.Prelude.{Result, Ok, Err, IsErrAnd, IfErr}
 use Rattle.host.specs.Host.{HostState, FileTold, Holds, Missing, IsFile, HasRisen, SameFiles, SameFaults}
 use Rattle.host.specs.Host.{ReadFailed as ReadFails, WriteFailed as WriteFails}
 use Rattle.cmd_files.specs.Transfer.{IsLonger}
-use Rattle.cmd_reports.specs.declared.stop.Stop.{Stop}
-use Rattle.cmd_reports.specs.declared.stop.Stop.TheVariants.{OutOfMemory}
-use Rattle.cmd_reports.specs.Lines.{status_of}
-use Rattle.cmd_reports.specs.Said.{IsDone, whole, failed as unfinished, no_memory as out_of_memory, Closes, said, unsaid}
+use Rattle.cmd_inputs.specs.declared.stop.Stop.{Stop}
+use Rattle.cmd_inputs.specs.declared.stop.Stop.TheVariants.{OutOfMemory}
+use Rattle.cmd_inputs.specs.Lines.{status_of}
+use Rattle.cmd_inputs.specs.Said.{IsDone, whole, failed as unfinished, no_memory as out_of_memory, Closes, said, unsaid}
 use Rattle.cmd_inputs.specs.Files.{input_limit, IsWhole, IsInput, ReadStops, failed, too_long, no_memory, InputStops, NoneFailed, IsTold, InputIsTold}
 
 -- a result that is an error is judged as one

@@ -4,8 +4,8 @@ use Rattle.std.specs.Borrow.{Bor}
 use Rattle.host.specs.Host.{HostState, Holds, IsFile, HasRisen, SameFaults}
 use Rattle.host.specs.Host.{ReadFailed as ReadFails}
 use Rattle.cmd_files.specs.Transfer.{IsLonger}
-use Rattle.cmd_reports.specs.declared.stop.Stop.{Stop}
-use Rattle.cmd_reports.specs.declared.stop.Stop.TheVariants.{ReadFailed, OutOfMemory, FileTooLong}
+use Rattle.cmd_inputs.specs.declared.stop.Stop.{Stop}
+use Rattle.cmd_inputs.specs.declared.stop.Stop.TheVariants.{ReadFailed, OutOfMemory, FileTooLong}
 
 -- the most bytes of a text, and of a source, the console's input or the bytes of the ports
 abbrev pub text_limit : ℕ

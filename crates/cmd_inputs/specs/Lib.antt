@@ -1,3 +1,5 @@
 pub mod Files
 pub mod Sources
 pub mod Texts
+pub mod Lines
+pub mod Said

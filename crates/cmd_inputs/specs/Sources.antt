@@ -7,9 +7,9 @@ use Rattle.asm80_program.specs.Program.{Program}
 use Rattle.asm80_source.specs.declared.rule.AsmRule.{AsmRule}
 use Rattle.asm80_source.specs.Assembly.{IsAssembled, IsRefused}
 use Rattle.asm80_source.specs.Source.{IsSource, IsNoSource, SourceRule, OfLine, OfProgram}
-use Rattle.cmd_reports.specs.declared.stop.Stop.{Stop}
-use Rattle.cmd_reports.specs.declared.stop.Stop.TheVariants.{SourceLine, SourceProgram}
-use Rattle.cmd_reports.specs.Lines.{line_of}
+use Rattle.cmd_inputs.specs.declared.stop.Stop.{Stop}
+use Rattle.cmd_inputs.specs.declared.stop.Stop.TheVariants.{SourceLine, SourceProgram}
+use Rattle.cmd_inputs.specs.Lines.{line_of}
 use Rattle.cmd_inputs.specs.Files.{IsWhole, input_limit}
 
 -- why the bytes give no program: they are no source, by this line and rule

@@ -10,8 +10,8 @@ use Rattle.asm86_text.specs.Stream.{TextGives}
 use Rattle.asm86_image.specs.declared.fault.ImageFault.{ImageFault}
 use Rattle.asm86_image.specs.declared.fault.ImageFault.TheVariants.{Line, CodeTooLarge, Short, Memory}
 use Rattle.asm86_image.specs.Refusals.{ImageRefused}
-use Rattle.cmd_reports.specs.declared.stop.Stop.{Stop}
-use Rattle.cmd_reports.specs.declared.stop.Stop.TheVariants.{TextLine, ShortJump, CodeTooLarge as TooLarge, OutOfMemory}
+use Rattle.cmd_inputs.specs.declared.stop.Stop.{Stop}
+use Rattle.cmd_inputs.specs.declared.stop.Stop.TheVariants.{TextLine, ShortJump, CodeTooLarge as TooLarge, OutOfMemory}
 use Rattle.cmd_inputs.specs.Files.{IsWhole, text_limit}
 
 -- the bytes are a text whose lines have this image

@@ -4,8 +4,8 @@ ghost use Rattle.host.specs.Host.{SameFaults, OnlyReads};
 ghost use Rattle.cmd_files.specs.Transfer.{GivesFile};
 ghost use Rattle.cmd_inputs.specs.Files.{IsWhole, IsInput, ReadStops, InputStops};
 
+use crate::stop::Stop;
 use cmd_files::{ReadFault, Sink, read_into};
-use cmd_reports::Stop;
 use host::Host;
 use std::alloc::Global;
 

@@ -7,11 +7,11 @@ ghost use Rattle.cmd_inputs.specs.Files.{ReadStops, input_limit};
 ghost use Rattle.cmd_inputs.specs.Sources.{ReadsSource, SourceGives, StatementsGive};
 
 use crate::files::{SOURCE_LIMIT, read_named_into};
+use crate::stop::Stop;
 use asm80_program::Program80;
 use asm80_text::{Lines, ReadFault, Stmt80};
 use asm80_values::{AsmFault, assemble};
 use cmd_files::Sink;
-use cmd_reports::Stop;
 use host::Host;
 use std::alloc::{AllocError, Global};
 

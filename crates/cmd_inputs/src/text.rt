@@ -7,9 +7,9 @@ ghost use Rattle.cmd_inputs.specs.Files.{ReadStops, text_limit};
 ghost use Rattle.cmd_inputs.specs.Texts.{ReadsText};
 
 use crate::files::{TEXT_LIMIT, read_named_into};
+use crate::stop::Stop;
 use asm86_text::{Line86, Text86, TextFault};
 use cmd_files::Sink;
-use cmd_reports::Stop;
 use host::Host;
 use std::alloc::{AllocError, Global};
 

@@ -19,10 +19,10 @@ use Rattle.bdos_talk.specs.declared.running.Conversation.{Conversation}
 use Rattle.bdos_talk.specs.declared.running.RunEnd.{RunEnd}
 use Rattle.bdos_talk.specs.declared.running.RunEnd.TheVariants.{Ended, Stopped as HasStopped, StepLimit, InputEnded, NoDrive}
 use Rattle.bdos_talk.specs.Talk.{Seen, IsOutcome}
-use Rattle.cmd_reports.specs.declared.stop.Stop.{Stop}
-use Rattle.cmd_reports.specs.declared.stop.Stop.TheVariants.{SourceLine, SourceProgram, BadDisk, OutOfMemory}
-use Rattle.cmd_reports.specs.Lines.{status_of}
-use Rattle.cmd_reports.specs.Said.{whole, failed, no_memory as unfinished, Closes}
+use Rattle.cmd_inputs.specs.declared.stop.Stop.{Stop}
+use Rattle.cmd_inputs.specs.declared.stop.Stop.TheVariants.{SourceLine, SourceProgram, BadDisk, OutOfMemory}
+use Rattle.cmd_inputs.specs.Lines.{status_of}
+use Rattle.cmd_inputs.specs.Said.{whole, failed, no_memory as unfinished, Closes}
 use Rattle.cmd_inputs.specs.Files.{input_limit, NoneFailed, IsTold}
 use Rattle.cmd_run80.specs.Ends.{steps_of}
 use Rattle.cmd_run80.specs.Keeping.{kept_name}

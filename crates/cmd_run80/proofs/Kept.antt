@@ -3,11 +3,11 @@ use Rattle.std.proofs.Common.{◌≡◌, ℕ, ◌≤◌, inl, inr, ⊎_elim, Lis
 use Rattle.std.specs.Prelude.{Result, Ok, Err}
 use Rattle.host.specs.Host.{HostState, HasRisen, SameFiles, OnlyFileChanged, SameFaults}
 use Rattle.bdos_disk.specs.Stored.{Stored}
-use Rattle.cmd_reports.specs.declared.stop.Stop.{Stop}
-use Rattle.cmd_reports.specs.declared.stop.Stop.TheVariants.{OutOfMemory}
-use Rattle.cmd_reports.specs.Lines.{ended_line}
-use Rattle.cmd_reports.specs.Said.{Closes, said, unsaid}
-use Rattle.cmd_reports.proofs.Said.{closes_files}
+use Rattle.cmd_inputs.specs.declared.stop.Stop.{Stop}
+use Rattle.cmd_inputs.specs.declared.stop.Stop.TheVariants.{OutOfMemory}
+use Rattle.cmd_inputs.specs.Lines.{ended_line}
+use Rattle.cmd_inputs.specs.Said.{Closes, said, unsaid}
+use Rattle.cmd_inputs.proofs.Said.{closes_files}
 use Rattle.cmd_inputs.specs.Files.{NoneFailed}
 use Rattle.cmd_inputs.proofs.Told.{done_files}
 use Rattle.cmd_run80.specs.Keeping.{named_if, Keeps, WriteStops, no_memory, failed, host_memory, KeepStops, DiskAlone}

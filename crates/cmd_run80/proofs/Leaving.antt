@@ -17,7 +17,7 @@ use Rattle.dialogue.specs.declared.request.Event.TheVariants.{Call as Asked, In 
 use Rattle.dialogue.specs.Shape.{shape_of}
 use Rattle.dialogue.specs.Fits.{fits_event}
 use Rattle.dialogue.specs.Table.{row_of}
-use Rattle.base_runs.specs.Run.{Answer, Ran, Asks, Ends, Stops, Status, Going, Waiting, Over, Stopped, Run, take_reply, settle, turn_by, turn, turns, start_run}
+use Rattle.dialogue.specs.Run.{Answer, Ran, Asks, Ends, Stops, Status, Going, Waiting, Over, Stopped, Run, take_reply, settle, turn_by, turn, turns, start_run}
 use Rattle.asm80_program.specs.declared.program.Placed.{Placed}
 use Rattle.asm80_program.specs.Program.{Program, IsProgram, instr_at, is_start, line_of_placed, placed_in}
 use Rattle.cpu80_steps.specs.State.{State80, num_of}

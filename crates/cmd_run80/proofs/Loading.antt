@@ -4,7 +4,7 @@ use Rattle.std.specs.Prelude.{Option, Some, None}
 use Rattle.host.specs.Host.{HostState, HasRisen, OnlyReads, SameFaults}
 use Rattle.cmd_files.specs.Transfer.{IsLonger}
 use Rattle.cmd_words.specs.Words.{RunOptions}
-use Rattle.cmd_reports.specs.declared.stop.Stop.{Stop}
+use Rattle.cmd_inputs.specs.declared.stop.Stop.{Stop}
 use Rattle.cmd_inputs.specs.Files.{IsWhole, IsInput, ReadStops, failed, too_long, no_memory, InputStops, input_limit}
 use Rattle.host.specs.Host.{IsFile}
 use Rattle.cmd_run80.specs.Supplies.{Given, IsDiskFile, DiskFileStops, IsSupplied, SupplyStops, no_input, no_disk_file, no_ports}

@@ -10,7 +10,7 @@ use Rattle.bdos_talk.specs.declared.fault.TalkFault.TheVariants.{Unsaid as Untol
 use Rattle.bdos_talk.specs.declared.running.Conversation.{Conversation}
 use Rattle.cmd_run80.specs.declared.halt.Halt.{Halt}
 use Rattle.cmd_run80.specs.declared.halt.Halt.TheVariants.{By, Unsaid}
-use Rattle.cmd_reports.specs.declared.stop.Stop.{Stop}
+use Rattle.cmd_inputs.specs.declared.stop.Stop.{Stop}
 use Rattle.cmd_run80.specs.Ends.{steps_of, Halts, halt_of_talk}
 use Rattle.cmd_run80.specs.Keeping.{is_kept, kept_name, Keeps, KeepStops, DiskAlone}
 use Rattle.cmd_run80.specs.Runs80.{Loads, LoadStops, RunsTo, IsCut, HasRun, HasCut, HasCome, LosesDisk, Stops, IsLineOf, IsHalted, unloaded, no_memory, no_line, unkept}

@@ -1,8 +1,8 @@
 -- What the files of the devices have, where the host tells them and no call of it fails.
 use Rattle.std.proofs.Common.{◌≡◌, ℕ, List, Option, Some, None, sym, ap, ◌∙◌}
 use Rattle.host.specs.Host.{HostState}
-use Rattle.cmd_reports.specs.declared.stop.Stop.{Stop}
-use Rattle.cmd_reports.specs.declared.stop.Stop.TheVariants.{OutOfMemory}
+use Rattle.cmd_inputs.specs.declared.stop.Stop.{Stop}
+use Rattle.cmd_inputs.specs.declared.stop.Stop.TheVariants.{OutOfMemory}
 use Rattle.cmd_words.specs.Words.{RunOptions}
 use Rattle.cmd_inputs.specs.Files.{input_limit, NoneFailed}
 use Rattle.cmd_inputs.proofs.Told.{told_whole, told_input, read_stops, input_stops}

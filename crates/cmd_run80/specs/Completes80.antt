@@ -9,8 +9,8 @@ use Rattle.bdos_disk.specs.DiskFile.{IsBadAt}
 use Rattle.bdos_small.specs.Supply.{Supply}
 use Rattle.cmd_words.specs.Words.{Run80}
 use Rattle.bdos_talk.specs.declared.running.Conversation.{Conversation}
-use Rattle.cmd_reports.specs.declared.stop.Stop.{Stop}
-use Rattle.cmd_reports.specs.declared.stop.Stop.TheVariants.{SourceLine, SourceProgram, BadDisk}
+use Rattle.cmd_inputs.specs.declared.stop.Stop.{Stop}
+use Rattle.cmd_inputs.specs.declared.stop.Stop.TheVariants.{SourceLine, SourceProgram, BadDisk}
 use Rattle.cmd_inputs.specs.Files.{input_limit, NoneFailed, IsTold}
 use Rattle.cmd_run80.specs.Ends.{steps_of}
 use Rattle.cmd_run80.specs.Supplies.{Given, SupplyIsTold, HasDisk}

@@ -9,8 +9,8 @@ use Rattle.bdos_talk.specs.declared.fault.TalkFault.TheVariants.{Unsaid as Untol
 use Rattle.bdos_talk.specs.declared.running.Conversation.{Conversation}
 use Rattle.bdos_talk.specs.declared.running.RunEnd.{RunEnd}
 use Rattle.bdos_talk.specs.declared.running.RunEnd.TheVariants.{Ended, Stopped, StepLimit as Limit, InputEnded as NoInput, NoDrive as Drive}
-use Rattle.cmd_reports.specs.declared.stop.Stop.{Stop}
-use Rattle.cmd_reports.specs.declared.stop.Stop.TheVariants.{OutOfMemory, LeftProfile, StepLimit, InputEnded, NoInstruction, StackSegment, OddCall, NoDrive}
+use Rattle.cmd_inputs.specs.declared.stop.Stop.{Stop}
+use Rattle.cmd_inputs.specs.declared.stop.Stop.TheVariants.{OutOfMemory, LeftProfile, StepLimit, InputEnded, NoInstruction, StackSegment, OddCall, NoDrive}
 use Rattle.cmd_run80.specs.declared.halt.Halt.{Halt}
 use Rattle.cmd_run80.specs.declared.halt.Halt.TheVariants.{By, Unsaid}
 

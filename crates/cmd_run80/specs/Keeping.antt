@@ -10,8 +10,8 @@ use Rattle.bdos_talk.specs.declared.emulator.Why.TheVariants.{Left, NoInstructio
 use Rattle.bdos_talk.specs.declared.running.RunEnd.{RunEnd}
 use Rattle.bdos_talk.specs.declared.running.RunEnd.TheVariants.{Ended, Stopped, StepLimit, InputEnded, NoDrive}
 use Rattle.cmd_files.specs.Transfer.{IsBeforeOrPart}
-use Rattle.cmd_reports.specs.declared.stop.Stop.{Stop}
-use Rattle.cmd_reports.specs.declared.stop.Stop.TheVariants.{WriteFailed, OutOfMemory}
+use Rattle.cmd_inputs.specs.declared.stop.Stop.{Stop}
+use Rattle.cmd_inputs.specs.declared.stop.Stop.TheVariants.{WriteFailed, OutOfMemory}
 
 abbrev pub is_kept_by : Why → Bool
 is_kept_by (Left place rule) = true

@@ -4,8 +4,8 @@ use Rattle.dialogue.specs.declared.request.Reply.{Reply}
 use Rattle.bdos_small.specs.Supply.{Supply}
 use Rattle.bdos_talk.specs.declared.running.Conversation.{Conversation}
 use Rattle.bdos_talk.specs.Talk.{Seen, IsOutcome}
-use Rattle.cmd_reports.specs.declared.stop.Stop.{Stop}
-use Rattle.cmd_reports.specs.Lines.{status_of}
+use Rattle.cmd_inputs.specs.declared.stop.Stop.{Stop}
+use Rattle.cmd_inputs.specs.Lines.{status_of}
 
 -- a run over devices comes to this
 abbrev pub ComesTo : (List Reply → ℕ → Seen) → Supply → ℕ → Conversation → Type 0

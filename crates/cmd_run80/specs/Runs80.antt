@@ -17,9 +17,9 @@ use Rattle.bdos_talk.specs.declared.running.RunEnd.{RunEnd}
 use Rattle.bdos_talk.specs.declared.running.RunEnd.TheVariants.{Ended, Stopped, StepLimit, InputEnded, NoDrive}
 use Rattle.bdos_talk.specs.Talk.{Seen, SaysRun, IsCutOff}
 use Rattle.bdos_emulation.specs.Courses.{course80}
-use Rattle.cmd_reports.specs.declared.stop.Stop.{Stop}
-use Rattle.cmd_reports.specs.declared.stop.Stop.TheVariants.{OutOfMemory}
-use Rattle.cmd_reports.specs.Said.{Closes}
+use Rattle.cmd_inputs.specs.declared.stop.Stop.{Stop}
+use Rattle.cmd_inputs.specs.declared.stop.Stop.TheVariants.{OutOfMemory}
+use Rattle.cmd_inputs.specs.Said.{Closes}
 use Rattle.cmd_run80.specs.declared.halt.Halt.{Halt}
 use Rattle.cmd_run80.specs.declared.halt.Halt.TheVariants.{By, Unsaid}
 use Rattle.cmd_inputs.specs.Files.{input_limit, IsWhole, ReadStops}

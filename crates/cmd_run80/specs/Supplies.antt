@@ -10,8 +10,8 @@ use Rattle.bdos_disk.specs.DiskFile.{disk_file}
 use Rattle.bdos_disk.specs.Reading.{IsFaultOf}
 use Rattle.bdos_small.specs.Supply.{Supply, first_supply}
 use Rattle.cmd_words.specs.Words.{RunOptions}
-use Rattle.cmd_reports.specs.declared.stop.Stop.{Stop}
-use Rattle.cmd_reports.specs.declared.stop.Stop.TheVariants.{OutOfMemory, BadDisk}
+use Rattle.cmd_inputs.specs.declared.stop.Stop.{Stop}
+use Rattle.cmd_inputs.specs.declared.stop.Stop.TheVariants.{OutOfMemory, BadDisk}
 use Rattle.cmd_inputs.specs.Files.{input_limit, IsWhole, IsInput, IsTold, ReadStops, InputStops, InputIsTold}
 
 -- the bytes of the files: the console's input, the disk's file and the bytes of the ports

@@ -3,7 +3,7 @@ ghost use Rattle.std.specs.Prelude.{◌≡◌};
 ghost use Rattle.cmd_run80.specs.Ends.{steps_of, stop_of_why};
 
 use bdos_talk::{Conversation, RunEnd, Why};
-use cmd_reports::Stop;
+use cmd_inputs::Stop;
 
 /// How many instructions ran, where the last of them ended the program; else why not. The limit is that of the run, and the
 /// line that of the instruction at which an 8080 left the profile.

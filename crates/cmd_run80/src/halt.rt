@@ -4,7 +4,7 @@ ghost use Rattle.cmd_run80.specs.Ends.{unsaid_status};
 
 use asm86_image::ImageFault;
 use bdos_talk::TalkFault;
-use cmd_reports::Stop;
+use cmd_inputs::Stop;
 use host::HostFault;
 use std::alloc::AllocError;
 
@@ -58,7 +58,7 @@ impl<'a> From<TalkFault> for Halt<'a> {
 
 impl<'a> From<AllocError> for Halt<'a> {
     ghost use Rattle.cmd_run80.specs.declared.halt.Halt.TheVariants.{By};
-    ghost use Rattle.cmd_reports.specs.declared.stop.Stop.TheVariants.{OutOfMemory};
+    ghost use Rattle.cmd_inputs.specs.declared.stop.Stop.TheVariants.{OutOfMemory};
 
     ghost from_gives = { λ _ halt. halt ≡ By OutOfMemory };
 

@@ -6,7 +6,7 @@ ghost use Rattle.cmd_run80.specs.Keeping.{is_kept, kept_name, HasKept, Keeps, Wr
 use bdos_small::Disk;
 use bdos_talk::{RunEnd, Why};
 use cmd_files::write_bytes;
-use cmd_reports::Stop;
+use cmd_inputs::Stop;
 use host::{Host, HostFault};
 use std::alloc::Global;
 

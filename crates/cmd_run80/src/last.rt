@@ -2,7 +2,7 @@
 ghost use Rattle.std.specs.Prelude.{◌≡◌, IfOk};
 ghost use Rattle.cmd_run80.specs.Lasts.{IsMade, came_of, EndsBy};
 
-use cmd_reports::{Stop, ended_line, say_done, say_made};
+use cmd_inputs::{Stop, ended_line, say_done, say_made};
 use host::Host;
 use std::alloc::{AllocError, Global};
 

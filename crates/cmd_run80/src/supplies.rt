@@ -5,8 +5,7 @@ ghost use Rattle.cmd_words.specs.ReadCommands.{run_options_read};
 ghost use Rattle.cmd_run80.specs.Supplies.{given_of, fill_by, IsDiskFile, DiskFileStops, IsSupplied, SupplyStops, HasDisk, stop_of_disk, DiskStops};
 
 use bdos_small::{Devices, Disk, DiskFault};
-use cmd_inputs::read_input;
-use cmd_reports::Stop;
+use cmd_inputs::{Stop, read_input};
 use cmd_words::RunOptions;
 use host::Host;
 use std::alloc::{AllocError, Global};

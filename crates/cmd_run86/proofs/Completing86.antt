@@ -20,10 +20,10 @@ use Rattle.bdos_disk.specs.Reading.{IsFaultOf}
 use Rattle.bdos_small.specs.Supply.{Supply}
 use Rattle.bdos_talk.specs.declared.running.Conversation.{Conversation}
 use Rattle.bdos_talk.specs.Talk.{Seen, IsOutcome}
-use Rattle.cmd_reports.specs.declared.stop.Stop.{Stop}
-use Rattle.cmd_reports.specs.declared.stop.Stop.TheVariants.{BadDisk, OutOfMemory}
-use Rattle.cmd_reports.specs.Lines.{status_of}
-use Rattle.cmd_reports.specs.Said.{whole, failed, no_memory as unfinished, Closes}
+use Rattle.cmd_inputs.specs.declared.stop.Stop.{Stop}
+use Rattle.cmd_inputs.specs.declared.stop.Stop.TheVariants.{BadDisk, OutOfMemory}
+use Rattle.cmd_inputs.specs.Lines.{status_of}
+use Rattle.cmd_inputs.specs.Said.{whole, failed, no_memory as unfinished, Closes}
 use Rattle.cmd_inputs.specs.Files.{text_limit, NoneFailed, IsTold}
 use Rattle.cmd_inputs.specs.Texts.{HasImage, IsNoImage, unread as Unread, refused as Refuses, stop_of_image}
 use Rattle.cmd_run80.specs.Ends.{steps_of}

@@ -8,7 +8,7 @@ use Rattle.asm86_image.specs.declared.fault.ImageFault.{ImageFault}
 use Rattle.asm86_image.specs.declared.fault.ImageFault.TheVariants.{Line, Memory}
 use Rattle.asm86_image.specs.Refusals.{ImageRefused}
 use Rattle.cmd_words.specs.Words.{Run86}
-use Rattle.cmd_reports.specs.declared.stop.Stop.{Stop}
+use Rattle.cmd_inputs.specs.declared.stop.Stop.{Stop}
 use Rattle.cmd_inputs.specs.Files.{IsWhole, text_limit}
 use Rattle.cmd_inputs.specs.Texts.{unread, refused, stop_of_image, LinesStop, breaks}
 use Rattle.cmd_run80.specs.Supplies.{Given, IsSupplied}

@@ -9,8 +9,8 @@ use Rattle.bdos_small.specs.Supply.{Supply}
 use Rattle.cmd_words.specs.Words.{Run86}
 use Rattle.bdos_talk.specs.declared.running.Conversation.{Conversation}
 use Rattle.asm86_image.specs.declared.fault.ImageFault.{ImageFault}
-use Rattle.cmd_reports.specs.declared.stop.Stop.{Stop}
-use Rattle.cmd_reports.specs.declared.stop.Stop.TheVariants.{BadDisk}
+use Rattle.cmd_inputs.specs.declared.stop.Stop.{Stop}
+use Rattle.cmd_inputs.specs.declared.stop.Stop.TheVariants.{BadDisk}
 use Rattle.cmd_inputs.specs.Files.{text_limit, NoneFailed, IsTold}
 use Rattle.cmd_inputs.specs.Texts.{HasImage, IsNoImage, stop_of_image}
 use Rattle.cmd_run80.specs.Ends.{steps_of}

@@ -16,10 +16,10 @@ use Rattle.bdos_talk.specs.declared.running.Conversation.{Conversation}
 use Rattle.bdos_talk.specs.Talk.{Seen, SaysRun, IsCutOff}
 use Rattle.bdos_emulation.specs.Courses.{course86}
 use Rattle.bdos_emulation.specs.Starts.{start_by}
-use Rattle.cmd_reports.specs.declared.stop.Stop.{Stop}
-use Rattle.cmd_reports.specs.declared.stop.Stop.TheVariants.{OutOfMemory}
+use Rattle.cmd_inputs.specs.declared.stop.Stop.{Stop}
+use Rattle.cmd_inputs.specs.declared.stop.Stop.TheVariants.{OutOfMemory}
 use Rattle.asm86_image.specs.declared.fault.ImageFault.{ImageFault}
-use Rattle.cmd_reports.specs.Said.{Closes}
+use Rattle.cmd_inputs.specs.Said.{Closes}
 use Rattle.cmd_run80.specs.declared.halt.Halt.{Halt}
 use Rattle.cmd_run80.specs.declared.halt.Halt.TheVariants.{By, Unsaid}
 use Rattle.cmd_inputs.specs.Files.{text_limit, IsWhole, ReadStops}

@@ -17,7 +17,7 @@ use asm86_text::text_has_one_reading;
 use bdos_disk::disks_read_back;
 use bdos_emulation::{Conversation, TalkFault, run_86};
 use bdos_small::Devices;
-use cmd_reports::say_stop;
+use cmd_inputs::say_stop;
 use cmd_run80::{Halt, Last, keep_disk, kept_name, last_of, say_ending, steps_of, unsaid_status};
 use cmd_words::Run86;
 use host::Host;

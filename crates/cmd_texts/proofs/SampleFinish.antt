@@ -2,10 +2,10 @@
 use Rattle.std.proofs.Common.{◌≡◌, ℕ, List, sym, ◌∙◌, subst, refl}
 use Rattle.host.specs.Host.{HostState}
 use Rattle.cmd_words.specs.Words.{Sample}
-use Rattle.cmd_reports.specs.declared.stop.Stop.{Stop}
-use Rattle.cmd_reports.specs.Lines.{memory_line}
-use Rattle.cmd_reports.specs.Said.{SaysLast, IsDone, whole, failed, no_memory, Closes, said, unsaid}
-use Rattle.sample_lines.specs.Sample.{sample_text}
+use Rattle.cmd_inputs.specs.declared.stop.Stop.{Stop}
+use Rattle.cmd_inputs.specs.Lines.{memory_line}
+use Rattle.cmd_inputs.specs.Said.{SaysLast, IsDone, whole, failed, no_memory, Closes, said, unsaid}
+use Rattle.sample_program.specs.Sample.{sample_text}
 use Rattle.cmd_texts.specs.Samples.{Gives, made, unwritten, unsaid as line_unsaid, no_memory as no_room, no_memory_to_write, no_memory_to_say, Completes}
 use Rattle.cmd_texts.specs.SampleWork.{Works, StopsBy, no_memory as stop_no_memory, unwritten as stop_unwritten}
 use Rattle.cmd_texts.proofs.WriteEnds.{risen_on, risen_behind, said_on, cut_on, writes_on, write_end}

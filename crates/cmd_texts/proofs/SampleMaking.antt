@@ -11,10 +11,10 @@ use Rattle.asm80_program.specs.Program.{Program}
 use Rattle.asm86_lines.specs.declared.line.Line86.{Line86}
 use Rattle.xlt_translation.specs.declared.translation.Mode.TheVariants.{Lean}
 use Rattle.xlt_translation.specs.Translation.{IsText, CodeFits, IsTooLarge}
-use Rattle.cmd_reports.specs.declared.stop.Stop.{Stop}
+use Rattle.cmd_inputs.specs.declared.stop.Stop.{Stop}
 use Rattle.cmd_inputs.specs.Sources.{SourceStops, of_line, of_program}
-use Rattle.sample_lines.specs.Sample.{sample_text, sample_statements}
-use Rattle.sample_lines.specs.Laws.{SampleIsRead}
+use Rattle.sample_program.specs.Sample.{sample_text, sample_statements}
+use Rattle.sample_program.specs.Laws.{SampleIsRead}
 use Rattle.cmd_texts.specs.SampleReport.{sample_top}
 use Rattle.cmd_texts.specs.Samples.{IsCount}
 

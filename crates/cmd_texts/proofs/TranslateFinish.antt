@@ -16,10 +16,10 @@ use Rattle.xlt_translation.specs.Translation.{IsText, code_size, CodeFits, IsToo
 use Rattle.xlt_translation.proofs.OneText.{OneText}
 use Rattle.i86.specs.Decode.{HasReader}
 use Rattle.xlt_translation.specs.Names.{Same}
-use Rattle.cmd_reports.specs.declared.stop.Stop.{Stop}
-use Rattle.cmd_reports.specs.declared.stop.Stop.TheVariants.{CodeTooLarge}
-use Rattle.cmd_reports.specs.Lines.{named_line, memory_line}
-use Rattle.cmd_reports.specs.Said.{SaysLine, SaysLast, IsDone, whole, failed, no_memory, Closes, said, unsaid}
+use Rattle.cmd_inputs.specs.declared.stop.Stop.{Stop}
+use Rattle.cmd_inputs.specs.declared.stop.Stop.TheVariants.{CodeTooLarge}
+use Rattle.cmd_inputs.specs.Lines.{named_line, memory_line}
+use Rattle.cmd_inputs.specs.Said.{SaysLine, SaysLast, IsDone, whole, failed, no_memory, Closes, said, unsaid}
 use Rattle.cmd_inputs.specs.Files.{ReadStops, failed as read_failed, too_long as file_too_long, no_memory as no_memory_to_read, NoneFailed, IsTold, input_limit}
 use Rattle.cmd_inputs.specs.Sources.{stop_of_rule, refusal_line}
 use Rattle.cmd_texts.specs.Translates.{mode_of, line_of_text, size_line, Accepts, Refuses, Exceeds, HasSame, Gives, translated, refused, unread, unwritten, unsaid as line_unsaid, no_memory as no_room, no_memory_to_write, no_memory_to_say, too_large, too_long, Decides}

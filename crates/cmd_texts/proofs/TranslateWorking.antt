@@ -7,7 +7,7 @@ use Rattle.asm80_program.specs.Program.{Program}
 use Rattle.asm80_source.specs.Source.{IsSource, OfLine, OfProgram}
 use Rattle.cmd_words.specs.Words.{Translate}
 use Rattle.xlt_translation.specs.Translation.{IsText, CodeFits}
-use Rattle.cmd_reports.specs.declared.stop.Stop.{Stop}
+use Rattle.cmd_inputs.specs.declared.stop.Stop.{Stop}
 use Rattle.cmd_inputs.specs.Files.{IsWhole, input_limit}
 use Rattle.cmd_inputs.specs.Sources.{SourceStops, of_line, of_program}
 use Rattle.cmd_texts.specs.Translates.{mode_of, line_of_text, Accepts}

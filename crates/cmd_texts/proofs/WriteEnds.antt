@@ -5,8 +5,8 @@ use Rattle.host.specs.declared.HostFault.{HostFault}
 use Rattle.host.specs.declared.HostFault.TheVariants.{Failed, Memory}
 use Rattle.host.specs.Host.{HostState, HasRisen, OnlyFileChanged, OnlyReads, OnlySays, OnlyWrites, SameSaid, Says, Rewrites, WriteFailed, said_more, rewritten}
 use Rattle.cmd_files.specs.Transfer.{IsBeforeOrPart, CutsLine}
-use Rattle.cmd_reports.specs.Lines.{memory_line}
-use Rattle.cmd_reports.specs.Said.{SaysLast, Closes, said, unsaid}
+use Rattle.cmd_inputs.specs.Lines.{memory_line}
+use Rattle.cmd_inputs.specs.Said.{SaysLast, Closes, said, unsaid}
 use Rattle.cmd_texts.specs.Writing.{Writes, WritesPart, FailsToWrite, SaysOfWrite, stop_of_write}
 
 -- a count that rose before stays risen where it does not fall

@@ -4,3 +4,5 @@ pub mod TranslateWork
 pub mod SampleReport
 pub mod Samples
 pub mod SampleWork
+pub mod Report
+pub mod Listing

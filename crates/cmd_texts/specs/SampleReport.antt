@@ -6,9 +6,9 @@ use Rattle.asm80_program.specs.Program.{Program}
 use Rattle.asm80_source.specs.Source.{IsSource}
 use Rattle.xlt_translation.specs.declared.translation.Mode.TheVariants.{Lean}
 use Rattle.xlt_translation.specs.Translation.{IsText, code_size, CodeFits}
-use Rattle.cmd_flags.specs.declared.savings.Saving.{Saving}
-use Rattle.cmd_flags.specs.Report.{sums, saves_any, AreSavings}
-use Rattle.sample_lines.specs.Sample.{sample_lines, sample_text}
+use Rattle.cmd_texts.specs.declared.savings.Saving.{Saving}
+use Rattle.cmd_texts.specs.Report.{sums, saves_any, AreSavings}
+use Rattle.sample_program.specs.Sample.{sample_lines, sample_text}
 
 -- the top of the program area that a made source is for, which is the top of a command without another
 abbrev pub sample_top : ℕ

@@ -2,12 +2,12 @@
 use Rattle.std.specs.Prelude.{◌≡◌, ℕ, List}
 use Rattle.host.specs.Host.{HostState, SameSaid, SameFaults}
 use Rattle.cmd_words.specs.Words.{Sample}
-use Rattle.cmd_reports.specs.declared.stop.Stop.{Stop}
-use Rattle.cmd_reports.specs.declared.stop.Stop.TheVariants.{OutOfMemory}
+use Rattle.cmd_inputs.specs.declared.stop.Stop.{Stop}
+use Rattle.cmd_inputs.specs.declared.stop.Stop.TheVariants.{OutOfMemory}
 use Rattle.cmd_texts.specs.SampleReport.{Counts, IsLineOf}
 use Rattle.cmd_texts.specs.declared.counts.Counts.{Counts as ReadCounts}
 use Rattle.cmd_texts.specs.Writing.{Writes, WriteStops}
-use Rattle.sample_lines.specs.Sample.{sample_text}
+use Rattle.sample_program.specs.Sample.{sample_text}
 
 abbrev pub counts_read : ReadCounts → Counts
 counts_read n = record {

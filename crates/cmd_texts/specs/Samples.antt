@@ -3,10 +3,10 @@ use Rattle.std.specs.Prelude.{◌≡◌, ◌≢◌, ◌≤◌, ℕ, List, codes}
 use Rattle.host.specs.Host.{HostState, Says, SameFaults, WriteFailed}
 use Rattle.cmd_files.specs.Transfer.{CutsLine}
 use Rattle.cmd_words.specs.Words.{Sample}
-use Rattle.cmd_reports.specs.Lines.{memory_line}
-use Rattle.cmd_reports.specs.Said.{SaysLast}
+use Rattle.cmd_inputs.specs.Lines.{memory_line}
+use Rattle.cmd_inputs.specs.Said.{SaysLast}
 use Rattle.cmd_inputs.specs.Files.{NoneFailed}
-use Rattle.sample_lines.specs.Sample.{sample_text}
+use Rattle.sample_program.specs.Sample.{sample_text}
 use Rattle.cmd_texts.specs.Writing.{Writes, WritesPart, SaysOfWrite}
 use Rattle.cmd_texts.specs.SampleReport.{IsLineOf}
 

@@ -6,8 +6,8 @@ use Rattle.asm86_lines.specs.Written.{text_of}
 use Rattle.asm80_program.specs.Program.{Program}
 use Rattle.asm80_source.specs.Source.{SourceRule}
 use Rattle.cmd_words.specs.Words.{Translate}
-use Rattle.cmd_reports.specs.declared.stop.Stop.{Stop}
-use Rattle.cmd_reports.specs.declared.stop.Stop.TheVariants.{OutOfMemory, CodeTooLarge}
+use Rattle.cmd_inputs.specs.declared.stop.Stop.{Stop}
+use Rattle.cmd_inputs.specs.declared.stop.Stop.TheVariants.{OutOfMemory, CodeTooLarge}
 use Rattle.cmd_inputs.specs.Files.{ReadStops, input_limit}
 use Rattle.cmd_inputs.specs.Sources.{stop_of_rule}
 use Rattle.xlt_translation.specs.declared.translation.Mode.{Mode}

@@ -13,8 +13,8 @@ use Rattle.xlt_translation.specs.declared.translation.Mode.{Mode}
 use Rattle.xlt_translation.specs.declared.translation.Mode.TheVariants.{Plain, Lean}
 use Rattle.xlt_translation.specs.Translation.{IsText, code_size, CodeFits, IsTooLarge}
 pub use Rattle.xlt_translation.specs.Names.{Same}
-use Rattle.cmd_reports.specs.declared.stop.Stop.TheVariants.{CodeTooLarge}
-use Rattle.cmd_reports.specs.Lines.{line_of, named_line, memory_line, translated_line}
+use Rattle.cmd_inputs.specs.declared.stop.Stop.TheVariants.{CodeTooLarge}
+use Rattle.cmd_inputs.specs.Lines.{line_of, named_line, memory_line, translated_line}
 use Rattle.cmd_inputs.specs.Files.{IsWhole, NoneFailed, IsTold, input_limit}
 use Rattle.cmd_inputs.specs.Sources.{refusal_line}
 use Rattle.cmd_inputs.specs.Texts.{HasImage}

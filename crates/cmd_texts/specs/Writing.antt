@@ -4,9 +4,9 @@ use Rattle.host.specs.declared.HostFault.{HostFault}
 use Rattle.host.specs.declared.HostFault.TheVariants.{Failed, Memory}
 use Rattle.host.specs.Host.{HostState, OnlyFileChanged, SameSaid, Rewrites, OnlyReads, OnlySays, WriteFailed as WriteFails}
 use Rattle.cmd_files.specs.Transfer.{IsBeforeOrPart}
-use Rattle.cmd_reports.specs.declared.stop.Stop.{Stop}
-use Rattle.cmd_reports.specs.declared.stop.Stop.TheVariants.{WriteFailed, OutOfMemory}
-use Rattle.cmd_reports.specs.Said.{SaysLine, SaysLast}
+use Rattle.cmd_inputs.specs.declared.stop.Stop.{Stop}
+use Rattle.cmd_inputs.specs.declared.stop.Stop.TheVariants.{WriteFailed, OutOfMemory}
+use Rattle.cmd_inputs.specs.Said.{SaysLine, SaysLast}
 
 module _ (name bytes : List ℕ) (old new : HostState) where
   -- the bytes took the place of what the file of this name held, and no other file has changed

@@ -4,19 +4,20 @@ ghost use Rattle.std.specs.String.{string_bytes};
 ghost use Rattle.asm80_source.specs.Source.{IsSource};
 ghost use Rattle.xlt_translation.specs.declared.translation.Mode.TheVariants.{Lean};
 ghost use Rattle.xlt_translation.specs.Translation.{IsText, CodeFits};
-ghost use Rattle.sample_lines.specs.Sample.{sample_text};
+ghost use Rattle.sample_program.specs.Sample.{sample_text};
 ghost use Rattle.cmd_texts.specs.SampleReport.{counts_of, sample_top, IsLineOf};
 ghost use Rattle.cmd_texts.specs.SampleWork.{counts_read};
 ghost use Rattle.cmd_texts.specs.Samples.{IsCount};
 
 use crate::counts::Counts;
+use crate::savings::{Saving, saved_among, savings_of};
 use asm80_program::Program80;
 use asm80_text::stream_has_one_outcome;
 use asm86_lines::{Line86, code_size};
-use cmd_flags::{Saving, saved_among, savings_of};
 use cmd_inputs::program_of_bytes;
-use sample_lines::{line_count, sample_is_read, sample_text};
-use sample_program::{sample_code_fits, sample_is_accepted};
+use sample_program::{
+    line_count, sample_code_fits, sample_is_accepted, sample_is_read, sample_text,
+};
 use std::alloc::{AllocError, Global};
 use xlt_translation::{CoreFault, Mode, translate};
 

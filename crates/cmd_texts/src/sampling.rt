@@ -8,7 +8,7 @@ ghost use Rattle.cmd_texts.specs.SampleWork.{Works, StopsBy};
 use crate::making::make;
 use crate::writing::stop_of_write;
 use cmd_files::write_bytes;
-use cmd_reports::{Stop, say_done, say_stop};
+use cmd_inputs::{Stop, say_done, say_stop};
 use cmd_words::Sample;
 use host::Host;
 use std::alloc::Global;

@@ -2,7 +2,7 @@
 ghost use Rattle.std.specs.Prelude.{◌≡◌};
 ghost use Rattle.cmd_texts.specs.Writing.{stop_of_write};
 
-use cmd_reports::Stop;
+use cmd_inputs::Stop;
 use host::HostFault;
 
 /// What a fault of a write is.

@@ -13,7 +13,7 @@ use Rattle.dialogue.specs.declared.table.AnswerKind.TheVariants.{NoAnswer, ByteA
 use Rattle.dialogue.specs.Shape.{shape_of, request_of}
 use Rattle.dialogue.specs.Fits.{answer_of, dma_after}
 use Rattle.dialogue.specs.ByteMemory.{put_blocks, seen_by}
-use Rattle.base_runs.specs.Run.{Answer, Asks, Ends, Stops}
+use Rattle.dialogue.specs.Run.{Answer, Asks, Ends, Stops}
 use Rattle.cpu80_bytes.specs.State.{ByteRegs, ByteState, wrap, word_at, byte_of}
 use Rattle.cpu80_bytes.specs.Flags.{chosen_flags}
 

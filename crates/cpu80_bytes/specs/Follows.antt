@@ -2,10 +2,10 @@
 use Rattle.std.specs.Prelude.{◌≡◌, ℕ, ◌<◌, List, All}
 use Rattle.dialogue.specs.declared.blocks.Block.{Block}
 use Rattle.dialogue.specs.declared.request.Reply.{Reply}
-use Rattle.base_runs.specs.Run.{IsNotStopped}
+use Rattle.dialogue.specs.Run.{IsNotStopped}
 use Rattle.asm80_program.specs.Program.{Program, IsProgram}
 use Rattle.cpu80_steps.specs.Start.{IsPage, run80}
-use Rattle.base_runs.specs.Fill.{IsFill}
+use Rattle.dialogue.specs.Fill.{IsFill}
 use Rattle.cpu80_bytes.specs.Start.{run_bytes}
 
 -- what a reply writes are bytes

@@ -5,7 +5,7 @@ use Rattle.cells.specs.declared.Place.TheVariants.{At, Exit}
 use Rattle.cells.specs.declared.Cell.{Cell}
 use Rattle.cells.specs.declared.Cell.TheVariants.{Num, Lo, Hi, Psw, Junk}
 use Rattle.dialogue.specs.declared.request.Reply.{Reply}
-use Rattle.base_runs.specs.Run.{Run, turns, start_run}
+use Rattle.dialogue.specs.Run.{Run, turns, start_run}
 use Rattle.asm80_program.specs.Program.{Program, cell_at}
 use Rattle.cpu80_bytes.specs.State.{ByteState}
 use Rattle.cpu80_bytes.specs.Flags.{chosen_flags}

@@ -12,7 +12,7 @@ use Rattle.i80.specs.Columns.{length80}
 use Rattle.dialogue.specs.declared.request.Reply.{Reply}
 use Rattle.dialogue.specs.declared.request.Event.{Event}
 use Rattle.dialogue.specs.declared.request.Event.TheVariants.{Call as Asked, In as AskedIn, Out as AskedOut, End}
-use Rattle.base_runs.specs.Run.{Answer, Ran, Asks, Ends, Stops, Machine}
+use Rattle.dialogue.specs.Run.{Answer, Ran, Asks, Ends, Stops, Machine}
 use Rattle.asm80_program.specs.Program.{Program, instr_at}
 use Rattle.cpu80_bytes.specs.State.{ByteState, pair_word, wrap, with_a, word_at}
 use Rattle.cpu80_bytes.specs.Flags.{holds}

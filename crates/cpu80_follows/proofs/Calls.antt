@@ -24,7 +24,7 @@ use Rattle.dialogue.proofs.LawfulShapes.{made, made-lawful}
 use Rattle.dialogue.specs.Shape.{shape_of, request_of}
 use Rattle.dialogue.specs.Fits.{answer_fits, answer_in, answer_of, fits_row, fits, fits_event, dma_after}
 use Rattle.dialogue.specs.ByteMemory.{put, put_bytes, put_blocks, seen_by}
-use Rattle.base_runs.specs.Run.{Answer, Ran, Asks, Ends, Stops}
+use Rattle.dialogue.specs.Run.{Answer, Ran, Asks, Ends, Stops}
 use Rattle.asm80_program.specs.Program.{Program, IsProgram}
 use Rattle.cpu80_steps.specs.State.{State80, num_of, wrap as wrap80}
 use Rattle.cpu80_steps.specs.Memory.{is_closed, put as put80, read_word}
@@ -38,7 +38,7 @@ use Rattle.cpu80_bytes.specs.Call.{Stop, ask, call_system, Return, place_of, pop
 use Rattle.cpu80_bytes.specs.Step.{return_at, replied_to, replied_bytes}
 use Rattle.cpu80_bytes.specs.Start.{address_of}
 use Rattle.cpu80_bytes.specs.Follows.{WritesBytes}
-use Rattle.sym_calls.specs.Sight.{SeesMore, KnowsMore, WhoSeesMoreAsksTheSame}
+use Rattle.dialogue.specs.Sight.{SeesMore, KnowsMore, WhoSeesMoreAsksTheSame}
 use Rattle.dialogue.proofs.Tried.{ok_is, err_is_not, then_is}
 use Rattle.cpu80_follows.proofs.Stands.{Stands, RegsStand, CellsStand, StatesStand, put_stands, number}
 use Rattle.cpu80_follows.proofs.Moves.{high_small, low_small, reads_word}

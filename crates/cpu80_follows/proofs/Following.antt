@@ -2,13 +2,13 @@
 use Rattle.std.proofs.Common.{ℕ, List, refl}
 use Rattle.std.specs.Prelude.{All}
 use Rattle.dialogue.specs.declared.request.Reply.{Reply}
-use Rattle.base_runs.specs.Run.{IsNotStopped, start_run}
+use Rattle.dialogue.specs.Run.{IsNotStopped, start_run}
 use Rattle.asm80_program.specs.Program.{Program, IsProgram}
 use Rattle.cpu80_steps.specs.Start.{IsPage, start80, run80}
-use Rattle.base_runs.specs.Fill.{IsFill}
+use Rattle.dialogue.specs.Fill.{IsFill}
 use Rattle.cpu80_bytes.specs.Start.{start_bytes, run_bytes}
 use Rattle.cpu80_bytes.specs.Follows.{WritesBytes, HasFollowed, PlainFollows}
-use Rattle.sym_calls.specs.Sight.{WhoSeesMoreAsksTheSame}
+use Rattle.dialogue.specs.Sight.{WhoSeesMoreAsksTheSame}
 use Rattle.cpu80_follows.proofs.Running.{AreTogether, turns_together, together_said}
 use Rattle.cpu80_follows.proofs.Starting.{starts_stand}
 

@@ -7,7 +7,7 @@ use Rattle.dialogue.specs.declared.request.Reply.{Reply}
 use Rattle.dialogue.specs.declared.request.Event.{Event}
 use Rattle.dialogue.specs.declared.request.Event.TheVariants.{End}
 use Rattle.dialogue.specs.Fits.{fits_event}
-use Rattle.base_runs.specs.Run.{Answer, Ran, Asks, Ends, Stops, Machine, Status, Going, Waiting, Over, Stopped, Run, choice_at, take_reply, settle, turn_by, turn, turns, IsNotStopped}
+use Rattle.dialogue.specs.Run.{Answer, Ran, Asks, Ends, Stops, Machine, Status, Going, Waiting, Over, Stopped, Run, choice_at, take_reply, settle, turn_by, turn, turns, IsNotStopped}
 use Rattle.asm80_program.specs.Program.{Program, IsProgram}
 use Rattle.cpu80_steps.specs.State.{State80}
 use Rattle.cpu80_steps.specs.Step.{step80, machine80}
@@ -15,7 +15,7 @@ use Rattle.cpu80_bytes.specs.State.{ByteState}
 use Rattle.cpu80_bytes.specs.Call.{Stop}
 use Rattle.cpu80_bytes.specs.Step.{step_bytes, byte_machine}
 use Rattle.cpu80_bytes.specs.Follows.{WritesBytes}
-use Rattle.sym_calls.specs.Sight.{WhoSeesMoreAsksTheSame}
+use Rattle.dialogue.specs.Sight.{WhoSeesMoreAsksTheSame}
 use Rattle.cpu80_follows.proofs.Stands.{StatesStand}
 use Rattle.cpu80_follows.proofs.Calls.{IsAnswered, StepFollows}
 use Rattle.cpu80_follows.proofs.Steps.{steps_follow}

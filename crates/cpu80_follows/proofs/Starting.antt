@@ -8,7 +8,7 @@ use Rattle.cells.specs.declared.Cell.{Cell}
 use Rattle.cells.specs.declared.Cell.TheVariants.{Num, Lo, Hi, Psw, Junk}
 use Rattle.asm80_program.specs.Program.{Program, IsProgram, cell_in, cell_at, is_top, IsDatum, AreData}
 use Rattle.cpu80_steps.specs.Start.{IsPage, start_cell80, cell_or_junk, start80}
-use Rattle.base_runs.specs.Fill.{IsFill}
+use Rattle.dialogue.specs.Fill.{IsFill}
 use Rattle.cpu80_bytes.specs.Start.{datum_or, start_byte, start_bytes}
 use Rattle.cpu80_follows.proofs.Stands.{Stands, CellsStand, StatesStand, number}
 use Rattle.cpu80_follows.proofs.Moves.{high_small, low_small, high_of_place, low_of_place}

@@ -17,7 +17,7 @@ use Rattle.i80.specs.declared.Instr80.TheVariants.{Pchl, Jmp, Jif, Call, Cif, Re
 use Rattle.i80.specs.Columns.{length80}
 use Rattle.dialogue.specs.declared.request.Event.{Event}
 use Rattle.dialogue.specs.declared.request.Event.TheVariants.{In as AskedIn, Out as AskedOut}
-use Rattle.base_runs.specs.Run.{Answer, Ran, Asks, Ends, Stops}
+use Rattle.dialogue.specs.Run.{Answer, Ran, Asks, Ends, Stops}
 use Rattle.asm80_program.specs.Program.{Program, IsProgram, instr_at, is_start}
 use Rattle.cpu80_steps.specs.State.{State80, wrap as wrap80, num_or, with_a as with_a80}
 use Rattle.cpu80_steps.specs.Effect.{effect as effect80, push as push80}
@@ -29,7 +29,7 @@ use Rattle.cpu80_bytes.specs.Flags.{holds}
 use Rattle.cpu80_bytes.specs.Effect.{effect, push}
 use Rattle.cpu80_bytes.specs.Call.{Stop, call_system, popped_return}
 use Rattle.cpu80_bytes.specs.Step.{go_to, leave_to, ret, jump, call, act, after, act_at, step_at, step_bytes, return_of, return_at, replied_to, replied_bytes}
-use Rattle.sym_calls.specs.Sight.{WhoSeesMoreAsksTheSame}
+use Rattle.dialogue.specs.Sight.{WhoSeesMoreAsksTheSame}
 use Rattle.dialogue.proofs.Tried.{ok_is, err_is_not, then_is}
 use Rattle.cpu80_follows.proofs.Stands.{FlagsStand, StatesStand, sets_sp, sets_place, number, number_is}
 use Rattle.cpu80_follows.proofs.Moves.{sets_a, high_of_place, low_of_place, push_stands}

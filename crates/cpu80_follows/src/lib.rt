@@ -3,7 +3,7 @@
 
 ghost use Rattle.cpu80_bytes.specs.Follows.{PlainFollows};
 
-use sym_calls::who_sees_more_asks_the_same;
+use dialogue::who_sees_more_asks_the_same;
 
 /// A law, of every program, start page, fill of memory, list of choices, list of replies of bytes, and number of turns: where the
 /// tagged machine's run has stayed in the profile, the 8080 over plain bytes has the same dialogue and has not stopped.

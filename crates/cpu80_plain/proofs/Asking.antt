@@ -8,7 +8,7 @@ use Rattle.dialogue.specs.declared.request.Shape.{Shape}
 use Rattle.dialogue.specs.declared.request.Event.TheVariants.{Call}
 use Rattle.dialogue.specs.Shape.{request_of}
 use Rattle.dialogue.specs.ByteMemory.{seen_by}
-use Rattle.base_runs.specs.Run.{Ends, Stops}
+use Rattle.dialogue.specs.Run.{Ends, Stops}
 use Rattle.cpu80_bytes.specs.State.{ByteState}
 use Rattle.cpu80_bytes.specs.Call.{NoShape, ask, shape_in, call_system}
 use Rattle.cpu80_plain.specs.declared.plain.StepPlain.TheVariants.{Asked, Stopped}

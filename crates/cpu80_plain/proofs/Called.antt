@@ -6,8 +6,8 @@ use Rattle.dialogue.specs.declared.request.Reply.{Reply}
 use Rattle.dialogue.specs.declared.request.Event.{Event}
 use Rattle.dialogue.specs.declared.request.Event.TheVariants.{Call, In, Out, End}
 use Rattle.dialogue.specs.Fits.{fits_event}
-use Rattle.base_runs.specs.Run.{Answer, Ran, Asks, Ends, Stops, Status, Going, Waiting, Over, Stopped, Run, choice_at, turn, turns, settle, take_reply, start_run}
-use Rattle.base_runs.proofs.Turns.{turns_add}
+use Rattle.dialogue.specs.Run.{Answer, Ran, Asks, Ends, Stops, Status, Going, Waiting, Over, Stopped, Run, choice_at, turn, turns, settle, take_reply, start_run}
+use Rattle.dialogue.proofs.Turns.{turns_add}
 use Rattle.asm80_program.specs.Program.{Program}
 use Rattle.cpu80_bytes.specs.State.{ByteState}
 use Rattle.cpu80_bytes.specs.Call.{Stop}

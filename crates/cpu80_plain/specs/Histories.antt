@@ -3,7 +3,7 @@ use Rattle.std.specs.Prelude.{◌≡◌, ℕ, suc, true, false, List, [], ◌∷
 use Rattle.dialogue.specs.declared.request.Reply.{Reply}
 use Rattle.dialogue.specs.declared.request.Event.{Event}
 use Rattle.dialogue.specs.declared.request.Event.TheVariants.{End}
-use Rattle.base_runs.specs.Run.{Status, Going, Waiting, Over, Stopped, Run, choice_at}
+use Rattle.dialogue.specs.Run.{Status, Going, Waiting, Over, Stopped, Run, choice_at}
 use Rattle.asm80_program.specs.Program.{Program}
 use Rattle.cpu80_bytes.specs.State.{ByteState}
 use Rattle.cpu80_bytes.specs.Call.{Stop}

@@ -14,7 +14,7 @@ impl Plain80 {
     ghost use Rattle.cpu80_bytes.specs.Call.{call_system, popped_return, Return};
     ghost use Rattle.cpu80_bytes.specs.State.{pair_word};
     ghost use Rattle.cpu80_bytes.specs.Effect.{push, effect};
-    ghost use Rattle.base_runs.specs.Run.{Ends};
+    ghost use Rattle.dialogue.specs.Run.{Ends};
     ghost use Rattle.cpu80_bytes.specs.Step.{go_to, leave_to, ret, jump, call, act, step_bytes, return_at};
     ghost use Rattle.cpu80_plain.specs.State.{state_of};
     ghost use Rattle.cpu80_plain.specs.Back.{back_of};

@@ -1,6 +1,6 @@
 // Calls of the system (CP/M 2.2 Operating System Manual, "BDOS functions").
 ghost use Rattle.std.specs.Prelude.{◌≡◌, true, MatchOption};
-ghost use Rattle.base_runs.specs.Run.{Stops};
+ghost use Rattle.dialogue.specs.Run.{Stops};
 ghost use Rattle.dialogue.specs.Fits.{fits};
 ghost use Rattle.cpu80_bytes.specs.Call.{NoShape, ask, shape_in, place_of, popped_return, after_reply};
 ghost use Rattle.cpu80_plain.specs.State.{state_of};

@@ -20,7 +20,7 @@ use Rattle.dialogue.specs.declared.table.AnswerKind.TheVariants.{NoAnswer, ByteA
 use Rattle.dialogue.specs.Table.{row_of}
 use Rattle.dialogue.specs.Shape.{Seen, shape_of, request_of}
 use Rattle.dialogue.specs.Fits.{answer_of, dma_after}
-use Rattle.base_runs.specs.Run.{Answer, Asks, Ends, Stops}
+use Rattle.dialogue.specs.Run.{Answer, Asks, Ends, Stops}
 use Rattle.asm80_program.specs.Program.{Program, is_start}
 use Rattle.cpu80_steps.specs.State.{Regs80, State80, num_of, wrap, junk_regs}
 use Rattle.cpu80_steps.specs.Memory.{is_closed, is_write_protected, put, read_word}

@@ -6,7 +6,7 @@ use Rattle.cells.specs.declared.Cell.TheVariants.{Num, Lo, Hi, Junk}
 use Rattle.cells.specs.declared.Rule.{Rule}
 use Rattle.cells.specs.Conditions.{unknown_flags}
 use Rattle.dialogue.specs.declared.request.Reply.{Reply}
-use Rattle.base_runs.specs.Run.{Run, turns, start_run}
+use Rattle.dialogue.specs.Run.{Run, turns, start_run}
 use Rattle.asm80_program.specs.Program.{Program, cell_at}
 use Rattle.cpu80_steps.specs.State.{State80, junk_regs}
 use Rattle.cpu80_steps.specs.Step.{machine80}

@@ -16,7 +16,7 @@ use Rattle.dialogue.specs.declared.request.Reply.{Reply}
 use Rattle.dialogue.specs.declared.request.Event.{Event}
 use Rattle.dialogue.specs.declared.request.Event.TheVariants.{Call as Asked, In as AskedIn, Out as AskedOut, End}
 use Rattle.dialogue.specs.Tried.{try_then}
-use Rattle.base_runs.specs.Run.{Answer, Ran, Asks, Ends, Stops, Machine}
+use Rattle.dialogue.specs.Run.{Answer, Ran, Asks, Ends, Stops, Machine}
 use Rattle.asm80_program.specs.Program.{Program, instr_at, is_start}
 use Rattle.cpu80_steps.specs.State.{State80, with_a, num_or}
 use Rattle.cpu80_steps.specs.Effect.{effect, push}

@@ -5,8 +5,8 @@ use Rattle.cells.specs.declared.Rule.{Rule}
 use Rattle.dialogue.specs.declared.request.Reply.{Reply}
 use Rattle.dialogue.specs.declared.request.Event.{Event}
 use Rattle.dialogue.specs.declared.request.Event.TheVariants.{End}
-use Rattle.base_runs.specs.Run.{Answer, Ran, Asks, Ends, Stops, Status, Going, Waiting, Over, Stopped, Run, turn, settle, take_reply, start_run}
-use Rattle.base_runs.proofs.Turns.{turns_add}
+use Rattle.dialogue.specs.Run.{Answer, Ran, Asks, Ends, Stops, Status, Going, Waiting, Over, Stopped, Run, turn, settle, take_reply, start_run}
+use Rattle.dialogue.proofs.Turns.{turns_add}
 use Rattle.asm80_program.specs.Program.{Program}
 use Rattle.cpu80_steps.specs.State.{State80}
 use Rattle.cpu80_steps.specs.Start.{start80, run80}

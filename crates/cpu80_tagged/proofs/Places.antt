@@ -17,7 +17,7 @@ use Rattle.dialogue.specs.declared.request.Event.TheVariants.{In as AskedIn}
 use Rattle.dialogue.specs.Shape.{shape_of}
 use Rattle.dialogue.specs.Table.{row_of}
 use Rattle.dialogue.specs.Tried.{try_then}
-use Rattle.base_runs.specs.Run.{Answer, Ran, Asks, Ends, Stops}
+use Rattle.dialogue.specs.Run.{Answer, Ran, Asks, Ends, Stops}
 use Rattle.asm80_program.specs.Program.{Program, instr_at, is_start}
 use Rattle.cpu80_steps.specs.State.{State80, num_of, wrap}
 use Rattle.cpu80_steps.specs.Memory.{Halves, read_word}

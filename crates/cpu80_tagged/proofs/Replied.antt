@@ -20,7 +20,7 @@ use Rattle.dialogue.specs.Fits.{fills, writes_fit, line_fits, line_bytes_fit, ki
 use Rattle.dialogue.specs.Lawful.{IsLawful, IsShapeOver}
 use Rattle.dialogue.proofs.LawfulShapes.{made, made-lawful}
 use Rattle.dialogue.proofs.Lines.{line_short}
-use Rattle.base_runs.specs.Run.{Asks}
+use Rattle.dialogue.specs.Run.{Asks}
 use Rattle.asm80_program.specs.Program.{Program}
 use Rattle.cpu80_steps.specs.State.{State80, num_of}
 use Rattle.cpu80_steps.specs.Call.{seen_by, is_place}

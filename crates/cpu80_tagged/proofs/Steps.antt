@@ -3,7 +3,7 @@ use Rattle.std.proofs.Common.{◌≡◌, ◌≢◌, Bool, true, List, Some, Resu
 use Rattle.cells.specs.declared.Rule.{Rule}
 use Rattle.dialogue.specs.declared.request.Shape.{Shape}
 use Rattle.dialogue.specs.declared.request.Event.{Event}
-use Rattle.base_runs.specs.Run.{Ran, Asks}
+use Rattle.dialogue.specs.Run.{Ran, Asks}
 use Rattle.asm80_program.specs.Program.{Program}
 use Rattle.cpu80_steps.specs.State.{State80, num_of}
 use Rattle.cpu80_steps.specs.Call.{ask, is_place}

@@ -4,7 +4,7 @@ use Rattle.cells.specs.declared.Rule.{Rule}
 use Rattle.dialogue.specs.declared.request.Reply.{Reply}
 use Rattle.dialogue.specs.declared.request.Event.{Event}
 use Rattle.dialogue.specs.declared.request.Event.TheVariants.{End}
-use Rattle.base_runs.specs.Run.{Status, Going, Waiting, Over, Stopped, Run}
+use Rattle.dialogue.specs.Run.{Status, Going, Waiting, Over, Stopped, Run}
 use Rattle.asm80_program.specs.Program.{Program}
 use Rattle.cpu80_steps.specs.State.{State80}
 use Rattle.cpu80_steps.specs.Start.{start80, run80}

@@ -8,7 +8,7 @@ use Rattle.dialogue.specs.declared.request.Event.TheVariants.{Call, In as AskedI
 use Rattle.dialogue.specs.Shape.{request_of}
 use Rattle.dialogue.specs.Fits.{fits_event}
 use Rattle.dialogue.specs.Lawful.{IsLawfulEvent}
-use Rattle.base_runs.specs.Run.{Answer, Ran, Asks, Ends, Stops}
+use Rattle.dialogue.specs.Run.{Answer, Ran, Asks, Ends, Stops}
 use Rattle.asm80_program.specs.Program.{Program}
 use Rattle.cpu80_steps.specs.State.{State80, num_of}
 use Rattle.cpu80_steps.specs.Call.{is_place, seen_by}

@@ -6,8 +6,8 @@ use Rattle.i86.specs.declared.Instr86.{Instr86}
 use Rattle.dialogue.specs.declared.request.Reply.{Reply}
 use Rattle.dialogue.specs.declared.request.Event.{Event}
 use Rattle.dialogue.specs.declared.request.Event.TheVariants.{Call, In, Out, End}
-use Rattle.base_runs.specs.Run.{Answer, Ran, Asks, Ends, Stops, Status, Going, Waiting, Over, Stopped, Run, choice_at, turn, turns, settle, take_reply, start_run}
-use Rattle.base_runs.proofs.Turns.{turns_add}
+use Rattle.dialogue.specs.Run.{Answer, Ran, Asks, Ends, Stops, Status, Going, Waiting, Over, Stopped, Run, choice_at, turn, turns, settle, take_reply, start_run}
+use Rattle.dialogue.proofs.Turns.{turns_add}
 use Rattle.cpu86_steps.specs.State.{State86}
 use Rattle.cpu86_steps.specs.Call.{Stop, NoInstruction, StackSegment, OddCall, replied86}
 use Rattle.cpu86_steps.specs.Step.{step86, machine86}

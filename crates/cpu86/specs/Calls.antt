@@ -5,7 +5,7 @@ use Rattle.dialogue.specs.declared.request.Event.{Event}
 use Rattle.dialogue.specs.declared.request.Event.TheVariants.{Call, In, Out, End}
 use Rattle.dialogue.specs.declared.request.Reply.{Reply}
 use Rattle.dialogue.specs.Fits.{fits_event, waits_in}
-use Rattle.base_runs.specs.Run.{Answer, Ran, Asks, Ends, Stops}
+use Rattle.dialogue.specs.Run.{Answer, Ran, Asks, Ends, Stops}
 use Rattle.cpu86_steps.specs.State.{State86}
 use Rattle.cpu86_steps.specs.Call.{Stop, NoInstruction, StackSegment, OddCall, replied86}
 use Rattle.cpu86_steps.specs.Step.{step86}

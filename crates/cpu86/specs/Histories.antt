@@ -5,7 +5,7 @@ use Rattle.dialogue.specs.declared.request.Reply.{Reply}
 use Rattle.dialogue.specs.declared.request.Event.{Event}
 use Rattle.dialogue.specs.declared.request.Event.TheVariants.{End}
 use Rattle.asm86_lines.specs.Image.{Image}
-use Rattle.base_runs.specs.Run.{Status, Going, Waiting, Over, Stopped, Run, choice_at}
+use Rattle.dialogue.specs.Run.{Status, Going, Waiting, Over, Stopped, Run, choice_at}
 use Rattle.cpu86_steps.specs.State.{State86}
 use Rattle.cpu86_steps.specs.Call.{Stop}
 use Rattle.cpu86_steps.specs.Start.{Start, start86, run86}

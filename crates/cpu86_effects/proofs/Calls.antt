@@ -7,7 +7,7 @@ use Rattle.dialogue.specs.declared.request.Shape.{Shape}
 use Rattle.dialogue.specs.declared.request.Event.TheVariants.{Call}
 use Rattle.dialogue.specs.Shape.{shape_of, request_of}
 use Rattle.dialogue.specs.ByteMemory.{put_bytes, seen_by}
-use Rattle.base_runs.specs.Run.{Asks, Ends, Stops}
+use Rattle.dialogue.specs.Run.{Asks, Ends, Stops}
 use Rattle.cpu86_steps.specs.State.{State86, back}
 use Rattle.cpu86_steps.specs.Call.{OddCall, ask, call_system, spoiled}
 use Rattle.cpu86_effects.specs.State.{with_mem}

@@ -4,7 +4,7 @@ use Rattle.dialogue.specs.declared.request.Shape.{Shape}
 use Rattle.dialogue.specs.declared.request.Event.TheVariants.{Call}
 use Rattle.dialogue.specs.Shape.{shape_of, request_of}
 use Rattle.dialogue.specs.ByteMemory.{seen_by}
-use Rattle.base_runs.specs.Run.{Asks, Ends, Stops}
+use Rattle.dialogue.specs.Run.{Asks, Ends, Stops}
 use Rattle.cpu86_steps.specs.State.{State86, wrap}
 use Rattle.cpu86_steps.specs.Call.{OddCall, call_system}
 use Rattle.cpu86_effects.specs.declared.system.Interrupt.{Interrupt}

@@ -11,7 +11,7 @@ use Rattle.dialogue.specs.declared.table.AnswerKind.TheVariants.{NoAnswer, ByteA
 use Rattle.dialogue.specs.Shape.{shape_of, request_of}
 use Rattle.dialogue.specs.Fits.{answer_of, dma_after}
 use Rattle.dialogue.specs.ByteMemory.{put_bytes, put_blocks, seen_by}
-use Rattle.base_runs.specs.Run.{Answer, Asks, Ends, Stops}
+use Rattle.dialogue.specs.Run.{Answer, Asks, Ends, Stops}
 use Rattle.cpu86_steps.specs.State.{Regs86, State86, word, back, byte_of}
 use Rattle.cpu86_steps.specs.Flags.{chosen_flags}
 

@@ -4,7 +4,7 @@ use Rattle.i86.specs.declared.Instr86.{Instr86}
 use Rattle.dialogue.specs.declared.request.Reply.{Reply}
 use Rattle.dialogue.specs.ByteMemory.{put}
 use Rattle.asm86_lines.specs.Image.{Image}
-use Rattle.base_runs.specs.Run.{Run, turns, start_run}
+use Rattle.dialogue.specs.Run.{Run, turns, start_run}
 use Rattle.cpu86_steps.specs.State.{State86}
 use Rattle.cpu86_steps.specs.Call.{Stop}
 use Rattle.cpu86_steps.specs.Flags.{chosen_flags}

@@ -4,7 +4,7 @@ use Rattle.i86.specs.declared.Instr86.{Instr86}
 use Rattle.i86.specs.declared.Instr86.TheVariants.{Push, Pop, CallNear, Ret, Int224, InAl, OutAl}
 use Rattle.i86.specs.Enc86.{enc86}
 use Rattle.dialogue.specs.declared.request.Event.TheVariants.{In, Out}
-use Rattle.base_runs.specs.Run.{Answer, Ran, Asks, Stops, Machine}
+use Rattle.dialogue.specs.Run.{Answer, Ran, Asks, Stops, Machine}
 use Rattle.cpu86_steps.specs.State.{State86, wrap}
 use Rattle.cpu86_steps.specs.Effect.{effect}
 use Rattle.cpu86_steps.specs.Call.{Stop, NoInstruction, StackSegment, call_system, replied86}

@@ -5,3 +5,5 @@ pub mod ByteMemory
 pub mod Pages
 pub mod Tried
 pub mod Lines
+pub mod Turns
+mod Sight

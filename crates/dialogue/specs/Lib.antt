@@ -6,3 +6,7 @@ pub mod Fits
 pub mod Places
 pub mod Lawful
 pub mod StartPage
+pub mod Run
+pub mod Same
+pub mod Fill
+pub mod Sight

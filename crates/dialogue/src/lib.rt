@@ -2,6 +2,7 @@
 #![tactic(auto)]
 
 mod blocks;
+mod laws;
 mod replies;
 mod request;
 mod shape;
@@ -9,6 +10,7 @@ mod start_page;
 mod table;
 
 pub use blocks::{Block, Blocks, Bytes};
+pub use laws::who_sees_more_asks_the_same;
 pub use replies::{answer_of, dma_after, fits, fits_event};
 pub use request::{ArgWord, Event, Range, Reply, Request, Shape, View};
 pub use shape::{request_of, shape_of};

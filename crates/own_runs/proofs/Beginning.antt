@@ -1,7 +1,7 @@
 -- Runs that are paired are linked while the first goes on.
 use Rattle.std.proofs.Common.{◌≡◌, ℕ, List, Option, sym, ◌∙◌}
 use Rattle.cells.specs.declared.Rule.{Rule}
-use Rattle.base_runs.specs.Run.{Run, Going, Waiting, Over}
+use Rattle.dialogue.specs.Run.{Run, Going, Waiting, Over}
 use Rattle.asm86_lines.specs.declared.line.Label.{Label}
 use Rattle.asm80_program.specs.Program.{Program}
 use Rattle.cpu80_steps.specs.State.{State80}

@@ -8,13 +8,13 @@ use Rattle.asm80_program.specs.Program.{Program, IsProgram}
 use Rattle.asm86_lines.specs.declared.line.Line86.{Line86}
 use Rattle.asm86_lines.specs.Image.{image_of}
 use Rattle.cpu80_steps.specs.Start.{IsPage, run80}
-use Rattle.base_runs.specs.Fill.{IsFill}
+use Rattle.dialogue.specs.Fill.{IsFill}
 use Rattle.cpu86_steps.specs.Start.{Start, IsStart, AreChoices, run86}
 use Rattle.flow.specs.Blocks.{blocks}
 use Rattle.flow.specs.Solving.{Needs, AreAllNeeds}
 use Rattle.sym_runs.specs.Runs86.{offsets_of}
 use Rattle.sym_runs.specs.Linked.{Linked}
-use Rattle.sym_texts.specs.Needed.{needed_by}
+use Rattle.sym_runs.specs.Needed.{needed_by}
 use Rattle.xlt_translation.specs.Names.{IsReply}
 use Rattle.xlt_translation.specs.declared.translation.Mode.{Mode}
 use Rattle.xlt_translation.specs.Translation.{IsText, CodeFits}

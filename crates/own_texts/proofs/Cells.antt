@@ -25,7 +25,7 @@ use Rattle.asm86_image.proofs.Texts.{offset_is}
 use Rattle.sym_blocks.specs.Stands.{IsHalf, Stands}
 use Rattle.sym_runs.specs.Linked.{places}
 use Rattle.sym_runs.specs.Runs86.{offsets_of}
-use Rattle.sym_texts.specs.Matches.{or_else, byte_at, DataStands}
+use Rattle.sym_runs.specs.Matches.{or_else, byte_at, DataStands}
 use Rattle.templates_plain.proofs.NumberedLines.{statements-numbered}
 use Rattle.own_texts.proofs.Statements.{eq_false}
 use Rattle.own_texts.proofs.Leading.{Leads, held_leads}

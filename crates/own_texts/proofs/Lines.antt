@@ -18,7 +18,7 @@ use Rattle.templates.specs.Style.{Style, styled_statements, styled}
 use Rattle.asm86_text.specs.Back.{AreWritten}
 use Rattle.asm86_text.specs.Stream.{has_end}
 use Rattle.sym_blocks.specs.Sorts.{IsCoded86, StatementIsCoded, StatementsAreCoded}
-use Rattle.sym_texts.specs.Matches.{DatumIsCoded, DataAreCoded}
+use Rattle.sym_runs.specs.Matches.{DatumIsCoded, DataAreCoded}
 use Rattle.templates_plain.proofs.NumberedLines.{statements-numbered}
 use Rattle.own_texts.proofs.Statements.{HaveLines}
 use Rattle.own_texts.proofs.Whole.{data_of, tail_of, body_of, all_lines}

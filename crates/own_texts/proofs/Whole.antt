@@ -27,7 +27,7 @@ use Rattle.templates.specs.Style.{Style, blocks_of, styled_statements, styled}
 use Rattle.asm86_image.specs.declared.fault.ImageFault.TheVariants.{CodeTooLarge}
 use Rattle.asm86_image.specs.Refusals.{ImageRefused}
 use Rattle.sym_runs.specs.Runtime.{HasRuntime}
-use Rattle.sym_texts.specs.Matches.{HasOpening}
+use Rattle.sym_runs.specs.Matches.{HasOpening}
 use Rattle.own_texts.specs.Fits.{StyleFits}
 use Rattle.own_texts.specs.Reach.{JumpsReach}
 use Rattle.templates_plain.proofs.NumberedLines.{statements-numbered}

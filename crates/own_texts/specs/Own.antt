@@ -7,7 +7,7 @@ use Rattle.asm80_program.specs.Program.{Program}
 use Rattle.asm86_text.specs.Stream.{TextGives}
 use Rattle.sym_blocks.specs.Sorts.{StatementsAreCoded}
 use Rattle.sym_runs.specs.Runtime.{HasRuntime}
-use Rattle.sym_texts.specs.Matches.{HasOpening, DataStands, DataAreCoded}
+use Rattle.sym_runs.specs.Matches.{HasOpening, DataStands, DataAreCoded}
 
 -- it reads back as its lines; its numbers are in their ranges; and it has the opening, the runtime and the data of its program
 pub record IsOwnText (p : Program) (lines : List Line86) : Type 0 where

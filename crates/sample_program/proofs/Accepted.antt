@@ -2,8 +2,8 @@
 use Rattle.std.proofs.Common.{◌≡◌, ℕ, ◌-◌, ◌≤◌, List, ◌∷◌, refl, sym, ap, ◌∙◌, arith}
 use Rattle.asm80_source.specs.Operations.{operations}
 use Rattle.asm80_source.specs.Walk.{Row, rows, walked}
-use Rattle.sample_lines.specs.Written.{Written, statements_of}
-use Rattle.sample_lines.specs.Sample.{sample_statements}
+use Rattle.sample_program.specs.Written.{Written, statements_of}
+use Rattle.sample_program.specs.Sample.{sample_statements}
 use Rattle.sample_program.specs.Laws.{SampleIsAccepted}
 use Rattle.sample_program.proofs.Spots.{row_of, rows_along, walk_along}
 use Rattle.sample_program.proofs.Faultless.{is_accepted}

@@ -8,8 +8,8 @@ use Rattle.std.proofs.lemmas.List.{map-append, length_push}
 use Rattle.asm80_source.specs.Operations.{operations}
 use Rattle.asm80_source.specs.Names.{Name, named, most_names, defined}
 use Rattle.asm80_source.specs.Walk.{Walk}
-use Rattle.sample_lines.specs.Written.{Written, name, number, labelled, unlabelled}
-use Rattle.sample_lines.specs.Sample.{up_to, routine_label, loop_label, byte_label, turns_of, letter_of, byte_of, call, routine, begin, sample_lines}
+use Rattle.sample_program.specs.Written.{Written, name, number, labelled, unlabelled}
+use Rattle.sample_program.specs.Sample.{up_to, routine_label, loop_label, byte_label, turns_of, letter_of, byte_of, call, routine, begin, sample_lines}
 use Rattle.sample_program.proofs.Labels.{label, with_name, with_routine, start_of, names_to, still_new, is_defined, is_new, count_names}
 use Rattle.sample_program.proofs.Spots.{walk_at, Spot, spot, walk_of, lines_of, Leads, Goes, stays, steps, joined, Ends}
 

@@ -7,7 +7,7 @@ use Rattle.asm80_source.specs.Operations.{operations}
 use Rattle.asm80_source.specs.Names.{Name, named, most_names}
 use Rattle.asm80_source.specs.Walk.{Walk, Row}
 use Rattle.asm80_source.specs.Items.{starts_in, starts_at}
-use Rattle.sample_lines.specs.Sample.{turns_of, letter_of, byte_of}
+use Rattle.sample_program.specs.Sample.{turns_of, letter_of, byte_of}
 use Rattle.sample_program.proofs.Labels.{label, start_of, names_to, IsDefinedAt, is_new, is_found, count_names, routine_defined, loop_defined, byte_defined}
 use Rattle.sample_program.proofs.Spots.{Spot, row_of, rows_of}
 use Rattle.sample_program.proofs.Faultless.{Fine, AreFine}

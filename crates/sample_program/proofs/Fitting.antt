@@ -7,11 +7,11 @@ use Rattle.asm86_lines.specs.declared.line.Line86.{Line86}
 use Rattle.asm86_lines.specs.Layout.{sizes_of}
 use Rattle.asm86_lines.specs.Image.{statements}
 use Rattle.templates.specs.Lean.{lean_style}
-use Rattle.sample_lines.specs.Written.{Written, unlabelled, number, statements_from}
-use Rattle.sample_lines.specs.Sample.{up_to, call, routine, sample_statements}
+use Rattle.sample_program.specs.Written.{Written, unlabelled, number, statements_from}
+use Rattle.sample_program.specs.Sample.{up_to, call, routine, sample_statements}
 use Rattle.sample_program.specs.Laws.{SampleCodeFits}
 use Rattle.sample_program.proofs.TextSizes.{text_size}
-use Rattle.sample_program.proofs.Counting.{instructions_most}
+use Rattle.sample_program.proofs.Counts.{instructions_most}
 
 length-up_to : (n : ℕ) → length (up_to n) ≡ n
 length-up_to zero = refl

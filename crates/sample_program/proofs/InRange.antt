@@ -4,8 +4,8 @@ use Rattle.std.specs.List.{flat_map, AllByRecursion}
 use Rattle.std.proofs.lemmas.Grind.{flat_map-append}
 use Rattle.std.proofs.lemmas.List.{map-append}
 use Rattle.asm80_outcomes.specs.Ranges.{IsInRange, AreInRange}
-use Rattle.sample_lines.specs.Written.{Argument, Written, unlabelled, statements_from}
-use Rattle.sample_lines.specs.Sample.{up_to, turns_of, letter_of, byte_of, call, routine, sample_lines, sample_statements}
+use Rattle.sample_program.specs.Written.{Argument, Written, unlabelled, statements_from}
+use Rattle.sample_program.specs.Sample.{up_to, turns_of, letter_of, byte_of, call, routine, sample_lines, sample_statements}
 
 -- the operands of a line are in range
 abbrev LineInRange : Written → Type 0

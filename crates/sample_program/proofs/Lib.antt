@@ -6,6 +6,14 @@ mod Starts
 mod FineLines
 mod Accepted
 mod TextSizes
-mod Counting
+mod Counts
 mod Fitting
 mod InRange
+pub mod Each
+pub mod Decimals
+pub mod Lexemes
+pub mod Names
+pub mod Rows
+pub mod Pieces
+pub mod Reading
+pub mod Texts

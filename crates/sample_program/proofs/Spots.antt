@@ -2,7 +2,7 @@
 use Rattle.std.proofs.Common.{◌≡◌, ℕ, suc, ◌+◌, ◌≤◌, Bool, true, false, cond, List, [], ◌∷◌, ◌++◌, map, ap, ap₂, ◌∙◌, arith}
 use Rattle.asm80_source.specs.Names.{Name}
 use Rattle.asm80_source.specs.Walk.{Walk, Row, ends, after, size_of, rows_from, walk_from}
-use Rattle.sample_lines.specs.Written.{Written, statement_at, statements_from}
+use Rattle.sample_program.specs.Written.{Written, statement_at, statements_from}
 
 -- where the walk is between two lines: no IF is open
 abbrev pub walk_at : ℕ → List Name → Walk

@@ -1,12 +1,17 @@
--- The made source is a program, and the code of its lean text fits.
+-- The made source is lines of the assembler and a program, and the code of its lean text fits.
 use Rattle.std.specs.Prelude.{◌≡◌, ℕ, ◌<◌, ◌≤◌, List, None}
+use Rattle.asm80_text.specs.Stream.{StreamGives}
 use Rattle.asm80_program.specs.Program.{Program}
 use Rattle.asm80_source.specs.Assembly.{refusal, IsAssembled}
 use Rattle.asm86_lines.specs.declared.line.Line86.{Line86}
 use Rattle.asm86_lines.specs.Layout.{sizes_of}
 use Rattle.asm86_lines.specs.Image.{statements}
 use Rattle.templates.specs.Lean.{IsLean}
-use Rattle.sample_lines.specs.Sample.{sample_statements}
+use Rattle.sample_program.specs.Sample.{sample_text, sample_statements}
+
+-- Its text is read as its statements.
+abbrev pub SampleIsRead : Type 0
+SampleIsRead = (K : ℕ) → K ≤ 500 → StreamGives (sample_text K) (sample_statements K) None
 
 -- Its statements break no rule, where there are from 1 to 500 routines and the program area has the top 0F000H.
 abbrev pub SampleIsAccepted : Type 0

@@ -1,1 +1,3 @@
 pub mod Laws
+pub mod Written
+pub mod Sample

@@ -18,7 +18,7 @@ use Rattle.dialogue.specs.Table.{Row, row_of, padded}
 use Rattle.dialogue.specs.Shape.{Seen, argument_of, address_of, is_readable, range_of, is_within, range_within, ranges_within, has_room, ranges, shape_by, shape_in, shape_of, request_of}
 use Rattle.dialogue.specs.Fits.{answer_fits, kind_by, line_fits, writes_fit, fits, fits_row, answer_in, answer_of}
 use Rattle.dialogue.specs.ByteMemory.{seen_by as seen_by86}
-use Rattle.base_runs.specs.Run.{Answer, Asks, Ends, Stops}
+use Rattle.dialogue.specs.Run.{Answer, Asks, Ends, Stops}
 use Rattle.asm80_program.specs.Program.{Program}
 use Rattle.cpu80_steps.specs.State.{State80, num_of}
 use Rattle.cpu80_steps.specs.Memory.{is_closed}
@@ -26,7 +26,7 @@ use Rattle.cpu80_steps.specs.Call.{Return, is_just_below, byte_seen, may_be_writ
 use Rattle.cpu86_steps.specs.State.{State86}
 use Rattle.cpu86_steps.specs.Call.{OddCall, spoiled, ask as ask86, ask_system, call_system as call_system86}
 use Rattle.sym_blocks.specs.Stands.{Stands}
-use Rattle.sym_calls.specs.Sight.{SeesMore, KnowsMore, WhoSeesMoreAsksTheSame}
+use Rattle.dialogue.specs.Sight.{SeesMore, KnowsMore, WhoSeesMoreAsksTheSame}
 use Rattle.sym_runs.specs.States.{IsCell}
 use Rattle.dialogue.proofs.Tried.{then_is, ok_is, err_is_not}
 use Rattle.sym_sound86.proofs.Words.{eq_false}

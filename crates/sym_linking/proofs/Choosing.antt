@@ -11,7 +11,7 @@ use Rattle.cells.specs.Conditions.{Knows, KnowsBits}
 use Rattle.i80.specs.declared.Reg.TheVariants.{A as RegA, B as RegB, C as RegC, D as RegD, E as RegE, H as RegH, L as RegL}
 use Rattle.i86.specs.declared.Reg8.TheVariants.{Al, Cl, Ch, Dl, Dh, Bl, Bh}
 use Rattle.base_arithmetic.specs.Arithmetic.{as_bit}
-use Rattle.base_runs.specs.Run.{Run}
+use Rattle.dialogue.specs.Run.{Run}
 use Rattle.asm86_lines.specs.declared.line.Label.{Label}
 use Rattle.asm80_program.specs.Program.{Program}
 use Rattle.cpu80_steps.specs.State.{State80}

@@ -6,8 +6,8 @@ use Rattle.dialogue.specs.declared.request.Reply.{Reply}
 use Rattle.dialogue.specs.declared.request.Event.{Event}
 use Rattle.dialogue.specs.declared.request.Event.TheVariants.{End as EndEvent}
 use Rattle.dialogue.specs.Fits.{fits_event}
-use Rattle.base_runs.specs.Run.{Ran, Asks, Ends, Machine, Run, Going, Waiting, choice_at, take_reply, settle, turns, IsNotStopped}
-use Rattle.base_runs.proofs.Turns.{turns_add}
+use Rattle.dialogue.specs.Run.{Ran, Asks, Ends, Machine, Run, Going, Waiting, choice_at, take_reply, settle, turns, IsNotStopped}
+use Rattle.dialogue.proofs.Turns.{turns_add}
 use Rattle.asm86_lines.specs.declared.line.Line86.{Line86}
 use Rattle.asm80_program.specs.Program.{Program}
 use Rattle.cpu80_steps.specs.State.{State80}

@@ -10,8 +10,8 @@ use Rattle.i86.specs.declared.Instr86.{Instr86}
 use Rattle.i86.specs.declared.Instr86.TheVariants.{OrClCl}
 use Rattle.i86.specs.declared.Jump.TheVariants.{Jz}
 use Rattle.i86.specs.Code.{Reads}
-use Rattle.base_runs.specs.Run.{Answer, Machine, Run, settle, turns, IsNotStopped}
-use Rattle.base_runs.proofs.Turns.{turns_add}
+use Rattle.dialogue.specs.Run.{Answer, Machine, Run, settle, turns, IsNotStopped}
+use Rattle.dialogue.proofs.Turns.{turns_add}
 use Rattle.asm86_lines.specs.declared.line.Label.{Label}
 use Rattle.asm86_lines.specs.declared.line.Label.TheVariants.{At as AtLabel, Sys as SysLabel, End as EndLabel}
 use Rattle.asm86_lines.specs.declared.line.Stmt86.{Stmt86}
@@ -42,7 +42,7 @@ use Rattle.sym_runs.specs.Runs80.{env80, Answers80, Takes80, BlockLeaves80, goin
 use Rattle.sym_runs.specs.Runs86.{with_loads, offsets_of, Leaves86, LeavesAsking86}
 use Rattle.sym_runs.specs.Runtime.{RuntimesRun86}
 use Rattle.sym_runs.specs.Linked.{HasBlock, StandsIn, places, Linked, Paired}
-use Rattle.sym_calls.specs.Sight.{WhoSeesMoreAsksTheSame}
+use Rattle.dialogue.specs.Sight.{WhoSeesMoreAsksTheSame}
 use Rattle.sym_linking.specs.Linked.{EnvsStand, AgreeingTermsStand}
 use Rattle.sym_linking.specs.Environments.{HasLabels}
 use Rattle.sym_sound86.proofs.Positions.{behind_is, offsets_are, offset_within, defined_here, place_is}
@@ -169,7 +169,7 @@ module _ (terms : AgreeingTermsStand) (same : WhoSeesMoreAsksTheSame) (runtimes 
         subst Then (sym ans80.2)
         (asks_in terms same runtimes p lines cut keeps fetch choices reads set labels count some_count x y t u w steps n few port c k.in_cut ans80.0 ans80.1 lv.asks.0
         (subst (λ z. Rattle.sym_runs.specs.Runs86.GoesOnAt p offset z lv.asks.0) (sym is) lv.asks.1)
-        (λ choice. lv.asks.2 choice ∙ ap (λ z. Rattle.base_runs.specs.Run.Asks (Rattle.dialogue.specs.declared.request.Event.TheVariants.In z) (record u { ip = lv.asks.0 })) (sym same_port))
+        (λ choice. lv.asks.2 choice ∙ ap (λ z. Rattle.dialogue.specs.Run.Asks (Rattle.dialogue.specs.declared.request.Event.TheVariants.In z) (record u { ip = lv.asks.0 })) (sym same_port))
         lv.few (k.sp refl) k.parts)
     follows (In port EndPlace) c ans k h s ans80 lv = absurd k.in_cut
     follows (In port (At c)) (In port' next) ans k h s ans80 (inl lv) = absurd lv.leads
@@ -180,7 +180,7 @@ module _ (terms : AgreeingTermsStand) (same : WhoSeesMoreAsksTheSame) (runtimes 
         subst Then (sym ans80.4)
         (asks_out terms same runtimes p lines cut keeps fetch choices reads set labels count some_count x y t u w steps n few port ans80.0 c ans80.1 k.in_cut ans80.2 ans80.3 lv.asks.0
         (subst (λ z. Rattle.sym_runs.specs.Runs86.GoesOnAt p offset z lv.asks.0) (sym is) lv.asks.1)
-        (λ choice. lv.asks.2 choice ∙ ap (λ z. Rattle.base_runs.specs.Run.Asks (Rattle.dialogue.specs.declared.request.Event.TheVariants.Out z u.regs.al) (record u { ip = lv.asks.0 })) (sym same_port))
+        (λ choice. lv.asks.2 choice ∙ ap (λ z. Rattle.dialogue.specs.Run.Asks (Rattle.dialogue.specs.declared.request.Event.TheVariants.Out z u.regs.al) (record u { ip = lv.asks.0 })) (sym same_port))
         lv.few (k.sp refl) k.parts)
     follows (Out port EndPlace) c ans k h s ans80 lv = absurd k.in_cut
     follows (Out port (At c)) (Out port' next) ans k h s ans80 (inl lv) = absurd lv.leads

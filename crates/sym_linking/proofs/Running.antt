@@ -2,8 +2,8 @@
 use Rattle.std.proofs.Common.{◌≡◌, ℕ, zero, suc, ◌+◌, ◌-◌, ◌≤◌, ◌<◌, List, [], refl, sym, ap, ◌∙◌, subst, arith, ⊎_elim}
 use Rattle.std.proofs.lemmas.Bool.{cases_lt}
 use Rattle.cells.specs.declared.Rule.{Rule}
-use Rattle.base_runs.specs.Run.{Machine, Run, Going, Stopped, choice_at, settle, turn_by, turn, turns, IsNotStopped}
-use Rattle.base_runs.proofs.Turns.{turns_add, still_turns, not_stopped_below}
+use Rattle.dialogue.specs.Run.{Machine, Run, Going, Stopped, choice_at, settle, turn_by, turn, turns, IsNotStopped}
+use Rattle.dialogue.proofs.Turns.{turns_add, still_turns, not_stopped_below}
 use Rattle.asm80_program.specs.Program.{Program}
 use Rattle.cpu80_steps.specs.State.{State80}
 use Rattle.cpu80_steps.specs.Step.{machine80}

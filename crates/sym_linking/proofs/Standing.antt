@@ -9,7 +9,7 @@ use Rattle.cells.specs.declared.Rule.{Rule}
 use Rattle.cells.specs.declared.Part.{Part}
 use Rattle.cells.specs.declared.Part.TheVariants.{A, B, C, D, E, H, L, S, Z, Ac, P, Cy}
 use Rattle.cells.specs.Parts.{has}
-use Rattle.base_runs.specs.Run.{Run, Going}
+use Rattle.dialogue.specs.Run.{Run, Going}
 use Rattle.asm86_lines.specs.declared.line.Label.{Label}
 use Rattle.asm80_program.specs.Program.{Program}
 use Rattle.cpu80_steps.specs.State.{State80}

@@ -21,7 +21,7 @@ use Rattle.dialogue.specs.declared.request.Event.{Event}
 use Rattle.dialogue.specs.declared.request.Event.TheVariants.{Call as CallEvent, In as AskedIn, Out as AskedOut}
 use Rattle.dialogue.specs.Fits.{fits_event, writes_nothing}
 use Rattle.dialogue.specs.Shape.{request_of}
-use Rattle.base_runs.specs.Run.{Answer, Ran, Asks, Ends, Stops, Machine, Run, Going, settle}
+use Rattle.dialogue.specs.Run.{Answer, Ran, Asks, Ends, Stops, Machine, Run, Going, settle}
 use Rattle.asm86_lines.specs.declared.line.Label.{Label}
 use Rattle.asm86_lines.specs.declared.line.Label.TheVariants.{End as EndLabel}
 use Rattle.asm86_lines.specs.declared.line.Line86.{Line86}
@@ -49,7 +49,7 @@ use Rattle.sym_runs.specs.Runs80.{GoesByPair80, GoesByReturn80, going_on}
 use Rattle.sym_runs.specs.Runs86.{offsets_of, ComesBackTo, GoesOnAt, StandsAt, Called, GoesByPair86, GoesByReturn86}
 use Rattle.sym_runs.specs.Runtime.{CallsSystem, EndsAfter, RuntimeRuns, RuntimesRun86, answers_moved}
 use Rattle.sym_runs.specs.Linked.{IsFirstOf, StandsIn, places}
-use Rattle.sym_calls.specs.Sight.{WhoSeesMoreAsksTheSame}
+use Rattle.dialogue.specs.Sight.{WhoSeesMoreAsksTheSame}
 use Rattle.sym_linking.specs.Linked.{EnvsStand, AgreeingTermsStand}
 use Rattle.sym_linking.specs.Replayed.{MemoryStands}
 use Rattle.sym_linking.specs.Environments.{HasLabels}

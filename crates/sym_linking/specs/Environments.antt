@@ -3,7 +3,7 @@ use Rattle.std.specs.Prelude.{◌≡◌, ◌<◌, ℕ, List, [], Option, Some}
 use Rattle.cells.specs.declared.Place.{Place}
 use Rattle.cells.specs.declared.Rule.{Rule}
 use Rattle.cells.specs.Parts.{Parts}
-use Rattle.base_runs.specs.Run.{Run}
+use Rattle.dialogue.specs.Run.{Run}
 use Rattle.asm86_lines.specs.declared.line.Label.{Label}
 use Rattle.asm80_program.specs.Program.{Program}
 use Rattle.cpu80_steps.specs.State.{State80}

@@ -6,7 +6,7 @@ use Rattle.cells.specs.declared.Part.{Part}
 use Rattle.cells.specs.Parts.{has}
 use Rattle.i86.specs.declared.Instr86.{Instr86}
 use Rattle.i86.specs.Code.{Reads}
-use Rattle.base_runs.specs.Run.{Run}
+use Rattle.dialogue.specs.Run.{Run}
 use Rattle.asm86_lines.specs.declared.line.Line86.{Line86}
 use Rattle.asm86_lines.specs.Image.{Assembles, image_of, statements}
 use Rattle.asm80_program.specs.Program.{Program, IsProgram}

@@ -8,8 +8,8 @@ ghost use Rattle.sym_linking.specs.Environments.{LinkedRunsHaveEnvs};
 ghost use Rattle.sym_linking.specs.Matching.{MatchingBlocksStand};
 ghost use Rattle.sym_linking.specs.Linking.{BlocksAreLinked};
 
+use dialogue::who_sees_more_asks_the_same;
 use sym_blocks::steps_keep_sorts;
-use sym_calls::who_sees_more_asks_the_same;
 use sym_sound80::sound_80;
 use sym_sound86::sound_86;
 use sym_terms::{made_terms_have_sorts, made_terms_keep_values};

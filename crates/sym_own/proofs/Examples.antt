@@ -26,8 +26,8 @@ use Rattle.flow.specs.Blocks.{blocks, cut_from}
 use Rattle.flow.specs.Solving.{Needs}
 use Rattle.templates.specs.Style.{blocks_of, styled_statements}
 use Rattle.templates.specs.Lean.{lean_style}
-use Rattle.sym_texts.specs.Matches.{blocks_reason}
-use Rattle.sym_texts.specs.Needed.{needed_by}
+use Rattle.sym_runs.specs.Matches.{blocks_reason}
+use Rattle.sym_runs.specs.Needed.{needed_by}
 
 abbrev line : ℕ → ℕ → Instr80 → Placed
 line at n i = record { at = at; line = n; instr = i }

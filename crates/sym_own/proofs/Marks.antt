@@ -18,8 +18,8 @@ use Rattle.templates_plain.specs.Template.{template, label_of}
 use Rattle.flow.specs.Blocks.{end_of}
 use Rattle.flow.proofs.Cuts.{flat}
 use Rattle.templates.specs.Style.{Style, is_pair, knows_function, jump_if, without_first_if, without_last_if, written_as, label_within, block_from, block_of, blocks_of}
-use Rattle.sym_plain.proofs.Laid.{length80-some}
-use Rattle.sym_plain.proofs.Standing.{other_number, template_marks}
+use Rattle.sym_own.proofs.PlainLaid.{length80-some}
+use Rattle.sym_own.proofs.PlainStanding.{other_number, template_marks}
 use Rattle.sym_own.proofs.Runs.{end_from, laid_up}
 use Rattle.sym_own.proofs.Leaving.{left_so}
 

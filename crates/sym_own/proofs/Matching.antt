@@ -19,13 +19,13 @@ use Rattle.sym_blocks.specs.Symbolic86.{Symbolic86, start86}
 use Rattle.sym_blocks.specs.Walk86.{Surroundings, surroundings, behind, is_passed, met, walk_from, walk_some, walk_behind}
 use Rattle.sym_blocks.specs.Sorts.{StepsKeepSorts}
 use Rattle.sym_blocks.specs.BlockMatch.{walked_reason, block_reason}
-use Rattle.sym_texts.specs.Needed.{needed_by}
-use Rattle.sym_rows.specs.Rows.{RowsAgree, RowsKeepSorts, PairsMayGo}
-use Rattle.sym_exits.specs.Exits.{StatementsArePassed, TemplatesAreWalked, EndsBehind, ExitsAgree}
-use Rattle.sym_plain.proofs.Laid.{length80-some}
-use Rattle.sym_plain.proofs.Standing.{first_label, first_way, first_is}
-use Rattle.sym_plain.proofs.Matching.{tail_of}
-use Rattle.sym_plain.proofs.Reasons.{starts_agree}
+use Rattle.sym_runs.specs.Needed.{needed_by}
+use Rattle.sym_own.specs.Rows.{RowsAgree, RowsKeepSorts, PairsMayGo}
+use Rattle.sym_own.specs.Exits.{StatementsArePassed, TemplatesAreWalked, EndsBehind, ExitsAgree}
+use Rattle.sym_own.proofs.PlainLaid.{length80-some}
+use Rattle.sym_own.proofs.PlainStanding.{first_label, first_way, first_is}
+use Rattle.sym_own.proofs.PlainMatching.{tail_of}
+use Rattle.sym_own.proofs.PlainReasons.{starts_agree}
 use Rattle.sym_own.specs.Own.{Respects, OwnBlocksMatch}
 use Rattle.sym_own.proofs.Runs.{AreOf, end_from, laid_rest, laid_front, laid_up, placed_past, IsRun, instrs_of, places_of, run_instrs, run_places, run_end, AllPassed, all_passed_by, none_behind, BlockAt, block_is, instrs_are, block_are}
 use Rattle.sym_own.proofs.Standing.{LastSkips, rest_of, begins_so, stands_at, stands_last}

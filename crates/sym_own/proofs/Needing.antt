@@ -24,10 +24,10 @@ use Rattle.flow.specs.Solving.{Needs, AreAllNeeds}
 use Rattle.sym_blocks.specs.Outcome.{Way, Goto, Call, Sys, SysReturn, Boot, Leave, In, Out, One}
 use Rattle.sym_blocks.specs.Block80.{Symbolic80, goto, call, return_by, asking, exit80}
 use Rattle.sym_blocks.specs.BlockMatch.{without_a, with_a, kept_by, kept_by_exit, lost_by}
-use Rattle.sym_texts.specs.Needed.{needed_by}
-use Rattle.sym_rows.specs.Meeting.{Among}
-use Rattle.sym_rows.proofs.Moves.{has_nothing}
-use Rattle.sym_rows.proofs.Row.{in_second}
+use Rattle.sym_runs.specs.Needed.{needed_by}
+use Rattle.sym_own.specs.Meeting.{Among}
+use Rattle.sym_own.proofs.Moves.{has_nothing}
+use Rattle.sym_own.proofs.Row.{in_second}
 use Rattle.sym_own.proofs.Runs.{IsOf, instr_is}
 
 -- what goes on has one edge, to the next place

@@ -15,9 +15,9 @@ use Rattle.flow.proofs.Straight.{uncut}
 use Rattle.flow.proofs.Extents.{numbered}
 use Rattle.sym_blocks.specs.Block80.{instrs_from, before_more, address_after, addresses_from}
 use Rattle.sym_blocks.specs.Walk86.{Surroundings, is_passed}
-use Rattle.sym_rows.proofs.Terms.{or_first}
-use Rattle.sym_plain.proofs.Laid.{length80-some}
-use Rattle.sym_plain.proofs.Standing.{same_number, other_number, not_here}
+use Rattle.sym_own.proofs.Terms.{or_first}
+use Rattle.sym_own.proofs.PlainLaid.{length80-some}
+use Rattle.sym_own.proofs.PlainStanding.{same_number, other_number, not_here}
 
 -- an instruction of a program
 pub record IsOf (p : Program) (x : Placed) : Type 0 where

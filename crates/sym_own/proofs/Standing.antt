@@ -18,8 +18,8 @@ use Rattle.flow.specs.Blocks.{end_of}
 use Rattle.flow.proofs.Cuts.{flat}
 use Rattle.templates.specs.Style.{Style, is_pair, knows_function, jump_if, written_as, label_within, block_from, block_of, blocks_of}
 use Rattle.sym_blocks.specs.Walk86.{behind}
-use Rattle.sym_plain.proofs.Laid.{length80-some}
-use Rattle.sym_plain.proofs.Standing.{same_number, other_number, behind_past, first_label}
+use Rattle.sym_own.proofs.PlainLaid.{length80-some}
+use Rattle.sym_own.proofs.PlainStanding.{same_number, other_number, behind_past, first_label}
 use Rattle.sym_own.proofs.Runs.{end_from, laid_rest, laid_front}
 use Rattle.sym_own.proofs.Marks.{written_lacks, free_behind, blocks_lack, at_only, skip_only_of}
 

@@ -23,12 +23,12 @@ use Rattle.sym_blocks.specs.Block80.{Symbolic80, effect80}
 use Rattle.sym_blocks.specs.Symbolic86.{Symbolic86, effect86}
 use Rattle.sym_blocks.specs.Walk86.{Surroundings, met, walk_from}
 use Rattle.sym_blocks.specs.Sorts.{AreSorted80, AreSorted86, StepsKeepSorts}
-use Rattle.sym_rows.specs.Meeting.{Among, Agree}
-use Rattle.sym_rows.specs.Rows.{all_passed, unsaved, loses, Behind, RowsAgree, RowsKeepSorts, PairsMayGo}
-use Rattle.sym_rows.proofs.Terms.{or_first}
-use Rattle.sym_rows.proofs.Moves.{has_nothing}
-use Rattle.sym_exits.specs.Exits.{AreStraight, room_for, StatementsArePassed}
-use Rattle.sym_plain.proofs.Matching.{nothing_lost, room_is}
+use Rattle.sym_own.specs.Meeting.{Among, Agree}
+use Rattle.sym_own.specs.Rows.{all_passed, unsaved, loses, Behind, RowsAgree, RowsKeepSorts, PairsMayGo}
+use Rattle.sym_own.proofs.Terms.{or_first}
+use Rattle.sym_own.proofs.Moves.{has_nothing}
+use Rattle.sym_own.specs.Exits.{AreStraight, room_for, StatementsArePassed}
+use Rattle.sym_own.proofs.PlainMatching.{nothing_lost, room_is}
 use Rattle.sym_own.specs.Own.{Respects}
 use Rattle.sym_own.proofs.Runs.{IsOf}
 use Rattle.sym_own.proofs.Needing.{used, passed_on}

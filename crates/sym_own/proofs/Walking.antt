@@ -30,14 +30,14 @@ use Rattle.sym_blocks.specs.Symbolic86.{Symbolic86}
 use Rattle.sym_blocks.specs.Walk86.{Surroundings, behind, met, met_label, is_call, outcome86, walk_from}
 use Rattle.sym_blocks.specs.Sorts.{AreSorted80, AreSorted86, StepsKeepSorts}
 use Rattle.sym_blocks.specs.BlockMatch.{kept_by_exit, lost_by, walked_reason}
-use Rattle.sym_texts.specs.Needed.{needed_by}
-use Rattle.sym_rows.specs.Meeting.{Among, Agree}
-use Rattle.sym_rows.specs.Rows.{all_passed, RowsAgree, RowsKeepSorts, PairsMayGo}
-use Rattle.sym_rows.proofs.Row.{in_first}
-use Rattle.sym_exits.specs.Exits.{StatementsArePassed, TemplatesAreWalked, EndsBehind, SkipsTo, Ends, JumpsWhere, ExitsAgree}
-use Rattle.sym_exits.proofs.Ending.{exit_falls}
-use Rattle.sym_plain.proofs.Matching.{end_keeps}
-use Rattle.sym_plain.proofs.Reasons.{no_reason}
+use Rattle.sym_runs.specs.Needed.{needed_by}
+use Rattle.sym_own.specs.Meeting.{Among, Agree}
+use Rattle.sym_own.specs.Rows.{all_passed, RowsAgree, RowsKeepSorts, PairsMayGo}
+use Rattle.sym_own.proofs.Row.{in_first}
+use Rattle.sym_own.specs.Exits.{StatementsArePassed, TemplatesAreWalked, EndsBehind, SkipsTo, Ends, JumpsWhere, ExitsAgree}
+use Rattle.sym_own.proofs.Ending.{exit_falls}
+use Rattle.sym_own.proofs.PlainMatching.{end_keeps}
+use Rattle.sym_own.proofs.PlainReasons.{no_reason}
 use Rattle.sym_own.specs.Own.{Respects}
 use Rattle.sym_own.proofs.Runs.{IsOf, AreOf, IsRun, AllPassed, end_from, instrs_of}
 use Rattle.sym_own.proofs.Standing.{Skips, LastSkips}

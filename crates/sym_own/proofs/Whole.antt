@@ -6,8 +6,8 @@ use Rattle.asm80_program.specs.Program.{Program}
 use Rattle.flow.specs.Blocks.{blocks}
 use Rattle.templates.specs.Style.{styled_statements}
 use Rattle.sym_blocks.specs.BlockMatch.{Keeps, block_reason}
-use Rattle.sym_texts.specs.Matches.{or_next, blocks_reason}
-use Rattle.sym_texts.specs.Needed.{needed_by}
+use Rattle.sym_runs.specs.Matches.{or_next, blocks_reason}
+use Rattle.sym_runs.specs.Needed.{needed_by}
 use Rattle.sym_own.specs.Own.{OwnBlocksMatch, OwnTextsMatch}
 
 none_of : (p : Program) (text : List Stmt86) (keeps : Keeps) (bs : List (ℕ × ℕ)) → ((a count : ℕ) → Contains bs (a, count) → block_reason p text keeps a count ≡ None) → blocks_reason p text keeps bs ≡ None

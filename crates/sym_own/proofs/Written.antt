@@ -17,8 +17,8 @@ use Rattle.templates.specs.Style.{Style, ends_by_sahf, begins_by_lahf, jump_if, 
 use Rattle.sym_blocks.specs.Symbolic86.{Symbolic86, effect86}
 use Rattle.sym_blocks.specs.Sorts.{StatementIsCoded, StatementsAreCoded}
 use Rattle.sym_blocks.specs.Walk86.{Surroundings, met, walk_from, walk_some}
-use Rattle.sym_rows.specs.Rows.{saves, all_passed}
-use Rattle.sym_exits.specs.Exits.{is_straight, AreStraight, TemplatesAreWalked}
+use Rattle.sym_own.specs.Rows.{saves, all_passed}
+use Rattle.sym_own.specs.Exits.{is_straight, AreStraight, TemplatesAreWalked}
 use Rattle.sym_own.proofs.Leaving.{left_so}
 
 pub straight_as : (first last : Bool) (xs : List Stmt86) → AreStraight xs → AreStraight (without_first_if first (without_last_if last xs))

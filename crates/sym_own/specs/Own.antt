@@ -9,9 +9,9 @@ use Rattle.flow.specs.Solving.{Needs, AreAllNeeds}
 use Rattle.templates.specs.Style.{Style, plain_style, styled_statements}
 use Rattle.templates.specs.Lean.{has_saved_flag, loses_nothing, lean_style}
 use Rattle.sym_blocks.specs.BlockMatch.{block_reason}
-use Rattle.sym_texts.specs.Matches.{blocks_reason}
-use Rattle.sym_texts.specs.Needed.{needed_by}
-pub use Rattle.sym_plain.specs.Plain.{OnesAreBlocks, PlainBlocksMatch}
+use Rattle.sym_runs.specs.Matches.{blocks_reason}
+use Rattle.sym_runs.specs.Needed.{needed_by}
+pub use Rattle.sym_own.specs.Plain.{OnesAreBlocks, PlainBlocksMatch}
 
 -- A style respects what is needed: each INX, DCX and DAD saves the flags where one of S Z AC P is needed behind it, and the system is
 -- called by INT 224, which leaves B and L changed, only where neither is needed behind the call.

@@ -1,2 +1,3 @@
 pub mod Still
 mod Coming
+pub mod Showing

@@ -11,17 +11,16 @@ ghost use Rattle.sym_blocks.specs.Agree.{agrees};
 ghost use Rattle.sym_micro.specs.Stands.{id_of_part};
 ghost use Rattle.sym_run.specs.Outcomes.{OutcomeStands, Comes};
 
+use crate::agreement::agree;
 use asm80_program::Program80;
 use cells::{Keep, Part};
 use std::alloc::{AllocError, Global};
 use std::marker::Model;
-use sym_agree::agree;
 use sym_blocks::Reason;
-use sym_index::Index86;
 use sym_micro::{Action, Exit, Held, Run, Way};
 use sym_run80::run_block;
 use sym_terms::{Head, Term, Terms};
-use sym_walk::run_text;
+use sym_walk::{Index86, run_text};
 use xlt_pool::Mark;
 
 /// How many nodes there may be: enough for one block on both sides.

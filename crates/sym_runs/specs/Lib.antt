@@ -5,3 +5,8 @@ pub mod Runs86
 pub mod Runtime
 pub mod Linked
 pub mod Cuts
+pub mod Matches
+pub mod Ones
+pub mod Needed
+pub mod BlockCuts
+pub mod BlockRuns

@@ -7,7 +7,7 @@ use Rattle.cells.specs.declared.Part.{Part}
 use Rattle.cells.specs.declared.Part.TheVariants.{A, B, C, D, E, H, L, S, Z, Ac, P, Cy}
 use Rattle.cells.specs.Parts.{has}
 use Rattle.cells.specs.Conditions.{Knows}
-use Rattle.base_runs.specs.Run.{Run, Going, Waiting, Over}
+use Rattle.dialogue.specs.Run.{Run, Going, Waiting, Over}
 use Rattle.asm86_lines.specs.declared.line.Label.{Label}
 use Rattle.asm80_program.specs.Program.{Program}
 use Rattle.cpu80_steps.specs.State.{State80}

@@ -10,7 +10,7 @@ use Rattle.cells.specs.declared.Flags.{Flags}
 use Rattle.i80.specs.declared.Reg.{Reg}
 use Rattle.dialogue.specs.Tried.{try_then}
 use Rattle.dialogue.specs.declared.request.Event.TheVariants.{In as AskedIn, Out as AskedOut}
-use Rattle.base_runs.specs.Run.{Answer, Ran, Asks, Ends, Stops}
+use Rattle.dialogue.specs.Run.{Answer, Ran, Asks, Ends, Stops}
 use Rattle.asm80_program.specs.Program.{Program, IsProgram}
 use Rattle.cpu80_steps.specs.State.{State80, Regs80, reg80, wrap}
 use Rattle.cpu80_steps.specs.Memory.{is_closed, is_write_protected, put, read_word}

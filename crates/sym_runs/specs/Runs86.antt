@@ -12,7 +12,7 @@ use Rattle.i86.specs.Code.{Reads}
 use Rattle.dialogue.specs.declared.request.Event.TheVariants.{In as AskedIn, Out as AskedOut}
 use Rattle.dialogue.specs.ByteMemory.{put}
 use Rattle.base_arithmetic.specs.Arithmetic.{as_bit}
-use Rattle.base_runs.specs.Run.{Asks}
+use Rattle.dialogue.specs.Run.{Asks}
 use Rattle.asm86_lines.specs.declared.line.Label.{Label}
 use Rattle.asm86_lines.specs.declared.line.Label.TheVariants.{At, Sys as SysLabel, End as EndLabel}
 use Rattle.asm86_lines.specs.declared.line.Line86.{Line86}

@@ -3,7 +3,7 @@
 use Rattle.std.specs.Prelude.{◌≡◌, ◌≢◌, ℕ, ◌+◌, List, ◌++◌, Option, Some}
 use Rattle.i86.specs.declared.Instr86.{Instr86}
 use Rattle.i86.specs.Code.{Reads}
-use Rattle.base_runs.specs.Run.{Ends}
+use Rattle.dialogue.specs.Run.{Ends}
 use Rattle.asm86_lines.specs.declared.line.Label.TheVariants.{Sys, End}
 use Rattle.asm86_lines.specs.declared.line.Stmt86.{Stmt86}
 use Rattle.asm86_lines.specs.declared.line.Line86.{Line86}

@@ -1,6 +1,6 @@
 -- Steps of a machine that only run on.
 use Rattle.std.specs.Prelude.{◌≡◌, ℕ, zero, suc, List}
-use Rattle.base_runs.specs.Run.{Machine, Ran, choice_at}
+use Rattle.dialogue.specs.Run.{Machine, Ran, choice_at}
 
 -- so many steps, each of which runs on; so many choices were taken before them
 abbrev pub RunsOn : {S X : Type 0} → Machine S X → List ℕ → ℕ → ℕ → S → S → Type 0

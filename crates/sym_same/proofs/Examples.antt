@@ -8,7 +8,7 @@ use Rattle.i80.specs.declared.Instr80.TheVariants.{Mvi, Jmp, Call}
 use Rattle.dialogue.specs.declared.request.Reply.{Reply}
 use Rattle.dialogue.specs.declared.request.Event.TheVariants.{Call as Calls, End}
 use Rattle.dialogue.specs.Table.{row_of}
-use Rattle.base_runs.specs.Run.{Going, Over}
+use Rattle.dialogue.specs.Run.{Going, Over}
 use Rattle.asm80_program.specs.declared.program.Placed.{Placed}
 use Rattle.asm80_program.specs.Program.{Program, program_of}
 use Rattle.cpu80_steps.specs.Start.{run80}

@@ -1,9 +1,9 @@
 -- From blocks of up to sixteen turns of the first machine to whole runs of both.
 use Rattle.std.proofs.Common.{◌≡◌, ℕ, zero, suc, ◌+◌, ◌-◌, ◌≤◌, ◌<◌, ◌*◌, List, [], sym, ap, ◌∙◌, subst, arith, ⊎_elim}
 use Rattle.std.proofs.lemmas.Bool.{cases_lt}
-use Rattle.base_runs.specs.Run.{Machine, Run, turns, IsNotStopped, IsFrontOf}
-use Rattle.base_runs.specs.Same.{SameDialogue}
-use Rattle.base_runs.proofs.Turns.{turns_add, not_stopped_below, grows_between}
+use Rattle.dialogue.specs.Run.{Machine, Run, turns, IsNotStopped, IsFrontOf}
+use Rattle.dialogue.specs.Same.{SameDialogue}
+use Rattle.dialogue.proofs.Turns.{turns_add, not_stopped_below, grows_between}
 
 -- Runs that are paired have the same dialogue, and the second of them has not stopped.
 module _ {S X S' X' : Type 0} (m : Machine S X) (m' : Machine S' X') (cs : List ℕ) (Pair : Run S X → Run S' X' → Type 0) (same : (x : Run S X) (y : Run S' X') → Pair x y → x.dialogue ≡ y.dialogue) (going : (x : Run S X) (y : Run S' X') → Pair x y → IsNotStopped y.status) where

@@ -20,9 +20,9 @@ use Rattle.dialogue.specs.declared.blocks.Block.{Block as ReplyBlock}
 use Rattle.dialogue.specs.declared.request.Reply.{Reply}
 use Rattle.dialogue.specs.declared.request.Event.{Event}
 use Rattle.dialogue.specs.Fits.{fits_event}
-use Rattle.base_runs.specs.Run.{Answer, Ran, Asks, Ends, Stops, Machine, Status, Going, Waiting, Over, Stopped, Run, take_reply, settle, turn_by, turn, turns, start_run, IsNotStopped, choice_at}
-use Rattle.base_runs.specs.Same.{SameDialogue}
-use Rattle.base_runs.proofs.Turns.{IsStill, still_turns}
+use Rattle.dialogue.specs.Run.{Answer, Ran, Asks, Ends, Stops, Machine, Status, Going, Waiting, Over, Stopped, Run, take_reply, settle, turn_by, turn, turns, start_run, IsNotStopped, choice_at}
+use Rattle.dialogue.specs.Same.{SameDialogue}
+use Rattle.dialogue.proofs.Turns.{IsStill, still_turns}
 use Rattle.asm86_lines.specs.declared.line.Label.{Label}
 use Rattle.asm86_lines.specs.declared.line.Label.TheVariants.{End}
 use Rattle.asm86_lines.specs.declared.line.Line86.{Line86}
@@ -39,7 +39,7 @@ use Rattle.cpu80_steps.specs.Start.{IsPage, cell_or_junk, start_cell80, start80,
 use Rattle.cpu86_steps.specs.State.{State86, reg8}
 use Rattle.cpu86_steps.specs.Call.{Stop}
 use Rattle.cpu86_steps.specs.Step.{machine86}
-use Rattle.base_runs.specs.Fill.{IsFill}
+use Rattle.dialogue.specs.Fill.{IsFill}
 use Rattle.cpu86_steps.specs.Start.{Start, IsStart, start_byte, start86, run86}
 use Rattle.sym_blocks.specs.declared.reason.Reason.{Reason}
 use Rattle.sym_blocks.specs.BlockMatch.{Keeps, block_reason}
@@ -53,7 +53,7 @@ use Rattle.sym_linking.proofs.Running.{moved, turn_is, run_turns}
 use Rattle.sym_linking.proofs.Standing.{StatesStand, are_linked}
 use Rattle.sym_linking.proofs.Going.{ends_follow}
 use Rattle.sym_linking.proofs.Linked.{end_label}
-use Rattle.sym_texts.specs.Matches.{or_next, blocks_reason}
+use Rattle.sym_runs.specs.Matches.{or_next, blocks_reason}
 use Rattle.sym_same.specs.Same.{IsReplyBlock, IsReply, Same}
 use Rattle.sym_same.specs.Laws.{IsMatch, IsFollowed, BlocksFollow, MatchesIsSame}
 use Rattle.sym_same.proofs.Opening.{s7, segments, label, opens}
@@ -415,7 +415,7 @@ module _ (law : BlocksAreLinked) (runtimes : RuntimesRun86) (p : Program) (lines
           high = a.high;
           slow = omega (arith, slow);
           fast = omega (arith, fast);
-          paired = subst (λ z. Paired p offset cut keeps (turns M80 [] a.n0 x0) z) (sym (Rattle.base_runs.proofs.Turns.turns_add M86 choices 7 a.m0 y0)) a.paired.0;
+          paired = subst (λ z. Paired p offset cut keeps (turns M80 [] a.n0 x0) z) (sym (Rattle.dialogue.proofs.Turns.turns_add M86 choices 7 a.m0 y0)) a.paired.0;
           said = a.said;
         }
 

@@ -26,7 +26,7 @@ use Rattle.cpu86_steps.specs.Start.{start_byte, put_cells}
 use Rattle.sym_blocks.specs.Stands.{Stands}
 use Rattle.sym_sound86.proofs.Words.{eq_false, put_word_past, put_word_low, put_word_high}
 use Rattle.sym_sound86.proofs.Denoting.{word_put}
-use Rattle.sym_texts.specs.Matches.{or_else, byte_at, DataAreCoded}
+use Rattle.sym_runs.specs.Matches.{or_else, byte_at, DataAreCoded}
 
 -- the cells of a text: from 100H up, and bytes
 

@@ -8,7 +8,7 @@ use Rattle.i86.specs.declared.Instr86.{Instr86}
 use Rattle.i86.specs.declared.Instr86.TheVariants.{MovNum16, MovReg16, MovDirect16, MovAxDs, MovSsAx, Push}
 use Rattle.i86.specs.Code.{Reads, HasBytes}
 use Rattle.i86.specs.Enc86.{enc86}
-use Rattle.base_runs.specs.Run.{Stops, choice_at}
+use Rattle.dialogue.specs.Run.{Stops, choice_at}
 use Rattle.asm86_lines.specs.declared.line.Label.TheVariants.{At, End}
 use Rattle.asm86_lines.specs.declared.line.Stmt86.{Stmt86}
 use Rattle.asm86_lines.specs.declared.line.Stmt86.TheVariants.{Cseg, Mark, Run, MovOffset}
@@ -25,7 +25,7 @@ use Rattle.sym_runs.specs.Runs86.{offsets_of}
 use Rattle.sym_sound86.proofs.Positions.{Position, position_next, offsets_are, label_here, stands_here, ends_within}
 use Rattle.sym_sound86.proofs.Stepping.{past, steps_as}
 use Rattle.sym_sound86.proofs.Words.{word_parts}
-use Rattle.sym_texts.specs.Matches.{HasOpening}
+use Rattle.sym_runs.specs.Matches.{HasOpening}
 
 module _ (p : Program) (lines : List Line86) (a : Assembles lines) (fetch : ℕ → Option Instr86) (reads : Reads (image_of lines).code fetch) (opening : HasOpening p (statements lines)) (choices : List ℕ) (s : State86) (at_start : s.ip ≡ 0) where
   abbrev text : List Stmt86

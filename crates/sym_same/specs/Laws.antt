@@ -3,19 +3,19 @@ use Rattle.std.specs.Prelude.{◌≡◌, ℕ, ◌+◌, ◌*◌, ◌<◌, ◌≤�
 use Rattle.i86.specs.declared.Instr86.{Instr86}
 use Rattle.i86.specs.Code.{Reads}
 use Rattle.dialogue.specs.declared.request.Reply.{Reply}
-use Rattle.base_runs.specs.Run.{IsNotStopped}
+use Rattle.dialogue.specs.Run.{IsNotStopped}
 use Rattle.asm86_lines.specs.declared.line.Line86.{Line86}
 use Rattle.asm86_lines.specs.Image.{Assembles, image_of, statements}
 use Rattle.asm80_program.specs.Program.{Program, IsProgram}
 use Rattle.cpu80_steps.specs.Start.{IsPage, run80}
-use Rattle.base_runs.specs.Fill.{IsFill}
+use Rattle.dialogue.specs.Fill.{IsFill}
 use Rattle.cpu86_steps.specs.Start.{Start, IsStart, AreChoices, run86}
 use Rattle.sym_blocks.specs.BlockMatch.{Keeps}
 use Rattle.sym_blocks.specs.Sorts.{StatementsAreCoded}
 use Rattle.sym_runs.specs.Runs86.{offsets_of}
 use Rattle.sym_runs.specs.Linked.{Paired}
 use Rattle.sym_runs.specs.Cuts.{IsCut, ReturnsKeep}
-use Rattle.sym_texts.specs.Matches.{Matches, DataAreCoded}
+use Rattle.sym_runs.specs.Matches.{Matches, DataAreCoded}
 use Rattle.sym_same.specs.Same.{IsReply, Same}
 
 -- a program, and lines with an image that match it by a cut and the parts that are kept

@@ -7,13 +7,13 @@ use Rattle.dialogue.specs.declared.request.Reply.{Reply}
 use Rattle.i86.specs.declared.Instr86.{Instr86}
 use Rattle.i86.specs.Code.{Reads}
 use Rattle.asm86_lines.specs.Image.{Image}
-use Rattle.base_runs.specs.Same.{SameDialogue}
+use Rattle.dialogue.specs.Same.{SameDialogue}
 use Rattle.asm80_program.specs.Program.{Program}
 use Rattle.cpu80_steps.specs.State.{State80}
 use Rattle.cpu80_steps.specs.Start.{IsPage, run80}
 use Rattle.cpu86_steps.specs.State.{State86}
 use Rattle.cpu86_steps.specs.Call.{Stop}
-use Rattle.base_runs.specs.Fill.{IsFill}
+use Rattle.dialogue.specs.Fill.{IsFill}
 use Rattle.cpu86_steps.specs.Start.{Start, IsStart, AreChoices, run86}
 
 -- a reply: a word, and blocks of bytes at addresses below 65,536

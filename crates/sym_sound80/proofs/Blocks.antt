@@ -9,7 +9,7 @@ use Rattle.i80.specs.declared.Reg.TheVariants.{A, B, C, D, E, H, L}
 use Rattle.i80.specs.declared.Instr80.{Instr80}
 use Rattle.i80.specs.declared.Instr80.TheVariants.{Pchl, Jmp, Jif, Call, Cif, Ret, Rif, Rst0, In, Out}
 use Rattle.i80.specs.Columns.{length80, ends80}
-use Rattle.base_runs.specs.Run.{Answer, Ran, Stops}
+use Rattle.dialogue.specs.Run.{Answer, Ran, Stops}
 use Rattle.asm80_program.specs.Program.{Program, IsProgram, instr_at, is_start}
 use Rattle.cpu80_steps.specs.State.{State80, reg80}
 use Rattle.cpu80_steps.specs.Effect.{effect}

@@ -16,7 +16,7 @@ use Rattle.i80.specs.declared.Goal.{Goal}
 use Rattle.i80.specs.declared.Goal.TheVariants.{At as ToInstr, Boot as ToBoot, Bdos as ToBdos}
 use Rattle.dialogue.specs.declared.request.Event.{Event}
 use Rattle.dialogue.specs.declared.request.Event.TheVariants.{In as AskedIn}
-use Rattle.base_runs.specs.Run.{Answer, Ran, Asks, Stops}
+use Rattle.dialogue.specs.Run.{Answer, Ran, Asks, Stops}
 use Rattle.asm80_program.specs.Program.{Program, is_start}
 use Rattle.asm80_program.specs.Taken.{takes}
 use Rattle.cpu80_steps.specs.State.{State80, wrap, num_or}

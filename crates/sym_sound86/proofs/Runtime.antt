@@ -8,7 +8,7 @@ use Rattle.i86.specs.declared.Jump.TheVariants.{Jz}
 use Rattle.i86.specs.declared.Instr86.{Instr86}
 use Rattle.i86.specs.declared.Instr86.TheVariants.{MovReg8, MovNum8, OrClCl, Jcc, Ret, Int224}
 use Rattle.i86.specs.Code.{Reads}
-use Rattle.base_runs.specs.Run.{Ran, choice_at}
+use Rattle.dialogue.specs.Run.{Ran, choice_at}
 use Rattle.asm86_lines.specs.declared.line.Label.TheVariants.{Sys, End}
 use Rattle.asm86_lines.specs.declared.line.Stmt86.TheVariants.{Mark, Run, Jcc as JccTo}
 use Rattle.asm86_lines.specs.declared.line.Line86.{Line86}

@@ -11,7 +11,7 @@ use Rattle.i86.specs.declared.Instr86.{Instr86}
 use Rattle.i86.specs.declared.Instr86.TheVariants.{MovReg8, MovMem8, MovAlDirect, MovDirectAl, MovNum8, MovNum16, MovMemNum, MovReg16, MovDirect16, MovAxDs, Alu, AluNum, OrClCl, Add16, Count8, Count16, Push, Pop, Xchg8, Xchg16, Rotate8, Rotate16, Not8, Daa, Sahf, Lahf, Cmc, Stc, Nop, Int224, InAl, OutAl}
 use Rattle.i86.specs.Code.{HasBytes, Reads}
 use Rattle.i86.specs.Enc86.{enc86, reg_of_stack}
-use Rattle.base_runs.specs.Run.{Ran, Stops}
+use Rattle.dialogue.specs.Run.{Ran, Stops}
 use Rattle.asm86_lines.specs.declared.line.Stmt86.{Stmt86}
 use Rattle.asm86_lines.specs.declared.line.Line86.{Line86}
 use Rattle.asm86_lines.specs.Layout.{size_of, place_of, distance8, instr_of, enc_of, code_of}

@@ -11,7 +11,7 @@ use Rattle.i86.specs.declared.Instr86.TheVariants.{Jcc, JmpNear, JmpShort, JmpBx
 use Rattle.i86.specs.Code.{Reads}
 use Rattle.dialogue.proofs.Tried.{ok_is, err_is_not}
 use Rattle.base_arithmetic.specs.Arithmetic.{as_bit}
-use Rattle.base_runs.specs.Run.{Ran, choice_at}
+use Rattle.dialogue.specs.Run.{Ran, choice_at}
 use Rattle.asm86_lines.specs.declared.line.Label.{Label}
 use Rattle.asm86_lines.specs.declared.line.Label.TheVariants.{At, Skip, User, Sys, End}
 use Rattle.asm86_lines.specs.declared.line.Stmt86.{Stmt86}

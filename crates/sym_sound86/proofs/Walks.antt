@@ -11,7 +11,7 @@ use Rattle.i86.specs.declared.Instr86.TheVariants.{MovNum16, MovSsAx, Jcc, JmpNe
 use Rattle.i86.specs.Code.{Reads}
 use Rattle.i86.specs.Enc86.{enc86}
 use Rattle.dialogue.specs.Tried.{try_then}
-use Rattle.base_runs.specs.Run.{Ran, choice_at}
+use Rattle.dialogue.specs.Run.{Ran, choice_at}
 use Rattle.asm86_lines.specs.declared.line.Label.{Label}
 use Rattle.asm86_lines.specs.declared.line.Label.TheVariants.{At, Skip, User, Sys, End}
 use Rattle.asm86_lines.specs.declared.line.Stmt86.{Stmt86}

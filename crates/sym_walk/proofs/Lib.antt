@@ -2,3 +2,4 @@ mod BothWays
 mod Ending
 mod Steps
 mod Addresses
+mod Labels

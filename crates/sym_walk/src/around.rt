@@ -5,9 +5,9 @@ ghost use Rattle.cells.specs.declared.Place.TheVariants.{At as AtPlace};
 ghost use Rattle.sym_blocks.specs.Walk86.{behind, way_to, is_passed, met, comes_next, back_from_call, back_from_system};
 ghost use Rattle.sym_walk.specs.Around.{surroundings_of, met_of, IsStep, WayMayBe, follows_by};
 
+use crate::index::Index86;
 use asm86_lines::{Label, Stmt86};
 use cells::Place;
-use sym_index::Index86;
 use sym_micro::Way;
 
 /// What a walk is in: the text; the addresses of the block's later instructions; the address after the block, and whether an

@@ -4,14 +4,14 @@ use Rattle.host.specs.Host.{HostState, SameFiles, OnlyReads}
 use Rattle.asm86_lines.specs.Image.{image_of}
 use Rattle.asm86_lines.specs.Written.{text_of}
 use Rattle.cmd_words.specs.Words.{Translate, Check, Command, Translates, Checks, ListsFlags, Runs80, Runs86, RunsBoth, MakesSample, IsCommand, IsNoCommand}
-use Rattle.cmd_reports.specs.declared.stop.Stop.TheVariants.{OutOfMemory}
-use Rattle.cmd_reports.specs.Said.{IsRefusedWords, SaysLast, Closes, said, unsaid}
-use Rattle.cmd_reports.specs.Lines.{memory_line}
+use Rattle.cmd_inputs.specs.declared.stop.Stop.TheVariants.{OutOfMemory}
+use Rattle.cmd_inputs.specs.Said.{IsRefusedWords, SaysLast, Closes, said, unsaid}
+use Rattle.cmd_inputs.specs.Lines.{memory_line}
 use Rattle.cmd_inputs.specs.Files.{no_memory}
 use Rattle.cmd_texts.specs.Translates as translation
 use Rattle.cmd_check.specs.Checks as checking
 use Rattle.cmd_texts.specs.Samples as making
-use Rattle.cmd_flags.specs.Listing as listing
+use Rattle.cmd_texts.specs.Listing as listing
 use Rattle.cmd_run80.specs.Runs80 as source
 use Rattle.cmd_run86.specs.Runs86 as text
 use Rattle.cmd_run80.specs.Keeping.{DiskAlone}

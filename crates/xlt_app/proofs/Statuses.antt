@@ -5,17 +5,17 @@ use Rattle.host.specs.declared.HostFault.{HostFault}
 use Rattle.host.specs.declared.HostFault.TheVariants.{Failed, Memory}
 use Rattle.host.specs.Host.{HostState}
 use Rattle.cmd_words.specs.Words.{Translate, Check, Flags, Run80, Run86, Both, Sample, Command, Translates, Checks, ListsFlags, Runs80, Runs86, RunsBoth, MakesSample}
-use Rattle.cmd_reports.specs.declared.stop.Stop.{Stop}
-use Rattle.cmd_reports.specs.declared.stop.Stop.TheVariants.{SourceLine, SourceProgram, ReadFailed, WriteFailed, OutOfMemory, LeftProfile, StepLimit, NotShown, InputEnded, TextLine, ShortJump, NoInstruction, StackSegment, OddCall, BadDisk, NoDrive, CodeTooLarge, FileTooLong}
-use Rattle.cmd_reports.specs.Lines.{status_of, ended_line, both_line}
-use Rattle.cmd_reports.specs.Said.{IsDone, whole, failed, no_memory, Closes, said, unsaid}
+use Rattle.cmd_inputs.specs.declared.stop.Stop.{Stop}
+use Rattle.cmd_inputs.specs.declared.stop.Stop.TheVariants.{SourceLine, SourceProgram, ReadFailed, WriteFailed, OutOfMemory, LeftProfile, StepLimit, NotShown, InputEnded, TextLine, ShortJump, NoInstruction, StackSegment, OddCall, BadDisk, NoDrive, CodeTooLarge, FileTooLong}
+use Rattle.cmd_inputs.specs.Lines.{status_of, ended_line, both_line}
+use Rattle.cmd_inputs.specs.Said.{IsDone, whole, failed, no_memory, Closes, said, unsaid}
 use Rattle.std.specs.List.{concat}
 use Rattle.cmd_run80.specs.Ends.{unsaid_status}
 use Rattle.cmd_run80.specs.Lasts.{EndsBy}
 use Rattle.cmd_both.specs.Lasts.{EndsBy as BothEndBy}
 use Rattle.cmd_texts.specs.Translates as translation
 use Rattle.cmd_check.specs.Checks as checking
-use Rattle.cmd_flags.specs.Listing as listing
+use Rattle.cmd_texts.specs.Listing as listing
 use Rattle.cmd_run80.specs.Runs80 as source
 use Rattle.cmd_run86.specs.Runs86 as text
 use Rattle.cmd_texts.specs.Samples as making

@@ -7,15 +7,15 @@ use Rattle.asm86_lines.specs.Image.{Image}
 use Rattle.asm80_program.specs.Program.{Program, is_top}
 use Rattle.asm80_source.specs.Source.{IsSource}
 use Rattle.cmd_words.specs.Words.{Translate, Check, Flags, Run80, Run86, Both, Sample, Command, Translates, Checks, ListsFlags, Runs80, Runs86, RunsBoth, MakesSample, IsCommand, IsNoCommand}
-use Rattle.cmd_reports.specs.Lines.{memory_line}
-use Rattle.cmd_reports.specs.Said.{IsRefusedWords, SaysLast}
+use Rattle.cmd_inputs.specs.Lines.{memory_line}
+use Rattle.cmd_inputs.specs.Said.{IsRefusedWords, SaysLast}
 use Rattle.cmd_inputs.specs.Texts.{HasImage}
 use Rattle.cmd_texts.specs.Translates as translation
 use Rattle.cmd_texts.specs.Translates.{Same}
 use Rattle.cmd_check.specs.Checks as checking
 use Rattle.cmd_check.specs.Completes as checking_completes
 use Rattle.cmd_texts.specs.Samples as making
-use Rattle.cmd_flags.specs.Listing as listing
+use Rattle.cmd_texts.specs.Listing as listing
 use Rattle.cmd_run80.specs.Runs80 as source
 use Rattle.cmd_run80.specs.Completes80 as source_completes
 use Rattle.cmd_run86.specs.Runs86 as text

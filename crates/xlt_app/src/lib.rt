@@ -10,11 +10,10 @@ ghost use Rattle.xlt_app.specs.Top.{Headline, CheckedHeadline, Outcomes, Answers
 use cmd_both::both;
 use cmd_check::check;
 pub use cmd_files::{write_bytes, write_out};
-use cmd_flags::flags;
-use cmd_reports::{Stop, say_stop, words_refused};
+use cmd_inputs::{Stop, say_stop, words_refused};
 use cmd_run80::run80;
 use cmd_run86::run86;
-use cmd_texts::{sample, translate};
+use cmd_texts::{flags, sample, translate};
 use cmd_words::{Command, read_words, words_are_one_command};
 use host::Host;
 use std::alloc::{AllocError, Global};

@@ -8,8 +8,8 @@ use Rattle.flow.specs.Solving.{Needs, AreAllNeeds}
 use Rattle.sym_blocks.specs.declared.reason.Reason.{Reason}
 use Rattle.sym_blocks.specs.BlockMatch.{Keeps}
 use Rattle.sym_blocks.specs.Sorts.{StatementsAreCoded}
-use Rattle.sym_texts.specs.Matches.{Matches, DataAreCoded, Finds, opening, runtime, cells, blocks as by_blocks}
-use Rattle.sym_texts.specs.Needed.{needed_by}
+use Rattle.sym_runs.specs.Matches.{Matches, DataAreCoded, Finds, opening, runtime, cells, blocks as by_blocks}
+use Rattle.sym_runs.specs.Needed.{needed_by}
 use Rattle.xlt_translation.specs.Names.{Same, IsMatch}
 use Rattle.xlt_validation.specs.declared.finding.Finding.{Finding}
 use Rattle.xlt_validation.specs.declared.finding.Finding.TheVariants.{Shown}

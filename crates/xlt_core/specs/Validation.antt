@@ -4,7 +4,7 @@ use Rattle.asm86_lines.specs.declared.line.Line86.{Line86}
 use Rattle.asm86_lines.specs.Image.{Assembles, image_of, statements}
 use Rattle.asm80_program.specs.Program.{Program, IsProgram}
 use Rattle.sym_blocks.specs.Sorts.{StatementsAreCoded}
-use Rattle.sym_texts.specs.Matches.{DataAreCoded}
+use Rattle.sym_runs.specs.Matches.{DataAreCoded}
 use Rattle.xlt_translation.specs.Names.{Same}
 use Rattle.xlt_validation.specs.declared.finding.Finding.TheVariants.{Shown}
 use Rattle.xlt_validation.specs.Findings.{IsFinding}

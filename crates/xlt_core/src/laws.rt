@@ -4,7 +4,7 @@ ghost use Rattle.asm80_program.specs.Program.{Program, IsProgram};
 ghost use Rattle.asm86_lines.specs.declared.line.Line86.{Line86};
 ghost use Rattle.flow.specs.Blocks.{blocks};
 ghost use Rattle.flow.specs.Solving.{Needs, AreAllNeeds};
-ghost use Rattle.sym_texts.specs.Needed.{needed_by};
+ghost use Rattle.sym_runs.specs.Needed.{needed_by};
 ghost use Rattle.xlt_translation.specs.declared.translation.Mode.{Mode};
 ghost use Rattle.xlt_translation.specs.Translation.{IsText, CodeFits};
 ghost use Rattle.xlt_translation.specs.Names.{IsMatch};

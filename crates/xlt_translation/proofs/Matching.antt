@@ -21,17 +21,17 @@ use Rattle.sym_blocks.specs.BlockMatch.{Keeps, block_reason}
 use Rattle.sym_blocks.specs.Sorts.{StatementsAreCoded}
 use Rattle.sym_runs.specs.Linked.{HasBlock, IsFirstOf}
 use Rattle.sym_runs.specs.Cuts.{IsCut, ReturnsKeep}
-use Rattle.sym_texts.specs.Matches.{or_next, blocks_reason, Matches, DataAreCoded}
-use Rattle.sym_texts.specs.Needed.{needed_by}
+use Rattle.sym_runs.specs.Matches.{or_next, blocks_reason, Matches, DataAreCoded}
+use Rattle.sym_runs.specs.Needed.{needed_by}
 use Rattle.sym_same.specs.Same.{Same}
 use Rattle.sym_same.specs.Laws.{IsMatch, MatchesIsSame}
-use Rattle.sym_cuts.specs.Cuts.{BlocksAreCuts, NeedsReturn}
+use Rattle.sym_runs.specs.BlockCuts.{BlocksAreCuts, NeedsReturn}
 use Rattle.sym_own.specs.Own.{OnesAreBlocks, PlainBlocksMatch}
 use Rattle.templates_plain.proofs.NumberedLines.{statements-numbered}
-use Rattle.sym_cuts.proofs.Names.{names_start}
-use Rattle.sym_cuts.proofs.Cutting.{taken_has}
+use Rattle.sym_runs.proofs.Names.{names_start}
+use Rattle.sym_runs.proofs.Cutting.{taken_has}
 use Rattle.xlt_translation.proofs.Styles.{TextStands}
-use Rattle.sym_texts.specs.Ones.{ones, all_kept}
+use Rattle.sym_runs.specs.Ones.{ones, all_kept}
 
 -- the blocks of one instruction are the instructions
 

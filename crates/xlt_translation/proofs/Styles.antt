@@ -13,12 +13,12 @@ use Rattle.flow.specs.Solving.{Needs, AreAllNeeds}
 use Rattle.templates_plain.specs.Plain.{numbered, plain, plain_statements}
 use Rattle.templates.specs.Style.{Style, plain_style, styled_statements, styled}
 use Rattle.templates.specs.Lean.{lean_style, lean, IsLean}
-use Rattle.sym_texts.specs.Matches.{blocks_reason}
-use Rattle.sym_texts.specs.Needed.{needed_by}
-use Rattle.sym_texts.specs.Ones.{ones, all_kept}
+use Rattle.sym_runs.specs.Matches.{blocks_reason}
+use Rattle.sym_runs.specs.Needed.{needed_by}
+use Rattle.sym_runs.specs.Ones.{ones, all_kept}
 use Rattle.sym_same.specs.Same.{Same}
 use Rattle.sym_same.specs.Laws.{IsMatch, MatchesIsSame}
-use Rattle.sym_cuts.specs.Cuts.{BlocksAreCuts, NeedsReturn}
+use Rattle.sym_runs.specs.BlockCuts.{BlocksAreCuts, NeedsReturn}
 use Rattle.sym_own.specs.Own.{Respects, OwnTextsMatch, StylesRespectNeeds}
 use Rattle.own_texts.specs.Fits.{StyleFits}
 use Rattle.own_texts.specs.Own.{IsOwnText}

@@ -11,17 +11,17 @@ ghost use Rattle.flow.specs.Blocks.{blocks};
 ghost use Rattle.flow.specs.Solving.{Needs, AreAllNeeds};
 ghost use Rattle.templates_plain.specs.Plain.{plain};
 ghost use Rattle.sym_blocks.specs.Sorts.{StatementsAreCoded};
-ghost use Rattle.sym_texts.specs.Matches.{Matches, DataAreCoded};
-ghost use Rattle.sym_texts.specs.Needed.{needed_by};
-ghost use Rattle.sym_texts.specs.Ones.{ones, all_kept};
+ghost use Rattle.sym_runs.specs.Matches.{Matches, DataAreCoded};
+ghost use Rattle.sym_runs.specs.Needed.{needed_by};
+ghost use Rattle.sym_runs.specs.Ones.{ones, all_kept};
 ghost use Rattle.sym_same.specs.Same.{Same};
 ghost use Rattle.sym_same.specs.Laws.{IsMatch};
 ghost use Rattle.xlt_translation.specs.declared.translation.Mode.{Mode};
 ghost use Rattle.xlt_translation.specs.Translation.{IsText, CodeFits};
 
 use own_texts::{lean_jumps_reach, own_text_stands, plain_is_a_style, text_reads_back};
-use sym_cuts::{blocks_are_cuts, needs_return};
 use sym_own::{ones_are_blocks, own_texts_match, plain_blocks_match, styles_respect_needs};
+use sym_runs::{blocks_are_cuts, needs_return};
 use sym_same::matches_is_same;
 use templates::lean_texts_are_one;
 

@@ -14,7 +14,7 @@ use Rattle.cells.specs.declared.Cell.{Cell}
 use Rattle.asm86_lines.specs.Image.{Image}
 use Rattle.asm80_program.specs.declared.program.Placed.{Placed}
 use Rattle.asm80_program.specs.Program.{Program, IsProgram, cell_in, CellsAreLaid}
-use Rattle.sym_texts.specs.Matches.{or_else, byte_at}
+use Rattle.sym_runs.specs.Matches.{or_else, byte_at}
 use Rattle.xlt_validation.specs.Parts.{CellStands, DataStandIn}
 
 -- ---- cells one by one

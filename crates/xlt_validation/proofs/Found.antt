@@ -13,8 +13,8 @@ use Rattle.sym_blocks.specs.declared.reason.Reason.{Reason}
 use Rattle.sym_blocks.specs.BlockMatch.{Keeps}
 use Rattle.sym_runs.specs.Runtime.{HasRuntime}
 use Rattle.xlt_validation.specs.Parts.{DataStandIn}
-use Rattle.sym_texts.specs.Matches.{HasOpening, DataStands, Finds, opening as no_opening, runtime as no_runtime, cells as no_cells, blocks as by_blocks, blocks_reason}
-use Rattle.sym_texts.specs.Needed.{needed_by}
+use Rattle.sym_runs.specs.Matches.{HasOpening, DataStands, Finds, opening as no_opening, runtime as no_runtime, cells as no_cells, blocks as by_blocks, blocks_reason}
+use Rattle.sym_runs.specs.Needed.{needed_by}
 use Rattle.xlt_validation.specs.declared.finding.Finding.{Finding}
 use Rattle.xlt_validation.specs.declared.finding.Finding.TheVariants.{NotShown}
 use Rattle.xlt_validation.specs.Findings.{reason_in, Counts, IsFinding, AreOf, HasFrame, Lacks, opening, runtime, cells}

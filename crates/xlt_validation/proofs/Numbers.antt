@@ -3,7 +3,7 @@ use Rattle.std.proofs.Common.{◌≡◌, ℕ, zero, suc, ◌+◌, ◌<◌, List,
 use Rattle.asm86_lines.specs.declared.line.Line86.{Line86}
 use Rattle.asm86_lines.specs.Image.{statements}
 use Rattle.sym_blocks.specs.Sorts.{StatementIsCoded, StatementsAreCoded}
-use Rattle.sym_texts.specs.Matches.{DatumIsCoded, DataAreCoded}
+use Rattle.sym_runs.specs.Matches.{DatumIsCoded, DataAreCoded}
 
 instructions_more : (xs : List Line86) (i : ℕ) (d : Line86) → i < length xs → StatementsAreCoded (statements (take i xs)) → StatementIsCoded (get_or xs i d).stmt → StatementsAreCoded (statements (take (suc i) xs))
 instructions_more [] i d lt h here = absurd (omega arith)

@@ -6,8 +6,8 @@ use Rattle.flow.specs.Blocks.{blocks}
 use Rattle.flow.specs.Solving.{Needs}
 use Rattle.sym_blocks.specs.declared.reason.Reason.{Reason}
 use Rattle.sym_blocks.specs.BlockMatch.{Keeps}
-use Rattle.sym_texts.specs.Matches.{Finds, opening, runtime, cells, blocks as by_blocks}
-use Rattle.sym_texts.specs.Needed.{needed_by}
+use Rattle.sym_runs.specs.Matches.{Finds, opening, runtime, cells, blocks as by_blocks}
+use Rattle.sym_runs.specs.Needed.{needed_by}
 use Rattle.flow.proofs.OneNeeds.{all_needs_once}
 use Rattle.xlt_validation.specs.declared.finding.Finding.{Finding}
 use Rattle.xlt_validation.specs.declared.finding.Finding.TheVariants.{Shown, NotShown}

@@ -8,7 +8,7 @@ use Rattle.asm80_program.specs.Program.{Program}
 use Rattle.flow.specs.Blocks.{blocks, leaders, IsBlockOf}
 use Rattle.sym_blocks.specs.declared.reason.Reason.{Reason}
 use Rattle.sym_blocks.specs.BlockMatch.{Keeps, block_reason}
-use Rattle.sym_texts.specs.Matches.{or_next, blocks_reason}
+use Rattle.sym_runs.specs.Matches.{or_next, blocks_reason}
 use Rattle.block_check.specs.declared.block.Verdict.{Verdict}
 use Rattle.block_check.specs.declared.block.Verdict.TheVariants.{Shown, NotShown}
 use Rattle.block_check.specs.Comparing.{verdict_of, AfterShown}

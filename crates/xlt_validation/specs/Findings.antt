@@ -12,8 +12,8 @@ use Rattle.sym_blocks.specs.Block80.{block80}
 use Rattle.sym_blocks.specs.Walk86.{walk86}
 use Rattle.sym_runs.specs.Runtime.{HasRuntime}
 use Rattle.block_check.specs.Comparing.{WorkState}
-use Rattle.sym_texts.specs.Matches.{HasOpening, Finds}
-use Rattle.sym_texts.specs.Needed.{needed_by}
+use Rattle.sym_runs.specs.Matches.{HasOpening, Finds}
+use Rattle.sym_runs.specs.Needed.{needed_by}
 use Rattle.xlt_validation.specs.Parts.{DataStandIn}
 use Rattle.block_check.specs.Comparing.{HoldsOutcomes}
 use Rattle.xlt_validation.specs.declared.finding.Finding.{Finding}

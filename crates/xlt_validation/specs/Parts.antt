@@ -9,7 +9,7 @@ use Rattle.templates_plain.specs.Plain.{prologue}
 use Rattle.asm80_program.specs.Program.{Program, cell_at}
 use Rattle.sym_blocks.specs.Stands.{Stands}
 use Rattle.sym_runs.specs.Linked.{places}
-use Rattle.sym_texts.specs.Matches.{byte_at}
+use Rattle.sym_runs.specs.Matches.{byte_at}
 
 -- what stands behind the opening for a top of the program area
 abbrev pub Opens : ℕ → List Stmt86 → List Stmt86 → Type 0

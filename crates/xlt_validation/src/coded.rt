@@ -1,7 +1,7 @@
 // The numbers in the statements of lines.
 ghost use Rattle.asm86_lines.specs.Image.{statements};
 ghost use Rattle.sym_blocks.specs.Sorts.{IsCoded86, StatementIsCoded, StatementsAreCoded};
-ghost use Rattle.sym_texts.specs.Matches.{DatumIsCoded, DataAreCoded};
+ghost use Rattle.sym_runs.specs.Matches.{DatumIsCoded, DataAreCoded};
 
 use asm86_lines::{Line86, Stmt86};
 

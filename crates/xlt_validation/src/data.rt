@@ -6,7 +6,7 @@ ghost use Rattle.asm86_lines.specs.Image.{Image, offset_in};
 ghost use Rattle.cells.specs.Conditions.{Knows, KnowsBits};
 ghost use Rattle.sym_blocks.specs.Stands.{label_of, Stands};
 ghost use Rattle.sym_runs.specs.Linked.{places};
-ghost use Rattle.sym_texts.specs.Matches.{byte_at};
+ghost use Rattle.sym_runs.specs.Matches.{byte_at};
 ghost use Rattle.xlt_validation.specs.Parts.{CellStands, DataStandIn};
 
 use asm80_program::Program80;

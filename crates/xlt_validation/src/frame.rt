@@ -4,7 +4,7 @@ ghost use Rattle.asm80_program.specs.Program.{Program};
 ghost use Rattle.asm86_lines.specs.declared.line.Stmt86.{Stmt86};
 ghost use Rattle.templates_plain.specs.Plain.{prologue, runtime};
 ghost use Rattle.sym_runs.specs.Runtime.{HasRuntime};
-ghost use Rattle.sym_texts.specs.Matches.{HasOpening};
+ghost use Rattle.sym_runs.specs.Matches.{HasOpening};
 ghost use Rattle.xlt_validation.specs.Parts.{Opens};
 
 use asm80_program::Program80;

@@ -6,8 +6,8 @@ ghost use Rattle.std.specs.Map.{keys_of};
 ghost use Rattle.asm86_lines.specs.declared.line.Line86.{Line86};
 ghost use Rattle.flow.specs.Blocks.{blocks};
 ghost use Rattle.flow.specs.Solving.{Needs, AreAllNeeds};
-ghost use Rattle.sym_texts.specs.Matches.{blocks_reason};
-ghost use Rattle.sym_texts.specs.Needed.{needed_by};
+ghost use Rattle.sym_runs.specs.Matches.{blocks_reason};
+ghost use Rattle.sym_runs.specs.Needed.{needed_by};
 ghost use Rattle.xlt_validation.specs.Findings.{reason_in, Counts, IsFinding, AreOf, HasFrame, Lacks, HoldsLast, IfShown};
 
 use crate::data::data_stand;

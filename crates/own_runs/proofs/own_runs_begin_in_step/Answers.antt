@@ -5,7 +5,7 @@ use Rattle.cpu86_steps.specs.Start.{run86}
 use Rattle.flow.specs.Blocks.{blocks}
 use Rattle.sym_runs.specs.Runs86.{offsets_of}
 use Rattle.sym_runs.specs.Linked.{Paired}
-use Rattle.sym_texts.specs.Needed.{needed_by}
+use Rattle.sym_runs.specs.Needed.{needed_by}
 use Rattle.own_runs.proofs.Beginning.{linked_while_going}
 use Rattle.own_runs.proofs.own_runs_begin_in_step.Goals as goal
 

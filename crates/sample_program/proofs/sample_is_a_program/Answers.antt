@@ -1,5 +1,5 @@
 use Rattle.std.proofs.Common.{refl}
-use Rattle.sample_lines.specs.Sample.{sample_statements}
+use Rattle.sample_program.specs.Sample.{sample_statements}
 use Rattle.sample_program.proofs.InRange.{sample_range}
 use Rattle.sample_program.proofs.sample_is_a_program.Goals as goal
 

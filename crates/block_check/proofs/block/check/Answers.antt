@@ -4,7 +4,7 @@ use Rattle.flow.specs.Blocks.{block_at}
 use Rattle.sym_blocks.specs.Block80.{IsBlock, block80}
 use Rattle.sym_blocks.specs.Walk86.{walk86}
 use Rattle.sym_blocks.specs.BlockMatch.{block_reason}
-use Rattle.sym_texts.specs.Needed.{needed_by}
+use Rattle.sym_runs.specs.Needed.{needed_by}
 use Rattle.block_check.specs.Kept.{KeepsNeeds}
 use Rattle.block_check.specs.Comparing.{HoldsOutcomes, AfterShown, verdict_of}
 use Rattle.block_check.proofs.Needed.{leader_block, needed_keeps}

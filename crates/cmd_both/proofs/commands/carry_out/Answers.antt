@@ -1,7 +1,7 @@
 use Rattle.std.proofs.Common.{subst}
 use Rattle.cmd_words.specs.ReadCommands.{both_read}
 use Rattle.bdos_talk.specs.declared.fault.TalkFault.TheVariants.{Unsaid}
-use Rattle.cmd_reports.proofs.Said.{closes_files}
+use Rattle.cmd_inputs.proofs.Said.{closes_files}
 use Rattle.cmd_run80.proofs.Kept.{same_alone, alone_then}
 use Rattle.cmd_both.specs.Lasts.{came_of, steps_of}
 use Rattle.cmd_both.specs.Gives.{IsHalted, ran, unsaid, stopped}

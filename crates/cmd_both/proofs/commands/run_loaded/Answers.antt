@@ -3,7 +3,7 @@ use Rattle.host.specs.Host.{HostState}
 use Rattle.asm80_program.specs.Program.{Program}
 use Rattle.bdos_small.specs.Supply.{Supply}
 use Rattle.cmd_words.specs.ReadCommands.{both_read}
-use Rattle.cmd_reports.specs.declared.stop.Stop.TheVariants.{OutOfMemory}
+use Rattle.cmd_inputs.specs.declared.stop.Stop.TheVariants.{OutOfMemory}
 use Rattle.cmd_run80.specs.declared.halt.Halt.TheVariants.{By}
 use Rattle.cmd_run80.specs.Keeping.{kept_name, Keeps, KeepStops}
 use Rattle.cmd_run80.specs.Runs80.{IsLineOf}

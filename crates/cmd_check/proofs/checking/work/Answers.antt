@@ -2,7 +2,7 @@ use Rattle.std.proofs.Common.{◌≡◌, List, sym, subst}
 use Rattle.asm86_lines.specs.declared.line.Line86.{Line86}
 use Rattle.asm86_lines.specs.Image.{Assembles}
 use Rattle.cmd_words.specs.ReadCommands.{check_read}
-use Rattle.cmd_reports.specs.declared.stop.Stop.TheVariants.{OutOfMemory}
+use Rattle.cmd_inputs.specs.declared.stop.Stop.TheVariants.{OutOfMemory}
 use Rattle.cmd_inputs.proofs.Told.{judged}
 use Rattle.cmd_check.specs.Checks.{IsShown, FindStops, Stops, unlike, out_of_memory}
 use Rattle.cmd_check.proofs.checking.work.Goals as goal

@@ -1,7 +1,7 @@
 use Rattle.std.proofs.Common.{◌≡◌, sym, subst}
 use Rattle.asm86_lines.specs.Image.{image_of}
 use Rattle.xlt_core.specs.Names.{Same, Finding, IsFinding, IfShown}
-use Rattle.cmd_reports.specs.declared.stop.Stop.TheVariants.{OutOfMemory}
+use Rattle.cmd_inputs.specs.declared.stop.Stop.TheVariants.{OutOfMemory}
 use Rattle.cmd_inputs.proofs.Told.{judged}
 use Rattle.cmd_check.specs.Checks.{FindStops, not_shown, no_memory}
 use Rattle.cmd_check.proofs.finding.find.Goals as goal

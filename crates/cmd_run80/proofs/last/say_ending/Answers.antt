@@ -1,7 +1,7 @@
 use Rattle.std.proofs.Common.{◌≡◌, ℕ, ◌<◌, List, length, sym, ◌∙◌, subst}
 use Rattle.std.specs.String.{string_bytes}
-use Rattle.cmd_reports.specs.Lines.{line_of}
-use Rattle.cmd_reports.proofs.Said.{line_some}
+use Rattle.cmd_inputs.specs.Lines.{line_of}
+use Rattle.cmd_inputs.proofs.Said.{line_some}
 use Rattle.cmd_run80.specs.Lasts.{IsMade}
 use Rattle.cmd_run80.proofs.last.say_ending.Goals as goal
 

@@ -3,7 +3,7 @@ use Rattle.cmd_words.specs.ReadCommands.{run80_read}
 use Rattle.bdos_talk.specs.declared.fault.TalkFault.TheVariants.{Unsaid}
 use Rattle.cmd_run80.specs.Lasts.{came_of}
 use Rattle.cmd_run80.specs.Runs80.{IsHalted, ran, unsaid, stopped}
-use Rattle.cmd_reports.proofs.Said.{closes_files}
+use Rattle.cmd_inputs.proofs.Said.{closes_files}
 use Rattle.cmd_run80.proofs.Kept.{same_alone, alone_then, ending_files}
 use Rattle.cmd_run80.proofs.Sources.{come_alone, cut_files, stops_alone}
 use Rattle.cmd_run80.proofs.run_source.carry_out.Goals as goal

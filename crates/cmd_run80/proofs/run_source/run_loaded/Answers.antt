@@ -1,7 +1,7 @@
 use Rattle.std.proofs.Common.{◌≡◌, [], ◌∙◌, sym, subst}
 use Rattle.host.specs.Host.{HostState}
 use Rattle.cmd_words.specs.ReadCommands.{run80_read}
-use Rattle.cmd_reports.specs.declared.stop.Stop.TheVariants.{OutOfMemory}
+use Rattle.cmd_inputs.specs.declared.stop.Stop.TheVariants.{OutOfMemory}
 use Rattle.cmd_run80.specs.declared.halt.Halt.TheVariants.{By}
 use Rattle.cmd_run80.specs.Ends.{halt_of_talk}
 use Rattle.cmd_run80.specs.Keeping.{kept_name, Keeps, KeepStops}

@@ -2,7 +2,7 @@ use Rattle.std.proofs.Common.{◌≡◌, ◌∙◌, List, ap}
 use Rattle.std.specs.String.{string_bytes}
 use Rattle.std.proofs.lemmas.Result.{IfOk-weaker}
 use Rattle.asm86_lines.specs.declared.line.Line86.{Line86}
-use Rattle.cmd_flags.specs.declared.savings.Saving.{Saving}
+use Rattle.cmd_texts.specs.declared.savings.Saving.{Saving}
 use Rattle.cmd_texts.specs.SampleReport.{counts_of, sample_line, IsLineOf}
 use Rattle.cmd_texts.specs.SampleWork.{counts_read}
 use Rattle.cmd_texts.proofs.making.line_of.Goals as goal

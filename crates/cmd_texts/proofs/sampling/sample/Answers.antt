@@ -1,7 +1,7 @@
 use Rattle.std.proofs.Common.{subst}
 use Rattle.std.specs.String.{string_bytes}
 use Rattle.cmd_words.specs.ReadCommands.{sample_read}
-use Rattle.cmd_reports.specs.Said.{IsDone}
+use Rattle.cmd_inputs.specs.Said.{IsDone}
 use Rattle.cmd_texts.specs.Samples.{Gives}
 use Rattle.cmd_texts.proofs.SampleFinish.{worked, stopped, completes}
 use Rattle.cmd_texts.proofs.sampling.sample.Given.{Over}

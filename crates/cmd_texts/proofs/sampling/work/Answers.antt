@@ -1,6 +1,6 @@
 use Rattle.std.proofs.Common.{◌≡◌, ◌∙◌, refl, sym, subst}
 use Rattle.cmd_words.specs.ReadCommands.{sample_read}
-use Rattle.cmd_reports.specs.declared.stop.Stop.TheVariants.{OutOfMemory}
+use Rattle.cmd_inputs.specs.declared.stop.Stop.TheVariants.{OutOfMemory}
 use Rattle.cmd_inputs.proofs.Told.{judged}
 use Rattle.cmd_texts.specs.Writing.{FailsToWrite}
 use Rattle.cmd_texts.specs.SampleWork.{StopsBy, no_memory, unwritten}

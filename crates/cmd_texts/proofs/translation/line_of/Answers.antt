@@ -1,7 +1,7 @@
 use Rattle.std.proofs.Common.{◌≡◌, length, subst}
 use Rattle.std.specs.Prelude.{IfOk}
 use Rattle.std.specs.String.{string_bytes}
-use Rattle.cmd_reports.specs.Lines.{translated_line}
+use Rattle.cmd_inputs.specs.Lines.{translated_line}
 use Rattle.cmd_texts.proofs.translation.line_of.Goals as goal
 
 pub returns : goal.returns

@@ -1,5 +1,5 @@
 use Rattle.std.proofs.Common.{◌≡◌, sym, subst}
-use Rattle.cmd_reports.specs.declared.stop.Stop.TheVariants.{OutOfMemory}
+use Rattle.cmd_inputs.specs.declared.stop.Stop.TheVariants.{OutOfMemory}
 use Rattle.cmd_inputs.proofs.Told.{judged}
 use Rattle.cmd_texts.specs.TranslateWork.{TextStops, no_room}
 use Rattle.cmd_texts.proofs.translation.text_of_program.Goals as goal

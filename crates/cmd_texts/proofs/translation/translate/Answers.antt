@@ -1,7 +1,7 @@
 use Rattle.std.proofs.Common.{subst}
 use Rattle.std.specs.String.{string_bytes}
 use Rattle.cmd_words.specs.ReadCommands.{translate_read}
-use Rattle.cmd_reports.specs.Said.{IsDone}
+use Rattle.cmd_inputs.specs.Said.{IsDone}
 use Rattle.cmd_texts.specs.Translates.{Gives}
 use Rattle.cmd_texts.proofs.TranslateFinish.{worked, stopped, decides}
 use Rattle.cmd_texts.proofs.translation.translate.Given.{Over}

@@ -2,7 +2,7 @@ use Rattle.std.proofs.Common.{ℕ, ◌≡◌, ◌∙◌, List, Some, sym, ap, su
 use Rattle.std.specs.List.Sorted.{IsStrictlyIncreasing}
 use Rattle.std.specs.Map.{keys_of}
 use Rattle.std.proofs.lemmas.List.Sorted.{answers_always}
-use Rattle.sym_texts.specs.Matches.{byte_at}
+use Rattle.sym_runs.specs.Matches.{byte_at}
 use Rattle.xlt_validation.proofs.Cells.{Rising, rising, byte_found, byte_absent}
 use Rattle.xlt_validation.proofs.data.byte_at.Goals as goal
 

@@ -1,6 +1,6 @@
 use Rattle.std.proofs.Common.{◌≡◌, ◌∙◌, List, length, get_or, sym, ap}
 use Rattle.flow.specs.Blocks.{leaders}
-use Rattle.sym_texts.specs.Needed.{needed_by}
+use Rattle.sym_runs.specs.Needed.{needed_by}
 use Rattle.block_check.specs.declared.block.Verdict.TheVariants.{Shown}
 use Rattle.xlt_validation.specs.Findings.{HoldsBlock}
 use Rattle.xlt_validation.proofs.Walking.{block_at_index, all_passed, shown_on, not_shown, last_on, last_left, held}

@@ -2,8 +2,8 @@ use Rattle.std.proofs.Common.{◌≡◌, ℕ, Some}
 use Rattle.std.specs.Prelude.{drop}
 use Rattle.flow.specs.Blocks.{blocks}
 use Rattle.flow.specs.Solving.{Needs, AreAllNeeds}
-use Rattle.sym_texts.specs.Matches.{blocks_reason}
-use Rattle.sym_texts.specs.Needed.{needed_by}
+use Rattle.sym_runs.specs.Matches.{blocks_reason}
+use Rattle.sym_runs.specs.Needed.{needed_by}
 use Rattle.xlt_validation.specs.Findings.{last_of, HoldsBlock}
 use Rattle.xlt_validation.proofs.Walking.{LastIs}
 use Rattle.xlt_validation.proofs.validation.first_not_shown.Given as goal

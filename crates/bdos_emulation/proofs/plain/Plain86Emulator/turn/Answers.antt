@@ -2,7 +2,7 @@ use Rattle.std.proofs.Common.{◌≡◌, sym, ap, ◌∙◌, subst, Option, Some
 use Rattle.std.specs.Prelude.{IfSome}
 use Rattle.i86.specs.Decoder.{decoded}
 use Rattle.dialogue.specs.declared.request.Event.{Event}
-use Rattle.base_runs.specs.Run.{Asks}
+use Rattle.dialogue.specs.Run.{Asks}
 use Rattle.cpu86_steps.specs.Call.{NoInstruction, StackSegment, OddCall, replied86}
 use Rattle.cpu86_steps.specs.Step.{step86}
 use Rattle.cpu86.specs.Standing.{Standing, standing, code_of}

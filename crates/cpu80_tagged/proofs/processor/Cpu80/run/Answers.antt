@@ -1,6 +1,6 @@
 use Rattle.std.proofs.Common.{◌≡◌, List, refl, ap}
 use Rattle.cells.specs.declared.Cell.{Cell}
-use Rattle.base_runs.specs.Run.{Ran}
+use Rattle.dialogue.specs.Run.{Ran}
 use Rattle.cpu80_steps.specs.State.{State80}
 use Rattle.cpu80_steps.specs.Step.{step80}
 use Rattle.cpu80_effects.specs.Draft.{memory_of, state_of as draft_state}

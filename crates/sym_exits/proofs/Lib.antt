@@ -1,4 +1,0 @@
-mod Passing
-mod Templates
-mod Ways
-pub mod Ending

@@ -1,5 +1,0 @@
-pub mod Laid
-pub mod Standing
-pub mod Reasons
-pub mod Matching
-mod Examples

@@ -1,3 +1,0 @@
-pub mod Matches
-pub mod Ones
-pub mod Needed

@@ -1,2 +1,0 @@
-// When an ASM-86 text matches its program: definitions.
-#![tactic(auto)]
