@@ -1,9 +1,12 @@
 // The machines with their programs, one like the other.
 use crate::events::event_text;
+use crate::states;
+use crate::tagged::{Held, push_changes};
 use asm80_program::Program80;
 use cells::{Place, Rule};
 use cpu80::{Cpu80, Plain80, Step80, StepPlain};
 use cpu86::{Cpu86, Step86};
+use cpu86_effects::processor::Processor;
 use dialogue::{Event, Reply};
 use std::alloc::{AllocError, Global};
 
@@ -37,13 +40,23 @@ pub trait Machine {
     fn reply(&mut self, reply: &Reply, choice: u128) -> bool
         requires { runs self.old }
         ensures { runs self.new };
+
+    /// Adds the places in which what it holds differs from what it held when this was called last, or at the start. By default
+    /// it does not tell.
+    fn push_changes(&mut self, _alloc: Global, text: &mut String) -> Result<(), AllocError>
+        requires { runs self.old }
+        ensures { runs self.new }
+    {
+        text.push_str("no such word")
+    }
 }
 
-/// The tagged 8080.
+/// The tagged 8080, and what it held before.
 #[derive(Drop)]
 pub struct Tagged80<'a> {
     pub cpu: Cpu80,
     pub program: &'a Program80,
+    pub before: Held,
 }
 
 impl<'a> Machine for Tagged80<'a> {
@@ -73,6 +86,12 @@ impl<'a> Machine for Tagged80<'a> {
 
     fn reply(&mut self, reply: &Reply, _choice: u128) -> bool {
         self.cpu.reply(reply)
+    }
+
+    fn push_changes(&mut self, alloc: Global, text: &mut String) -> Result<(), AllocError> {
+        push_changes(text, &self.before, &self.cpu.held())?;
+        self.before = Held::of(alloc, &self.cpu.held())?;
+        Ok(())
     }
 }
 
@@ -115,10 +134,11 @@ impl<'a> Machine for Bytes80<'a> {
     }
 }
 
-/// The 8086.
+/// The 8086, and its processor as it was before.
 #[derive(Drop)]
 pub struct Bytes86 {
     pub cpu: Cpu86,
+    pub before: Processor,
 }
 
 impl Machine for Bytes86 {
@@ -147,6 +167,12 @@ impl Machine for Bytes86 {
 
     fn reply(&mut self, reply: &Reply, choice: u128) -> bool {
         self.cpu.reply(reply, choice)
+    }
+
+    fn push_changes(&mut self, alloc: Global, text: &mut String) -> Result<(), AllocError> {
+        states::push_changes(text, &self.before, self.cpu.processor())?;
+        self.before = states::copy(alloc, self.cpu.processor())?;
+        Ok(())
     }
 }
 

@@ -8,6 +8,7 @@ mod programs;
 mod scripts;
 mod states;
 mod steps;
+mod tagged;
 mod talks;
 mod words;
 

@@ -3,6 +3,8 @@ ghost use Rattle.std.specs.Prelude.{◌≡◌, length, IfOk};
 
 use crate::machines::{Both80, Bytes80, Bytes86, Tagged80};
 use crate::scripts::script;
+use crate::states;
+use crate::tagged::Held;
 use crate::words::number_of;
 use asm80_program::Program80;
 use asm80_text::Lines;
@@ -84,7 +86,12 @@ fn tagged80(
     page: &Page,
 ) -> Result<Option<String>, AllocError> {
     let cpu = Cpu80::new(alloc, program, page)?;
-    let mut machine = Tagged80 { cpu, program };
+    let before = Held::of(alloc, &cpu.held())?;
+    let mut machine = Tagged80 {
+        cpu,
+        program,
+        before,
+    };
     Ok(Some(script(alloc, &mut machine, choice_of(case), case.words)?))
 }
 
@@ -106,7 +113,12 @@ fn both80(
     page: &Page,
 ) -> Result<Option<String>, AllocError> {
     let cpu = Cpu80::new(alloc, program, page)?;
-    let tagged = Tagged80 { cpu, program };
+    let before = Held::of(alloc, &cpu.held())?;
+    let tagged = Tagged80 {
+        cpu,
+        program,
+        before,
+    };
     let cpu = plain80(alloc, case, program, page)?;
     let bytes = Bytes80 { cpu, program };
     let mut machine = Both80 { tagged, bytes };
@@ -138,7 +150,8 @@ fn bytes86(
 ) -> Result<Option<String>, AllocError> {
     let fill = fill_of(alloc, case)?;
     let cpu = Cpu86::new(alloc, image, START, page, fill.as_slice())?;
-    let mut machine = Bytes86 { cpu };
+    let before = states::copy(alloc, cpu.processor())?;
+    let mut machine = Bytes86 { cpu, before };
     Ok(Some(script(alloc, &mut machine, choice_of(case), case.words)?))
 }
 

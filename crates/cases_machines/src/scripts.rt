@@ -6,8 +6,8 @@ use crate::words::{push_number, push_word};
 use dialogue::{Block, Blocks, Bytes, Reply};
 use std::alloc::{AllocError, Global};
 
-/// What a machine answers to each word: `step`, `place`, `asked`, `reply=HEX`, `write`, which is a reply that writes a byte, or
-/// `run=HEX`, which runs on and answers each call so. Where something is open the choice is taken.
+/// What a machine answers to each word: `step`, `place`, `asked`, `reply=HEX`, `write`, which is a reply that writes a byte,
+/// `changes`, or `run=HEX`, which runs on and answers each call so. Where something is open the choice is taken.
 pub fn script<M: Machine>(
     alloc: Global,
     machine: &mut M,
@@ -23,7 +23,11 @@ pub fn script<M: Machine>(
             text.push(';')?;
         }
         text.push(' ')?;
-        text.push_str(answer.as_str())?;
+        text.push_str(if answer.is_empty() {
+            "nothing"
+        } else {
+            answer.trim_start()
+        })?;
     }
     Ok(text)
 }
@@ -45,9 +49,19 @@ fn answer<M: Machine>(
         "asked" => asked_text(alloc, machine),
         "reply" => reply_text(alloc, machine.reply(&reply(alloc, value), choice)),
         "write" => write_text(alloc, machine, choice),
+        "changes" => changes_text(alloc, machine),
         "run" => run(alloc, machine, choice, value),
         _ => String::from_str(alloc, "no such word"),
     }
+}
+
+fn changes_text<M: Machine>(alloc: Global, machine: &mut M) -> Result<String, AllocError>
+    requires { M.runs machine.old }
+    ensures { M.runs machine.new }
+{
+    let mut text = String::new(alloc);
+    machine.push_changes(alloc, &mut text)?;
+    Ok(text)
 }
 
 fn asked_text<M: Machine>(alloc: Global, machine: &M) -> Result<String, AllocError> {

@@ -1,6 +1,7 @@
 // States of the 8086 as words, `ax=1122`, `flags=SZ` or `2100=7e`, a place and what stands there.
 use crate::words::{push_byte, push_word};
 use cpu86_effects::flags::Flags;
+use cpu86_effects::memory::Memory;
 use cpu86_effects::processor::Processor;
 use cpu86_effects::registers::Registers;
 use cpu86_effects::start::start_memory;
@@ -33,6 +34,22 @@ pub fn start(alloc: Global) -> Result<Processor, AllocError> {
         flags: flags_of("-"),
         memory: start_memory(alloc, fill.as_slice(), &[0xA5; 164], &[])?,
         dma: 0x80,
+    })
+}
+
+/// A copy of a state.
+pub fn copy(alloc: Global, processor: &Processor) -> Result<Processor, AllocError> {
+    let bytes = Vec::from_slice(alloc, processor.memory.bytes.as_slice())?;
+    Ok(Processor {
+        registers: processor.registers,
+        memory: Memory { bytes },
+        sp: processor.sp,
+        si: processor.si,
+        ip: processor.ip,
+        ds: processor.ds,
+        ss: processor.ss,
+        flags: processor.flags,
+        dma: processor.dma,
     })
 }
 

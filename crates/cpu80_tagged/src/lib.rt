@@ -2,8 +2,6 @@
 #![tactic(auto)]
 
 mod memory;
-#[cfg(test)]
-mod ports;
 mod processor;
 mod replies;
 mod runs;

@@ -57,7 +57,7 @@ impl Cpu80 {
     ghost use Rattle.dialogue.specs.Shape.{seen_by};
     ghost use Rattle.asm80_program.specs.Program.{Program};
     ghost use Rattle.cpu80_steps.specs.Step.{step80};
-    ghost use Rattle.cpu80_effects.specs.Draft.{memory_of};
+    ghost use Rattle.cpu80_effects.specs.Draft.{memory_of, IsFresh, state_of as draft_state};
     ghost use Rattle.cpu80_effects.specs.Sight.{byte_over, writable_over, closed_in};
     ghost use Rattle.cpu80_tagged.specs.State.{state_of, asks, seen_of, shape_in};
     ghost use Rattle.cpu80_tagged.specs.Reply.{Fits, taken};
@@ -68,6 +68,23 @@ impl Cpu80 {
         ensures { result ≡ (state_of self.now).place }
     {
         self.place
+    }
+
+    /// What the machine holds, also while it asks: registers, flags, SP, cells, the place that comes next and the DMA address.
+    /// Nothing is still to be written.
+    pub fn held(&self) -> Draft<'_>
+        ensures state { draft_state result ≡ state_of self.now }
+        ensures fresh { IsFresh result }
+    {
+        Draft {
+            registers: self.registers,
+            flags: self.flags,
+            sp: self.sp,
+            memory: self.memory.as_slice(),
+            place: self.place,
+            dma: self.dma,
+            write: Write::Nothing,
+        }
     }
 
     /// One instruction. Where it leaves the profile nothing changes; while it asks, and after the end, it answers the same

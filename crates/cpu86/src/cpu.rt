@@ -7,9 +7,6 @@ ghost use Rattle.cpu86_effects.specs.System.{IsAsked};
 ghost use Rattle.cpu86.specs.declared.cpu.Pending.TheVariants.{Answer};
 ghost use Rattle.std.proofs.Props.{props};
 
-#[cfg(test)]
-mod ports;
-
 use crate::start::Start86;
 use asm86_image::Image86;
 use cpu86_effects::flags::Flags;
@@ -283,6 +280,14 @@ impl Cpu86 {
         ensures { result ≡ (standing self.now).state.ip }
     {
         self.processor.ip
+    }
+
+    /// The processor: registers, segments, flags, SP, the offset of the next instruction, the DMA address and memory, also while
+    /// the machine asks.
+    pub fn processor(&self) -> &Processor
+        ensures { state_of result.now ≡ (standing self.now).state }
+    {
+        &self.processor
     }
 }
 
