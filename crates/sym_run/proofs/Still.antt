@@ -1,5 +1,5 @@
 -- An outcome that stands for one stands for it still, where terms join.
-use Rattle.std.proofs.Common.{◌≡◌, ◌∙◌, ℕ, ap, refl}
+use Rattle.std.proofs.Common.{◌≡◌, ◌∙◌, ℕ, ◌+◌, length, ap, refl, arith, length-append}
 use Rattle.xlt_pool.specs.Contents.{Contents}
 use Rattle.sym_terms.specs.Trees.{Grows}
 use Rattle.sym_blocks.specs.Outcome.{Exit, One, Two, Outcome}
@@ -70,3 +70,10 @@ module _ (old new : Contents) (n : ℕ) (g : Grows old new n) where
         exit = exit_still ids.exit x.exit h.exit;
         direct = h.direct;
       }
+
+-- a pool keeps its room: what nodes it has with those that can still join
+pub whole_still : (old new : Contents) (n : ℕ) → Grows old new n → old.spare + length old.nodes ≡ 8192 → new.spare + length new.nodes ≡ 8192
+whole_still old new n g whole =
+    let nodes : length new.nodes ≡ length old.nodes + length g.added = ap length g.nodes ∙ length-append old.nodes g.added in
+    let spare : new.spare + length g.added ≡ old.spare = g.spare in
+    omega arith

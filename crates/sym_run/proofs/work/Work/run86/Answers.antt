@@ -1,14 +1,45 @@
-use Rattle.std.proofs.Common.{◌≡◌, ◌+◌, ◌*◌, Result, Ok, Err, subst}
+-- What the run of the text ensures, said of the pool that the work holds. Of some clauses a search finds it too, but takes long.
+use Rattle.std.proofs.Common.{◌≡◌, ◌+◌, ◌*◌, ◌≤◌, length, Result, Ok, Err, refl, sym, subst}
 use Rattle.cells.specs.Parts.{Parts}
+use Rattle.xlt_pool.specs.Contents.{Contents}
 use Rattle.sym_terms.specs.Trees.{Grows}
 use Rattle.sym_blocks.specs.declared.reason.Reason.{Reason}
 use Rattle.sym_blocks.specs.Outcome.{Outcome}
 use Rattle.sym_blocks.specs.Walk86.{walk86}
 use Rattle.sym_walk.specs.Ends.{EndStands}
 use Rattle.sym_run.specs.Outcomes.{OutcomeStands}
-use Rattle.sym_run.proofs.Still.{stands_still}
+use Rattle.sym_run.proofs.Still.{stands_still, whole_still}
 use Rattle.sym_run.proofs.Coming.{ids_of, comes_to_end, comes_to_reason}
 use Rattle.sym_run.proofs.work.Work.run86.Goals as goal
+
+pub returns-in_err-end-clause-grows : goal.returns-in_err-end-clause-grows
+returns-in_err-end-clause-grows c =
+    let terms : c.self-inside.inside.0.0 ≡ c.args.self.now.terms = cc in
+    subst (λ t. Grows t c.run_text.new.terms (240 * c.args.count + 32)) terms c.run_text.ensures.grows
+
+pub returns-in_err-end-clause-stands : goal.returns-in_err-end-clause-stands
+returns-in_err-end-clause-stands c = rw c.from_residual.ensures c.in_err-end.ensures.gives
+
+pub returns-in_err-end-clause-room : goal.returns-in_err-end-clause-room
+returns-in_err-end-clause-room c =
+    let terms : c.self-inside.inside.0.0 ≡ c.args.self.now.terms = cc in
+    λ h. rw c.from_residual.ensures (c.in_err-end.ensures.enough (subst (λ (t : Contents). 240 * c.args.count + 32 ≤ t.spare) (sym terms) h))
+
+pub returns-in-Ok-clause-grows : goal.returns-in-Ok-clause-grows
+returns-in-Ok-clause-grows c =
+    let terms : c.self-inside.inside.0.0 ≡ c.args.self.now.terms = cc in
+    subst (λ t. Grows t c.run_text.new.terms (240 * c.args.count + 32)) terms c.run_text.ensures.grows
+
+pub returns-in-Ok-clause-room : goal.returns-in-Ok-clause-room
+returns-in-Ok-clause-room c = λ _. refl
+
+pub returns-in-Err-clause-grows : goal.returns-in-Err-clause-grows
+returns-in-Err-clause-grows c =
+    let terms : c.self-inside.inside.0.0 ≡ c.args.self.now.terms = cc in
+    subst (λ t. Grows t c.run_text.new.terms (240 * c.args.count + 32)) terms c.run_text.ensures.grows
+
+pub returns-in-Err-clause-room : goal.returns-in-Err-clause-room
+returns-in-Err-clause-room c = λ _. refl
 
 pub returns-in_err-end-clause-still : goal.returns-in_err-end-clause-still
 returns-in_err-end-clause-still c =
@@ -56,3 +87,37 @@ returns-in-Err-clause-still c =
     let first : c.args.self.now.first ≡ c.self-inside.inside.0.1.0 = cc in
     let grows : Grows c.args.self.now.terms new n = subst (λ t. Grows t new n) terms c.run_text.ensures.grows in
     λ x h. subst (λ ids. OutcomeStands new ids x) first (stands_still c.args.self.now.terms new n grows c.args.self.now.first x h)
+
+pub returns-in_err-end-clause-first : goal.returns-in_err-end-clause-first
+returns-in_err-end-clause-first c = cc
+
+pub returns-in_err-end-clause-keep : goal.returns-in_err-end-clause-keep
+returns-in_err-end-clause-keep c = cc
+
+pub returns-in-Ok-clause-first : goal.returns-in-Ok-clause-first
+returns-in-Ok-clause-first c = cc
+
+pub returns-in-Ok-clause-keep : goal.returns-in-Ok-clause-keep
+returns-in-Ok-clause-keep c = cc
+
+pub returns-in-Err-clause-first : goal.returns-in-Err-clause-first
+returns-in-Err-clause-first c = cc
+
+pub returns-in-Err-clause-keep : goal.returns-in-Err-clause-keep
+returns-in-Err-clause-keep c = cc
+
+pub invariant_of-self-inside : goal.invariant_of-self-inside
+invariant_of-self-inside c = c.run_text.ensures.capacity
+
+pub invariant_of-self-inside-in-Ok : goal.invariant_of-self-inside-in-Ok
+invariant_of-self-inside-in-Ok c = c.run_text.ensures.capacity
+
+pub invariant_of-self : goal.invariant_of-self
+invariant_of-self c =
+    let terms : c.self.inside.terms ≡ c.self-inside.inside.0.0 = cc in
+    whole_still c.self-inside.inside.0.0 c.run_text.new.terms (240 * c.args.count + 32) c.run_text.ensures.grows (subst (λ (t : Contents). t.spare + length t.nodes ≡ 8192) terms c.self.invariant)
+
+pub invariant_of-self-in-Ok : goal.invariant_of-self-in-Ok
+invariant_of-self-in-Ok c =
+    let terms : c.self.inside.terms ≡ c.self-inside.inside.0.0 = cc in
+    whole_still c.self-inside.inside.0.0 c.run_text.new.terms (240 * c.args.count + 32) c.run_text.ensures.grows (subst (λ (t : Contents). t.spare + length t.nodes ≡ 8192) terms c.self.invariant)
