@@ -3,7 +3,7 @@ use cells::Cond;
 use i80::{Instr80, Op};
 
 /// What an operation is: a directive of the assembler, or an instruction, told by the operands that it takes.
-#[derive(Clone, Copy, PartialEq, Eq)]
+#[derive(Clone, Copy)]
 pub enum Operation {
     Org,
     End,

@@ -111,12 +111,11 @@ fn refused(line: u32, fault: FormFault) -> AsmFault
 fn set_again(names: &mut Names, statement: &Stmt80, row: &Taken) -> Result<(), AllocError>
     ensures { (statements : List Stmt80) (r : Row) → StandsForRow statements row.now r → statement_of statement.now ≡ r.statement → OnOk result (names.new ≡ names_set r names.old) }
 {
-    if row.operation != Some(Operation::Set) {
-        return Ok(());
-    }
-    match statement.label {
-        Some(label) => names.define(label, NameKind::Settable, row.meaning),
-        None => Ok(()),
+    match (row.operation, statement.label) {
+        (Some(Operation::Set), Some(label)) => {
+            names.define(label, NameKind::Settable, row.meaning)
+        }
+        _ => Ok(()),
     }
 }
 

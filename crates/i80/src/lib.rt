@@ -87,7 +87,7 @@ pub enum Goal {
 }
 
 /// An instruction. Immediate bytes and words, addresses and targets are its operands' values.
-#[derive(Clone, Copy, PartialEq, Eq)]
+#[derive(Clone, Copy)]
 pub enum Instr80 {
     Nop,
     Mov(Src, Src),

@@ -73,7 +73,12 @@ fn faults_have_lines_and_rules(rt: HostRuntime) -> Result<(), AllocError> {
 #[test]
 fn a_program_is_read(rt: HostRuntime) -> Result<(), Fail> {
     let program = program(rt.alloc())?;
-    assert!(rt; program.instr_at(0x100) == Some(Instr80::Mvi(Src::Reg(Reg::C), 2)));
+    assert!(rt;
+        matches!(
+            program.instr_at(0x100),
+            Some(Instr80::Mvi(Src::Reg(Reg::C), 2))
+        )
+    );
     assert!(rt; program.line_at(0x104) == Some(4) && program.line_at(0x105).is_none());
     assert!(rt; program.cell_at(0x10A) == Some(Cell::Num(0x42)));
     assert!(rt; program.is_code(0x106) && !program.is_code(0x10A));
