@@ -115,25 +115,32 @@ fn texts_are_cut(rt: HostRuntime) -> Result<(), Fail> {
     Ok(())
 }
 
-// The text that is written byte by byte is the one that is written in pieces.
-#[test]
-fn texts_are_written_by_bytes(rt: HostRuntime) -> Result<(), Fail> {
-    let alloc = rt.alloc();
+// Whether the program writes the text of the source P.
+fn translates<H: Host>(alloc: Global, host: &mut H) -> Result<bool, AllocError> {
+    Ok(xlt(alloc, words_of(alloc, "translate P OUT --plain")?, host) == 0)
+}
+
+// A source of 253 instructions, each of which has 22 bytes of text.
+fn long_source(alloc: Global) -> Result<Vec<u8>, AllocError> {
     let mut file = Vec::from_slice(alloc, b"ORG 100H\n")?;
     for _ in 0..253 {
         file.extend_from_slice(b"MVI E,41H\n")?;
     }
-    let mut whole = MemHost::new(alloc);
+    Ok(file)
+}
+
+// The text that is written byte by byte is the one that is written in pieces.
+#[test]
+fn texts_are_written_by_bytes(rt: HostRuntime) -> Result<(), Fail> {
+    let file = long_source(rt.alloc())?;
+    let mut whole = MemHost::new(rt.alloc());
     whole.put("P", &file)?;
-    let words = words_of(alloc, "translate P OUT --plain")?;
-    assert!(rt; xlt(alloc, words, &mut whole) == 0);
     let mut sparing = Sparing {
-        host: MemHost::new(alloc),
+        host: MemHost::new(rt.alloc()),
     };
     sparing.host.put("P", &file)?;
-    let words = words_of(alloc, "translate P OUT --plain")?;
-    assert!(rt; xlt(alloc, words, &mut sparing) == 0);
-    assert!(rt; whole.file("OUT").map(|text| text.len()) == Some(5837));
-    assert!(rt; sparing.host.file("OUT") == whole.file("OUT"));
+    assert!(rt; translates(rt.alloc(), &mut whole)? && translates(rt.alloc(), &mut sparing)?);
+    let text = whole.file("OUT").ok_or("a text")?;
+    assert!(rt; text.len() == 5837 && sparing.host.file("OUT") == Some(text));
     Ok(())
 }
