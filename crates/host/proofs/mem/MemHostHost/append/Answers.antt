@@ -1,4 +1,4 @@
--- What the calls change, put together. Searches find it too, but take ten times as long.
+-- What the calls change, put together. Searches find it too, but take long.
 use Rattle.std.proofs.Common.{◌≡◌, ℕ, ◌++◌, ◌↔◌, [], take, Some, unwrap_or, Result, Ok, Err, IsOk, OnOk, OnErr, refl, ap, sym, subst, ◌∙◌}
 use Rattle.std.proofs.lemmas.Bool.{false≢true}
 use Rattle.std.proofs.lemmas.List.{length-take, take_min}
