@@ -1,7 +1,7 @@
 #!/usr/bin/env bash
 # Refuses each growth of memory of each command in turn, in the program that ./build has made: bench/memory.sh. Either all is then as
 # with memory (some growths are of room that can be done without), or the status is 5, no file has changed, and the last line is
-# `out of memory`, behind the first lines of those that are said with memory. It says a line a command, with how many growths there
+# `out of memory`, after the first lines of those that are said with memory. It says a line a command, with how many growths there
 # were and how many of them led to status 5; a breach is shown, and the status is then 1. A growth is a call of malloc or realloc,
 # which GDB answers with a null in place of the C library. The gate does not run it.
 here=$(cd "$(dirname "$0")/.." && pwd)

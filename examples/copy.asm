@@ -5,7 +5,7 @@
 
 BDOS    EQU     5               ; where the system is called
 FCB1    EQU     5CH             ; the file control block of the first name
-FCB2    EQU     6CH             ; the name of the second, 16 bytes behind
+FCB2    EQU     6CH             ; the name of the second, 16 bytes further on
 
         ORG     100H
 
@@ -48,7 +48,7 @@ MOVE:   MOV     A,M
 COPY:   LXI     D,FCB1
         MVI     C,20            ; read a record
         CALL    BDOS
-        ORA     A               ; not 0 behind the last one
+        ORA     A               ; not 0 after the last one
         JNZ     DONE
         LXI     D,DEST
         MVI     C,21            ; write it

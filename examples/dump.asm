@@ -1,4 +1,4 @@
-; DUMP prints a file in hexadecimal: DUMP NAME. A line has 16 bytes, behind the offset of the first in the file. A key
+; DUMP prints a file in hexadecimal: DUMP NAME. A line has 16 bytes, after the offset of the first in the file. A key
 ; stops it.
 ;
 ; It is run on both machines, over a disk with A.TXT, by
@@ -33,7 +33,7 @@ LF      EQU     10
 RECORD: LXI     D,FCB
         MVI     C,READ
         CALL    BDOS
-        ORA     A               ; not 0 behind the last record
+        ORA     A               ; not 0 after the last record
         JNZ     FINISH
         LXI     H,BUFFER
 

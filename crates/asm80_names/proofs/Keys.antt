@@ -3,7 +3,7 @@ use Rattle.std.proofs.Common.{◌≡◌, ◌≢◌, ◌&&◌, ℕ, ◌-◌, List
 use Rattle.std.proofs.lemmas.Bool.{eqb-false}
 use Rattle.std.proofs.lemmas.Slice.Eq.{bytes_eq-Decides}
 use Rattle.std.specs.Str.{bytes_eq}
-use Rattle.asm80_tokens.specs.contracts.name.Name80PartialEq.TheImpl.{eq-value}
+use Rattle.asm80_statement_types.specs.contracts.name.Name80PartialEq.TheImpl.{eq-value}
 use borrow.Author.Tests.{eqb-true}
 
 same_text : (a : List ℕ) → bytes_eq a a ≡ true

@@ -1,4 +1,9 @@
-// Names of a source with their meanings, and the values of its expressions and operands.
+// The symbol table: the names of a source with their meanings, and the values of its expressions and operands.
+//
+// Proved: `Names` answers what each name stands for (`meaning`) and how it was defined (`kind`), and `define` defines a name exactly as the
+// definition does: a new name last, a name of SET in its place, none that clashes or is the 8,193rd. `number_of`, `has_register`,
+// `has_unknown`, `divides_by_zero`, `place_alone`, `meaning_of` and the same of operands (`operand_number` and so on) are the definitions
+// of the values of expressions: 16 bits that wrap, shifts by 16 or more give 0, a divisor of 0 gives nothing.
 #![tactic(auto)]
 
 mod arithmetic;

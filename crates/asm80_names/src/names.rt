@@ -1,13 +1,13 @@
 //! The names of a source.
 
 ghost use Rattle.std.specs.Prelude.{◌≡◌, ◌||◌, [], Some, None, false, MatchOption, OnOk, OnErr, not, filter, option_map};
-ghost use Rattle.asm80_source.specs.declared.meaning.NameKind.{NameKind};
-ghost use Rattle.asm80_source.specs.Names.{Name, named, clashes, overflows, defined, is_settable};
-ghost use Rattle.asm80_source.specs.Walk.{meaning_in};
-ghost use Rattle.asm80_names.specs.Entries.{name_of};
+ghost use Rattle.asm80_source_def.specs.declared.meaning.NameKind.{NameKind};
+ghost use Rattle.asm80_source_def.specs.Names.{Name, named, clashes, overflows, defined, is_settable};
+ghost use Rattle.asm80_source_def.specs.Walk.{meaning_in};
+ghost use Rattle.asm80_names.specs.Entries.{name_of_entry};
 
-use asm80_source::{Meaning, NameKind};
-use asm80_tokens::Name80;
+use asm80_source_def::{Meaning, NameKind};
+use asm80_statement_types::Name80;
 use indexmap::IndexMap;
 use std::alloc::{AllocError, Global};
 use std::marker::Model;
@@ -30,13 +30,13 @@ pub struct Names {
 
 impl Model for Names {
     ghost use Rattle.std.specs.Prelude.{List, map};
-    ghost use Rattle.asm80_source.specs.Names.{Name};
+    ghost use Rattle.asm80_source_def.specs.Names.{Name};
 
     ghost Value = { List Name };
 
-    ghost use Rattle.asm80_names.specs.Entries.{name_of};
+    ghost use Rattle.asm80_names.specs.Entries.{name_of_entry};
 
-    ghost view = { λ a. map name_of a.entries.entries };
+    ghost view = { λ a. map name_of_entry a.entries.entries };
 }
 
 impl Names {
@@ -51,7 +51,7 @@ impl Names {
 
     // What the map has of a name.
     fn entry(&self, name: &Name80) -> Option<Entry>
-        ensures { MatchOption result (named self.now name.now ≡ None) (λ e. named self.now name.now ≡ Some (name_of (name.now, e))) }
+        ensures { MatchOption result (named self.now name.now ≡ None) (λ e. named self.now name.now ≡ Some (name_of_entry (name.now, e))) }
     {
         self.entries.get(name).copied()
     }

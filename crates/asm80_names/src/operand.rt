@@ -2,17 +2,17 @@
 
 ghost use Rattle.std.specs.Prelude.{◌≡◌, ℕ, List};
 ghost use Rattle.std.specs.List.{list_any};
-ghost use Rattle.asm80_tokens.specs.Tree.{operand_of};
-ghost use Rattle.base.specs.Addresses.{has_address, is_among, StandsFor};
+ghost use Rattle.asm80_statement_types.specs.Tree.{operand_of};
+ghost use Rattle.base_types.specs.Addresses.{has_address, is_among, IsSetOf};
 ghost use Rattle.asm80_names.specs.Scopes.{scope_of};
-ghost use Rattle.asm80_source.specs.Values.{is_no_value, operand_has_unknown, operand_divides_by_zero, operand_number, operand_place, operand_places_inside};
+ghost use Rattle.asm80_source_def.specs.Values.{is_no_value, operand_has_unknown, operand_divides_by_zero, operand_number, operand_place, operand_places_inside};
 
 use crate::scope::Scope;
 use crate::values::{
     divides_by_zero, has_place_within, has_register, has_unknown, number_of, place_alone,
 };
-use asm80_tokens::Arg;
-use base::AddressSet;
+use asm80_statement_types::Arg;
+use base_types::AddressSet;
 
 /// Whether an operand is a string of two or more characters, or has a register's name.
 pub fn is_no_value(arg: &Arg) -> bool
@@ -67,7 +67,7 @@ pub fn operand_place(scope: &Scope<'_>, arg: &Arg) -> Option<u16>
 /// Whether the address of some place name or `$` inside a larger expression is in a set.
 pub fn has_place_inside(scope: &Scope<'_>, arg: &Arg, set: &AddressSet) -> bool
     ensures value { result ≡ list_any (has_address set.now) (operand_places_inside (scope_of scope.now) (operand_of arg.now)) }
-    ensures stands { (addresses : List ℕ) → StandsFor set.now addresses → result ≡ list_any (is_among addresses) (operand_places_inside (scope_of scope.now) (operand_of arg.now)) }
+    ensures stands { (addresses : List ℕ) → IsSetOf set.now addresses → result ≡ list_any (is_among addresses) (operand_places_inside (scope_of scope.now) (operand_of arg.now)) }
 {
     match arg {
         Arg::Text(_) => false,

@@ -2,18 +2,18 @@
 
 ghost use Rattle.std.specs.Prelude.{◌≡◌, ◌||◌, false, cond, is_none, option_and_then, option_to_list};
 ghost use Rattle.std.specs.List.{list_any};
-ghost use Rattle.asm80_tokens.specs.Tree.{tree_of};
-ghost use Rattle.asm80_tokens.specs.Words.{is_register};
-ghost use Rattle.base.specs.Addresses.{has_address};
+ghost use Rattle.asm80_statement_types.specs.Tree.{tree_of};
+ghost use Rattle.asm80_statement_types.specs.Words.{is_register};
+ghost use Rattle.base_types.specs.Addresses.{has_address};
 ghost use Rattle.asm80_names.specs.Scopes.{scope_of};
-ghost use Rattle.asm80_source.specs.Values.{meaning_of_name, number_of, has_register, has_unknown, divides, divides_by_zero, is_zero, place_of_name, places_in, places_inside, place_alone};
-ghost use Rattle.asm80_source.specs.Walk.{meaning_in, meaning_of, or_unknown};
+ghost use Rattle.asm80_source_def.specs.Values.{meaning_of_name, value_of_tree, has_register, has_undefined, divides, divides_by_zero, is_zero_divisor, place_of_name, places_in, places_inside, place_alone};
+ghost use Rattle.asm80_source_def.specs.Walk.{meaning_in, meaning_of, or_unknown};
 
 use crate::arithmetic::{binary, divides, inverted, negated};
 use crate::scope::Scope;
-use asm80_source::Meaning;
-use asm80_tokens::{Expr, Name80, is_register};
-use base::AddressSet;
+use asm80_source_def::Meaning;
+use asm80_statement_types::{Expr, Name80, is_register};
+use base_types::AddressSet;
 
 // What a name stands for; a register's name is no value.
 fn meaning_of_name(scope: &Scope<'_>, name: &Name80) -> Option<Meaning>
@@ -34,7 +34,7 @@ fn number_of_name(scope: &Scope<'_>, name: &Name80) -> Option<u16>
 
 /// The value of an expression; None where a fault hides it.
 pub fn number_of(scope: &Scope<'_>, e: &Expr) -> Option<u16>
-    ensures { result ≡ number_of (scope_of scope.now) (tree_of e.now) }
+    ensures { result ≡ value_of_tree (scope_of scope.now) (tree_of e.now) }
 {
     match e {
         Expr::Num(n) => Some(*n),
@@ -71,7 +71,7 @@ fn is_unknown(scope: &Scope<'_>, name: &Name80) -> bool
 
 /// Whether an expression has a name that is not defined.
 pub fn has_unknown(scope: &Scope<'_>, e: &Expr) -> bool
-    ensures { result ≡ has_unknown (scope_of scope.now) (tree_of e.now) }
+    ensures { result ≡ has_undefined (scope_of scope.now) (tree_of e.now) }
 {
     match e {
         Expr::Num(_) | Expr::Here => false,
@@ -97,7 +97,7 @@ pub fn divides_by_zero(scope: &Scope<'_>, e: &Expr) -> bool
 }
 
 fn is_zero(number: Option<u16>) -> bool
-    ensures { result ≡ is_zero number }
+    ensures { result ≡ is_zero_divisor number }
 {
     match number {
         Some(n) => n == 0,

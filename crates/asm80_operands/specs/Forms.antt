@@ -4,16 +4,16 @@ use Rattle.std.specs.List.{list_any}
 use Rattle.cells.specs.declared.Cell.{Cell}
 use Rattle.cells.specs.declared.Cell.TheVariants.{Num}
 use Rattle.i80.specs.declared.Instr80.{Instr80}
-use Rattle.asm80_program.specs.Program.{IsCoded}
-use Rattle.asm80_tokens.specs.Tree.{Operand}
+use Rattle.asm80_program_types.specs.Program.{IsCoded}
+use Rattle.asm80_statement_types.specs.Tree.{Operand}
 use Rattle.asm80_operands.specs.declared.fault.FormFault.{FormFault}
 use Rattle.asm80_operands.specs.declared.fault.FormFault.TheVariants.{Rule, Memory}
 use Rattle.asm80_operands.specs.declared.form.Form.{Form}
 use Rattle.asm80_operands.specs.declared.form.Form.TheVariants.{Nothing, Instruction, Data}
-use Rattle.asm80_source.specs.declared.operation.Operation.{Operation}
-use Rattle.asm80_source.specs.Items.{Setting, instruction, data_by, is_instruction_op, is_data_op}
-use Rattle.asm80_source.specs.Layout.{is_foreign_by, operands_by, misses, computes, loads_code}
-use Rattle.asm80_source.specs.Operands.{rule_of_operands}
+use Rattle.asm80_source_def.specs.declared.operation.Operation.{Operation}
+use Rattle.asm80_source_def.specs.Items.{Setting, instruction, data_by, is_instruction_op, is_data_op}
+use Rattle.asm80_source_def.specs.Layout.{is_foreign_by, operands_by, misses, computes, loads_code}
+use Rattle.asm80_source_def.specs.Operands.{rule_of_operands}
 
 -- a cell's number is a byte
 abbrev pub HoldsByte : Cell → Type 0

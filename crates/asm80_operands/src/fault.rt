@@ -1,7 +1,7 @@
 // Why operands make nothing.
 ghost use Rattle.std.specs.Prelude.{◌≡◌};
 
-use asm80_source::AsmRule;
+use asm80_source_def::AsmRule;
 use std::alloc::{AllocError, AllocFailed};
 use thiserror::Error;
 

@@ -1,9 +1,9 @@
 // What a statement's operands make.
 ghost use Rattle.std.specs.Prelude.{◌≡◌, Some, true, false, IfOk, OnErr, map};
-ghost use Rattle.asm80_tokens.specs.Tree.{operand_of};
+ghost use Rattle.asm80_statement_types.specs.Tree.{operand_of};
 ghost use Rattle.asm80_operands.specs.Forms.{IsForm, GivesForm};
 ghost use Rattle.asm80_operands.specs.Settings.{setting_of};
-ghost use Rattle.asm80_source.specs.Items.{is_data_op, is_instruction_op};
+ghost use Rattle.asm80_source_def.specs.Items.{is_data_op, is_instruction_op};
 
 use crate::data::{cells_of_bytes, cells_of_words};
 use crate::fault::FormFault;
@@ -12,8 +12,8 @@ use crate::kinds::kinds_of;
 use crate::profile::{is_foreign, items_compute, strays_of};
 use crate::rules::rule_of_operands;
 use crate::setting::Setting;
-use asm80_source::{Kind, Operation};
-use asm80_tokens::Arg;
+use asm80_source_def::{Kind, Operation};
+use asm80_statement_types::Arg;
 use cells::Cell;
 use i80::Instr80;
 use std::alloc::{AllocError, Global};

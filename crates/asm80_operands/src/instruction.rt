@@ -1,14 +1,14 @@
 // The instruction of an operation with its operands (Intel 8080 Assembly Language Programming Manual, chapter 2).
 ghost use Rattle.std.specs.Prelude.{◌≡◌, ◌==◌, ◌<◌, [], ◌∷◌, length, cond, Some, None, IfSome, map};
-ghost use Rattle.asm80_tokens.specs.Tree.{operand_of};
-ghost use Rattle.asm80_program.specs.Program.{IsCoded};
+ghost use Rattle.asm80_statement_types.specs.Tree.{operand_of};
+ghost use Rattle.asm80_program_types.specs.Program.{IsCoded};
 ghost use Rattle.asm80_operands.specs.Settings.{setting_of};
-ghost use Rattle.asm80_source.specs.Items.{goal, instruction, word_of};
+ghost use Rattle.asm80_source_def.specs.Items.{goal, instruction, word_of};
 
 use crate::registers::{indirect_of, pair_of, src_of, stack_of};
 use crate::setting::{Setting, byte, code_address, value};
-use asm80_source::Operation;
-use asm80_tokens::Arg;
+use asm80_source_def::Operation;
+use asm80_statement_types::Arg;
 use i80::{Goal, Instr80, Pair, Word};
 
 // The immediate word of LXI; that of LXI SP is a number always.

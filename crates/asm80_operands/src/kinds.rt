@@ -1,13 +1,13 @@
 // The operands that each operation takes.
 ghost use Rattle.std.specs.Prelude.{◌≡◌, option_map};
-ghost use Rattle.asm80_source.specs.Operations.{kinds};
-ghost use Rattle.asm80_source.specs.Operands.{is_value_kind};
+ghost use Rattle.asm80_source_def.specs.Operations.{operand_kinds};
+ghost use Rattle.asm80_source_def.specs.Operands.{is_value_kind};
 
-use asm80_source::{Kind, Operation};
+use asm80_source_def::{Kind, Operation};
 
 /// The kinds of the operands of an instruction; None of a directive.
 pub fn kinds_of(operation: Operation) -> Option<&'static [Kind]>
-    ensures { option_map (λ ks. ks.now) result ≡ kinds operation }
+    ensures { option_map (λ ks. ks.now) result ≡ operand_kinds operation }
 {
     match operation {
         Operation::Org

@@ -1,18 +1,18 @@
 // The rules of the layout and of this project's profile that operands break: S1, S2, S4 and S5.
 ghost use Rattle.std.specs.Prelude.{◌≡◌, ◌==◌, ◌||◌, not, false, Some, map, zip};
 ghost use Rattle.std.specs.List.{list_any};
-ghost use Rattle.asm80_tokens.specs.Tree.{operand_of};
+ghost use Rattle.asm80_statement_types.specs.Tree.{operand_of};
 ghost use Rattle.asm80_operands.specs.Settings.{setting_of};
-ghost use Rattle.asm80_source.specs.Items.{is_data_op};
-ghost use Rattle.asm80_source.specs.Operands as operands;
-ghost use Rattle.asm80_source.specs.Layout.{is_foreign_by, misses, misses_by, computes, computes_by, has_code_inside, loads_code, loads_code_by, loads_sp, operands_by, same_kind};
+ghost use Rattle.asm80_source_def.specs.Items.{is_data_op};
+ghost use Rattle.asm80_source_def.specs.Operands as operands;
+ghost use Rattle.asm80_source_def.specs.Layout.{is_foreign_by, misses, misses_by, computes, computes_by, has_code_inside, loads_code, loads_code_by, loads_sp, operands_by, same_kind};
 
 use crate::kinds::kinds_of;
 use crate::registers::pair_of;
 use crate::setting::{Setting, code_address, value};
 use asm80_names::has_place_inside;
-use asm80_source::{Kind, Operation};
-use asm80_tokens::Arg;
+use asm80_source_def::{Kind, Operation};
+use asm80_statement_types::Arg;
 use i80::Pair;
 
 /// S1: whether an instruction is not of the profile: HLT, EI, DI, and RST of a number other than 0.
@@ -107,7 +107,7 @@ fn loads_sp(args: &[Arg]) -> bool
 }
 
 fn is_stack_pointer(arg: &Arg) -> bool
-    ensures { result ≡ Rattle.asm80_source.specs.Layout.is_stack_pointer (operands.pair_of (operand_of arg.now)) }
+    ensures { result ≡ Rattle.asm80_source_def.specs.Layout.is_stack_pointer (operands.pair_of_operand (operand_of arg.now)) }
 {
     matches!(pair_of(arg), Some(Pair::Sp))
 }

@@ -1,9 +1,9 @@
 // Registers as operands.
 ghost use Rattle.std.specs.Prelude.{◌≡◌, option_map};
-ghost use Rattle.asm80_tokens.specs.Tree.{operand_of};
-ghost use Rattle.asm80_source.specs.Operands.{register_name, src_named, pair_named, indirect_named, stack_named, src_of, pair_of, indirect_of, stack_of};
+ghost use Rattle.asm80_statement_types.specs.Tree.{operand_of};
+ghost use Rattle.asm80_source_def.specs.Operands.{register_name, src_named, pair_named, indirect_named, stack_named, src_of, pair_of_operand, indirect_of, stack_of};
 
-use asm80_tokens::{Arg, Expr, Name80};
+use asm80_statement_types::{Arg, Expr, Name80};
 use i80::{Pair, Reg, Src, StackPair};
 
 // The name that an operand is.
@@ -18,7 +18,7 @@ fn register_name(arg: &Arg) -> Option<&[u8]>
 
 // The name that an expression is.
 fn name_alone(e: &Expr) -> Option<&[u8]>
-    ensures { option_map (λ name. name.now) result ≡ register_name (Rattle.asm80_tokens.specs.Tree.Whole (Rattle.asm80_tokens.specs.Tree.tree_of e.now)) }
+    ensures { option_map (λ name. name.now) result ≡ register_name (Rattle.asm80_statement_types.specs.Tree.Whole (Rattle.asm80_statement_types.specs.Tree.tree_of e.now)) }
 {
     match e {
         Expr::Name(name) => Some(name.as_slice()),
@@ -103,7 +103,7 @@ pub fn src_of(arg: &Arg) -> Option<Src>
 
 /// The pair that an operand names, or SP.
 pub fn pair_of(arg: &Arg) -> Option<Pair>
-    ensures { result ≡ pair_of (operand_of arg.now) }
+    ensures { result ≡ pair_of_operand (operand_of arg.now) }
 {
     pair_named(register_name(arg)?)
 }

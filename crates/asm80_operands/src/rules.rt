@@ -1,20 +1,20 @@
 // The rules of operands: V5, V1, V4 and V3, in this order.
 ghost use Rattle.std.specs.Prelude.{◌≡◌, ◌&&◌, ◌||◌, Some, None, false, map, zip};
 ghost use Rattle.std.specs.List.{list_any};
-ghost use Rattle.asm80_tokens.specs.Tree.{operand_of};
+ghost use Rattle.asm80_statement_types.specs.Tree.{operand_of};
 ghost use Rattle.asm80_names.specs.Scopes.{scope_of};
-ghost use Rattle.asm80_source.specs.declared.rule.AsmRule.TheVariants.{V1, V3, V4};
-ghost use Rattle.asm80_source.specs.FirstFaults.{rule_if};
-ghost use Rattle.asm80_source.specs.Operands.{is_value_kind, values_break, is_of_kind, are_of_kinds, moves_memory, is_byte, fits_kind, is_unfit, rule_of_values, rule_of_instruction, is_no_byte_item, item_is_unfit, rule_of_bytes, rule_of_words, rule_of_operands};
-ghost use Rattle.asm80_source.specs.Values.{is_no_value, operand_has_unknown, operand_divides_by_zero};
+ghost use Rattle.asm80_source_def.specs.declared.rule.AsmRule.TheVariants.{V1, V3, V4};
+ghost use Rattle.asm80_source_def.specs.FirstFaults.{rule_if};
+ghost use Rattle.asm80_source_def.specs.Operands.{is_value_kind, values_break, is_of_kind, are_of_kinds, moves_memory, fits_byte, fits_kind, is_unfit, rule_of_values, rule_of_instruction, is_no_byte_item, item_is_unfit, rule_of_bytes, rule_of_words, rule_of_operands};
+ghost use Rattle.asm80_source_def.specs.Values.{is_no_value, operand_has_unknown, operand_divides_by_zero};
 
 use crate::kinds::{is_value_kind, kinds_of};
 use crate::registers::{indirect_of, pair_of, src_of, stack_of};
 use asm80_names::{
     Scope, is_no_value, operand_divides_by_zero, operand_has_unknown, operand_number,
 };
-use asm80_source::{AsmRule, Kind, Operation};
-use asm80_tokens::Arg;
+use asm80_source_def::{AsmRule, Kind, Operation};
+use asm80_statement_types::Arg;
 use i80::Src;
 
 // Whether an operand is of a kind.
@@ -56,14 +56,14 @@ fn moves_memory(operation: Operation, args: &[Arg]) -> bool
 }
 
 fn is_memory(arg: &Arg) -> bool
-    ensures { result ≡ Rattle.asm80_source.specs.Operands.is_memory (Rattle.asm80_source.specs.Operands.src_of (operand_of arg.now)) }
+    ensures { result ≡ Rattle.asm80_source_def.specs.Operands.is_memory (Rattle.asm80_source_def.specs.Operands.src_of (operand_of arg.now)) }
 {
     matches!(src_of(arg), Some(Src::Mem))
 }
 
 // Whether a number is a byte: its high byte is 0 or 0FFH.
 fn is_byte(n: u16) -> bool
-    ensures { result ≡ is_byte n }
+    ensures { result ≡ fits_byte n }
 {
     matches!(n.to_be_bytes()[0], 0 | 0xFF)
 }

@@ -1,12 +1,12 @@
 // Where operands are evaluated.
 ghost use Rattle.std.specs.Prelude.{◌≡◌};
-ghost use Rattle.asm80_tokens.specs.Tree.{operand_of};
+ghost use Rattle.asm80_statement_types.specs.Tree.{operand_of};
 ghost use Rattle.asm80_operands.specs.Settings.{setting_of};
-ghost use Rattle.asm80_source.specs.Items.{value, byte, code_address};
+ghost use Rattle.asm80_source_def.specs.Items.{value, byte, code_address};
 
 use asm80_names::{Scope, operand_number, operand_place};
-use asm80_tokens::Arg;
-use base::AddressSet;
+use asm80_statement_types::Arg;
+use base_types::AddressSet;
 
 /// Where operands are evaluated: what they see, and the addresses at which instructions start.
 #[derive(Clone, Copy)]

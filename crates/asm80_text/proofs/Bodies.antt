@@ -1,49 +1,61 @@
 -- What the functions on bodies and statements found.
-use Rattle.std.proofs.Common.{◌≡◌, ◌≢◌, ℕ, List, [], ◌∷◌, Option, Some, None, Err, refl, inl, inr, ◌⊎◌}
-use Rattle.asm80_tokens.specs.Tree.{Operand, Statement}
+use Rattle.std.proofs.Common.{◌≡◌, ◌≢◌, ℕ, List, [], ◌∷◌, Option, Some, None, Err, refl, sym, ◌∙◌, inl, inr, ◌⊎◌}
+use Rattle.asm80_statement_types.specs.Tree.{Operand, Statement}
 use Rattle.asm80_tokens.specs.declared.token.Token.{Token}
-use Rattle.asm80_tokens.specs.declared.token.Token.TheVariants.{Digits, Word, Operation, Colon}
+use Rattle.asm80_tokens.specs.declared.token.Token.TheVariants.{Digits, Word, Colon}
 use Rattle.asm80_tokens.specs.declared.fault.ParseFault.{ParseFault}
 use Rattle.asm80_tokens.specs.declared.fault.ParseFault.TheVariants as faults
-use Rattle.asm80_text.specs.Statement.{AreOperands, IsBody, nothing, bare, full, IsLabeled, unlabeled, labeled, with_colon, IsStatement, unnumbered, numbered, IsStatementOf}
-use Rattle.asm80_text.specs.Results.{GivesOperands, GivesBody, GivesStatement, past_number, past_colon}
+use Rattle.asm80_tokens.specs.Spelling.{Spelling}
+use Rattle.asm80_tokens.specs.Words.{as_operation}
+use Rattle.asm80_tokens.specs.Results.{GivesOperation}
+use Rattle.asm80_tokens.proofs.Operations.{CanOperate, word, operator, inverse, can_operate}
+use Rattle.asm80_text.specs.Statement.{IsBody, nothing, operated, IsLabeled, unlabeled, labeled, with_colon, IsStatement, unnumbered, numbered, IsStatementOf}
+use Rattle.asm80_text.specs.Results.{GivesBody, GivesStatement, past_number, past_colon}
 
 -- ---- bodies
 
-full_is : {op : List ℕ} {ts : List Token} {p : Option (List ℕ)} {bs : List Operand} → IsBody (Operation op ∷ ts) p bs → ts ≢ [] → AreOperands ts bs
-full_is bare ne = absurd (ne refl)
-full_is (full a) ne = a
+some_is : (v w : List ℕ) → ◌≡◌ {A = Option (List ℕ)} (Some v) (Some w) → v ≡ w
+some_is v w e = cc
 
-pub nothing_read : (ts : List Token) → ts ≡ [] → IsBody ts None []
-nothing_read ts e = rw e nothing
+-- two words of one token
+pub one_word : (s : Spelling) (t : Token) (v w : List ℕ) → as_operation s t ≡ Some v → as_operation s t ≡ Some w → v ≡ w
+one_word s t v w e f = some_is v w (sym e ∙ f)
 
-pub no_operation : (ts : List Token) → ts ≢ [] → ((op : List ℕ) (rest : List Token) → ts ≢ Operation op ∷ rest) → (p : Option (List ℕ)) (bs : List Operand) → IsBody ts p bs → ⊥
-no_operation ts ne none p bs nothing = ne refl
-no_operation ts ne none p bs (bare {op = w}) = none w [] refl
-no_operation ts ne none p bs (full {op = w} {ts = rest} a) = none w rest refl
+pub nothing_read : (s : Spelling) (ts : List Token) → ts ≡ [] → IsBody s ts None []
+nothing_read s ts e = rw e nothing
 
-pub bare_read : (ts rest : List Token) (op : List ℕ) → ts ≡ Operation op ∷ rest → rest ≡ [] → IsBody ts (Some op) []
-bare_read ts rest op e n = rw (e, n) bare
+none_operates : {s : Spelling} {t : Token} {ts : List Token} {p : Option (List ℕ)} {bs : List Operand} → IsBody s (t ∷ ts) p bs → as_operation s t ≡ None → ⊥
+none_operates (operated e x) n = cc
 
-pub full_read : (ts rest : List Token) (op : List ℕ) (args : List Operand) → ts ≡ Operation op ∷ rest → AreOperands rest args → IsBody ts (Some op) args
-full_read ts rest op args e a = rw e (full a)
+pub no_operation : (s : Spelling) (ts rest : List Token) (t : Token) → ts ≡ t ∷ rest → as_operation s t ≡ None → (p : Option (List ℕ)) (bs : List Operand) → IsBody s ts p bs → ⊥
+no_operation s ts rest t e n p bs b = none_operates (rw e at b) n
 
-pub full_fails : (ts rest : List Token) (op : List ℕ) (f : ParseFault) → ts ≡ Operation op ∷ rest → rest ≢ [] → GivesOperands rest (Err f) → GivesBody ts (Err f)
-full_fails ts rest op faults.Memory e ne g = tt
-full_fails ts rest op faults.Malformed e ne g = rw e (λ p bs x. g bs (full_is x ne))
+pub operation_read : (s : Spelling) (ts rest : List Token) (t : Token) (w op : List ℕ) (args : List Operand) → ts ≡ t ∷ rest → as_operation s t ≡ Some w → s.forms w rest op args → IsBody s ts (Some op) args
+operation_read s ts rest t w op args e o x = rw e (operated o x)
+
+never_formed : (s : Spelling) (t : Token) (w : List ℕ) (rest : List Token) → as_operation s t ≡ Some w → ((op : List ℕ) (args : List Operand) → s.forms w rest op args → ⊥) → (p : Option (List ℕ)) (bs : List Operand) → IsBody s (t ∷ rest) p bs → ⊥
+never_formed s t w rest o never p bs (operated {word = v} {op = op} {args = args} k x) = never op args (rw (one_word s t v w k o) at x)
+
+pub operation_fails : (s : Spelling) (ts rest : List Token) (t : Token) (w : List ℕ) (f : ParseFault) → ts ≡ t ∷ rest → as_operation s t ≡ Some w → GivesOperation s w rest (Err f) → GivesBody s ts (Err f)
+operation_fails s ts rest t w faults.Memory e o g = tt
+operation_fails s ts rest t w faults.Malformed e o g = rw e (never_formed s t w rest o g)
 
 -- ---- labels
 
-no_word : {w : List ℕ} {ts : List Token} {p : Option (List ℕ)} {bs : List Operand} → IsBody (Word w ∷ ts) p bs → ⊥
-no_word x = elim x [ ]
+no_word : {s : Spelling} {w : List ℕ} {ts : List Token} {p : Option (List ℕ)} {bs : List Operand} → IsBody s (Word w ∷ ts) p bs → ⊥
+no_word (operated e x) = cc
+
+no_colon : {t : Token} → CanOperate t → (ts : List Token) → past_colon (t ∷ ts) ≡ t ∷ ts
+no_colon word ts = refl
+no_colon operator ts = refl
+no_colon inverse ts = refl
 
 -- a body begins with no colon
-body_stays : {ts : List Token} {p : Option (List ℕ)} {bs : List Operand} → IsBody ts p bs → past_colon ts ≡ ts
+body_stays : {s : Spelling} {ts : List Token} {p : Option (List ℕ)} {bs : List Operand} → IsBody s ts p bs → past_colon ts ≡ ts
 body_stays nothing = refl
-body_stays bare = refl
-body_stays (full a) = refl
+body_stays {s} (operated {t = t} {ts = ts} {word = w} e x) = no_colon (can_operate s t w e) ts
 
-labeled_is : {w : List ℕ} {ts : List Token} {l o : Option (List ℕ)} {bs : List Operand} → IsLabeled (Word w ∷ ts) l o bs → IsBody (past_colon ts) o bs
+labeled_is : {s : Spelling} {w : List ℕ} {ts : List Token} {l o : Option (List ℕ)} {bs : List Operand} → IsLabeled s (Word w ∷ ts) l o bs → IsBody s (past_colon ts) o bs
 labeled_is (unlabeled b) = absurd (no_word b)
 labeled_is (labeled b) = rw (body_stays b) b
 labeled_is (with_colon b) = b
@@ -53,23 +65,23 @@ colon_or_not [] = inr refl
 colon_or_not (Colon ∷ ts) = inl refl
 colon_or_not (t ∷ ts) = inr refl
 
-labeled_holds : (w : List ℕ) (ts : List Token) (o : Option (List ℕ)) (bs : List Operand) → IsBody (past_colon ts) o bs → IsLabeled (Word w ∷ ts) (Some w) o bs
+labeled_holds : {s : Spelling} (w : List ℕ) (ts : List Token) (o : Option (List ℕ)) (bs : List Operand) → IsBody s (past_colon ts) o bs → IsLabeled s (Word w ∷ ts) (Some w) o bs
 labeled_holds w ts o bs b = elim (colon_or_not ts) [
   | inl e ↦ rw e (with_colon b)
   | inr e ↦ labeled (rw e at b)
 ]
 
-unlabeled_is : {ts : List Token} {l o : Option (List ℕ)} {bs : List Operand} → IsLabeled ts l o bs → ((w : List ℕ) (rest : List Token) → ts ≢ Word w ∷ rest) → IsBody ts o bs
+unlabeled_is : {s : Spelling} {ts : List Token} {l o : Option (List ℕ)} {bs : List Operand} → IsLabeled s ts l o bs → ((w : List ℕ) (rest : List Token) → ts ≢ Word w ∷ rest) → IsBody s ts o bs
 unlabeled_is (unlabeled b) none = b
 unlabeled_is (labeled {name = w} {ts = rest} b) none = absurd (none w rest refl)
 unlabeled_is (with_colon {name = w} {ts = rest} b) none = absurd (none w (Colon ∷ rest) refl)
 
 -- ---- line numbers
 
-no_digits_body : {n : ℕ} {ts : List Token} {p : Option (List ℕ)} {bs : List Operand} → IsBody (Digits n ∷ ts) p bs → ⊥
-no_digits_body x = elim x [ ]
+no_digits_body : {s : Spelling} {n : ℕ} {ts : List Token} {p : Option (List ℕ)} {bs : List Operand} → IsBody s (Digits n ∷ ts) p bs → ⊥
+no_digits_body (operated e x) = cc
 
-pub no_digits : {n : ℕ} {ts : List Token} {l o : Option (List ℕ)} {bs : List Operand} → IsLabeled (Digits n ∷ ts) l o bs → ⊥
+pub no_digits : {s : Spelling} {n : ℕ} {ts : List Token} {l o : Option (List ℕ)} {bs : List Operand} → IsLabeled s (Digits n ∷ ts) l o bs → ⊥
 no_digits (unlabeled b) = no_digits_body b
 
 digits_or_not : (ts : List Token) → ((n : ℕ) × (ts ≡ Digits n ∷ past_number ts)) ⊎ (past_number ts ≡ ts)
@@ -77,35 +89,39 @@ digits_or_not [] = inr refl
 digits_or_not (Digits n ∷ ts) = inl (n, refl)
 digits_or_not (t ∷ ts) = inr refl
 
-statement_holds : (ts : List Token) (l o : Option (List ℕ)) (bs : List Operand) → IsLabeled (past_number ts) l o bs → IsStatement ts l o bs
+statement_holds : {s : Spelling} (ts : List Token) (l o : Option (List ℕ)) (bs : List Operand) → IsLabeled s (past_number ts) l o bs → IsStatement s ts l o bs
 statement_holds ts l o bs x = elim (digits_or_not ts) [
   | inl e ↦ rw e.1 (numbered x)
   | inr e ↦ unnumbered (rw e at x)
 ]
 
-labeled_stays : {ts : List Token} {l o : Option (List ℕ)} {bs : List Operand} → IsLabeled ts l o bs → past_number ts ≡ ts
+no_number : {t : Token} → CanOperate t → (ts : List Token) → past_number (t ∷ ts) ≡ t ∷ ts
+no_number word ts = refl
+no_number operator ts = refl
+no_number inverse ts = refl
+
+labeled_stays : {s : Spelling} {ts : List Token} {l o : Option (List ℕ)} {bs : List Operand} → IsLabeled s ts l o bs → past_number ts ≡ ts
 labeled_stays (unlabeled nothing) = refl
-labeled_stays (unlabeled bare) = refl
-labeled_stays (unlabeled (full a)) = refl
+labeled_stays {s} (unlabeled (operated {t = t} {ts = ts} {word = w} e x)) = no_number (can_operate s t w e) ts
 labeled_stays (labeled b) = refl
 labeled_stays (with_colon b) = refl
 
-statement_is : {ts : List Token} {l o : Option (List ℕ)} {bs : List Operand} → IsStatement ts l o bs → IsLabeled (past_number ts) l o bs
+statement_is : {s : Spelling} {ts : List Token} {l o : Option (List ℕ)} {bs : List Operand} → IsStatement s ts l o bs → IsLabeled s (past_number ts) l o bs
 statement_is (unnumbered x) = rw (labeled_stays x) x
 statement_is (numbered x) = x
 
 -- ---- statements
 
-pub unlabeled_read : (n : ℕ) (ts front : List Token) (s : Statement) → front ≡ past_number ts → s.line ≡ n → s.label ≡ None → IsBody front s.op s.args → IsStatementOf n ts s
-unlabeled_read n ts front s p line e b = record { numbers = line; words = statement_holds ts s.label s.op s.args (rw (e, ← p) (unlabeled b)) }
+pub unlabeled_read : (spelling : Spelling) (n : ℕ) (ts front : List Token) (s : Statement) → front ≡ past_number ts → s.line ≡ n → s.label ≡ None → IsBody spelling front s.op s.args → IsStatementOf spelling n ts s
+unlabeled_read spelling n ts front s p line e b = record { numbers = line; words = statement_holds ts s.label s.op s.args (rw (e, ← p) (unlabeled b)) }
 
-pub labeled_read : (n : ℕ) (ts front rest : List Token) (w : List ℕ) (s : Statement) → front ≡ past_number ts → front ≡ Word w ∷ rest → s.line ≡ n → s.label ≡ Some w → IsBody (past_colon rest) s.op s.args → IsStatementOf n ts s
-labeled_read n ts front rest w s p q line e b = record { numbers = line; words = statement_holds ts s.label s.op s.args (rw (e, ← p, q) (labeled_holds w rest s.op s.args b)) }
+pub labeled_read : (spelling : Spelling) (n : ℕ) (ts front rest : List Token) (w : List ℕ) (s : Statement) → front ≡ past_number ts → front ≡ Word w ∷ rest → s.line ≡ n → s.label ≡ Some w → IsBody spelling (past_colon rest) s.op s.args → IsStatementOf spelling n ts s
+labeled_read spelling n ts front rest w s p q line e b = record { numbers = line; words = statement_holds ts s.label s.op s.args (rw (e, ← p, q) (labeled_holds w rest s.op s.args b)) }
 
-pub unlabeled_fails : (n : ℕ) (ts front : List Token) (f : ParseFault) → front ≡ past_number ts → ((w : List ℕ) (rest : List Token) → front ≢ Word w ∷ rest) → GivesBody front (Err f) → GivesStatement n ts (Err f)
-unlabeled_fails n ts front faults.Memory p none g = tt
-unlabeled_fails n ts front faults.Malformed p none g = λ s x. g s.op s.args (unlabeled_is (rw (← p) at (statement_is x.words)) none)
+pub unlabeled_fails : (spelling : Spelling) (n : ℕ) (ts front : List Token) (f : ParseFault) → front ≡ past_number ts → ((w : List ℕ) (rest : List Token) → front ≢ Word w ∷ rest) → GivesBody spelling front (Err f) → GivesStatement spelling n ts (Err f)
+unlabeled_fails spelling n ts front faults.Memory p none g = tt
+unlabeled_fails spelling n ts front faults.Malformed p none g = λ s x. g s.op s.args (unlabeled_is (rw (← p) at (statement_is x.words)) none)
 
-pub labeled_fails : (n : ℕ) (ts front rest after : List Token) (w : List ℕ) (f : ParseFault) → front ≡ past_number ts → front ≡ Word w ∷ rest → after ≡ past_colon rest → GivesBody after (Err f) → GivesStatement n ts (Err f)
-labeled_fails n ts front rest after w faults.Memory p q e g = tt
-labeled_fails n ts front rest after w faults.Malformed p q e g = λ s x. g s.op s.args (rw e (labeled_is (rw (← p, q) at (statement_is x.words))))
+pub labeled_fails : (spelling : Spelling) (n : ℕ) (ts front rest after : List Token) (w : List ℕ) (f : ParseFault) → front ≡ past_number ts → front ≡ Word w ∷ rest → after ≡ past_colon rest → GivesBody spelling after (Err f) → GivesStatement spelling n ts (Err f)
+labeled_fails spelling n ts front rest after w faults.Memory p q e g = tt
+labeled_fails spelling n ts front rest after w faults.Malformed p q e g = λ s x. g s.op s.args (rw e (labeled_is (rw (← p, q) at (statement_is x.words))))

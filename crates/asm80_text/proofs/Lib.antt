@@ -2,6 +2,8 @@ pub mod Operands
 pub mod Bodies
 pub mod Alone
 pub mod Lawful
+pub mod Ranges
+pub mod Coherence
 pub mod Deep
 pub mod Several
 pub mod Once

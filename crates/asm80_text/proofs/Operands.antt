@@ -1,7 +1,9 @@
 -- Operands, one after the other.
-use Rattle.std.proofs.Common.{◌≡◌, ◌≢◌, ℕ, ◌<◌, List, [], ◌∷◌, ◌++◌, length, Bool, true, false, eqb, Err, refl, sym, ap, ◌∙◌, append_assoc, arith}
+use Rattle.std.proofs.Common.{◌≡◌, ◌≢◌, ℕ, ◌<◌, List, [], ◌∷◌, ◌++◌, length, Bool, true, false, eqb, Result, Ok, Err, refl, sym, ap, ◌∙◌, append_assoc, arith}
 use Rattle.std.proofs.lemmas.Bool.{eqb-true}
-use Rattle.asm80_tokens.specs.Tree.{Tree, Operand, String, Whole}
+use Rattle.std.specs.Global.{Vec}
+use Rattle.asm80_statement_types.specs.declared.arg.Arg.{Arg}
+use Rattle.asm80_statement_types.specs.Tree.{Tree, Operand, String, Whole}
 use Rattle.asm80_tokens.specs.declared.token.Token.{Token}
 use Rattle.asm80_tokens.specs.declared.token.Token.TheVariants.{Text, Comma}
 use Rattle.asm80_tokens.specs.declared.fault.ParseFault.{ParseFault}
@@ -9,8 +11,8 @@ use Rattle.asm80_tokens.specs.declared.fault.ParseFault.TheVariants as faults
 use Rattle.asm80_tokens.specs.Grammar.{Spells, Begins, Ends, alone, joined, tighter}
 use Rattle.asm80_tokens.specs.Results.{Sure, Gives}
 use Rattle.asm80_tokens.proofs.Chain.{spells_shorter}
-use Rattle.asm80_text.specs.Statement.{IsOperand, AreOperands, text, value, last, more}
-use Rattle.asm80_text.specs.Results.{SureOperand, GivesOperand}
+use Rattle.asm80_text.specs.Statement.{IsOperand, AreOperands, text, value, last, more, HasOperands, bare, full}
+use Rattle.asm80_text.specs.Results.{SureOperand, GivesOperand, GivesOperands, GivesOperandList}
 
 -- a text begins no expression
 mutual
@@ -92,3 +94,17 @@ is_nil (t ∷ ts) b e h = let n : length {A = Token} (t ∷ ts) ≡ 0 = eqb-true
 pub is_no_nil : (ts : List Token) (b : Bool) → b ≡ eqb (length ts) 0 → b ≡ false → ts ≢ []
 is_no_nil [] b e h x = false_true (sym h ∙ e)
 is_no_nil (t ∷ ts) b e h x = cc
+
+-- ---- lists that may be empty
+
+pub no_list : (ts : List Token) → ts ≡ [] → HasOperands ts []
+no_list ts e = rw e bare
+
+list_is : {ts : List Token} {args : List Operand} → HasOperands ts args → ts ≢ [] → AreOperands ts args
+list_is bare ne = absurd (ne refl)
+list_is (full a) ne = a
+
+pub some_list : (ts : List Token) (r : Result (Vec Arg) ParseFault) → ts ≢ [] → GivesOperands ts r → GivesOperandList ts r
+some_list ts (Ok v) ne g = full g
+some_list ts (Err faults.Memory) ne g = tt
+some_list ts (Err faults.Malformed) ne g = λ args x. g args (list_is x ne)

@@ -8,7 +8,8 @@ use Rattle.std.proofs.lemmas.List.Elements.{All-from_recursion, recursion_from_A
 use Rattle.asm80_tokens.specs.declared.token.Token.{Token}
 use Rattle.asm80_tokens.specs.declared.fault.ParseFault.{ParseFault}
 use Rattle.asm80_tokens.specs.declared.fault.ParseFault.TheVariants as faults
-use Rattle.asm80_tokens.specs.Tree.{Statement}
+use Rattle.asm80_statement_types.specs.Tree.{Statement}
+use Rattle.asm80_tokens.specs.Spelling.{Spelling}
 use Rattle.asm80_tokens.specs.Tokens.{IsLawful}
 use Rattle.asm80_text.specs.Statement.{IsStatementOf, kept, AreStatements, none_left, next}
 use Rattle.asm80_text.specs.Line.{is_bang, parts_of}
@@ -18,23 +19,23 @@ use Rattle.asm80_text.specs.Results.{GivesStatement, GivesStatements}
 abbrev pub targets : List (Bor (List Token)) → List (List Token)
 targets parts = map (λ (x : Bor (List Token)). x.now) parts
 
-pub one_more : {n : ℕ} {parts : List (List Token)} {ss : List Statement} → AreStatements n parts ss → (ts : List Token) (s : Statement) → IsStatementOf n ts s → AreStatements n (parts ++ ts ∷ []) (ss ++ kept s)
+pub one_more : {spelling : Spelling} {n : ℕ} {parts : List (List Token)} {ss : List Statement} → AreStatements spelling n parts ss → (ts : List Token) (s : Statement) → IsStatementOf spelling n ts s → AreStatements spelling n (parts ++ ts ∷ []) (ss ++ kept s)
 one_more none_left ts s x = let e : kept s ++ [] ≡ kept s = append-nil (kept s) in rw e at (next x none_left)
 one_more (next {s = t} {others = others} y a) ts s x = rw (append_assoc (kept t) others (kept s)) (next y (one_more a ts s x))
 
-none_from : {n : ℕ} {parts : List (List Token)} {ss : List Statement} → AreStatements n parts ss → (i : ℕ) (d : List Token) → i < length parts → ((s : Statement) → IsStatementOf n (get_or parts i d) s → ⊥) → ⊥
+none_from : {spelling : Spelling} {n : ℕ} {parts : List (List Token)} {ss : List Statement} → AreStatements spelling n parts ss → (i : ℕ) (d : List Token) → i < length parts → ((s : Statement) → IsStatementOf spelling n (get_or parts i d) s → ⊥) → ⊥
 none_from none_left i d lt never = absurd (omega arith)
 none_from (next {s = s} x a) zero d lt never = never s x
 none_from (next x a) (suc i) d lt never = none_from a i d (omega arith) never
 
-pub fails_at : (n : ℕ) (parts : List (Bor (List Token))) (i : ℕ) (part : Bor (List Token)) (f : ParseFault) → i < length parts → part ≡ get_or parts i part → GivesStatement n part.now (Err f) → GivesStatements n (targets parts) (Err f)
-fails_at n parts i part faults.Memory lt e g = tt
-fails_at n parts i part faults.Malformed lt e g = λ ss x.
+pub fails_at : (spelling : Spelling) (n : ℕ) (parts : List (Bor (List Token))) (i : ℕ) (part : Bor (List Token)) (f : ParseFault) → i < length parts → part ≡ get_or parts i part → GivesStatement spelling n part.now (Err f) → GivesStatements spelling n (targets parts) (Err f)
+fails_at spelling n parts i part faults.Memory lt e g = tt
+fails_at spelling n parts i part faults.Malformed lt e g = λ ss x.
     let same : get_or (targets parts) i part.now ≡ part.now = get_or-map (λ (x : Bor (List Token)). x.now) parts i part part.now lt ∙ ap (λ (x : Bor (List Token)). x.now) (sym e) in
     none_from x i part.now (omega (arith, length-map parts (λ (x : Bor (List Token)). x.now))) (λ s y. g s (rw same at y))
 
-pub goes_on : (n : ℕ) (parts : List (Bor (List Token))) (i : ℕ) (part : Bor (List Token)) (ss : List Statement) (s : Statement) → i < length parts → part ≡ get_or parts i part → AreStatements n (targets (take i parts)) ss → IsStatementOf n part.now s → AreStatements n (targets (take (i + 1) parts)) (ss ++ kept s)
-goes_on n parts i part ss s lt e a x =
+pub goes_on : (spelling : Spelling) (n : ℕ) (parts : List (Bor (List Token))) (i : ℕ) (part : Bor (List Token)) (ss : List Statement) (s : Statement) → i < length parts → part ≡ get_or parts i part → AreStatements spelling n (targets (take i parts)) ss → IsStatementOf spelling n part.now s → AreStatements spelling n (targets (take (i + 1) parts)) (ss ++ kept s)
+goes_on spelling n parts i part ss s lt e a x =
     let more : targets (take (i + 1) parts) ≡ targets (take i parts) ++ part.now ∷ [] =
     ap targets (take_more parts i part lt) ∙ map_push (λ (x : Bor (List Token)). x.now) (take i parts) (get_or parts i part) ∙ ap (λ (x : Bor (List Token)). targets (take i parts) ++ x.now ∷ []) (sym e) in
     rw more (one_more a part.now s x)
@@ -49,24 +50,24 @@ two_cases : (b : Bool) → (b ≡ true) ⊎ (b ≡ false)
 two_cases true = inl refl
 two_cases false = inr refl
 
-onto_lawful : (t : Token) (parts : List (List Token)) → IsLawful t → AllByRecursion (AllByRecursion IsLawful) parts → AllByRecursion (AllByRecursion IsLawful) (onto_first t parts)
-onto_lawful t [] h a = ((h, tt), tt)
-onto_lawful t (part ∷ parts) h a = ((h, a.0), a.1)
+onto_lawful : (s : Spelling) (t : Token) (parts : List (List Token)) → IsLawful s t → AllByRecursion (AllByRecursion (IsLawful s)) parts → AllByRecursion (AllByRecursion (IsLawful s)) (onto_first t parts)
+onto_lawful s t [] h a = ((h, tt), tt)
+onto_lawful s t (part ∷ parts) h a = ((h, a.0), a.1)
 
-split_lawful : (ts : List Token) → AllByRecursion IsLawful ts → AllByRecursion (AllByRecursion IsLawful) (parts_of ts)
-split_lawful [] h = (tt, tt)
-split_lawful (t ∷ ts) h = elim (two_cases (is_bang t)) [
-  | inl e ↦ rw e (tt, split_lawful ts h.1)
-  | inr e ↦ rw e (onto_lawful t (parts_of ts) h.0 (split_lawful ts h.1))
+split_lawful : (s : Spelling) (ts : List Token) → AllByRecursion (IsLawful s) ts → AllByRecursion (AllByRecursion (IsLawful s)) (parts_of ts)
+split_lawful s [] h = (tt, tt)
+split_lawful s (t ∷ ts) h = elim (two_cases (is_bang t)) [
+  | inl e ↦ rw e (tt, split_lawful s ts h.1)
+  | inr e ↦ rw e (onto_lawful s t (parts_of ts) h.0 (split_lawful s ts h.1))
 ]
 
-each_target : (parts : List (Bor (List Token))) → AllByRecursion (AllByRecursion IsLawful) (targets parts) → AllByRecursion (λ (x : Bor (List Token)). All IsLawful x.now) parts
-each_target [] h = tt
-each_target (x ∷ parts) h = (All-from_recursion _ _ h.0, each_target parts h.1)
+each_target : (s : Spelling) (parts : List (Bor (List Token))) → AllByRecursion (AllByRecursion (IsLawful s)) (targets parts) → AllByRecursion (λ (x : Bor (List Token)). All (IsLawful s) x.now) parts
+each_target s [] h = tt
+each_target s (x ∷ parts) h = (All-from_recursion _ _ h.0, each_target s parts h.1)
 
-pub parts_lawful : (ts : List Token) (parts : List (Bor (List Token))) → All IsLawful ts → targets parts ≡ parts_of ts → All (λ (x : Bor (List Token)). All IsLawful x.now) parts
-parts_lawful ts parts h e = All-from_recursion _ _ (each_target parts (rw e (split_lawful ts (recursion_from_All _ _ h))))
+pub parts_lawful : (s : Spelling) (ts : List Token) (parts : List (Bor (List Token))) → All (IsLawful s) ts → targets parts ≡ parts_of ts → All (λ (x : Bor (List Token)). All (IsLawful s) x.now) parts
+parts_lawful s ts parts h e = All-from_recursion _ _ (each_target s parts (rw e (split_lawful s ts (recursion_from_All _ _ h))))
 
-pub collected_lawful : {E : Type 0} (ts : List Token) (r : Result (Vec (Bor (List Token))) E) → All IsLawful ts → IfOk r (λ v. targets v.items ≡ parts_of ts) → IfOk r (λ v. All (λ (x : Bor (List Token)). All IsLawful x.now) v.items)
-collected_lawful ts (Ok v) h e = parts_lawful ts v.items h e
-collected_lawful ts (Err e) h k = tt
+pub collected_lawful : (s : Spelling) {E : Type 0} (ts : List Token) (r : Result (Vec (Bor (List Token))) E) → All (IsLawful s) ts → IfOk r (λ v. targets v.items ≡ parts_of ts) → IfOk r (λ v. All (λ (x : Bor (List Token)). All (IsLawful s) x.now) v.items)
+collected_lawful s ts (Ok v) h e = parts_lawful s ts v.items h e
+collected_lawful s ts (Err e) h k = tt

@@ -3,30 +3,21 @@ use Rattle.std.proofs.Common.{◌≡◌, ◌≢◌, ℕ, ◌<◌, ◌+◌, List,
 use Rattle.std.specs.Prelude.{is_some, slice_index}
 use Rattle.std.proofs.lemmas.Bool.{cases_eq, cases_lt, lt-ltb, le-ltb}
 use Rattle.std.proofs.lemmas.List.{length-take, append-nil, length-append, map-append}
-use Rattle.asm80_tokens.specs.declared.fault.LineRule.{LineRule}
-use Rattle.asm80_tokens.specs.declared.fault.ReadFault.{ReadFault}
-use Rattle.asm80_tokens.specs.declared.fault.ReadFault.TheVariants.{Syntax, Memory}
-use Rattle.asm80_tokens.specs.declared.stmt.Stmt80.{Stmt80}
-use Rattle.asm80_tokens.specs.Tree.{statement_of}
+use Rattle.asm80_statement_types.specs.declared.fault.LineRule.{LineRule}
+use Rattle.asm80_statement_types.specs.declared.fault.ReadFault.{ReadFault}
+use Rattle.asm80_statement_types.specs.declared.fault.ReadFault.TheVariants.{Syntax, Memory}
+use Rattle.asm80_statement_types.specs.declared.stmt.Stmt80.{Stmt80}
+use Rattle.asm80_statement_types.specs.Tree.{statement_of}
+use Rattle.asm80_statement_types.specs.Reading.{Finishes}
+use Rattle.asm80_tokens.specs.Spelling.{Spelling}
 use Rattle.asm80_text.specs.Line.{LineGives, late, long}
-use Rattle.base.specs.Held.{with_byte, Holds}
-use Rattle.base.specs.Cut.{Cut, without_cr, last_line}
+use Rattle.base_types.specs.Held.{held_with_byte, HoldsLine}
+use Rattle.base_types.specs.Cut.{Cut, without_cr, last_line}
 use Rattle.asm80_text.specs.Stream.{IsPlain, IsStream, open_yet, closed, complete, LinesGive, none_left, StreamGives}
-use Rattle.asm80_text.specs.Reader.{Reader, After, rule_of_long, EndsLineBy, EndsLine, AddsBy, EndsStreamBy, EndsStream, Finishes}
-use Rattle.base.proofs.Cuts.{cut_byte, cut_line, map_push}
-use Rattle.base.proofs.Holding.{holds_byte}
+use Rattle.asm80_text.specs.Reader.{Reader, After, rule_of_long, EndsLineBy, EndsLine, AddsBy, EndsStreamBy, EndsStream}
+use Rattle.base_types.proofs.Cuts.{cut_byte, cut_line, map_push}
+use Rattle.base_types.proofs.Holding.{holds_byte}
 use Rattle.asm80_text.proofs.Grow.{length_map, reads_on, reads_fault, stands}
-
-pub after_none : (reader : Reader) → reader.statements ≡ [] → reader.held ≡ Some [] → reader.number ≡ 0 → reader.is_closed ≡ false → reader.fault ≡ None → After [] reader
-after_none reader es held number open_now fault = record {
-  raw = [];
-  rest = [];
-  is_closed = false;
-  cut = open_yet (record { whole = refl; each = tt; last = tt });
-  lines = rw (es, fault) none_left;
-  closing = λ _. open_now;
-  held = λ _ _. (rw held refl, number);
-}
 
 stream_closed : {stream rest : List ℕ} {raw : List (List ℕ)} {k : Bool} → IsStream stream raw rest k → k ≡ true → (b : ℕ) → IsStream (stream ++ b ∷ []) raw rest k
 stream_closed (open_yet c) e b = absurd cc
@@ -36,18 +27,6 @@ cut_of : {stream rest : List ℕ} {raw : List (List ℕ)} {k : Bool} → IsStrea
 cut_of (open_yet c) e = c
 cut_of (closed text more c p) e = absurd cc
 
--- what follows the end is not looked at
-pub after_ignored : (stream : List ℕ) (s : Reader) (b : ℕ) → s.fault ≡ None → s.is_closed ≡ true → After stream s → After (stream ++ b ∷ []) s
-after_ignored stream s b fault shut h = record {
-  raw = h.raw;
-  rest = h.rest;
-  is_closed = h.is_closed;
-  cut = stream_closed h.cut (sym (h.closing fault) ∙ shut) b;
-  lines = h.lines;
-  closing = h.closing;
-  held = h.held;
-}
-
 two_cases : (b : Bool) → (b ≡ true) ⊎ (b ≡ false)
 two_cases true = inl refl
 two_cases false = inr refl
@@ -55,17 +34,11 @@ two_cases false = inr refl
 no_fault : (n : ℕ) (r : LineRule) → ◌≡◌ {A = Option ReadFault} (Some (Syntax n r)) None → ⊥
 no_fault n r e = cc
 
-holds_line : (line rest : List ℕ) → Holds (Some line) rest → line ≡ rest
+holds_line : (line rest : List ℕ) → HoldsLine (Some line) rest → line ≡ rest
 holds_line line rest h = h
 
-holds_long : (rest : List ℕ) → Holds None rest → 256 < length rest
+holds_long : (rest : List ℕ) → HoldsLine None rest → 256 < length rest
 holds_long rest h = h
-
-long_line : (n : ℕ) (line : List ℕ) → 255 < length line → LineGives n line (Err (rule_of_long n))
-long_line n line h = elim (cases_lt 32768 n) [
-  | inl lt ↦ rw (lt-ltb 32768 n lt) (late lt)
-  | inr le ↦ rw (le-ltb 32768 n le) (long le h)
-]
 
 without_cr_long : (rest : List ℕ) → 256 < length rest → 255 < length (without_cr rest)
 without_cr_long rest h = elim (two_cases (eqb (slice_index rest (length rest - 1)) 13)) [
@@ -76,128 +49,6 @@ without_cr_long rest h = elim (two_cases (eqb (slice_index rest (length rest - 1
 last_long : (rest : List ℕ) → 256 < length rest → last_line rest ≡ rest ∷ []
 last_long [] h = absurd (omega arith)
 last_long (b ∷ rest) h = refl
-
-module _ (stream : List ℕ) (s : Reader) (fault : s.fault ≡ None) (open_now : s.is_closed ≡ false) (h : After stream s) where
-  is_open : h.is_closed ≡ false
-  is_open = sym (h.closing fault) ∙ open_now
-
-  cut_now : Cut IsPlain stream h.raw h.rest
-  cut_now = cut_of h.cut is_open
-
-  reads_now : LinesGive 1 (map without_cr h.raw) (map statement_of s.statements) s.fault
-  reads_now = rw is_open at h.lines
-
-  held_now : Holds s.held h.rest
-  held_now = (h.held fault is_open).0
-
-  number_now : s.number ≡ length h.raw
-  number_now = (h.held fault is_open).1
-
-  pub after_byte : (b : ℕ) → IsPlain b → (new : Reader) → new ≡ record s { held = with_byte s.held b } → After (stream ++ b ∷ []) new
-  after_byte b p new e = rw e (record {
-    raw = h.raw;
-    rest = h.rest ++ b ∷ [];
-    is_closed = false;
-    cut = open_yet (cut_byte stream h.raw h.rest b cut_now p);
-    lines = reads_now;
-    closing = λ _. open_now;
-    held = λ _ _. (holds_byte s.held h.rest b held_now, number_now);
-  })
-
-  next_number : s.number + 1 ≡ 1 + length (map without_cr h.raw)
-  next_number = omega (arith, number_now, length_map h.raw)
-
-  line_held : (line : List ℕ) → s.held ≡ Some line → line ≡ h.rest
-  line_held line e = holds_line line h.rest (subst (λ (o : Option (List ℕ)). Holds o h.rest) e held_now)
-
-  after_line_by : (line : List ℕ) → s.held ≡ Some line → (new : Reader) (f : Option ReadFault) → new.fault ≡ f → f ≢ Some Memory → AddsBy (without_cr line) s new f → After (stream ++ 10 ∷ []) new
-  after_line_by line k new None e ne a = rw a.2 (record {
-    raw = h.raw ++ h.rest ∷ [];
-    rest = [];
-    is_closed = false;
-    cut = open_yet (cut_line stream h.raw h.rest cut_now);
-    lines = rw (fault, map_push h.raw h.rest, map-append statement_of s.statements a.0) (reads_on reads_now fault (without_cr h.rest) (map statement_of a.0) (s.number + 1) next_number (rw (line_held line k) at a.1));
-    closing = λ _. open_now;
-    held = λ _ _. (refl, omega (arith, number_now, length-append h.raw (h.rest ∷ [])));
-  })
-  after_line_by line k new (Some Memory) e ne a = absurd (ne refl)
-  after_line_by line k new (Some (Syntax n r)) e ne a = record {
-    raw = h.raw ++ h.rest ∷ [];
-    rest = [];
-    is_closed = false;
-    cut = open_yet (cut_line stream h.raw h.rest cut_now);
-    lines = rw (e, a.2, map_push h.raw h.rest) (reads_fault reads_now fault (without_cr h.rest) r n (a.0 ∙ next_number) (rw (line_held line k) at a.1));
-    closing = λ x. absurd (no_fault n r (sym e ∙ x));
-    held = λ x _. absurd (no_fault n r (sym e ∙ x));
-  }
-
-  long_now : s.held ≡ None → 256 < length h.rest
-  long_now e = holds_long h.rest (subst (λ (o : Option (List ℕ)). Holds o h.rest) e held_now)
-
-  after_line_of : (held : Option (List ℕ)) → s.held ≡ held → (new : Reader) → new.fault ≢ Some Memory → EndsLineBy held s new → After (stream ++ 10 ∷ []) new
-  after_line_of (Some line) k new ne a = after_line_by line k new new.fault refl ne a
-  after_line_of None k new ne a = record {
-    raw = h.raw ++ h.rest ∷ [];
-    rest = [];
-    is_closed = false;
-    cut = open_yet (cut_line stream h.raw h.rest cut_now);
-    lines = rw (a.0, a.1, map_push h.raw h.rest) (reads_fault reads_now fault (without_cr h.rest) (rule_of_long (s.number + 1)) (s.number + 1) next_number (long_line (s.number + 1) (without_cr h.rest) (without_cr_long h.rest (long_now k))));
-    closing = λ x. absurd (no_fault (s.number + 1) (rule_of_long (s.number + 1)) (sym a.0 ∙ x));
-    held = λ x _. absurd (no_fault (s.number + 1) (rule_of_long (s.number + 1)) (sym a.0 ∙ x));
-  }
-
-  pub after_line : (new : Reader) → new.fault ≢ Some Memory → EndsLine s new → After (stream ++ 10 ∷ []) new
-  after_line new ne a = after_line_of s.held refl new ne a
-
-  cut_end : IsStream (stream ++ 26 ∷ []) h.raw h.rest true
-  cut_end = closed stream [] cut_now refl
-
-  after_end_by : (new : Reader) (b : ℕ) (bytes : List ℕ) → s.held ≡ Some (b ∷ bytes) → (f : Option ReadFault) → new.fault ≡ f → f ≢ Some Memory → AddsBy (b ∷ bytes) (record s { is_closed = true }) new f → After (stream ++ 26 ∷ []) new
-  after_end_by new b bytes p None e ne a = let q = sym (line_held (b ∷ bytes) p) in rw a.2 (record {
-    raw = h.raw;
-    rest = h.rest;
-    is_closed = true;
-    cut = cut_end;
-    lines = rw (fault, q, map-append statement_of s.statements a.0) (reads_on reads_now fault (b ∷ bytes) (map statement_of a.0) (s.number + 1) next_number a.1);
-    closing = λ _. refl;
-    held = λ _ x. absurd cc;
-  })
-  after_end_by new b bytes p (Some Memory) e ne a = absurd (ne refl)
-  after_end_by new b bytes p (Some (Syntax n r)) e ne a = let q = sym (line_held (b ∷ bytes) p) in record {
-    raw = h.raw;
-    rest = h.rest;
-    is_closed = true;
-    cut = cut_end;
-    lines = rw (e, a.2, q) (reads_fault reads_now fault (b ∷ bytes) r n (a.0 ∙ next_number) a.1);
-    closing = λ x. absurd (no_fault n r (sym e ∙ x));
-    held = λ x _. absurd (no_fault n r (sym e ∙ x));
-  }
-
-  after_end_of : (new : Reader) (held : Option (List ℕ)) → s.held ≡ held → new.fault ≢ Some Memory → EndsStreamBy held s new → After (stream ++ 26 ∷ []) new
-  after_end_of new (Some []) p ne a = let q = sym (line_held [] p) in rw a (record {
-    raw = h.raw;
-    rest = h.rest;
-    is_closed = true;
-    cut = cut_end;
-    lines = rw (q, append-nil (map without_cr h.raw)) reads_now;
-    closing = λ _. refl;
-    held = λ _ x. absurd cc;
-  })
-  after_end_of new (Some (b ∷ bytes)) p ne a = after_end_by new b bytes p new.fault refl ne a
-  after_end_of new None p ne a = record {
-    raw = h.raw;
-    rest = h.rest;
-    is_closed = true;
-    cut = cut_end;
-    lines = rw (a.0, a.1, last_long h.rest (long_now p)) (reads_fault reads_now fault h.rest (rule_of_long (s.number + 1)) (s.number + 1) next_number (long_line (s.number + 1) h.rest (omega (arith, long_now p))));
-    closing = λ x. absurd (no_fault (s.number + 1) (rule_of_long (s.number + 1)) (sym a.0 ∙ x));
-    held = λ x _. absurd (no_fault (s.number + 1) (rule_of_long (s.number + 1)) (sym a.0 ∙ x));
-  }
-
-  pub after_end : (new : Reader) → new.fault ≢ Some Memory → EndsStream s new → After (stream ++ 26 ∷ []) new
-  after_end new ne a = after_end_of new s.held refl ne a
-
--- ---- after a fault
 
 -- more of the stream leaves the lines that are complete
 record Grown (stream : List ℕ) (b : ℕ) (lines : List (List ℕ)) : Type 0 where
@@ -218,37 +69,189 @@ grown {stream} {rest} {raw} (open_yet c) b = elim (cases_eq b 10) [
   ]
 ]
 
-pub after_failed : (stream : List ℕ) (s : Reader) (b : ℕ) → s.fault ≢ None → After stream s → After (stream ++ b ∷ []) s
-after_failed stream s b ne h =
-    let g = grown h.cut b in
-    record {
-      raw = g.raw;
-      rest = g.rest;
-      is_closed = g.is_closed;
-      cut = g.cut;
-      lines = rw g.same (stands h.lines ne g.more);
-      closing = λ x. absurd (ne x);
-      held = λ x _. absurd (ne x);
-    }
-
--- ---- the end
-
-gives_from : (stream : List ℕ) (s : Reader) → After (stream ++ 26 ∷ []) s → StreamGives stream (map statement_of s.statements) s.fault
-gives_from stream s h = record { raw = h.raw; rest = h.rest; is_closed = h.is_closed; cut = h.cut; lines = h.lines }
-
 pub not_memory : (n : ℕ) (r : LineRule) → ◌≡◌ {A = Option ReadFault} (Some (Syntax n r)) (Some Memory) → ⊥
 not_memory n r e = cc
 
 pub none_not_memory : ◌≡◌ {A = Option ReadFault} None (Some Memory) → ⊥
 none_not_memory e = cc
 
-pub finish_fault : (stream : List ℕ) (s : Reader) (f : ReadFault) → s.fault ≡ Some f → (s.fault ≢ Some Memory → After (stream ++ 26 ∷ []) s) → Finishes stream (Err f)
-finish_fault stream s Memory e h = tt
-finish_fault stream s (Syntax n r) e h = (map statement_of s.statements, rw e at (gives_from stream s (h (λ x. not_memory n r (sym e ∙ x)))))
-
-pub finish_none : (stream : List ℕ) (s : Reader) (entries : List Stmt80) → s.statements ≡ entries → s.fault ≡ None → (s.fault ≢ Some Memory → After (stream ++ 26 ∷ []) s) → StreamGives stream (map statement_of entries) None
-finish_none stream s entries es e h = rw (e, es) at (gives_from stream s (h (λ x. none_not_memory (sym e ∙ x))))
-
 pub is_some_none : (o : Option ReadFault) → is_some o ≡ true → o ≢ None
 is_some_none None e x = absurd cc
 is_some_none (Some f) e x = cc
+
+module _ (spelling : Spelling) where
+  pub after_none : (reader : Reader) → reader.statements ≡ [] → reader.held ≡ Some [] → reader.number ≡ 0 → reader.is_closed ≡ false → reader.fault ≡ None → After spelling [] reader
+  after_none reader es held number open_now fault = record {
+    raw = [];
+    rest = [];
+    is_closed = false;
+    cut = open_yet (record { whole = refl; each = tt; last = tt });
+    lines = rw (es, fault) none_left;
+    closing = λ _. open_now;
+    held = λ _ _. (rw held refl, number);
+  }
+
+  -- what follows the end is not looked at
+  pub after_ignored : (stream : List ℕ) (s : Reader) (b : ℕ) → s.fault ≡ None → s.is_closed ≡ true → After spelling stream s → After spelling (stream ++ b ∷ []) s
+  after_ignored stream s b fault shut h = record {
+    raw = h.raw;
+    rest = h.rest;
+    is_closed = h.is_closed;
+    cut = stream_closed h.cut (sym (h.closing fault) ∙ shut) b;
+    lines = h.lines;
+    closing = h.closing;
+    held = h.held;
+  }
+
+  long_line : (n : ℕ) (line : List ℕ) → 255 < length line → LineGives spelling n line (Err (rule_of_long n))
+  long_line n line h = elim (cases_lt 32768 n) [
+    | inl lt ↦ rw (lt-ltb 32768 n lt) (late lt)
+    | inr le ↦ rw (le-ltb 32768 n le) (long le h)
+  ]
+
+  module _ (stream : List ℕ) (s : Reader) (fault : s.fault ≡ None) (open_now : s.is_closed ≡ false) (h : After spelling stream s) where
+    is_open : h.is_closed ≡ false
+    is_open = sym (h.closing fault) ∙ open_now
+
+    cut_now : Cut IsPlain stream h.raw h.rest
+    cut_now = cut_of h.cut is_open
+
+    reads_now : LinesGive spelling 1 (map without_cr h.raw) (map statement_of s.statements) s.fault
+    reads_now = rw is_open at h.lines
+
+    held_now : HoldsLine s.held h.rest
+    held_now = (h.held fault is_open).0
+
+    number_now : s.number ≡ length h.raw
+    number_now = (h.held fault is_open).1
+
+    pub after_byte : (b : ℕ) → IsPlain b → (new : Reader) → new ≡ record s { held = held_with_byte s.held b } → After spelling (stream ++ b ∷ []) new
+    after_byte b p new e = rw e (record {
+      raw = h.raw;
+      rest = h.rest ++ b ∷ [];
+      is_closed = false;
+      cut = open_yet (cut_byte stream h.raw h.rest b cut_now p);
+      lines = reads_now;
+      closing = λ _. open_now;
+      held = λ _ _. (holds_byte s.held h.rest b held_now, number_now);
+    })
+
+    next_number : s.number + 1 ≡ 1 + length (map without_cr h.raw)
+    next_number = omega (arith, number_now, length_map h.raw)
+
+    line_held : (line : List ℕ) → s.held ≡ Some line → line ≡ h.rest
+    line_held line e = holds_line line h.rest (subst (λ (o : Option (List ℕ)). HoldsLine o h.rest) e held_now)
+
+    after_line_by : (line : List ℕ) → s.held ≡ Some line → (new : Reader) (f : Option ReadFault) → new.fault ≡ f → f ≢ Some Memory → AddsBy spelling (without_cr line) s new f → After spelling (stream ++ 10 ∷ []) new
+    after_line_by line k new None e ne a = rw a.2 (record {
+      raw = h.raw ++ h.rest ∷ [];
+      rest = [];
+      is_closed = false;
+      cut = open_yet (cut_line stream h.raw h.rest cut_now);
+      lines = rw (fault, map_push h.raw h.rest, map-append statement_of s.statements a.0) (reads_on reads_now fault (without_cr h.rest) (map statement_of a.0) (s.number + 1) next_number (rw (line_held line k) at a.1));
+      closing = λ _. open_now;
+      held = λ _ _. (refl, omega (arith, number_now, length-append h.raw (h.rest ∷ [])));
+    })
+    after_line_by line k new (Some Memory) e ne a = absurd (ne refl)
+    after_line_by line k new (Some (Syntax n r)) e ne a = record {
+      raw = h.raw ++ h.rest ∷ [];
+      rest = [];
+      is_closed = false;
+      cut = open_yet (cut_line stream h.raw h.rest cut_now);
+      lines = rw (e, a.2, map_push h.raw h.rest) (reads_fault reads_now fault (without_cr h.rest) r n (a.0 ∙ next_number) (rw (line_held line k) at a.1));
+      closing = λ x. absurd (no_fault n r (sym e ∙ x));
+      held = λ x _. absurd (no_fault n r (sym e ∙ x));
+    }
+
+    long_now : s.held ≡ None → 256 < length h.rest
+    long_now e = holds_long h.rest (subst (λ (o : Option (List ℕ)). HoldsLine o h.rest) e held_now)
+
+    after_line_of : (held : Option (List ℕ)) → s.held ≡ held → (new : Reader) → new.fault ≢ Some Memory → EndsLineBy spelling held s new → After spelling (stream ++ 10 ∷ []) new
+    after_line_of (Some line) k new ne a = after_line_by line k new new.fault refl ne a
+    after_line_of None k new ne a = record {
+      raw = h.raw ++ h.rest ∷ [];
+      rest = [];
+      is_closed = false;
+      cut = open_yet (cut_line stream h.raw h.rest cut_now);
+      lines = rw (a.0, a.1, map_push h.raw h.rest) (reads_fault reads_now fault (without_cr h.rest) (rule_of_long (s.number + 1)) (s.number + 1) next_number (long_line (s.number + 1) (without_cr h.rest) (without_cr_long h.rest (long_now k))));
+      closing = λ x. absurd (no_fault (s.number + 1) (rule_of_long (s.number + 1)) (sym a.0 ∙ x));
+      held = λ x _. absurd (no_fault (s.number + 1) (rule_of_long (s.number + 1)) (sym a.0 ∙ x));
+    }
+
+    pub after_line : (new : Reader) → new.fault ≢ Some Memory → EndsLine spelling s new → After spelling (stream ++ 10 ∷ []) new
+    after_line new ne a = after_line_of s.held refl new ne a
+
+    cut_end : IsStream (stream ++ 26 ∷ []) h.raw h.rest true
+    cut_end = closed stream [] cut_now refl
+
+    after_end_by : (new : Reader) (b : ℕ) (bytes : List ℕ) → s.held ≡ Some (b ∷ bytes) → (f : Option ReadFault) → new.fault ≡ f → f ≢ Some Memory → AddsBy spelling (b ∷ bytes) (record s { is_closed = true }) new f → After spelling (stream ++ 26 ∷ []) new
+    after_end_by new b bytes p None e ne a = let q = sym (line_held (b ∷ bytes) p) in rw a.2 (record {
+      raw = h.raw;
+      rest = h.rest;
+      is_closed = true;
+      cut = cut_end;
+      lines = rw (fault, q, map-append statement_of s.statements a.0) (reads_on reads_now fault (b ∷ bytes) (map statement_of a.0) (s.number + 1) next_number a.1);
+      closing = λ _. refl;
+      held = λ _ x. absurd cc;
+    })
+    after_end_by new b bytes p (Some Memory) e ne a = absurd (ne refl)
+    after_end_by new b bytes p (Some (Syntax n r)) e ne a = let q = sym (line_held (b ∷ bytes) p) in record {
+      raw = h.raw;
+      rest = h.rest;
+      is_closed = true;
+      cut = cut_end;
+      lines = rw (e, a.2, q) (reads_fault reads_now fault (b ∷ bytes) r n (a.0 ∙ next_number) a.1);
+      closing = λ x. absurd (no_fault n r (sym e ∙ x));
+      held = λ x _. absurd (no_fault n r (sym e ∙ x));
+    }
+
+    after_end_of : (new : Reader) (held : Option (List ℕ)) → s.held ≡ held → new.fault ≢ Some Memory → EndsStreamBy spelling held s new → After spelling (stream ++ 26 ∷ []) new
+    after_end_of new (Some []) p ne a = let q = sym (line_held [] p) in rw a (record {
+      raw = h.raw;
+      rest = h.rest;
+      is_closed = true;
+      cut = cut_end;
+      lines = rw (q, append-nil (map without_cr h.raw)) reads_now;
+      closing = λ _. refl;
+      held = λ _ x. absurd cc;
+    })
+    after_end_of new (Some (b ∷ bytes)) p ne a = after_end_by new b bytes p new.fault refl ne a
+    after_end_of new None p ne a = record {
+      raw = h.raw;
+      rest = h.rest;
+      is_closed = true;
+      cut = cut_end;
+      lines = rw (a.0, a.1, last_long h.rest (long_now p)) (reads_fault reads_now fault h.rest (rule_of_long (s.number + 1)) (s.number + 1) next_number (long_line (s.number + 1) h.rest (omega (arith, long_now p))));
+      closing = λ x. absurd (no_fault (s.number + 1) (rule_of_long (s.number + 1)) (sym a.0 ∙ x));
+      held = λ x _. absurd (no_fault (s.number + 1) (rule_of_long (s.number + 1)) (sym a.0 ∙ x));
+    }
+
+    pub after_end : (new : Reader) → new.fault ≢ Some Memory → EndsStream spelling s new → After spelling (stream ++ 26 ∷ []) new
+    after_end new ne a = after_end_of new s.held refl ne a
+
+  -- ---- after a fault
+
+  pub after_failed : (stream : List ℕ) (s : Reader) (b : ℕ) → s.fault ≢ None → After spelling stream s → After spelling (stream ++ b ∷ []) s
+  after_failed stream s b ne h =
+      let g = grown h.cut b in
+      record {
+        raw = g.raw;
+        rest = g.rest;
+        is_closed = g.is_closed;
+        cut = g.cut;
+        lines = rw g.same (stands h.lines ne g.more);
+        closing = λ x. absurd (ne x);
+        held = λ x _. absurd (ne x);
+      }
+
+  -- ---- the end
+
+  gives_from : (stream : List ℕ) (s : Reader) → After spelling (stream ++ 26 ∷ []) s → StreamGives spelling stream (map statement_of s.statements) s.fault
+  gives_from stream s h = record { raw = h.raw; rest = h.rest; is_closed = h.is_closed; cut = h.cut; lines = h.lines }
+
+  pub finish_fault : (stream : List ℕ) (s : Reader) (f : ReadFault) → s.fault ≡ Some f → (s.fault ≢ Some Memory → After spelling (stream ++ 26 ∷ []) s) → Finishes (StreamGives spelling) stream (Err f)
+  finish_fault stream s Memory e h = tt
+  finish_fault stream s (Syntax n r) e h = (map statement_of s.statements, rw e at (gives_from stream s (h (λ x. not_memory n r (sym e ∙ x)))))
+
+  pub finish_none : (stream : List ℕ) (s : Reader) (entries : List Stmt80) → s.statements ≡ entries → s.fault ≡ None → (s.fault ≢ Some Memory → After spelling (stream ++ 26 ∷ []) s) → StreamGives spelling stream (map statement_of entries) None
+  finish_none stream s entries es e h = rw (e, es) at (gives_from stream s (h (λ x. none_not_memory (sym e ∙ x))))

@@ -1,11 +1,12 @@
 pub use Rattle.asm80_tokens.specs.Grammar
-pub use Rattle.asm80_tokens.specs.Name
+pub use Rattle.asm80_statement_types.specs.Name
 pub use Rattle.asm80_tokens.specs.Tokens
-pub use Rattle.asm80_tokens.specs.Tree
-pub use Rattle.asm80_tokens.specs.WellFormed
-pub use Rattle.asm80_tokens.specs.Words
+pub use Rattle.asm80_statement_types.specs.Tree
+pub use Rattle.asm80_statement_types.specs.WellFormed
+pub use Rattle.asm80_statement_types.specs.Words
 pub mod Statement
 pub mod Line
 pub mod Stream
+pub mod Intel
 pub mod Reader
 pub mod Results

@@ -2,18 +2,19 @@
 use Rattle.std.specs.Prelude.{◌≡◌, ℕ, List, ◌∷◌, map, Option, Result, Ok, Err}
 use Rattle.std.specs.Borrow.{Bor}
 use Rattle.std.specs.Global.{Vec}
-use Rattle.asm80_tokens.specs.declared.arg.Arg.{Arg}
-use Rattle.asm80_tokens.specs.declared.stmt.Stmt80.{Stmt80}
+use Rattle.asm80_statement_types.specs.declared.arg.Arg.{Arg}
+use Rattle.asm80_statement_types.specs.declared.stmt.Stmt80.{Stmt80}
 use Rattle.asm80_tokens.specs.declared.token.Token.{Token}
 use Rattle.asm80_tokens.specs.declared.token.Token.TheVariants.{Digits, Colon}
-use Rattle.asm80_tokens.specs.declared.fault.LineRule.{LineRule}
+use Rattle.asm80_statement_types.specs.declared.fault.LineRule.{LineRule}
 use Rattle.asm80_tokens.specs.declared.fault.ParseFault.{ParseFault}
 use Rattle.asm80_tokens.specs.declared.fault.ParseFault.TheVariants as parse
-use Rattle.asm80_tokens.specs.declared.fault.ReadFault.{ReadFault}
-use Rattle.asm80_tokens.specs.declared.fault.ReadFault.TheVariants as read
-use Rattle.asm80_tokens.specs.Tree.{Operand, operand_of, Statement, statement_of}
+use Rattle.asm80_statement_types.specs.declared.fault.ReadFault.{ReadFault}
+use Rattle.asm80_statement_types.specs.declared.fault.ReadFault.TheVariants as read
+use Rattle.asm80_statement_types.specs.Tree.{Operand, operand_of, Statement, statement_of}
+use Rattle.asm80_tokens.specs.Spelling.{Spelling}
 use Rattle.asm80_tokens.specs.Grammar.{Ends}
-use Rattle.asm80_text.specs.Statement.{IsOperand, AreOperands, IsBody, IsStatementOf, AreStatements}
+use Rattle.asm80_text.specs.Statement.{IsOperand, AreOperands, HasOperands, IsBody, IsStatementOf, AreStatements}
 use Rattle.asm80_text.specs.Line.{TextGives, LineGives}
 
 -- an operand and its rest, and no other up to where an expression cannot go on
@@ -31,20 +32,25 @@ GivesOperands ts (Ok v) = AreOperands ts (map operand_of v.items)
 GivesOperands ts (Err parse.Memory) = Unit {0}
 GivesOperands ts (Err parse.Malformed) = (args : List Operand) → AreOperands ts args → ⊥
 
-abbrev pub GivesBody : List Token → Result (Option (List ℕ) × Vec Arg) ParseFault → Type 0
-GivesBody ts (Ok x) = IsBody ts x.0 (map operand_of x.1.items)
-GivesBody ts (Err parse.Memory) = Unit {0}
-GivesBody ts (Err parse.Malformed) = (op : Option (List ℕ)) (args : List Operand) → IsBody ts op args → ⊥
+abbrev pub GivesOperandList : List Token → Result (Vec Arg) ParseFault → Type 0
+GivesOperandList ts (Ok v) = HasOperands ts (map operand_of v.items)
+GivesOperandList ts (Err parse.Memory) = Unit {0}
+GivesOperandList ts (Err parse.Malformed) = (args : List Operand) → HasOperands ts args → ⊥
 
-abbrev pub GivesStatement : ℕ → List Token → Result Stmt80 ParseFault → Type 0
-GivesStatement n ts (Ok s) = IsStatementOf n ts (statement_of s)
-GivesStatement n ts (Err parse.Memory) = Unit {0}
-GivesStatement n ts (Err parse.Malformed) = (s : Statement) → IsStatementOf n ts s → ⊥
+abbrev pub GivesBody : Spelling → List Token → Result (Option (List ℕ) × Vec Arg) ParseFault → Type 0
+GivesBody s ts (Ok x) = IsBody s ts x.0 (map operand_of x.1.items)
+GivesBody s ts (Err parse.Memory) = Unit {0}
+GivesBody s ts (Err parse.Malformed) = (op : Option (List ℕ)) (args : List Operand) → IsBody s ts op args → ⊥
 
-abbrev pub GivesStatements : ℕ → List (List Token) → Result (Vec Stmt80) ParseFault → Type 0
-GivesStatements n parts (Ok v) = AreStatements n parts (map statement_of v.items)
-GivesStatements n parts (Err parse.Memory) = Unit {0}
-GivesStatements n parts (Err parse.Malformed) = (ss : List Statement) → AreStatements n parts ss → ⊥
+abbrev pub GivesStatement : Spelling → ℕ → List Token → Result Stmt80 ParseFault → Type 0
+GivesStatement spelling n ts (Ok s) = IsStatementOf spelling n ts (statement_of s)
+GivesStatement spelling n ts (Err parse.Memory) = Unit {0}
+GivesStatement spelling n ts (Err parse.Malformed) = (s : Statement) → IsStatementOf spelling n ts s → ⊥
+
+abbrev pub GivesStatements : Spelling → ℕ → List (List Token) → Result (Vec Stmt80) ParseFault → Type 0
+GivesStatements s n parts (Ok v) = AreStatements s n parts (map statement_of v.items)
+GivesStatements s n parts (Err parse.Memory) = Unit {0}
+GivesStatements s n parts (Err parse.Malformed) = (ss : List Statement) → AreStatements s n parts ss → ⊥
 
 -- the tokens without a line number at the front
 abbrev pub past_number : List Token → List Token
@@ -57,13 +63,13 @@ past_colon (Colon ∷ ts) = ts
 past_colon ts = ts
 
 -- what was read of the statements of a line
-abbrev pub ReadsText : ℕ → List (List Token) → Option LineRule → Result (Vec Stmt80) ReadFault → Type 0
-ReadsText n parts f (Ok v) = TextGives n parts f (Ok (map statement_of v.items))
-ReadsText n parts f (Err read.Memory) = Unit {0}
-ReadsText n parts f (Err (read.Syntax m r)) = (m ≡ n) × TextGives n parts f (Err r)
+abbrev pub ReadsText : Spelling → ℕ → List (List Token) → Option LineRule → Result (Vec Stmt80) ReadFault → Type 0
+ReadsText s n parts f (Ok v) = TextGives s n parts f (Ok (map statement_of v.items))
+ReadsText s n parts f (Err read.Memory) = Unit {0}
+ReadsText s n parts f (Err (read.Syntax m r)) = (m ≡ n) × TextGives s n parts f (Err r)
 
 -- what was read of a line
-abbrev pub ReadsLine : ℕ → List ℕ → Result (Vec Stmt80) ReadFault → Type 0
-ReadsLine n line (Ok v) = LineGives n line (Ok (map statement_of v.items))
-ReadsLine n line (Err read.Memory) = Unit {0}
-ReadsLine n line (Err (read.Syntax m r)) = (m ≡ n) × LineGives n line (Err r)
+abbrev pub ReadsLine : Spelling → ℕ → List ℕ → Result (Vec Stmt80) ReadFault → Type 0
+ReadsLine s n line (Ok v) = LineGives s n line (Ok (map statement_of v.items))
+ReadsLine s n line (Err read.Memory) = Unit {0}
+ReadsLine s n line (Err (read.Syntax m r)) = (m ≡ n) × LineGives s n line (Err r)

@@ -1,10 +1,11 @@
 -- The lines of a stream of bytes, and what they give (CP/M 2.2 Operating System Manual, the assembler, "Program format").
 use Rattle.std.specs.Prelude.{◌≡◌, ◌≢◌, ℕ, suc, List, [], ◌∷◌, ◌++◌, Bool, true, false, Option, Some, None, Ok, Err, map}
-use Rattle.asm80_tokens.specs.declared.fault.LineRule.{LineRule}
-use Rattle.asm80_tokens.specs.declared.fault.ReadFault.{ReadFault}
-use Rattle.asm80_tokens.specs.declared.fault.ReadFault.TheVariants.{Syntax}
-use Rattle.asm80_tokens.specs.Tree.{Statement}
-use Rattle.base.specs.Cut.{Cut, without_cr, last_line}
+use Rattle.asm80_statement_types.specs.declared.fault.LineRule.{LineRule}
+use Rattle.asm80_statement_types.specs.declared.fault.ReadFault.{ReadFault}
+use Rattle.asm80_statement_types.specs.declared.fault.ReadFault.TheVariants.{Syntax}
+use Rattle.asm80_statement_types.specs.Tree.{Statement}
+use Rattle.asm80_tokens.specs.Spelling.{Spelling}
+use Rattle.base_types.specs.Cut.{Cut, without_cr, last_line}
 use Rattle.asm80_text.specs.Line.{LineGives}
 
 -- neither LF nor the byte 1AH
@@ -22,24 +23,24 @@ complete raw rest false = map without_cr raw
 complete raw rest true = map without_cr raw ++ last_line rest
 
 -- what lines from number n on give: the statements before the first faulty line, and its fault
-pub data LinesGive : ℕ → List (List ℕ) → List Statement → Option ReadFault → Type 0 where
-  none_left : {n : ℕ} → LinesGive n [] [] None
-  next : {n : ℕ} {line : List ℕ} {lines : List (List ℕ)} {ss others : List Statement} {f : Option ReadFault} → LineGives n line (Ok ss) → LinesGive (suc n) lines others f → LinesGive n (line ∷ lines) (ss ++ others) f
-  fails : {n : ℕ} {line : List ℕ} {lines : List (List ℕ)} {r : LineRule} → LineGives n line (Err r) → LinesGive n (line ∷ lines) [] (Some (Syntax n r))
+pub data LinesGive (s : Spelling) : ℕ → List (List ℕ) → List Statement → Option ReadFault → Type 0 where
+  none_left : {n : ℕ} → LinesGive s n [] [] None
+  next : {n : ℕ} {line : List ℕ} {lines : List (List ℕ)} {ss others : List Statement} {f : Option ReadFault} → LineGives s n line (Ok ss) → LinesGive s (suc n) lines others f → LinesGive s n (line ∷ lines) (ss ++ others) f
+  fails : {n : ℕ} {line : List ℕ} {lines : List (List ℕ)} {r : LineRule} → LineGives s n line (Err r) → LinesGive s n (line ∷ lines) [] (Some (Syntax n r))
 
 -- what a whole stream gives, which ends as if the byte 1AH followed
-pub record StreamGives (stream : List ℕ) (statements : List Statement) (fault : Option ReadFault) : Type 0 where
+pub record StreamGives (s : Spelling) (stream : List ℕ) (statements : List Statement) (fault : Option ReadFault) : Type 0 where
   pub raw : List (List ℕ)
   pub rest : List ℕ
   pub is_closed : Bool
   pub cut : IsStream (stream ++ 26 ∷ []) raw rest is_closed
-  pub lines : LinesGive 1 (complete raw rest is_closed) statements fault
+  pub lines : LinesGive s 1 (complete raw rest is_closed) statements fault
 
 -- a faulty line of this number is complete in the stream so far, and no line before it is faulty
-pub record HoldsFault (stream : List ℕ) (n : ℕ) (rule : LineRule) : Type 0 where
+pub record HoldsFault (s : Spelling) (stream : List ℕ) (n : ℕ) (rule : LineRule) : Type 0 where
   pub raw : List (List ℕ)
   pub rest : List ℕ
   pub is_closed : Bool
   pub statements : List Statement
   pub cut : IsStream stream raw rest is_closed
-  pub lines : LinesGive 1 (complete raw rest is_closed) statements (Some (Syntax n rule))
+  pub lines : LinesGive s 1 (complete raw rest is_closed) statements (Some (Syntax n rule))

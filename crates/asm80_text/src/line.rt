@@ -2,12 +2,13 @@
 
 ghost use Rattle.std.specs.Prelude.{◌↔◌, ◌≤◌, All, IfOk, IsTrue, OnOk, map};
 ghost use Rattle.asm80_tokens.specs.Tokens.{IsLawful};
-ghost use Rattle.asm80_tokens.specs.WellFormed.{AreWellFormed};
+ghost use Rattle.asm80_statement_types.specs.WellFormed.{AreWellFormed};
 ghost use Rattle.asm80_text.specs.Line.{IsRemark};
 ghost use Rattle.asm80_text.specs.Results.{ReadsLine, ReadsText};
 
 use crate::parts::{parts_of, some_has_reserved_label, some_is_deep, statements};
-use asm80_tokens::{LineRule, ParseFault, ReadFault, Stmt80, Token, tokens_of};
+use asm80_statement_types::{LineRule, ReadFault, Stmt80};
+use asm80_tokens::{Notation, ParseFault, Token, tokens_of};
 use std::alloc::Global;
 
 /// The most lines of a source.
@@ -17,8 +18,12 @@ pub const MOST_LINES: u32 = 32_768;
 const LONGEST_LINE: usize = 255;
 
 /// The statements of the line of a number.
-pub fn read_line(alloc: Global, number: u32, line: &[u8]) -> Result<Vec<Stmt80>, ReadFault>
-    ensures value { ReadsLine number line.now result }
+pub fn read_line<N: Notation>(
+    alloc: Global,
+    number: u32,
+    line: &[u8],
+) -> Result<Vec<Stmt80>, ReadFault>
+    ensures value { ReadsLine N.spelling number line.now result }
     ensures few { OnOk result (number ≤ 32768) }
     ensures well_formed { IfOk result (λ v. AreWellFormed v.items) }
 {
@@ -31,23 +36,23 @@ pub fn read_line(alloc: Global, number: u32, line: &[u8]) -> Result<Vec<Stmt80>,
     if is_remark(line) {
         return Ok(Vec::new(alloc));
     }
-    let (tokens, fault) = tokens_of(alloc, line)?;
-    let parts = parts_of(alloc, &tokens)?;
-    read_text(alloc, number, &parts, fault)
+    let (tokens, fault) = tokens_of::<N>(alloc, line)?;
+    let parts = parts_of::<N>(alloc, &tokens)?;
+    read_text::<N>(alloc, number, &parts, fault)
 }
 
 // The statements of tokens up to the first token with a fault, and of that fault.
-fn read_text(
+fn read_text<N: Notation>(
     alloc: Global,
     number: u32,
     parts: &[&[Token]],
     fault: Option<LineRule>,
 ) -> Result<Vec<Stmt80>, ReadFault>
-    requires { All (λ part. All IsLawful part.now) parts.now }
-    ensures value { ReadsText number (map (λ x. x.now) parts.now) fault result }
+    requires { All (λ part. All (IsLawful N.spelling) part.now) parts.now }
+    ensures value { ReadsText N.spelling number (map (λ x. x.now) parts.now) fault result }
     ensures well_formed { IfOk result (λ v. AreWellFormed v.items) }
 {
-    if some_has_reserved_label(parts) {
+    if some_has_reserved_label::<N>(parts) {
         return Err(ReadFault::Syntax(number, LineRule::L4));
     }
     if let Some(rule) = fault {
@@ -56,7 +61,7 @@ fn read_text(
     if some_is_deep(parts) {
         return Err(ReadFault::Syntax(number, LineRule::L6));
     }
-    match statements(alloc, number, parts) {
+    match statements::<N>(alloc, number, parts) {
         Ok(found) => Ok(found),
         Err(fault) => match fault {
             ParseFault::Malformed => Err(ReadFault::Syntax(number, LineRule::L5)),

@@ -3,23 +3,29 @@
 ghost use Rattle.std.specs.Prelude.{◌≡◌, ◌≢◌, [], ◌∷◌, ℕ, All, IfOk, List, MatchOption, Option};
 ghost use Rattle.asm80_tokens.specs.declared.token.Token.{Token};
 ghost use Rattle.asm80_tokens.specs.Tokens.{IsLawful};
-ghost use Rattle.asm80_tokens.specs.Tree.{Operand, statement_of};
-ghost use Rattle.asm80_tokens.specs.WellFormed.{IsWellFormed};
+ghost use Rattle.asm80_statement_types.specs.Tree.{Operand, statement_of};
+ghost use Rattle.asm80_statement_types.specs.WellFormed.{IsWellFormed};
 ghost use Rattle.asm80_text.specs.Statement.{IsStatement};
-ghost use Rattle.asm80_text.specs.Results.{GivesBody, GivesOperand, GivesOperands, GivesStatement, past_colon, past_number};
+ghost use Rattle.asm80_text.specs.Results.{GivesBody, GivesOperand, GivesOperandList, GivesOperands, GivesStatement, past_colon, past_number};
 
-use asm80_tokens::{Arg, Args, Bytes, Name80, ParseFault, Stmt80, Token, expression, first};
+use asm80_statement_types::{Arg, Args, Bytes, Name80, Stmt80};
+use asm80_tokens::{Notation, ParseFault, Token, as_operation, expression, first};
 use std::alloc::Global;
 
 /// The statement that all of the tokens are.
-pub fn statement(alloc: Global, line: u32, tokens: &[Token]) -> Result<Stmt80, ParseFault>
-    requires { All IsLawful tokens.now }
-    ensures value { GivesStatement line tokens.now result }
+pub fn statement<N: Notation>(
+    alloc: Global,
+    line: u32,
+    tokens: &[Token],
+) -> Result<Stmt80, ParseFault>
+    requires { All (IsLawful N.spelling) tokens.now }
+    ensures value { GivesStatement N.spelling line tokens.now result }
     ensures well_formed { IfOk result (λ s. IsWellFormed (statement_of s)) }
 {
+    N::spelling_is_coherent();
     let tokens = past_number(tokens);
     let Some((name, rest)) = word_of(tokens) else {
-        let (op, args) = body(alloc, tokens)?;
+        let (op, args) = body::<N>(alloc, tokens)?;
         return Ok(Stmt80 {
             line,
             label: None,
@@ -27,7 +33,7 @@ pub fn statement(alloc: Global, line: u32, tokens: &[Token]) -> Result<Stmt80, P
             args: Args::from_vec(args),
         });
     };
-    let (op, args) = body(alloc, past_colon(rest))?;
+    let (op, args) = body::<N>(alloc, past_colon(rest))?;
     Ok(Stmt80 {
         line,
         label: Some(*name),
@@ -37,20 +43,30 @@ pub fn statement(alloc: Global, line: u32, tokens: &[Token]) -> Result<Stmt80, P
 }
 
 // An operation and its operands, or nothing.
-fn body(alloc: Global, tokens: &[Token]) -> Result<(Option<Name80>, Vec<Arg>), ParseFault>
-    ensures { GivesBody tokens.now result }
+fn body<N: Notation>(
+    alloc: Global,
+    tokens: &[Token],
+) -> Result<(Option<Name80>, Vec<Arg>), ParseFault>
+    ensures { GivesBody N.spelling tokens.now result }
 {
-    if tokens.is_empty() {
+    let Some((token, rest)) = first(tokens) else {
         return Ok((None, Vec::new(alloc)));
-    }
-    let Some((op, rest)) = operation_of(tokens) else {
+    };
+    let Some(word) = as_operation::<N>(token) else {
         return Err(ParseFault::Malformed);
     };
-    if rest.is_empty() {
-        return Ok((Some(*op), Vec::new(alloc)));
+    let (op, args) = N::operation(alloc, &word, rest)?;
+    Ok((Some(op), args))
+}
+
+/// The list of operands that all of the tokens are, which may have none.
+pub fn operand_list(alloc: Global, tokens: &[Token]) -> Result<Vec<Arg>, ParseFault>
+    ensures { GivesOperandList tokens.now result }
+{
+    if tokens.is_empty() {
+        return Ok(Vec::new(alloc));
     }
-    let args = operands(alloc, rest)?;
-    Ok((Some(*op), args))
+    operands(alloc, tokens)
 }
 
 // The operands that all of the tokens are.
@@ -106,17 +122,6 @@ fn after_comma(tokens: &[Token]) -> Option<&[Token]>
     }
 }
 
-// The operation that is the next token, and the tokens after it.
-fn operation_of(tokens: &[Token]) -> Option<(&Name80, &[Token])>
-    ensures { MatchOption result ((name : List ℕ) (rest : List Token) → tokens.now ≢ Token.Operation name ∷ rest) (λ p. tokens.now ≡ Token.Operation p.0.now ∷ p.1.now) }
-{
-    let (token, rest) = first(tokens)?;
-    match token {
-        Token::Operation(name) => Some((name, rest)),
-        _ => None,
-    }
-}
-
 // The name that is the next token, and the tokens after it.
 fn word_of(tokens: &[Token]) -> Option<(&Name80, &[Token])>
     ensures { MatchOption result ((name : List ℕ) (rest : List Token) → tokens.now ≢ Token.Word name ∷ rest) (λ p. tokens.now ≡ Token.Word p.0.now ∷ p.1.now) }
@@ -154,7 +159,9 @@ fn past_colon(tokens: &[Token]) -> &[Token]
     }
 }
 
-/// The words of a statement have at most one tree: one label, one operation and one list of operands.
-pub fn statement_has_one_tree()
-    ensures { (ts : List Token) (l m o p : Option (List ℕ)) (a b : List Operand) → IsStatement ts l o a → IsStatement ts m p b → (l ≡ m) × (o ≡ p) × (a ≡ b) }
-{}
+/// In each spelling the words of a statement have at most one tree: one label, one operation and one list of operands.
+pub fn statement_has_one_tree<N: Notation>()
+    ensures { (ts : List Token) (l m o p : Option (List ℕ)) (a b : List Operand) → IsStatement N.spelling ts l o a → IsStatement N.spelling ts m p b → (l ≡ m) × (o ≡ p) × (a ≡ b) }
+{
+    N::spelling_is_coherent();
+}

@@ -3,24 +3,25 @@
 ghost use Rattle.std.specs.Prelude.{◌≡◌, ◌≤◌, ◌++◌, All, IfOk, OnOk, map};
 ghost use Rattle.std.specs.List.{list_any};
 ghost use Rattle.asm80_tokens.specs.Tokens.{IsLawful};
-ghost use Rattle.asm80_tokens.specs.Tree.{statement_of};
-ghost use Rattle.asm80_tokens.specs.WellFormed.{AreWellFormed, IsWellFormed};
+ghost use Rattle.asm80_statement_types.specs.Tree.{statement_of};
+ghost use Rattle.asm80_statement_types.specs.WellFormed.{AreWellFormed, IsWellFormed};
 ghost use Rattle.asm80_text.specs.Statement.{kept};
-ghost use Rattle.asm80_text.specs.Line.{begins_with_colon, begins_with_reserved, has_reserved_label, is_bang, is_deep, is_name, open_after, parts_of};
+ghost use Rattle.asm80_text.specs.Line.{begins_with_colon, begins_with_reserved, has_reserved_label, is_bang, is_deep, is_name, is_reserved, open_after, parts_of};
 ghost use Rattle.asm80_text.specs.Results.{GivesStatements};
 
 use crate::parse::statement;
-use asm80_tokens::{ParseFault, Stmt80, Token, Two, first};
+use asm80_statement_types::{Stmt80, Two};
+use asm80_tokens::{Notation, ParseFault, Token, as_operation, first};
 use std::alloc::{AllocError, Global};
 
 /// The most parentheses that may be open in a statement.
 const MOST_OPEN: usize = 16;
 
 /// The tokens between the `!` of a line.
-pub fn parts_of(alloc: Global, tokens: &[Token]) -> Result<Vec<&[Token]>, AllocError>
-    requires { All IsLawful tokens.now }
+pub fn parts_of<N: Notation>(alloc: Global, tokens: &[Token]) -> Result<Vec<&[Token]>, AllocError>
+    requires { All (IsLawful N.spelling) tokens.now }
     ensures parts { IfOk result (λ v. map (λ x. x.now) v.items ≡ parts_of tokens.now) }
-    ensures lawful { IfOk result (λ v. All (λ part. All IsLawful part.now) v.items) }
+    ensures lawful { IfOk result (λ v. All (λ part. All (IsLawful N.spelling) part.now) v.items) }
 {
     tokens.split(|t| is_bang(t)).collect(alloc)
 }
@@ -35,33 +36,43 @@ fn is_bang(token: &Token) -> bool
 }
 
 /// Whether some statement has a reserved name as its label.
-pub fn some_has_reserved_label(parts: &[&[Token]]) -> bool
-    ensures { result ≡ list_any (λ part. has_reserved_label part.now) parts.now }
+pub fn some_has_reserved_label<N: Notation>(parts: &[&[Token]]) -> bool
+    ensures { result ≡ list_any (λ part. has_reserved_label N.spelling part.now) parts.now }
 {
-    parts.iter().any(|part| has_reserved_label(*part))
+    parts.iter().any(|part| has_reserved_label::<N>(*part))
 }
 
-fn has_reserved_label(part: &[Token]) -> bool
-    ensures { result ≡ has_reserved_label part.now }
+fn has_reserved_label<N: Notation>(part: &[Token]) -> bool
+    ensures { result ≡ has_reserved_label N.spelling part.now }
 {
     let Some((token, rest)) = first(part) else {
         return false;
     };
     match token {
-        Token::Digits(_) => begins_with_reserved(rest),
-        _ => begins_with_reserved(part),
+        Token::Digits(_) => begins_with_reserved::<N>(rest),
+        _ => begins_with_reserved::<N>(part),
     }
 }
 
-fn begins_with_reserved(tokens: &[Token]) -> bool
-    ensures { result ≡ begins_with_reserved tokens.now }
+fn begins_with_reserved<N: Notation>(tokens: &[Token]) -> bool
+    ensures { result ≡ begins_with_reserved N.spelling tokens.now }
 {
     let Some((token, rest)) = first(tokens) else {
         return false;
     };
+    if as_operation::<N>(token).is_some() {
+        begins_with_colon(rest)
+    } else {
+        is_reserved(token)
+    }
+}
+
+// Whether a token is a reserved name.
+fn is_reserved(token: &Token) -> bool
+    ensures { result ≡ is_reserved token.now }
+{
     match token {
-        Token::Register(_) | Token::Not => true,
-        Token::Operation(_) => begins_with_colon(rest),
+        Token::Register(_) | Token::Operation(_) | Token::Not => true,
         Token::Op(op) => is_name(*op),
         _ => false,
     }
@@ -122,14 +133,18 @@ fn open_after(count: usize, token: &Token) -> usize
 }
 
 /// The statements that the parts of the line of a number are, without the empty ones.
-pub fn statements(alloc: Global, line: u32, parts: &[&[Token]]) -> Result<Vec<Stmt80>, ParseFault>
-    requires { All (λ part. All IsLawful part.now) parts.now }
-    ensures value { GivesStatements line (map (λ x. x.now) parts.now) result }
+pub fn statements<N: Notation>(
+    alloc: Global,
+    line: u32,
+    parts: &[&[Token]],
+) -> Result<Vec<Stmt80>, ParseFault>
+    requires { All (λ part. All (IsLawful N.spelling) part.now) parts.now }
+    ensures value { GivesStatements N.spelling line (map (λ x. x.now) parts.now) result }
     ensures well_formed { IfOk result (λ v. AreWellFormed v.items) }
 {
     let mut found = Vec::new(alloc);
     for part in parts {
-        let s = statement(alloc, line, *part)?;
+        let s = statement::<N>(alloc, line, *part)?;
         keep(&mut found, s)?;
     }
     Ok(found)

@@ -1,20 +1,23 @@
 //! A reader of lines that is fed a stream in pieces.
 
 ghost use Rattle.std.specs.Prelude.{◌≡◌, ◌≢◌, ◌≤◌, ◌+◌, ◌∷◌, [], ◌++◌, ◌⊎◌, ℕ, List, Option, None, Some, Err, IfOk, IfSome, MatchResult, true, false};
-ghost use Rattle.asm80_tokens.specs.declared.fault.ReadFault.{ReadFault};
-ghost use Rattle.asm80_tokens.specs.declared.fault.ReadFault.TheVariants.{Memory, Syntax};
-ghost use Rattle.asm80_tokens.specs.declared.fault.LineRule.{LineRule};
-ghost use Rattle.asm80_tokens.specs.Tree.{Statement};
-ghost use Rattle.asm80_tokens.specs.WellFormed.{AreWellFormed};
-ghost use Rattle.base.specs.Held.{with_byte};
+ghost use Rattle.asm80_statement_types.specs.declared.fault.ReadFault.{ReadFault};
+ghost use Rattle.asm80_statement_types.specs.declared.fault.ReadFault.TheVariants.{Memory, Syntax};
+ghost use Rattle.asm80_statement_types.specs.declared.fault.LineRule.{LineRule};
+ghost use Rattle.asm80_statement_types.specs.Tree.{Statement};
+ghost use Rattle.asm80_statement_types.specs.WellFormed.{AreWellFormed};
+ghost use Rattle.base_types.specs.Held.{held_with_byte};
 ghost use Rattle.asm80_text.specs.Stream.{HoldsFault, StreamGives};
-ghost use Rattle.asm80_text.specs.Reader.{Adds, After, Agrees, EndsLine, EndsStream, Finishes, answer_of, rule_of_long};
+ghost use Rattle.asm80_statement_types.specs.Reading.{Finishes, HasOneOutcome};
+ghost use Rattle.asm80_text.specs.Reader.{Adds, After, Agrees, EndsLine, EndsStream, answer_of, rule_of_long};
 
+use crate::intel::Intel;
 use crate::line::{MOST_LINES, read_line};
-use asm80_tokens::{LineRule, ReadFault, Stmt80};
-use base::{HeldLine, without_cr};
+use asm80_statement_types::{LineRule, ReadFault, StatementReader, Stmt80};
+use asm80_tokens::Notation;
+use base_types::{HeldLine, without_cr};
 use std::alloc::{AllocError, Global};
-use std::marker::Model;
+use std::marker::{Model, PhantomData};
 use std::mem;
 
 /// The byte that ends a source.
@@ -25,24 +28,28 @@ const FIRST_ROOM: usize = 16;
 
 /// A reader of the statements of a stream. Of the stream's bytes it keeps only the line that is not complete yet.
 #[derive(Drop)]
-pub struct Lines {
+pub struct LineReader<N: Notation> {
     alloc: Global,
     statements: Vec<Stmt80>,
     held: HeldLine,
     number: u32,
     is_closed: bool,
     fault: Option<ReadFault>,
+    notation: PhantomData<N>,
 }
 
-impl Model for Lines {
+/// A reader of sources in Intel's spelling.
+pub type Lines = LineReader<Intel>;
+
+impl<N: Notation> Model for LineReader<N> {
     ghost use Rattle.std.specs.Prelude.{◌≤◌};
     ghost use Rattle.asm80_text.specs.Reader.{Reader};
 
     ghost Value = { Reader };
 
-    ghost use Rattle.asm80_tokens.specs.contracts.expr.Expr as e;
+    ghost use Rattle.asm80_statement_types.specs.contracts.expr.Expr as e;
     ghost use Rattle.std.specs.Coded.{codes};
-    ghost use Rattle.asm80_tokens.specs.WellFormed.{AreWellFormed};
+    ghost use Rattle.asm80_statement_types.specs.WellFormed.{AreWellFormed};
 
     ghost coded = { Prim.hlevel (codes, e.the_row.coded) };
 
@@ -51,35 +58,37 @@ impl Model for Lines {
     ghost invariant = { λ a. (a.number ≤ 32768) × AreWellFormed a.statements.items };
 }
 
-impl Lines {
+impl<N: Notation> LineReader<N> {
     /// A reader of a stream of which nothing has come yet.
-    pub fn new(alloc: Global) -> Result<Lines, AllocError>
-        ensures { IfOk result (After []) }
+    pub fn new(alloc: Global) -> Result<LineReader<N>, AllocError>
+        ensures { IfOk result (After N.spelling []) }
     {
-        Ok(Lines {
+        Ok(LineReader {
             alloc,
             statements: Vec::with_capacity(alloc, FIRST_ROOM)?,
             held: HeldLine::new(),
             number: 0,
             is_closed: false,
             fault: None,
+            notation: PhantomData,
         })
     }
 
     /// Takes the next piece of the stream.
     pub fn feed(&mut self, piece: &[u8]) -> Result<(), ReadFault>
         // The stream so far grows by the piece.
-        ensures grows { self.new.fault ≢ Some Memory → (stream : List ℕ) → After stream self.old → After (stream ++ piece.now) self.new }
+        ensures grows { self.new.fault ≢ Some Memory → (stream : List ℕ) → After N.spelling stream self.old → After N.spelling (stream ++ piece.now) self.new }
         ensures answer { result ≡ answer_of self.new.fault }
 
         // Syntax comes exactly where a faulty line is complete in the stream so far.
-        ensures faulty { (stream : List ℕ) (n : ℕ) (rule : LineRule) → After stream self.old → result ≡ Err (Syntax n rule) → HoldsFault (stream ++ piece.now) n rule }
-        ensures found { (stream : List ℕ) (n : ℕ) (rule : LineRule) → After stream self.old → HoldsFault (stream ++ piece.now) n rule → (result ≡ Err (Syntax n rule)) ⊎ (result ≡ Err Memory) }
+        ensures faulty { (stream : List ℕ) (n : ℕ) (rule : LineRule) → After N.spelling stream self.old → result ≡ Err (Syntax n rule) → HoldsFault N.spelling (stream ++ piece.now) n rule }
+        ensures found { (stream : List ℕ) (n : ℕ) (rule : LineRule) → After N.spelling stream self.old → HoldsFault N.spelling (stream ++ piece.now) n rule → (result ≡ Err (Syntax n rule)) ⊎ (result ≡ Err Memory) }
 
         // A fault stands, and behind the byte 1AH nothing is read.
         ensures stands { self.old.fault ≢ None → self.new ≡ self.old }
         ensures closed { self.old.is_closed ≡ true → self.new ≡ self.old }
     {
+        N::spelling_is_coherent();
         for b in piece {
             self.step(*b);
         }
@@ -99,8 +108,8 @@ impl Lines {
     /// The statements of the whole stream.
     pub fn finish(self) -> Result<Vec<Stmt80>, ReadFault>
         // Syntax comes exactly where the stream has a fault, with its first one.
-        ensures outcome { (stream : List ℕ) → After stream self → Finishes stream result }
-        ensures only { (stream : List ℕ) (statements : List Statement) (fault : Option ReadFault) → After stream self → StreamGives stream statements fault → Agrees result statements fault }
+        ensures outcome { (stream : List ℕ) → After N.spelling stream self → Finishes (StreamGives N.spelling) stream result }
+        ensures only { (stream : List ℕ) (statements : List Statement) (fault : Option ReadFault) → After N.spelling stream self → StreamGives N.spelling stream statements fault → Agrees result statements fault }
 
         // A fault stands, and once the byte 1AH has come there is an answer.
         ensures stands { IfSome self.fault (λ fault. result ≡ Err fault) }
@@ -109,6 +118,7 @@ impl Lines {
         // The statements can be assembled.
         ensures well_formed { IfOk result (λ v. AreWellFormed v.items) }
     {
+        N::spelling_is_coherent();
         let mut reader = self;
         reader.step(END_OF_FILE);
         match reader.fault {
@@ -119,7 +129,7 @@ impl Lines {
 
     // Takes the next byte of the stream, unless there is a fault.
     fn step(&mut self, b: u8)
-        ensures grows { self.new.fault ≢ Some Memory → (stream : List ℕ) → After stream self.old → After (stream ++ b ∷ []) self.new }
+        ensures grows { self.new.fault ≢ Some Memory → (stream : List ℕ) → After N.spelling stream self.old → After N.spelling (stream ++ b ∷ []) self.new }
         ensures stands { self.old.fault ≢ None → self.new ≡ self.old }
         ensures closed { self.old.is_closed ≡ true → self.new ≡ self.old }
     {
@@ -132,7 +142,7 @@ impl Lines {
     // Takes the next byte of the stream.
     fn take(&mut self, b: u8)
         requires { self.old.fault ≡ None }
-        ensures grows { self.new.fault ≢ Some Memory → (stream : List ℕ) → After stream self.old → After (stream ++ b ∷ []) self.new }
+        ensures grows { self.new.fault ≢ Some Memory → (stream : List ℕ) → After N.spelling stream self.old → After N.spelling (stream ++ b ∷ []) self.new }
         ensures closed { self.old.is_closed ≡ true → self.new ≡ self.old }
     {
         if self.is_closed {
@@ -148,7 +158,7 @@ impl Lines {
     }
 
     fn hold(&mut self, b: u8)
-        ensures { self.new ≡ record self.old { held = with_byte self.old.held b } }
+        ensures { self.new ≡ record self.old { held = held_with_byte self.old.held b } }
     {
         self.held.push(b);
     }
@@ -157,7 +167,7 @@ impl Lines {
     fn end_line(&mut self)
         requires fault { self.old.fault ≡ None }
         requires open_yet { self.old.is_closed ≡ false }
-        ensures { EndsLine self.old self.new }
+        ensures { EndsLine N.spelling self.old self.new }
     {
         let held = mem::replace(&mut self.held, HeldLine::new());
         match held.line() {
@@ -170,7 +180,7 @@ impl Lines {
     fn end_stream(&mut self)
         requires fault { self.old.fault ≡ None }
         requires open_yet { self.old.is_closed ≡ false }
-        ensures { EndsStream self.old self.new }
+        ensures { EndsStream N.spelling self.old self.new }
     {
         self.is_closed = true;
         let held = mem::replace(&mut self.held, HeldLine::new());
@@ -202,10 +212,10 @@ impl Lines {
     fn read(&mut self, line: &[u8])
         requires fault { self.old.fault ≡ None }
         requires held { self.old.held ≡ Some [] }
-        ensures { Adds line.now self.old self.new }
+        ensures { Adds N.spelling line.now self.old self.new }
     {
         let number = self.number + 1;
-        match read_line(self.alloc, number, line) {
+        match read_line::<N>(self.alloc, number, line) {
             Ok(found) => {
                 let mut more = found;
                 if self.statements.append(&mut more).is_err() {
@@ -219,7 +229,34 @@ impl Lines {
     }
 }
 
-/// A stream has at most one outcome: its statements, or its first fault with the statements before it.
-pub fn stream_has_one_outcome()
-    ensures { (stream : List ℕ) (a b : List Statement) (f g : Option ReadFault) → StreamGives stream a f → StreamGives stream b g → (a ≡ b) × (f ≡ g) }
-{}
+impl<N: Notation> StatementReader for LineReader<N> {
+    ghost use Rattle.asm80_text.specs.Stream.{StreamGives};
+    ghost use Rattle.asm80_text.specs.Reader.{After};
+
+    ghost reading = { StreamGives N.spelling };
+
+    ghost was_fed = { λ reader stream. After N.spelling stream reader };
+
+    fn new(alloc: Global) -> Result<LineReader<N>, AllocError> {
+        LineReader::<N>::new(alloc)
+    }
+
+    fn feed(&mut self, piece: &[u8]) -> Result<(), ReadFault> {
+        LineReader::<N>::feed(self, piece)
+    }
+
+    fn finish(self) -> Result<Vec<Stmt80>, ReadFault> {
+        LineReader::<N>::finish(self)
+    }
+
+    fn reading_has_one_outcome() {
+        stream_has_one_outcome::<N>();
+    }
+}
+
+/// In each spelling a stream has at most one outcome: its statements, or its first fault with the statements before it.
+pub fn stream_has_one_outcome<N: Notation>()
+    ensures { HasOneOutcome (StreamGives N.spelling) }
+{
+    N::spelling_is_coherent();
+}

@@ -1,10 +1,10 @@
 -- What an expression begins with, and what each way to begin leaves.
 use Rattle.std.proofs.Common.{◌≡◌, ◌≢◌, ℕ, zero, suc, ◌<◌, ◌-◌, List, ◌∷◌, refl, ap, ◌∙◌, arith, Option, Some, None, Result, Ok, Err}
-use Rattle.asm80_tokens.specs.declared.expr.Two.{Two}
-use Rattle.asm80_tokens.specs.declared.expr.Two.TheVariants.{Mul, Div, Mod, Shl, Shr, Add, Sub, And, Or, Xor}
+use Rattle.asm80_statement_types.specs.declared.expr.Two.{Two}
+use Rattle.asm80_statement_types.specs.declared.expr.Two.TheVariants.{Mul, Div, Mod, Shl, Shr, Add, Sub, And, Or, Xor}
 use Rattle.std.specs.Borrow.{Bor}
-use Rattle.asm80_tokens.specs.declared.expr.Expr.{Expr}
-use Rattle.asm80_tokens.specs.Tree.{tree_of, Tree, Number, Place, Named, Inverted, Negated, Binary}
+use Rattle.asm80_statement_types.specs.declared.expr.Expr.{Expr}
+use Rattle.asm80_statement_types.specs.Tree.{tree_of, Tree, Number, Place, Named, Inverted, Negated, Binary}
 use Rattle.asm80_tokens.specs.declared.token.Token.{Token}
 use Rattle.asm80_tokens.specs.declared.token.Token.TheVariants.{Digits, Num, Here, Word, Register, Op, Not, Open, Close}
 use Rattle.asm80_tokens.specs.declared.fault.ParseFault.{ParseFault}

@@ -1,13 +1,14 @@
 -- A line has one list of tokens.
 use Rattle.std.proofs.Common.{◌≡◌, ℕ, List, ◌∷◌, Option, refl, sym, ap, ◌∙◌}
-use Rattle.asm80_tokens.specs.declared.fault.LineRule.{LineRule}
+use Rattle.asm80_statement_types.specs.declared.fault.LineRule.{LineRule}
 use Rattle.asm80_tokens.specs.declared.token.Token.{Token}
+use Rattle.asm80_tokens.specs.Spelling.{Spelling}
 use Rattle.asm80_tokens.specs.Tokens.{Got, Lexes, ends, blank, comment, token, faulty}
 
 got_same : (a b : Token) (r s : List ℕ) → Got a r ≡ Got b s → (a ≡ b) × (r ≡ s)
 got_same a b r s e = (cc, cc)
 
-pub one_reading : {bytes : List ℕ} {ts us : List Token} {f g : Option LineRule} → Lexes bytes ts f → Lexes bytes us g → (ts ≡ us) × (f ≡ g)
+pub one_reading : {s : Spelling} {bytes : List ℕ} {ts us : List Token} {f g : Option LineRule} → Lexes s bytes ts f → Lexes s bytes us g → (ts ≡ us) × (f ≡ g)
 one_reading ends ends = (refl, refl)
 one_reading (blank e x) (blank e' y) = one_reading x y
 one_reading (blank e x) (comment y) = absurd cc

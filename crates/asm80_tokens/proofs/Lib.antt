@@ -1,6 +1,8 @@
 pub mod Digits
 pub mod Names
 pub mod Quotes
+pub mod Symbols
+pub mod Operations
 pub mod Lexing
 pub mod Chain
 pub mod Cases

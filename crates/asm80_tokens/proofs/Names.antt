@@ -1,9 +1,9 @@
 -- The bytes that count of a word are a name.
 use Rattle.std.proofs.Common.{◌≡◌, ℕ, suc, ◌+◌, ◌<◌, ◌≤◌, List, [], ◌∷◌, Bool, true, false, eqb, length, take, refl, arith, inl, inr, ◌⊎◌, ◌||◌}
-use Rattle.std.specs.List.{AllByRecursion}
+use Rattle.std.specs.List.{AllByRecursion, list_all}
 use Rattle.std.proofs.lemmas.Bool.Decides.{nat_tests}
 use Rattle.std.proofs.lemmas.List.Elements.{All-from_recursion}
-use Rattle.asm80_tokens.specs.Name.{IsNameByte, IsName}
+use Rattle.asm80_statement_types.specs.Name.{IsNameByte, IsName}
 use Rattle.asm80_tokens.specs.Letters.{is_upper, is_lower, is_inside, upper, significant, inside_len}
 use Rattle.asm80_tokens.specs.Results.{BeginsWithLetter}
 
@@ -32,6 +32,9 @@ each_named (b ∷ bytes) = elim (two_cases (is_inside b)) [
   | inr e ↦ rw (none_taken b bytes e) tt
 ]
 
+false_true : false ≡ true → ⊥
+false_true e = cc
+
 start_inside : (b : ℕ) → (is_upper b || is_lower b) ≡ true → (is_inside b ≡ true) × (eqb b 36 ≡ false)
 start_inside b h = (grind (arith, nat_tests), grind (arith, nat_tests))
 
@@ -44,3 +47,15 @@ one_at_least (b ∷ bytes) h =
 
 pub is_name : (bytes : List ℕ) → BeginsWithLetter bytes → length (significant (take (inside_len bytes) bytes)) ≤ 16 → IsName (significant (take (inside_len bytes) bytes))
 is_name bytes h le = record { some = one_at_least bytes h; at_most = le; each = All-from_recursion _ _ (each_named bytes) }
+
+-- ---- words that are written in the code
+
+all_name_bytes : (bytes : List ℕ) → list_all is_upper bytes ≡ true → AllByRecursion IsNameByte bytes
+all_name_bytes [] h = tt
+all_name_bytes (b ∷ bytes) h = elim (two_cases (is_upper b)) [
+  | inl e ↦ (grind (arith, nat_tests), all_name_bytes bytes (rw e at h))
+  | inr e ↦ absurd (false_true (rw e at h))
+]
+
+pub letters_are_name : (bytes : List ℕ) → list_all is_upper bytes ≡ true → 0 < length bytes → length bytes ≤ 16 → IsName bytes
+letters_are_name bytes h some most = record { some = some; at_most = most; each = All-from_recursion _ _ (all_name_bytes bytes h) }

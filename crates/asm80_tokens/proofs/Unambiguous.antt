@@ -1,6 +1,6 @@
 -- Tokens spell one expression.
 use Rattle.std.proofs.Common.{◌≡◌, ℕ, zero, suc, ◌<◌, ◌≤◌, ◌+◌, ◌*◌, List, ◌∷◌, length, refl, ap, arith}
-use Rattle.asm80_tokens.specs.Tree.{Tree, Inverted, Negated, Binary}
+use Rattle.asm80_statement_types.specs.Tree.{Tree, Inverted, Negated, Binary}
 use Rattle.asm80_tokens.specs.declared.token.Token.{Token}
 use Rattle.asm80_tokens.specs.declared.token.Token.TheVariants.{Close}
 use Rattle.asm80_tokens.specs.Grammar.{Spells, Begins, Ends, EndsInside, digits, number, here, name, register, parens, tighter, minus, plus, inverse}

@@ -1,11 +1,10 @@
-pub mod Name
-pub mod Padded
 pub mod Letters
-pub mod Tree
+pub mod Spelling
 pub mod Words
 pub mod Numbers
 pub mod Strings
 pub mod Tokens
 pub mod Grammar
-pub mod WellFormed
 pub mod Results
+pub mod Small
+pub mod Coherent

@@ -1,9 +1,9 @@
 -- What the functions return, by the definitions.
-use Rattle.std.specs.Prelude.{◌≡◌, ℕ, List, [], ◌∷◌, Bool, true, false, zero, suc, Option, Some, None, Result, Ok, Err, ◌||◌}
+use Rattle.std.specs.Prelude.{◌≡◌, ℕ, List, [], ◌∷◌, Bool, true, false, zero, suc, Option, Some, None, Result, Ok, Err, ◌||◌, map}
 use Rattle.std.specs.Borrow.{Bor}
 use Rattle.std.specs.Global.{Vec}
-use Rattle.asm80_tokens.specs.declared.expr.Expr.{Expr}
-use Rattle.asm80_tokens.specs.declared.expr.Two.{Two}
+use Rattle.asm80_statement_types.specs.declared.expr.Expr.{Expr}
+use Rattle.asm80_statement_types.specs.declared.expr.Two.{Two}
 use Rattle.asm80_tokens.specs.declared.token.Token.{Token}
 use Rattle.asm80_tokens.specs.declared.token.Token.TheVariants as tokens
 use Rattle.asm80_tokens.specs.declared.fault.ScanFault.{ScanFault}
@@ -12,8 +12,10 @@ use Rattle.asm80_tokens.specs.declared.fault.ParseFault.{ParseFault}
 use Rattle.asm80_tokens.specs.declared.fault.ParseFault.TheVariants as parse
 use Rattle.asm80_tokens.specs.Letters.{is_upper, is_lower}
 use Rattle.asm80_tokens.specs.Strings.{quoted}
+use Rattle.asm80_tokens.specs.Spelling.{Spelling}
 use Rattle.asm80_tokens.specs.Tokens.{Scanned, Got, Bad, token_at}
-use Rattle.asm80_tokens.specs.Tree.{Tree, tree_of, Inverted}
+use Rattle.asm80_statement_types.specs.declared.arg.Arg.{Arg}
+use Rattle.asm80_statement_types.specs.Tree.{Tree, tree_of, Inverted, Operand, operand_of}
 use Rattle.asm80_tokens.specs.Grammar.{level_of, next_operator}
 
 -- ---- tokens
@@ -25,9 +27,9 @@ Finds scanned (Err scan.Memory) = Unit {0}
 Finds scanned (Err (scan.Rule r)) = scanned ≡ Bad r
 
 -- the same of the token at the front of bytes
-abbrev pub FindsFirst : List ℕ → Result (Token × Bor (List ℕ)) ScanFault → Type 0
-FindsFirst [] r = Unit {0}
-FindsFirst (b ∷ bytes) r = Finds (token_at b bytes) r
+abbrev pub FindsFirst : Spelling → List ℕ → Result (Token × Bor (List ℕ)) ScanFault → Type 0
+FindsFirst s [] r = Unit {0}
+FindsFirst s (b ∷ bytes) r = Finds (token_at s b bytes) r
 
 -- what stands before a closing quote and behind it, if there is one
 abbrev pub IsQuoted : Option (Vec ℕ × Bor (List ℕ)) → List ℕ → Type 0
@@ -74,3 +76,12 @@ is_not _ = false
 abbrev pub inverted : ℕ → Tree → Tree
 inverted zero e = e
 inverted (suc n) e = Inverted (inverted n e)
+
+-- ---- statements
+
+-- What was read of the word and the tokens of a statement: its operation and its operands, or that the form is none, unless memory
+-- ran out.
+abbrev pub GivesOperation : Spelling → List ℕ → List Token → Result (List ℕ × Vec Arg) ParseFault → Type 0
+GivesOperation s word ts (Ok x) = s.forms word ts x.0 (map operand_of x.1.items)
+GivesOperation s word ts (Err parse.Memory) = Unit {0}
+GivesOperation s word ts (Err parse.Malformed) = (op : List ℕ) (args : List Operand) → s.forms word ts op args → ⊥

@@ -1,38 +1,19 @@
--- The reserved words: operations, operators, registers (Intel 8080 Assembly Language Programming Manual, chapter 2;
--- CP/M 2.2 Operating System Manual, the assembler, "Reserved words").
-use Rattle.std.specs.Prelude.{ℕ, List, [], ◌∷◌, codes, Bool, if◌then◌else◌}
-use Rattle.std.specs.List.{list_any}
+-- The tokens that words are (CP/M 2.2 Operating System Manual, the assembler, "Reserved words").
+use Rattle.std.specs.Prelude.{ℕ, List, Option, Some, None, codes, if◌then◌else◌}
 use Rattle.std.specs.Str.{bytes_eq}
-use Rattle.asm80_tokens.specs.declared.expr.Two.TheVariants.{Mod, Shl, Shr, And, Or, Xor}
+use Rattle.asm80_statement_types.specs.declared.expr.Two.{Two}
+use Rattle.asm80_statement_types.specs.declared.expr.Two.TheVariants.{Mod, Shl, Shr, And, Or, Xor}
 use Rattle.asm80_tokens.specs.declared.token.Token.{Token}
 use Rattle.asm80_tokens.specs.declared.token.Token.TheVariants as tokens
-
--- the 8080's operations, and the directives
-unfoldable pub operations : List (List ℕ)
-operations = codes "NOP" ∷ codes "MOV" ∷ codes "MVI" ∷ codes "LXI" ∷ codes "LDA" ∷ codes "STA" ∷ codes "LHLD" ∷ codes "SHLD" ∷ codes "LDAX" ∷ codes "STAX" ∷ codes "XCHG" ∷ codes "XTHL" ∷ codes "SPHL" ∷ codes "PCHL"
-    ∷ codes "ADD" ∷ codes "ADC" ∷ codes "SUB" ∷ codes "SBB" ∷ codes "ANA" ∷ codes "XRA" ∷ codes "ORA" ∷ codes "CMP" ∷ codes "ADI" ∷ codes "ACI" ∷ codes "SUI" ∷ codes "SBI" ∷ codes "ANI" ∷ codes "XRI" ∷ codes "ORI" ∷ codes "CPI"
-    ∷ codes "INR" ∷ codes "DCR" ∷ codes "INX" ∷ codes "DCX" ∷ codes "DAD" ∷ codes "DAA" ∷ codes "CMA" ∷ codes "STC" ∷ codes "CMC" ∷ codes "RLC" ∷ codes "RRC" ∷ codes "RAL" ∷ codes "RAR" ∷ codes "PUSH" ∷ codes "POP"
-    ∷ codes "JMP" ∷ codes "JNZ" ∷ codes "JZ" ∷ codes "JNC" ∷ codes "JC" ∷ codes "JPO" ∷ codes "JPE" ∷ codes "JP" ∷ codes "JM" ∷ codes "CALL" ∷ codes "CNZ" ∷ codes "CZ" ∷ codes "CNC" ∷ codes "CC" ∷ codes "CPO" ∷ codes "CPE" ∷ codes "CP" ∷ codes "CM"
-    ∷ codes "RET" ∷ codes "RNZ" ∷ codes "RZ" ∷ codes "RNC" ∷ codes "RC" ∷ codes "RPO" ∷ codes "RPE" ∷ codes "RP" ∷ codes "RM" ∷ codes "RST" ∷ codes "HLT" ∷ codes "EI" ∷ codes "DI" ∷ codes "IN" ∷ codes "OUT"
-    ∷ codes "ORG" ∷ codes "END" ∷ codes "EQU" ∷ codes "SET" ∷ codes "IF" ∷ codes "ENDIF" ∷ codes "DB" ∷ codes "DW" ∷ codes "DS" ∷ []
-
-abbrev pub is_operation : List ℕ → Bool
-is_operation name = list_any (λ word. bytes_eq word name) operations
-
--- the registers, the memory operand M, the stack pointer and the program status word
-unfoldable pub registers : List (List ℕ)
-registers = codes "A" ∷ codes "B" ∷ codes "C" ∷ codes "D" ∷ codes "E" ∷ codes "H" ∷ codes "L" ∷ codes "M" ∷ codes "SP" ∷ codes "PSW" ∷ []
-
-abbrev pub is_register : List ℕ → Bool
-is_register name = list_any (λ word. bytes_eq word name) registers
+use Rattle.asm80_tokens.specs.Spelling.{Spelling}
 
 -- the token of a word that is no operator
-abbrev pub name_token : List ℕ → Token
-name_token name = if is_operation name then tokens.Operation name else (if is_register name then tokens.Register name else tokens.Word name)
+abbrev pub name_token : Spelling → List ℕ → Token
+name_token s name = if s.is_operation name then tokens.Operation name else (if s.is_register name then tokens.Register name else tokens.Word name)
 
 -- the token that a word is
-unfoldable pub word_token : List ℕ → Token
-word_token name =
+unfoldable pub word_token : Spelling → List ℕ → Token
+word_token s name =
     if bytes_eq name (codes "MOD") then tokens.Op Mod
     else (if bytes_eq name (codes "SHL") then tokens.Op Shl
     else (if bytes_eq name (codes "SHR") then tokens.Op Shr
@@ -40,4 +21,26 @@ word_token name =
     else (if bytes_eq name (codes "OR") then tokens.Op Or
     else (if bytes_eq name (codes "XOR") then tokens.Op Xor
     else (if bytes_eq name (codes "NOT") then tokens.Not
-    else name_token name))))))
+    else name_token s name))))))
+
+-- the name of an operator of two operands that is a name
+abbrev pub operator_name : Two → Option (List ℕ)
+operator_name Mod = Some (codes "MOD")
+operator_name Shl = Some (codes "SHL")
+operator_name Shr = Some (codes "SHR")
+operator_name And = Some (codes "AND")
+operator_name Or = Some (codes "OR")
+operator_name Xor = Some (codes "XOR")
+operator_name _ = None
+
+-- a word, where it is an operation
+abbrev pub if_operation : Spelling → Option (List ℕ) → Option (List ℕ)
+if_operation s None = None
+if_operation s (Some word) = if s.is_operation word then Some word else None
+
+-- the word that a token is where a statement has its operation
+abbrev pub as_operation : Spelling → Token → Option (List ℕ)
+as_operation s (tokens.Operation word) = Some word
+as_operation s (tokens.Op o) = if_operation s (operator_name o)
+as_operation s tokens.Not = if_operation s (Some (codes "NOT"))
+as_operation s _ = None

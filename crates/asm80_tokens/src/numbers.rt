@@ -5,18 +5,19 @@ ghost use Rattle.std.specs.List.{list_all};
 ghost use Rattle.asm80_tokens.specs.Letters.{inside_len, is_digit};
 ghost use Rattle.asm80_tokens.specs.Numbers.{base_named, digit_of, number_of, value_in};
 ghost use Rattle.asm80_tokens.specs.Results.{Finds};
-ghost use Rattle.asm80_tokens.specs.Tokens.{IsLawful, number_at, number_token};
+ghost use Rattle.asm80_tokens.specs.Tokens.{IsLawfulSymbol, number_at, number_token};
 
-use crate::fault::{LineRule, ScanFault};
+use crate::fault::ScanFault;
 use crate::letters::{inside_len, significant};
 use crate::token::Token;
+use asm80_statement_types::LineRule;
 use std::alloc::Global;
 
 /// The number at the front of the bytes, which begin with a digit, and the bytes behind it.
 #[tactic(auto, unfolding(crate::specs::Tokens::number_at))]
 pub fn number_at(alloc: Global, bytes: &[u8]) -> Result<(Token, &[u8]), ScanFault>
     ensures value { Finds (number_at bytes.now) result }
-    ensures lawful { IfOk result (λ x. IsLawful x.0) }
+    ensures lawful { IfOk result (λ x. IsLawfulSymbol x.0) }
     ensures shorter { IfOk result (λ x. length x.1.now + inside_len bytes.now ≡ length bytes.now) }
 {
     let (text, rest) = bytes.split_at(inside_len(bytes));
@@ -30,7 +31,7 @@ pub fn number_at(alloc: Global, bytes: &[u8]) -> Result<(Token, &[u8]), ScanFaul
 // The token of a number.
 fn number_token(digits: &[u8], n: u16) -> Token
     ensures value { result ≡ number_token digits.now n }
-    ensures lawful { IsLawful result }
+    ensures lawful { IsLawfulSymbol result }
 {
     if all_digits(digits) {
         Token::Digits(n)

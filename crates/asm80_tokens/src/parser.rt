@@ -3,13 +3,13 @@
 ghost use Rattle.std.specs.Prelude.{◌≡◌, ◌≢◌, ◌≤◌, ◌<◌, List, [], ◌∷◌, IfOk, MatchOption, ℕ, length};
 ghost use Rattle.std.specs.List.{prefix_len};
 ghost use Rattle.asm80_tokens.specs.declared.token.Token.{Token};
-ghost use Rattle.asm80_tokens.specs.Tree.{Tree, tree_of};
+ghost use Rattle.asm80_statement_types.specs.Tree.{Tree, tree_of};
 ghost use Rattle.asm80_tokens.specs.Grammar.{level_of, Spells, Begins, Ends, EndsInside};
 ghost use Rattle.asm80_tokens.specs.Results.{Gives, Stops, inverted, is_not};
 
-use crate::expr::{Expr, Two};
 use crate::fault::ParseFault;
 use crate::token::Token;
+use asm80_statement_types::{Expr, Two};
 use std::alloc::{AllocError, Global};
 
 /// The expression at the front of the tokens, up to where it cannot go on, and the tokens after it.

@@ -4,19 +4,19 @@ ghost use Rattle.std.specs.Prelude.{◌≡◌, ◌≢◌, ◌≤◌, ◌<◌, �
 ghost use Rattle.std.specs.List.{list_all};
 ghost use Rattle.asm80_tokens.specs.Letters.{is_printable};
 ghost use Rattle.asm80_tokens.specs.Results.{Finds, IsQuoted};
-ghost use Rattle.asm80_tokens.specs.Tokens.{IsLawful, string_at, text_token};
+ghost use Rattle.asm80_tokens.specs.Tokens.{IsLawfulSymbol, string_at, text_token};
 
-use crate::arg::Bytes;
-use crate::fault::{LineRule, ScanFault};
+use crate::fault::ScanFault;
 use crate::letters::{first_byte, is_printable};
 use crate::token::Token;
+use asm80_statement_types::{Bytes, LineRule};
 use std::alloc::{AllocError, Global};
 
 /// The string whose opening quote stands before the bytes, and the bytes behind it.
 #[tactic(auto, unfolding(crate::specs::Tokens::string_at))]
 pub fn string_at(alloc: Global, bytes: &[u8]) -> Result<(Token, &[u8]), ScanFault>
     ensures value { Finds (string_at bytes.now) result }
-    ensures lawful { IfOk result (λ x. IsLawful x.0) }
+    ensures lawful { IfOk result (λ x. IsLawfulSymbol x.0) }
     ensures shorter { IfOk result (λ x. length x.1.now ≤ length bytes.now) }
 {
     let Some((text, rest)) = quoted(alloc, bytes)? else {
@@ -35,7 +35,7 @@ pub fn string_at(alloc: Global, bytes: &[u8]) -> Result<(Token, &[u8]), ScanFaul
 fn text_token(text: Vec<u8>) -> Token
     requires { (0 < length text.items) × (length text.items ≤ 64) }
     ensures value { result ≡ text_token text.items }
-    ensures lawful { IsLawful result }
+    ensures lawful { IsLawfulSymbol result }
 {
     if text.len() == 1 {
         Token::Num(u16::from(text[0]))

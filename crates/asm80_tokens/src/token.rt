@@ -1,8 +1,6 @@
 //! The tokens of a line.
 
-use crate::arg::Bytes;
-use crate::expr::Two;
-use crate::name::Name80;
+use asm80_statement_types::{Bytes, Name80, Two};
 
 /// A token of a line: its smallest part that has a meaning.
 #[derive(Drop)]

@@ -11,20 +11,20 @@ use Rattle.i80.specs.declared.Pair.TheVariants as pairs
 use Rattle.i80.specs.declared.Instr80.{Instr80}
 use Rattle.i80.specs.declared.Instr80.TheVariants as i80
 use Rattle.i80.specs.Columns.{is_well_formed, length80}
-use Rattle.asm80_tokens.specs.Tree.{Operand, Statement}
-use Rattle.asm80_source.specs.declared.operation.Operation.{Operation}
-use Rattle.asm80_source.specs.declared.operation.Operation.TheVariants as op
-use Rattle.asm80_source.specs.declared.operation.Kind.{Kind}
-use Rattle.asm80_source.specs.declared.operation.Kind.TheVariants.{Register, Pair, Indirect, Stack, Byte, Word, Address, Target, Restart}
-use Rattle.asm80_source.specs.declared.rule.AsmRule.{AsmRule}
-use Rattle.asm80_source.specs.declared.rule.AsmRule.TheVariants.{V5}
-use Rattle.asm80_source.specs.FirstFaults.{rule_if}
-use Rattle.asm80_source.specs.Operations.{operations, operation_of, kinds}
-use Rattle.asm80_source.specs.Values.{Scope}
-use Rattle.asm80_source.specs.Walk.{size_of_kinds, size_by}
-use Rattle.asm80_source.specs.Operands.{register_name, indirect_named, src_of, pair_of, indirect_of, stack_of, is_of_kind, are_of_kinds, is_memory, moves_memory, rule_of_values, rule_by_kinds, rule_of_operands}
-use Rattle.asm80_source.specs.Items.{Setting, value, byte, word_of, move, is_instruction_op, instruction}
-use Rattle.asm80_source.specs.Layout.{is_foreign_by}
+use Rattle.asm80_statement_types.specs.Tree.{Operand, Statement}
+use Rattle.asm80_source_def.specs.declared.operation.Operation.{Operation}
+use Rattle.asm80_source_def.specs.declared.operation.Operation.TheVariants as op
+use Rattle.asm80_source_def.specs.declared.operation.Kind.{Kind}
+use Rattle.asm80_source_def.specs.declared.operation.Kind.TheVariants.{Register, Pair, Indirect, Stack, Byte, Word, Address, Target, Restart}
+use Rattle.asm80_source_def.specs.declared.rule.AsmRule.{AsmRule}
+use Rattle.asm80_source_def.specs.declared.rule.AsmRule.TheVariants.{V5}
+use Rattle.asm80_source_def.specs.FirstFaults.{rule_if}
+use Rattle.asm80_source_def.specs.Operations.{operation_table, operation_of, operand_kinds}
+use Rattle.asm80_source_def.specs.Values.{Scope}
+use Rattle.asm80_source_def.specs.Walk.{size_of_kinds, size_by}
+use Rattle.asm80_source_def.specs.Operands.{register_name, indirect_named, src_of, pair_of_operand, indirect_of, stack_of, is_of_kind, are_of_kinds, is_memory, moves_memory, rule_of_values, rule_by_kinds, rule_of_operands}
+use Rattle.asm80_source_def.specs.Items.{Setting, value, byte, word_of, move, is_instruction_op, instruction}
+use Rattle.asm80_source_def.specs.Layout.{is_foreign_by}
 
 -- ---- what the second walk's rules say of the operands of an instruction
 
@@ -46,12 +46,12 @@ fit_by s o args (Some ks) some h = unbroken (are_of_kinds ks args) (moves_memory
 
 pub accepted_fit :
     (s : Scope) (args : List Operand) (o : Operation) → is_instruction_op (Some o) ≡ true → rule_of_operands s args (Some o) ≡ None
-    → (are_by (kinds o) args ≡ true) × (moves_memory o args ≡ false)
+    → (are_by (operand_kinds o) args ≡ true) × (moves_memory o args ≡ false)
 accepted_fit s args op.Db is h = absurd cc
 accepted_fit s args op.Dw is h = absurd cc
-accepted_fit s args o is h = fit_by s o args (kinds o) is h
+accepted_fit s args o is h = fit_by s o args (operand_kinds o) is h
 
-pub instruction_size : (s : Statement) (o : Operation) → is_instruction_op (Some o) ≡ true → size_by s (Some o) ≡ size_of_kinds (kinds o)
+pub instruction_size : (s : Statement) (o : Operation) → is_instruction_op (Some o) ≡ true → size_by s (Some o) ≡ size_of_kinds (operand_kinds o)
 instruction_size s op.Db is = absurd cc
 instruction_size s op.Dw is = absurd cc
 instruction_size s o is = refl
@@ -66,8 +66,8 @@ is_bare_sound o = true
 abbrev named_sound : List ℕ × Operation → Bool
 named_sound x = is_bare_sound x.1
 
-all_sound : list_all named_sound operations ≡ true
-unfolding operations
+all_sound : list_all named_sound operation_table ≡ true
+unfolding operation_table
 all_sound = refl
 
 -- what is named by a row of the table
@@ -86,7 +86,7 @@ found_sound test (x ∷ xs) h =
 
 word_sound : (word : Option (List ℕ)) → IfSome (option_and_then operation_of word) (λ o. is_bare_sound o ≡ true)
 word_sound None = tt
-word_sound (Some w) = found_sound _ operations all_sound
+word_sound (Some w) = found_sound _ operation_table all_sound
 
 of_some : {X : Type 0} (P : X → Type 0) (o : Option X) (x : X) → IfSome o P → o ≡ Some x → P x
 of_some P o x h is = rw is at h
@@ -175,7 +175,7 @@ module _ (t : Setting) (args : List Operand) where
   abbrev Makes : ℕ → Operation → List Operand → Type 0
   Makes n o given = IsMade n (is_foreign_by t given (Some o)) (instruction t o given)
 
-  pub accepted_made : (o : Operation) → is_bare_sound o ≡ true → are_by (kinds o) args ≡ true → moves_memory o args ≡ false → Makes (size_of_kinds (kinds o)) o args
+  pub accepted_made : (o : Operation) → is_bare_sound o ≡ true → are_by (operand_kinds o) args ≡ true → moves_memory o args ≡ false → Makes (size_of_kinds (operand_kinds o)) o args
   accepted_made (op.Bare i) bare fit apart = none_given (Makes 1 (op.Bare i)) args fit (refl, bare_good i bare)
   accepted_made op.Foreign bare fit apart = none_given (Makes 1 op.Foreign) args fit (refl, tt)
   accepted_made op.Rst bare fit apart = one_given Restart (Makes 1 op.Rst) args fit (λ a h. restart_made (value t a == 0))
@@ -200,11 +200,11 @@ module _ (t : Setting) (args : List Operand) where
       one_given Register (Makes 1 op.Dcr) args fit (λ a h. named_made 1 i80.Dcr (src_of a) h (each (λ x. IsGood 1 (i80.Dcr x)) (src_of a) (λ x. (refl, refl))))
   -- a pair
   accepted_made op.Inx bare fit apart =
-      one_given Pair (Makes 1 op.Inx) args fit (λ a h. named_made 1 i80.Inx (pair_of a) h (each (λ x. IsGood 1 (i80.Inx x)) (pair_of a) (λ x. (refl, refl))))
+      one_given Pair (Makes 1 op.Inx) args fit (λ a h. named_made 1 i80.Inx (pair_of_operand a) h (each (λ x. IsGood 1 (i80.Inx x)) (pair_of_operand a) (λ x. (refl, refl))))
   accepted_made op.Dcx bare fit apart =
-      one_given Pair (Makes 1 op.Dcx) args fit (λ a h. named_made 1 i80.Dcx (pair_of a) h (each (λ x. IsGood 1 (i80.Dcx x)) (pair_of a) (λ x. (refl, refl))))
+      one_given Pair (Makes 1 op.Dcx) args fit (λ a h. named_made 1 i80.Dcx (pair_of_operand a) h (each (λ x. IsGood 1 (i80.Dcx x)) (pair_of_operand a) (λ x. (refl, refl))))
   accepted_made op.Dad bare fit apart =
-      one_given Pair (Makes 1 op.Dad) args fit (λ a h. named_made 1 i80.Dad (pair_of a) h (each (λ x. IsGood 1 (i80.Dad x)) (pair_of a) (λ x. (refl, refl))))
+      one_given Pair (Makes 1 op.Dad) args fit (λ a h. named_made 1 i80.Dad (pair_of_operand a) h (each (λ x. IsGood 1 (i80.Dad x)) (pair_of_operand a) (λ x. (refl, refl))))
   accepted_made op.Push bare fit apart =
       one_given Stack (Makes 1 op.Push) args fit (λ a h. named_made 1 i80.Push (stack_of a) h (each (λ x. IsGood 1 (i80.Push x)) (stack_of a) (λ x. (refl, refl))))
   accepted_made op.Pop bare fit apart =
@@ -219,6 +219,6 @@ module _ (t : Setting) (args : List Operand) where
   accepted_made op.Mvi bare fit apart =
       two_given Register Byte (Makes 2 op.Mvi) args fit (λ a b of_a of_b. named_made 2 (λ (x : Src). i80.Mvi x (byte t b)) (src_of a) of_a (each (λ x. IsGood 2 (i80.Mvi x (byte t b))) (src_of a) (λ x. (refl, refl))))
   accepted_made op.Lxi bare fit apart =
-      two_given Pair Word (Makes 3 op.Lxi) args fit (λ a b of_a of_b. named_made 3 (λ (x : Pair80). i80.Lxi x (word_of t x b)) (pair_of a) of_a (each (λ x. IsGood 3 (i80.Lxi x (word_of t x b))) (pair_of a) (word_good t b)))
+      two_given Pair Word (Makes 3 op.Lxi) args fit (λ a b of_a of_b. named_made 3 (λ (x : Pair80). i80.Lxi x (word_of t x b)) (pair_of_operand a) of_a (each (λ x. IsGood 3 (i80.Lxi x (word_of t x b))) (pair_of_operand a) (word_good t b)))
   -- a directive has no operands of an instruction
   accepted_made o bare fit apart = absurd cc

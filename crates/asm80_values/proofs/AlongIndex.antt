@@ -1,17 +1,17 @@
 -- Along the second walk, by the index of the next row.
 use Rattle.std.proofs.Common.{◌≡◌, ℕ, ◌+◌, suc, Bool, ◌<◌, ◌≤◌, length, List, [], ◌∷◌, ◌++◌, drop, get_or, map, filter, Option, Ok, Err, sym, ap, subst, ◌∙◌, add-one, append-nil, drop-cons, drop_of_length-le}
 use Rattle.std.specs.Option.{option_to_list}
-use Rattle.asm80_tokens.specs.declared.stmt.Stmt80.{Stmt80}
-use Rattle.asm80_tokens.specs.Tree.{statement_of}
-use Rattle.base.specs.Addresses.{StandsFor}
-use Rattle.asm80_walk.specs.declared.walked.Taken.{Taken}
-use Rattle.asm80_walk.specs.declared.walked.AsmFault.{AsmFault}
-use Rattle.asm80_walk.specs.declared.walked.AsmFault.TheVariants.{Refused, Memory}
-use Rattle.asm80_walk.specs.Walked.{StandsFor as StandsForRow, Stand}
-use Rattle.asm80_source.specs.Names.{Name}
-use Rattle.asm80_source.specs.Walk.{Row, rows, walked}
-use Rattle.asm80_source.specs.Operands.{second_fault}
-use Rattle.asm80_source.specs.Items.{fills_cells, items as rows_that_fill, starts_in}
+use Rattle.asm80_statement_types.specs.declared.stmt.Stmt80.{Stmt80}
+use Rattle.asm80_statement_types.specs.Tree.{statement_of}
+use Rattle.base_types.specs.Addresses.{IsSetOf}
+use Rattle.asm80_first_walk.specs.declared.walked.Taken.{Taken}
+use Rattle.asm80_first_walk.specs.declared.walked.AsmFault.{AsmFault}
+use Rattle.asm80_first_walk.specs.declared.walked.AsmFault.TheVariants.{Refused, Memory}
+use Rattle.asm80_first_walk.specs.Walked.{IsRowOf as StandsForRow, Stand}
+use Rattle.asm80_source_def.specs.Names.{Name}
+use Rattle.asm80_source_def.specs.Walk.{WalkRow, rows, walked}
+use Rattle.asm80_source_def.specs.Operands.{second_fault}
+use Rattle.asm80_source_def.specs.Items.{fills_cells, item_rows as rows_that_fill, starts_in}
 use Rattle.asm80_values.specs.declared.item.Item.{Item}
 use Rattle.asm80_values.specs.Items.{AreItems}
 use Rattle.asm80_values.specs.Second.{seen_in, names_set, GivesItem, AreItemsOf, AreRefused}
@@ -20,19 +20,19 @@ use Rattle.asm80_values.proofs.Along.{Along, along_step, along_fault}
 -- the row at an index of the rows that are taken, and its statement
 module _
     (statements : List Stmt80) (ts : List Taken) (i : ℕ) (d : Taken) (s : Stmt80) (within : i < length ts) (is : s ≡ get_or statements (get_or ts i d).statement s)
-    (names : List Name) (found : List Item) (along : Along statements (drop i ts) names found) (flags : List Bool) (starts : StandsFor flags (starts_in (rows (map statement_of statements)))) where
+    (names : List Name) (found : List Item) (along : Along statements (drop i ts) names found) (flags : List Bool) (starts : IsSetOf flags (starts_in (rows (map statement_of statements)))) where
   here : Along statements (get_or ts i d ∷ drop (suc i) ts) names found
   here =
       let Rest : List Taken → Type 0 = λ us. Along statements us names found in
       subst Rest (drop-cons ts i d within) along
 
-  same : (r : Row) → StandsForRow statements (get_or ts i d) r → statement_of s ≡ r.statement
+  same : (r : WalkRow) → StandsForRow statements (get_or ts i d) r → statement_of s ≡ r.statement
   same r stands = ap statement_of is ∙ stands.statement s
 
   pub index_step :
       (o : Option Item) (next : List Name)
-      → ((statements : List Stmt80) (r : Row) → StandsForRow statements (get_or ts i d) r → statement_of s ≡ r.statement → GivesItem (seen_in names flags r) r (Ok o))
-      → ((statements : List Stmt80) (r : Row) → StandsForRow statements (get_or ts i d) r → statement_of s ≡ r.statement → next ≡ names_set r names)
+      → ((statements : List Stmt80) (r : WalkRow) → StandsForRow statements (get_or ts i d) r → statement_of s ≡ r.statement → GivesItem (seen_in names flags r) r (Ok o))
+      → ((statements : List Stmt80) (r : WalkRow) → StandsForRow statements (get_or ts i d) r → statement_of s ≡ r.statement → next ≡ names_set r names)
       → Along statements (drop (i + 1) ts) next (found ++ option_to_list o)
   index_step o next item set =
       let Rest : ℕ → Type 0 = λ k. Along statements (drop k ts) next (found ++ option_to_list o) in
@@ -41,7 +41,7 @@ module _
 
   pub index_fault :
       (fault : AsmFault)
-      → ((statements : List Stmt80) (r : Row) → StandsForRow statements (get_or ts i d) r → statement_of s ≡ r.statement → GivesItem (seen_in names flags r) r (Err fault))
+      → ((statements : List Stmt80) (r : WalkRow) → StandsForRow statements (get_or ts i d) r → statement_of s ≡ r.statement → GivesItem (seen_in names flags r) r (Err fault))
       → AreRefused statements fault
   index_fault (Refused line rule) item = along_fault statements (get_or ts i d) (drop (suc i) ts) names flags starts found line rule here (λ r stands. item statements r stands (same r stands))
   index_fault Memory item = tt
@@ -49,7 +49,7 @@ module _
 -- ---- at the end
 
 end_by :
-    (statements : List Stmt80) (found : List Item) (left : List Row) → Stand statements [] left
+    (statements : List Stmt80) (found : List Item) (left : List WalkRow) → Stand statements [] left
     → second_fault (walked (map statement_of statements)) (rows (map statement_of statements)) ≡ second_fault (walked (map statement_of statements)) left
     → ((is : List Item) → AreItems (rows (map statement_of statements)) (walked (map statement_of statements)) is (filter fills_cells left) → AreItems (rows (map statement_of statements)) (walked (map statement_of statements)) (found ++ is) (rows_that_fill (rows (map statement_of statements))))
     → AreItemsOf statements found

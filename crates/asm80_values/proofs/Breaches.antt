@@ -3,17 +3,17 @@ use Rattle.std.proofs.Common.{◌≡◌, ℕ, zero, suc, ◌-◌, ◌<◌, nat_l
 use Rattle.std.specs.List.{list_any}
 use Rattle.std.specs.Option.{option_or}
 use Rattle.std.proofs.lemmas.Bool.Decides.{nat_tests}
-use Rattle.asm80_tokens.specs.Tree.{Operand}
+use Rattle.asm80_statement_types.specs.Tree.{Operand}
 use Rattle.asm80_operands.specs.declared.form.Form.{Form}
 use Rattle.asm80_operands.specs.declared.form.Form.TheVariants.{Nothing, Instruction, Data}
-use Rattle.asm80_source.specs.declared.operation.Operation.{Operation}
-use Rattle.asm80_source.specs.declared.operation.Operation.TheVariants.{Db, Dw, Rst, Foreign}
-use Rattle.asm80_source.specs.declared.operation.Kind.TheVariants.{Byte, Word}
-use Rattle.asm80_source.specs.declared.rule.AsmRule.{AsmRule}
-use Rattle.asm80_source.specs.declared.rule.AsmRule.TheVariants.{S1, S2, S3, S4, S5, S6, S7}
-use Rattle.asm80_source.specs.Walk.{Walk, Row, row_operation}
-use Rattle.asm80_source.specs.Items.{Setting, setting, address, items, starts_in, starts_at, is_instruction_op, is_data_op}
-use Rattle.asm80_source.specs.Layout.{cells_of, layout_fault, counted_from, is_filled, first_overlap, is_outside, stands_outside as row_stands_outside, refused_at, is_foreign_by, same_kind, operands_by, misses, computes, loads_code, is_foreign, has_operand}
+use Rattle.asm80_source_def.specs.declared.operation.Operation.{Operation}
+use Rattle.asm80_source_def.specs.declared.operation.Operation.TheVariants.{Db, Dw, Rst, Foreign}
+use Rattle.asm80_source_def.specs.declared.operation.Kind.TheVariants.{Byte, Word}
+use Rattle.asm80_source_def.specs.declared.rule.AsmRule.{AsmRule}
+use Rattle.asm80_source_def.specs.declared.rule.AsmRule.TheVariants.{S1, S2, S3, S4, S5, S6, S7}
+use Rattle.asm80_source_def.specs.Walk.{Walk, WalkRow, row_operation}
+use Rattle.asm80_source_def.specs.Items.{Setting, setting, address, item_rows, starts_in, starts_at, is_instruction_op, is_data_op}
+use Rattle.asm80_source_def.specs.Layout.{cells_of, layout_fault, counted_from, is_filled, first_overlap, is_outside, stands_outside as row_stands_outside, refused_at, is_foreign_by, same_kind, operands_by, misses, computes, loads_code, is_foreign, has_operand}
 use Rattle.asm80_values.specs.declared.item.Item.{Item}
 use Rattle.asm80_values.specs.Items.{IsFormBy, IsItem, AreItems, cells_of_item, overlap_from, stands_outside, form_breaks, breaks, refused_item, profile_fault}
 use Rattle.asm80_values.proofs.Cells.{inside, outside, below_area}
@@ -104,27 +104,27 @@ outside_test top at (suc n) fits small =
 
 -- ---- the first breach
 
-module _ (rs : List Row) (end : Walk) where
-  cells_same : (i : Item) (r : Row) → IsItem rs end i r → cells_of_item i ≡ cells_of r
+module _ (rs : List WalkRow) (end : Walk) where
+  cells_same : (i : Item) (r : WalkRow) → IsItem rs end i r → cells_of_item i ≡ cells_of r
   cells_same i r is = ap (λ a. counted_from a i.size) is.at ∙ ap (λ n. counted_from (address r) n) is.size
 
-  outside_same : (top : ℕ) → top < 0x10000 → (i : Item) (r : Row) → IsItem rs end i r → stands_outside top i ≡ row_stands_outside top r
+  outside_same : (top : ℕ) → top < 0x10000 → (i : Item) (r : WalkRow) → IsItem rs end i r → stands_outside top i ≡ row_stands_outside top r
   outside_same top small i r is = outside_test top i.at i.size is.small small ∙ ap (λ (xs : List ℕ). list_any (is_outside top) xs) (cells_same i r is)
 
-  same_by : (rule : AsmRule) (i : Item) (r : Row) (x : Option Item) (y : Option Row) → i.line ≡ r.statement.line → refused_item rule x ≡ refused_at rule y → (b : Bool) → refused_item rule (cond b (Some i) x) ≡ refused_at rule (cond b (Some r) y)
+  same_by : (rule : AsmRule) (i : Item) (r : WalkRow) (x : Option Item) (y : Option WalkRow) → i.line ≡ r.statement.line → refused_item rule x ≡ refused_at rule y → (b : Bool) → refused_item rule (cond b (Some i) x) ≡ refused_at rule (cond b (Some r) y)
   same_by rule i r x y line rest true = ap (λ (n : ℕ). Some (n, rule)) line
   same_by rule i r x y line rest false = rest
 
   find_same :
-      (test : Item → Bool) (row_test : Row → Bool) (rule : AsmRule) → ((i : Item) (r : Row) → IsItem rs end i r → test i ≡ row_test r)
-      → (is : List Item) (qs : List Row) → AreItems rs end is qs → refused_item rule (find test is) ≡ refused_at rule (find row_test qs)
+      (test : Item → Bool) (row_test : WalkRow → Bool) (rule : AsmRule) → ((i : Item) (r : WalkRow) → IsItem rs end i r → test i ≡ row_test r)
+      → (is : List Item) (qs : List WalkRow) → AreItems rs end is qs → refused_item rule (find test is) ≡ refused_at rule (find row_test qs)
   find_same test row_test rule same [] [] h = refl
   find_same test row_test rule same [] (q ∷ qs) h = absurd h
   find_same test row_test rule same (i ∷ is) [] h = absurd h
   find_same test row_test rule same (i ∷ is) (q ∷ qs) h =
       rw (same i q h.0) (same_by rule i q (find test is) (find row_test qs) h.0.line (find_same test row_test rule same is qs h.1) (row_test q))
 
-  overlap_same : (filled : List ℕ) (is : List Item) (qs : List Row) → AreItems rs end is qs → refused_item S6 (overlap_from filled is) ≡ refused_at S6 (first_overlap filled qs)
+  overlap_same : (filled : List ℕ) (is : List Item) (qs : List WalkRow) → AreItems rs end is qs → refused_item S6 (overlap_from filled is) ≡ refused_at S6 (first_overlap filled qs)
   overlap_same filled [] [] h = refl
   overlap_same filled [] (q ∷ qs) h = absurd h
   overlap_same filled (i ∷ is) [] h = absurd h
@@ -135,15 +135,15 @@ module _ (rs : List Row) (end : Walk) where
   no_start top none = rw none refl
 
   pub faults_same :
-      (is : List Item) (top : ℕ) → top < 0x10000 → AreItems rs end is (items rs) → starts_at (starts_in rs) 0x100 ≡ true
+      (is : List Item) (top : ℕ) → top < 0x10000 → AreItems rs end is (item_rows rs) → starts_at (starts_in rs) 0x100 ≡ true
       → option_or (refused_item S6 (overlap_from [] is)) (profile_fault top is) ≡ layout_fault rs end top
   faults_same is top small h start =
       rw (
         start,
-        overlap_same [] is (items rs) h,
-        find_same (breaks top S7) (row_stands_outside top) S7 (outside_same top small) is (items rs) h,
-        find_same (breaks top S1) (is_foreign rs end) S1 (λ i r is. form_foreign (setting rs end r) r.statement.args (row_operation r) i.form is.form) is (items rs) h,
-        find_same (breaks top S2) (has_operand rs end misses) S2 (λ i r is. form_misses (setting rs end r) r.statement.args (row_operation r) i.form is.form) is (items rs) h,
-        find_same (breaks top S4) (has_operand rs end computes) S4 (λ i r is. form_computes (setting rs end r) r.statement.args (row_operation r) i.form is.form) is (items rs) h,
-        find_same (breaks top S5) (has_operand rs end loads_code) S5 (λ i r is. form_loads (setting rs end r) r.statement.args (row_operation r) i.form is.form) is (items rs) h,
+        overlap_same [] is (item_rows rs) h,
+        find_same (breaks top S7) (row_stands_outside top) S7 (outside_same top small) is (item_rows rs) h,
+        find_same (breaks top S1) (is_foreign rs end) S1 (λ i r is. form_foreign (setting rs end r) r.statement.args (row_operation r) i.form is.form) is (item_rows rs) h,
+        find_same (breaks top S2) (has_operand rs end misses) S2 (λ i r is. form_misses (setting rs end r) r.statement.args (row_operation r) i.form is.form) is (item_rows rs) h,
+        find_same (breaks top S4) (has_operand rs end computes) S4 (λ i r is. form_computes (setting rs end r) r.statement.args (row_operation r) i.form is.form) is (item_rows rs) h,
+        find_same (breaks top S5) (has_operand rs end loads_code) S5 (λ i r is. form_loads (setting rs end r) r.statement.args (row_operation r) i.form is.form) is (item_rows rs) h,
       ) refl

@@ -3,7 +3,7 @@ use Rattle.std.proofs.Common.{◌≡◌, ℕ, zero, suc, ◌+◌, ◌-◌, ◌%�
 use Rattle.std.specs.List.{list_any}
 use Rattle.std.proofs.lemmas.Bool.Decides.{nat_tests}
 use Rattle.std.proofs.lemmas.List.Folds.{list_any-append, list_any_at}
-use Rattle.asm80_source.specs.Layout.{counted_from, is_outside}
+use Rattle.asm80_source_def.specs.Layout.{counted_from, is_outside}
 
 pub counted_more : (at k : ℕ) → counted_from at (suc k) ≡ counted_from at k ++ ((at + k) % 0x10000) ∷ []
 counted_more at zero = ap (λ n. (n % 0x10000) ∷ []) (sym (add-zero at))

@@ -10,19 +10,19 @@ use Rattle.std.proofs.lemmas.List.Sorted.{IsPermutation-sym, Contains-permutatio
 use Rattle.std.proofs.Math.Path.{fun_ext}
 use Rattle.cells.specs.declared.Cell.{Cell}
 use Rattle.i80.specs.declared.Instr80.{Instr80}
-use Rattle.asm80_program.specs.declared.program.Placed.{Placed}
-use Rattle.asm80_program.specs.Program.{Program, is_top, IsProgram}
-use Rattle.asm80_tokens.specs.Tree.{Operand}
+use Rattle.asm80_program_types.specs.declared.program.Placed.{Placed}
+use Rattle.asm80_program_types.specs.Program.{Program, is_top, IsProgram}
+use Rattle.asm80_statement_types.specs.Tree.{Operand}
 use Rattle.asm80_operands.specs.declared.form.Form.{Form}
 use Rattle.asm80_operands.specs.declared.form.Form.TheVariants.{Nothing, Instruction, Data}
-use Rattle.asm80_source.specs.declared.operation.Operation.{Operation}
-use Rattle.asm80_source.specs.declared.operation.Operation.TheVariants.{Db, Dw}
-use Rattle.asm80_source.specs.declared.rule.AsmRule.{AsmRule}
-use Rattle.asm80_source.specs.declared.rule.AsmRule.TheVariants.{S1, S2, S3, S4, S5, S6, S7}
-use Rattle.asm80_source.specs.Walk.{Walk, Row, row_is_taken, row_operation}
-use Rattle.asm80_source.specs.Items.{Setting, setting, address, items, starts_in, starts_at, is_instruction_op, is_data_op, is_instruction, is_data, fills_cells, instruction_by, instruction_of, placed_row, placed, data_by, laid_from, data_of_row, data_cells}
-use Rattle.asm80_source.specs.Layout.{layout_fault}
-use Rattle.asm80_source.specs.Assembly.{Holds}
+use Rattle.asm80_source_def.specs.declared.operation.Operation.{Operation}
+use Rattle.asm80_source_def.specs.declared.operation.Operation.TheVariants.{Db, Dw}
+use Rattle.asm80_source_def.specs.declared.rule.AsmRule.{AsmRule}
+use Rattle.asm80_source_def.specs.declared.rule.AsmRule.TheVariants.{S1, S2, S3, S4, S5, S6, S7}
+use Rattle.asm80_source_def.specs.Walk.{Walk, WalkRow, row_is_taken, row_operation}
+use Rattle.asm80_source_def.specs.Items.{Setting, setting, address, item_rows, starts_in, starts_at, is_instruction_op, is_data_op, is_instruction, is_data, fills_cells, instruction_by, instruction_of, placed_row, placed, data_by, laid_from, data_of_row, data_cells}
+use Rattle.asm80_source_def.specs.Layout.{layout_fault}
+use Rattle.asm80_source_def.specs.Assembly.{HoldsProgram}
 use Rattle.asm80_values.specs.declared.item.Item.{Item}
 use Rattle.asm80_values.specs.Items.{IsFormBy, IsItem, AreItems, overlap_from, breaks, refused_item, profile_fault}
 use Rattle.asm80_values.specs.Programs.{placed_by, placed_form, placed_item, data_form, data_item, is_instruction_form, starts_item, IsSound, NamesStarts, AreLawful}
@@ -79,81 +79,81 @@ refused_none : (rule : AsmRule) (o : Option Item) → refused_item rule o ≡ No
 refused_none rule None h = refl
 refused_none rule (Some i) h = absurd (none-some (i.line, rule) (sym h))
 
-module _ (rs : List Row) (end : Walk) where
+module _ (rs : List WalkRow) (end : Walk) where
   -- ---- one row
 
-  row_taken : (r : Row) → fills_cells r ≡ true → row_is_taken r ≡ true
+  row_taken : (r : WalkRow) → fills_cells r ≡ true → row_is_taken r ≡ true
   row_taken r fills = taken_by (row_is_taken r) (is_instruction_op (row_operation r)) (is_data_op (row_operation r)) fills
 
-  item_placed : (i : Item) (r : Row) → fills_cells r ≡ true → IsItem rs end i r → placed_item i ≡ placed_row rs end r
+  item_placed : (i : Item) (r : WalkRow) → fills_cells r ≡ true → IsItem rs end i r → placed_item i ≡ placed_row rs end r
   item_placed i r fills is =
       let by_taken : Bool → Option Placed = λ t. option_map (λ (x : Instr80). record { at = address r; line = r.statement.line; instr = x }) (cond (t && is_instruction_op (row_operation r)) (instruction_of rs end r) None) in
       ap (λ n. placed_form n i.line i.form) is.at ∙ ap (λ n. placed_form (address r) n i.form) is.line
       ∙ form_placed (setting rs end r) r.statement.args (row_operation r) i.form (address r) r.statement.line is.form
       ∙ sym (ap by_taken (row_taken r fills))
 
-  item_cells : (i : Item) (r : Row) → fills_cells r ≡ true → IsItem rs end i r → data_item i ≡ data_of_row rs end r
+  item_cells : (i : Item) (r : WalkRow) → fills_cells r ≡ true → IsItem rs end i r → data_item i ≡ data_of_row rs end r
   item_cells i r fills is =
       let by_taken : Bool → List (ℕ × Cell) = λ t. laid_from (address r) (cond t (data_by (setting rs end r) r.statement.args (row_operation r)) []) in
       ap (λ n. laid_from n (data_form i.form)) is.at
       ∙ ap (laid_from (address r)) (form_cells (setting rs end r) r.statement.args (row_operation r) i.form is.form)
       ∙ sym (ap by_taken (row_taken r fills))
 
-  item_starts : (i : Item) (r : Row) (a : ℕ) → fills_cells r ≡ true → IsItem rs end i r → starts_item a i ≡ (is_instruction r && (address r == a))
+  item_starts : (i : Item) (r : WalkRow) (a : ℕ) → fills_cells r ≡ true → IsItem rs end i r → starts_item a i ≡ (is_instruction r && (address r == a))
   item_starts i r a fills is =
       ap (λ n. is_instruction_form i.form && (n == a)) is.at
       ∙ ap (λ b. b && (address r == a)) (form_starts (setting rs end r) r.statement.args (row_operation r) i.form is.form)
       ∙ sym (ap (λ t. (t && is_instruction_op (row_operation r)) && (address r == a)) (row_taken r fills))
 
   -- rows that fill no cells
-  placed_none : (r : Row) → fills_cells r ≡ false → placed_row rs end r ≡ None
+  placed_none : (r : WalkRow) → fills_cells r ≡ false → placed_row rs end r ≡ None
   placed_none r fills =
       let by_test : Bool → Option Placed = λ b. option_map (λ (x : Instr80). record { at = address r; line = r.statement.line; instr = x }) (cond b (instruction_of rs end r) None) in
       ap by_test (or_parts (is_instruction r) (is_data r) fills).0
 
-  cells_none_by : (r : Row) (t : Bool) → (t && is_data_op (row_operation r)) ≡ false → laid_from (address r) (cond t (data_by (setting rs end r) r.statement.args (row_operation r)) []) ≡ []
+  cells_none_by : (r : WalkRow) (t : Bool) → (t && is_data_op (row_operation r)) ≡ false → laid_from (address r) (cond t (data_by (setting rs end r) r.statement.args (row_operation r)) []) ≡ []
   cells_none_by r true h = ap (laid_from (address r)) (no_cells (setting rs end r) r.statement.args (row_operation r) h)
   cells_none_by r false h = refl
 
-  cells_none : (r : Row) → fills_cells r ≡ false → data_of_row rs end r ≡ []
+  cells_none : (r : WalkRow) → fills_cells r ≡ false → data_of_row rs end r ≡ []
   cells_none r fills = cells_none_by r (row_is_taken r) (or_parts (is_instruction r) (is_data r) fills).1
 
   -- ---- all rows
 
   placed_step :
-      (q : Row) (kept : List Row) (all : List Placed) → ((is : List Item) → AreItems rs end is kept → filter_map placed_item is ≡ all)
+      (q : WalkRow) (kept : List WalkRow) (all : List Placed) → ((is : List Item) → AreItems rs end is kept → filter_map placed_item is ≡ all)
       → (b : Bool) → fills_cells q ≡ b → (is : List Item) → AreItems rs end is (cond b (q ∷ kept) kept) → filter_map placed_item is ≡ cons_option (placed_row rs end q) all
   placed_step q kept all more true fills [] h = absurd h
   placed_step q kept all more true fills (i ∷ is) h =
       ap (λ o. cons_option o (filter_map placed_item is)) (item_placed i q fills h.0) ∙ ap (cons_option (placed_row rs end q)) (more is h.1)
   placed_step q kept all more false fills is h = more is h ∙ sym (ap (λ o. cons_option o all) (placed_none q fills))
 
-  placed_in_rows : (qs : List Row) (is : List Item) → AreItems rs end is (filter fills_cells qs) → filter_map placed_item is ≡ filter_map (placed_row rs end) qs
+  placed_in_rows : (qs : List WalkRow) (is : List Item) → AreItems rs end is (filter fills_cells qs) → filter_map placed_item is ≡ filter_map (placed_row rs end) qs
   placed_in_rows [] [] h = refl
   placed_in_rows [] (i ∷ is) h = absurd h
   placed_in_rows (q ∷ qs) is h = placed_step q (filter fills_cells qs) (filter_map (placed_row rs end) qs) (placed_in_rows qs) (fills_cells q) refl is h
 
   cells_step :
-      (q : Row) (kept : List Row) (all : List (ℕ × Cell)) → ((is : List Item) → AreItems rs end is kept → flat_map data_item is ≡ all)
+      (q : WalkRow) (kept : List WalkRow) (all : List (ℕ × Cell)) → ((is : List Item) → AreItems rs end is kept → flat_map data_item is ≡ all)
       → (b : Bool) → fills_cells q ≡ b → (is : List Item) → AreItems rs end is (cond b (q ∷ kept) kept) → flat_map data_item is ≡ data_of_row rs end q ++ all
   cells_step q kept all more true fills [] h = absurd h
   cells_step q kept all more true fills (i ∷ is) h =
       ap (λ (cs : List (ℕ × Cell)). cs ++ flat_map data_item is) (item_cells i q fills h.0) ∙ ap (λ (cs : List (ℕ × Cell)). data_of_row rs end q ++ cs) (more is h.1)
   cells_step q kept all more false fills is h = more is h ∙ sym (ap (λ (cs : List (ℕ × Cell)). cs ++ all) (cells_none q fills))
 
-  cells_in_rows : (qs : List Row) (is : List Item) → AreItems rs end is (filter fills_cells qs) → flat_map data_item is ≡ flat_map (data_of_row rs end) qs
+  cells_in_rows : (qs : List WalkRow) (is : List Item) → AreItems rs end is (filter fills_cells qs) → flat_map data_item is ≡ flat_map (data_of_row rs end) qs
   cells_in_rows [] [] h = refl
   cells_in_rows [] (i ∷ is) h = absurd h
   cells_in_rows (q ∷ qs) is h = cells_step q (filter fills_cells qs) (flat_map (data_of_row rs end) qs) (cells_in_rows qs) (fills_cells q) refl is h
 
-  pub placed_same : (is : List Item) → AreItems rs end is (items rs) → filter_map placed_item is ≡ placed rs end
+  pub placed_same : (is : List Item) → AreItems rs end is (item_rows rs) → filter_map placed_item is ≡ placed rs end
   placed_same is h = placed_in_rows rs is h
 
-  pub cells_same : (is : List Item) → AreItems rs end is (items rs) → flat_map data_item is ≡ data_cells rs end
+  pub cells_same : (is : List Item) → AreItems rs end is (item_rows rs) → flat_map data_item is ≡ data_cells rs end
   cells_same is h = cells_in_rows rs is h
 
   starts_step :
-      (a : ℕ) (q : Row) (kept left : List Row) → ((is : List Item) → AreItems rs end is kept → list_any (starts_item a) is ≡ starts_at (map address left) a)
+      (a : ℕ) (q : WalkRow) (kept left : List WalkRow) → ((is : List Item) → AreItems rs end is kept → list_any (starts_item a) is ≡ starts_at (map address left) a)
       → (x y : Bool) → is_instruction q ≡ x → is_data q ≡ y → (is : List Item) → AreItems rs end is (cond (x || y) (q ∷ kept) kept)
       → list_any (starts_item a) is ≡ starts_at (map address (cond x (q ∷ left) left)) a
   starts_step a q kept left more true y instr is_cells [] h = absurd h
@@ -166,7 +166,7 @@ module _ (rs : List Row) (end : Walk) where
       ap (λ b. b || list_any (starts_item a) is) (item_starts i q a fills h.0 ∙ ap (λ b. b && (address q == a)) instr) ∙ more is h.1
   starts_step a q kept left more false false instr is_cells is h = more is h
 
-  starts_in_rows : (a : ℕ) (qs : List Row) (is : List Item) → AreItems rs end is (filter fills_cells qs) → list_any (starts_item a) is ≡ starts_at (map address (filter is_instruction qs)) a
+  starts_in_rows : (a : ℕ) (qs : List WalkRow) (is : List Item) → AreItems rs end is (filter fills_cells qs) → list_any (starts_item a) is ≡ starts_at (map address (filter is_instruction qs)) a
   starts_in_rows a [] [] h = refl
   starts_in_rows a [] (i ∷ is) h = absurd h
   starts_in_rows a (q ∷ qs) is h =
@@ -179,7 +179,7 @@ module _ (rs : List Row) (end : Walk) where
   start_by top none false e = absurd (none-some (0, S3) (sym (no_start rs end top e ∙ none)))
 
   pub lawful :
-      (is : List Item) (top : ℕ) → is_top top ≡ true → top < 0x10000 → AreItems rs end is (items rs) → layout_fault rs end top ≡ None → All IsSound is → AreLawful top is
+      (is : List Item) (top : ℕ) → is_top top ≡ true → top < 0x10000 → AreItems rs end is (item_rows rs) → layout_fault rs end top ≡ None → All IsSound is → AreLawful top is
   lawful is top allowed small h none sound =
       let start : starts_at (starts_in rs) 0x100 ≡ true = start_by top none (starts_at (starts_in rs) 0x100) refl in
       let all : (refused_item S6 (overlap_from [] is) ≡ None) × (profile_fault top is ≡ None) = or_none (refused_item S6 (overlap_from [] is)) (profile_fault top is) (faults_same rs end is top small h start ∙ none) in
@@ -203,15 +203,15 @@ module _ (rs : List Row) (end : Walk) where
         apart = refused_none S6 (overlap_from [] is) all.0;
         within = refused_none S7 (find (breaks top S7) is) area.0;
         native = refused_none S1 (find (breaks top S1) is) profile.0;
-        named = subst (λ (s : ℕ → Bool). All (NamesStarts s) is) by_items (are_named rs end top is (items rs) h (refused_none S2 (find (breaks top S2) is) hits.0));
-        coded = are_coded rs end is (items rs) h;
+        named = subst (λ (s : ℕ → Bool). All (NamesStarts s) is) by_items (are_named rs end top is (item_rows rs) h (refused_none S2 (find (breaks top S2) is) hits.0));
+        coded = are_coded rs end is (item_rows rs) h;
       }
 
   -- ---- the program
 
   pub held :
-      (is : List Item) (top : ℕ) (p : Program) → AreItems rs end is (items rs) → IsProgram p → p.top ≡ top
-      → IsPermutation (filter_map placed_item is) p.instrs → IsPermutation (flat_map data_item is) p.cells → Holds rs end top p
+      (is : List Item) (top : ℕ) (p : Program) → AreItems rs end is (item_rows rs) → IsProgram p → p.top ≡ top
+      → IsPermutation (filter_map placed_item is) p.instrs → IsPermutation (flat_map data_item is) p.cells → HoldsProgram rs end top p
   held is top p h program is_top instrs cells =
       let moved : IsPermutation (placed rs end) p.instrs = rw (placed_same is h) at instrs in
       let moved_cells : IsPermutation (data_cells rs end) p.cells = rw (cells_same is h) at cells in

@@ -5,8 +5,8 @@ use Rattle.std.specs.Option.{option_to_list}
 use Rattle.std.proofs.lemmas.List.{take_more, length-take-le}
 use Rattle.std.proofs.lemmas.List.Elements.{filter_map-append}
 use Rattle.cells.specs.declared.Cell.{Cell}
-use Rattle.asm80_program.proofs.Marks.{cons_option-one}
-use Rattle.asm80_source.specs.Items.{laid_from}
+use Rattle.asm80_program_types.proofs.Marks.{cons_option-one}
+use Rattle.asm80_source_def.specs.Items.{laid_from}
 
 pub found_more :
     {X Y : Type 0} (f : X → Option Y) (xs : List X) (i : ℕ) (x : X) (old new : List Y) → i < length xs → x ≡ get_or xs i x

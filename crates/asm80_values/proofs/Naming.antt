@@ -13,19 +13,19 @@ use Rattle.i80.specs.declared.Goal.TheVariants.{At, Boot, Bdos}
 use Rattle.i80.specs.declared.Instr80.{Instr80}
 use Rattle.i80.specs.declared.Instr80.TheVariants as i80
 use Rattle.i80.specs.Columns.{is_well_formed, length80}
-use Rattle.asm80_program.specs.Program.{if_instr, if_code, IsCoded}
-use Rattle.asm80_tokens.specs.Tree.{Operand, String, Whole, Statement}
+use Rattle.asm80_program_types.specs.Program.{if_instr, if_code, IsCoded}
+use Rattle.asm80_statement_types.specs.Tree.{Operand, String, Whole, Statement}
 use Rattle.asm80_operands.specs.Forms.{HoldsByte}
 use Rattle.asm80_operands.specs.declared.form.Form.{Form}
 use Rattle.asm80_operands.specs.declared.form.Form.TheVariants.{Nothing, Instruction, Data}
-use Rattle.asm80_source.specs.declared.operation.Operation.{Operation}
-use Rattle.asm80_source.specs.declared.operation.Operation.TheVariants as op
-use Rattle.asm80_source.specs.declared.rule.AsmRule.TheVariants.{S2}
-use Rattle.asm80_source.specs.Values.{operand_place}
-use Rattle.asm80_source.specs.Walk.{Walk, Row, operation_in, row_operation}
-use Rattle.asm80_source.specs.Operands.{src_of, pair_of, indirect_of, stack_of}
-use Rattle.asm80_source.specs.Items.{Setting, setting, value, byte, code_address, if_starts, word_by, word_of, goal, move, is_data_op, instruction, numbers, cells_of_byte, cells_of_word_by, cells_of_word, data_by, starts_in, starts_at}
-use Rattle.asm80_source.specs.Layout.{misses, operands_by}
+use Rattle.asm80_source_def.specs.declared.operation.Operation.{Operation}
+use Rattle.asm80_source_def.specs.declared.operation.Operation.TheVariants as op
+use Rattle.asm80_source_def.specs.declared.rule.AsmRule.TheVariants.{S2}
+use Rattle.asm80_source_def.specs.Values.{operand_place}
+use Rattle.asm80_source_def.specs.Walk.{Walk, WalkRow, operation_in, row_operation}
+use Rattle.asm80_source_def.specs.Operands.{src_of, pair_of_operand, indirect_of, stack_of}
+use Rattle.asm80_source_def.specs.Items.{Setting, setting, value, byte, code_address, if_starts, word_by, word_of, goal, move, is_data_op, instruction, numbers, cells_of_byte, cells_of_word_by, cells_of_word, data_by, starts_in, starts_at}
+use Rattle.asm80_source_def.specs.Layout.{misses, operands_by}
 use Rattle.asm80_values.specs.declared.item.Item.{Item}
 use Rattle.asm80_values.specs.Items.{IsFormBy, AreItems, form_breaks, breaks}
 use Rattle.asm80_values.specs.Programs.{NamesStart, AreHalved, OfForm, NamesStarts, HoldsNumbers}
@@ -119,7 +119,7 @@ names_start :
 names_start t (op.Bare i) [] bare h = one_byte t.is_start i (and_parts (is_well_formed i) (length80 i == 1) bare).1
 names_start t op.Mov (a ∷ b ∷ []) bare h = moved t.is_start (src_of a) (src_of b)
 names_start t op.Mvi (a ∷ b ∷ []) bare h = mapped t.is_start (λ (x : Src). i80.Mvi x (byte t b)) (src_of a) (λ x. tt)
-names_start t op.Lxi (a ∷ b ∷ []) bare h = mapped t.is_start (λ (x : Pair). i80.Lxi x (word_of t x b)) (pair_of a) (load_starts t b)
+names_start t op.Lxi (a ∷ b ∷ []) bare h = mapped t.is_start (λ (x : Pair). i80.Lxi x (word_of t x b)) (pair_of_operand a) (load_starts t b)
 names_start t op.Lda (a ∷ []) bare h = tt
 names_start t op.Sta (a ∷ []) bare h = tt
 names_start t op.Lhld (a ∷ []) bare h = tt
@@ -132,9 +132,9 @@ names_start t op.Stax (a ∷ []) bare h = mapped t.is_start i80.Stax (indirect_o
 names_start t (op.Alu o) (a ∷ []) bare h = mapped t.is_start (i80.Alu o) (src_of a) (λ x. tt)
 names_start t op.Inr (a ∷ []) bare h = mapped t.is_start i80.Inr (src_of a) (λ x. tt)
 names_start t op.Dcr (a ∷ []) bare h = mapped t.is_start i80.Dcr (src_of a) (λ x. tt)
-names_start t op.Inx (a ∷ []) bare h = mapped t.is_start i80.Inx (pair_of a) (λ x. tt)
-names_start t op.Dcx (a ∷ []) bare h = mapped t.is_start i80.Dcx (pair_of a) (λ x. tt)
-names_start t op.Dad (a ∷ []) bare h = mapped t.is_start i80.Dad (pair_of a) (λ x. tt)
+names_start t op.Inx (a ∷ []) bare h = mapped t.is_start i80.Inx (pair_of_operand a) (λ x. tt)
+names_start t op.Dcx (a ∷ []) bare h = mapped t.is_start i80.Dcx (pair_of_operand a) (λ x. tt)
+names_start t op.Dad (a ∷ []) bare h = mapped t.is_start i80.Dad (pair_of_operand a) (λ x. tt)
 names_start t op.Push (a ∷ []) bare h = mapped t.is_start i80.Push (stack_of a) (λ x. tt)
 names_start t op.Pop (a ∷ []) bare h = mapped t.is_start i80.Pop (stack_of a) (λ x. tt)
 names_start t op.Jmp (a ∷ []) bare h = goal_starts t.is_start (value t a) h
@@ -184,13 +184,13 @@ form_coded t s (Some o) Nothing is h = tt
 form_coded t s (Some o) (Instruction i) is h = rw h.1 (is_coded t o s.args (bare_sound s.op o is) (λ some. rw h.1 at (h.6 some)))
 form_coded t s (Some o) (Data d) is h = h.3
 
-pub are_coded : (rs : List Row) (end : Walk) (is : List Item) (qs : List Row) → AreItems rs end is qs → All HoldsNumbers is
+pub are_coded : (rs : List WalkRow) (end : Walk) (is : List Item) (qs : List WalkRow) → AreItems rs end is qs → All HoldsNumbers is
 are_coded rs end [] qs h = All-nil HoldsNumbers
 are_coded rs end (i ∷ is) [] h = absurd h
 are_coded rs end (i ∷ is) (q ∷ qs) h =
     All-cons HoldsNumbers i is (form_coded (setting rs end q) q.statement (row_operation q) i.form refl h.0.form) (are_coded rs end is qs h.1)
 
-pub are_named : (rs : List Row) (end : Walk) (top : ℕ) (is : List Item) (qs : List Row) → AreItems rs end is qs → find (breaks top S2) is ≡ None → All (NamesStarts (starts_at (starts_in rs))) is
+pub are_named : (rs : List WalkRow) (end : Walk) (top : ℕ) (is : List Item) (qs : List WalkRow) → AreItems rs end is qs → find (breaks top S2) is ≡ None → All (NamesStarts (starts_at (starts_in rs))) is
 are_named rs end top [] qs h hits = All-nil (NamesStarts (starts_at (starts_in rs)))
 are_named rs end top (i ∷ is) [] h hits = absurd h
 are_named rs end top (i ∷ is) (q ∷ qs) h hits =

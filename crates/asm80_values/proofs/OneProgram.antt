@@ -5,18 +5,18 @@ use Rattle.std.proofs.lemmas.Option.{none-some}
 use Rattle.std.proofs.lemmas.List.Elements.{All-contains, All-cons, Contains-append_right, Contains-append_cases, Contains-append_left, Contains-push}
 use Rattle.cells.specs.declared.Cell.{Cell}
 use Rattle.i80.specs.Columns.{length80}
-use Rattle.asm80_program.specs.declared.program.Placed.{Placed}
-use Rattle.asm80_program.specs.Program.{Program, program_of, AreLaid, CellsAreLaid}
-use Rattle.asm80_tokens.specs.Tree.{Statement}
-use Rattle.asm80_tokens.specs.declared.fault.LineRule.{LineRule}
-use Rattle.asm80_tokens.specs.declared.fault.ReadFault.{ReadFault}
-use Rattle.asm80_tokens.specs.declared.fault.ReadFault.TheVariants.{Syntax}
-use Rattle.asm80_text.specs.Stream.{StreamGives}
-use Rattle.asm80_source.specs.declared.rule.AsmRule.{AsmRule}
-use Rattle.asm80_source.specs.FirstFaults.{Refusal}
-use Rattle.asm80_source.specs.Walk.{Walk, Row, rows, walked}
-use Rattle.asm80_source.specs.Assembly.{Holds, IsRefused, refusal}
-use Rattle.asm80_source.specs.Source.{IsSource, IsNoSource, SourceRule, OfLine, OfProgram, faulty, refused}
+use Rattle.asm80_program_types.specs.declared.program.Placed.{Placed}
+use Rattle.asm80_program_types.specs.Program.{Program, program_of, AreLaid, CellsAreLaid}
+use Rattle.asm80_statement_types.specs.Reading.{Reading, HasOneOutcome}
+use Rattle.asm80_statement_types.specs.Tree.{Statement}
+use Rattle.asm80_statement_types.specs.declared.fault.LineRule.{LineRule}
+use Rattle.asm80_statement_types.specs.declared.fault.ReadFault.{ReadFault}
+use Rattle.asm80_statement_types.specs.declared.fault.ReadFault.TheVariants.{Syntax}
+use Rattle.asm80_source_def.specs.declared.rule.AsmRule.{AsmRule}
+use Rattle.asm80_source_def.specs.FirstFaults.{Refusal}
+use Rattle.asm80_source_def.specs.Walk.{Walk, WalkRow, rows, walked}
+use Rattle.asm80_source_def.specs.Assembly.{HoldsProgram, IsRefused, refusal}
+use Rattle.asm80_source_def.specs.Source.{IsSource, IsNoSource, SourceRule, OfLine, OfProgram, faulty, refused}
 use Rattle.asm80_values.proofs.Placing.{length80-positive}
 
 -- ---- ascending lists with the same members
@@ -91,7 +91,7 @@ same_program : (p q : Program) → p.instrs ≡ q.instrs → p.cells ≡ q.cells
 same_program p q instrs cells top =
     ap (λ (xs : List Placed). program_of xs p.cells p.top) instrs ∙ ap (λ (cs : List (ℕ × Cell)). program_of q.instrs cs p.top) cells ∙ ap (λ (t : ℕ). program_of q.instrs q.cells t) top
 
-one_holds : (rs : List Row) (end : Walk) (top : ℕ) (p q : Program) → Holds rs end top p → Holds rs end top q → p ≡ q
+one_holds : (rs : List WalkRow) (end : Walk) (top : ℕ) (p q : Program) → HoldsProgram rs end top p → HoldsProgram rs end top q → p ≡ q
 one_holds rs end top p q a b =
     same_program p q
     (one_list (λ (x : Placed). x.at) p.instrs q.instrs 0x100 0x100 (instrs_ascend 0x100 (p.top - 2) p.instrs a.lawful.instrs) (instrs_ascend 0x100 (q.top - 2) q.instrs b.lawful.instrs)
@@ -99,17 +99,6 @@ one_holds rs end top p q a b =
     (one_list (λ (c : ℕ × Cell). c.0) p.cells q.cells 0x100 0x100 (cells_ascend p.instrs 0x100 (p.top - 2) p.cells a.lawful.cells) (cells_ascend q.instrs 0x100 (q.top - 2) q.cells b.lawful.cells)
     (λ z h. (b.cells z).1 ((a.cells z).0 h)) (λ z h. (a.cells z).1 ((b.cells z).0 h)))
     (a.is_top ∙ sym b.is_top)
-
--- ---- the statements of a stream are one list
-
-abbrev pub OneStream : List ℕ → Type 0
-OneStream bytes = (a b : List Statement) (f g : Option ReadFault) → StreamGives bytes a f → StreamGives bytes b g → (a ≡ b) × (f ≡ g)
-
-pub one_program : (bytes : List ℕ) (top : ℕ) (p q : Program) → OneStream bytes → IsSource bytes top p → IsSource bytes top q → p ≡ q
-one_program bytes top p q one a b =
-    let same : a.statements ≡ b.statements = (one a.statements b.statements None None a.lines b.lines).0 in
-    let mine : Holds (rows b.statements) (walked b.statements) top p = subst (λ (ss : List Statement). Holds (rows ss) (walked ss) top p) same a.program.program in
-    one_holds (rows b.statements) (walked b.statements) top p q mine b.program.program
 
 -- ---- what is no source
 
@@ -129,35 +118,44 @@ abbrev refusal_rule : AsmRule → Option Refusal → AsmRule
 refusal_rule other (Some x) = x.1
 refusal_rule other None = other
 
--- the same as a pair
-abbrev IsFaulty : List ℕ → ℕ → ℕ → SourceRule → Type 0
-IsFaulty bytes top line (OfLine rule) = (ss : List Statement) × StreamGives bytes ss (Some (Syntax line rule))
-IsFaulty bytes top line (OfProgram rule) = (ss : List Statement) × StreamGives bytes ss None × IsRefused ss top line rule
+-- ---- a reading by which a stream has one outcome
 
-is_faulty : (bytes : List ℕ) (top line : ℕ) (rule : SourceRule) → IsNoSource bytes top line rule → IsFaulty bytes top line rule
-is_faulty bytes top line rule (faulty {statements = ss} h) = (ss, h)
-is_faulty bytes top line rule (refused {statements = ss} h g) = (ss, h, g)
+module _ (reading : Reading) (one : HasOneOutcome reading) where
+  pub one_program : (bytes : List ℕ) (top : ℕ) (p q : Program) → IsSource reading bytes top p → IsSource reading bytes top q → p ≡ q
+  one_program bytes top p q a b =
+      let same : a.statements ≡ b.statements = (one bytes a.statements b.statements None None a.lines b.lines).0 in
+      let mine : HoldsProgram (rows b.statements) (walked b.statements) top p = subst (λ (ss : List Statement). HoldsProgram (rows ss) (walked ss) top p) same a.program.program in
+      one_holds (rows b.statements) (walked b.statements) top p q mine b.program.program
 
-one_fault : (bytes : List ℕ) (top m n : ℕ) (r s : SourceRule) → OneStream bytes → IsFaulty bytes top m r → IsFaulty bytes top n s → (m ≡ n) × (r ≡ s)
-one_fault bytes top m n (OfLine r) (OfLine s) one a b =
-    let same : Some (Syntax m r) ≡ Some (Syntax n s) = (one a.0 b.0 (Some (Syntax m r)) (Some (Syntax n s)) a.1 b.1).1 in
-    (ap fault_line same, ap (λ f. OfLine (fault_rule r f)) same)
-one_fault bytes top m n (OfLine r) (OfProgram s) one a b = absurd (none-some (Syntax m r) (one b.0 a.0 None (Some (Syntax m r)) b.1 a.1).1)
-one_fault bytes top m n (OfProgram r) (OfLine s) one a b = absurd (none-some (Syntax n s) (one a.0 b.0 None (Some (Syntax n s)) a.1 b.1).1)
-one_fault bytes top m n (OfProgram r) (OfProgram s) one a b =
-    let found : refusal a.0 top ≡ Some (m, r) = a.2 in
-    let others : refusal b.0 top ≡ Some (n, s) = b.2 in
-    let same : Some (m, r) ≡ Some (n, s) = sym found ∙ ap (λ (ss : List Statement). refusal ss top) (one a.0 b.0 None None a.1 b.1).0 ∙ others in
-    (ap refusal_line same, ap (λ f. OfProgram (refusal_rule r f)) same)
+  -- the same as a pair
+  abbrev IsFaulty : List ℕ → ℕ → ℕ → SourceRule → Type 0
+  IsFaulty bytes top line (OfLine rule) = (ss : List Statement) × reading bytes ss (Some (Syntax line rule))
+  IsFaulty bytes top line (OfProgram rule) = (ss : List Statement) × reading bytes ss None × IsRefused ss top line rule
 
-pub one_refusal : (bytes : List ℕ) (top m n : ℕ) (r s : SourceRule) → OneStream bytes → IsNoSource bytes top m r → IsNoSource bytes top n s → (m ≡ n) × (r ≡ s)
-one_refusal bytes top m n r s one a b = one_fault bytes top m n r s one (is_faulty bytes top m r a) (is_faulty bytes top n s b)
+  is_faulty : (bytes : List ℕ) (top line : ℕ) (rule : SourceRule) → IsNoSource reading bytes top line rule → IsFaulty bytes top line rule
+  is_faulty bytes top line rule (faulty {statements = ss} h) = (ss, h)
+  is_faulty bytes top line rule (refused {statements = ss} h g) = (ss, h, g)
 
-not_faulty : (bytes : List ℕ) (top n : ℕ) (p : Program) (r : SourceRule) → OneStream bytes → IsSource bytes top p → IsFaulty bytes top n r → ⊥
-not_faulty bytes top n p (OfLine r) one a b = none-some (Syntax n r) (one a.statements b.0 None (Some (Syntax n r)) a.lines b.1).1
-not_faulty bytes top n p (OfProgram r) one a b =
-    let found : refusal b.0 top ≡ Some (n, r) = b.2 in
-    none-some (n, r) (sym a.program.accepted ∙ ap (λ (ss : List Statement). refusal ss top) (one a.statements b.0 None None a.lines b.1).0 ∙ found)
+  one_fault : (bytes : List ℕ) (top m n : ℕ) (r s : SourceRule) → IsFaulty bytes top m r → IsFaulty bytes top n s → (m ≡ n) × (r ≡ s)
+  one_fault bytes top m n (OfLine r) (OfLine s) a b =
+      let same : Some (Syntax m r) ≡ Some (Syntax n s) = (one bytes a.0 b.0 (Some (Syntax m r)) (Some (Syntax n s)) a.1 b.1).1 in
+      (ap fault_line same, ap (λ f. OfLine (fault_rule r f)) same)
+  one_fault bytes top m n (OfLine r) (OfProgram s) a b = absurd (none-some (Syntax m r) (one bytes b.0 a.0 None (Some (Syntax m r)) b.1 a.1).1)
+  one_fault bytes top m n (OfProgram r) (OfLine s) a b = absurd (none-some (Syntax n s) (one bytes a.0 b.0 None (Some (Syntax n s)) a.1 b.1).1)
+  one_fault bytes top m n (OfProgram r) (OfProgram s) a b =
+      let found : refusal a.0 top ≡ Some (m, r) = a.2 in
+      let others : refusal b.0 top ≡ Some (n, s) = b.2 in
+      let same : Some (m, r) ≡ Some (n, s) = sym found ∙ ap (λ (ss : List Statement). refusal ss top) (one bytes a.0 b.0 None None a.1 b.1).0 ∙ others in
+      (ap refusal_line same, ap (λ f. OfProgram (refusal_rule r f)) same)
 
-pub never_both : (bytes : List ℕ) (top n : ℕ) (p : Program) (r : SourceRule) → OneStream bytes → IsSource bytes top p → IsNoSource bytes top n r → ⊥
-never_both bytes top n p r one a b = not_faulty bytes top n p r one a (is_faulty bytes top n r b)
+  pub one_refusal : (bytes : List ℕ) (top m n : ℕ) (r s : SourceRule) → IsNoSource reading bytes top m r → IsNoSource reading bytes top n s → (m ≡ n) × (r ≡ s)
+  one_refusal bytes top m n r s a b = one_fault bytes top m n r s (is_faulty bytes top m r a) (is_faulty bytes top n s b)
+
+  not_faulty : (bytes : List ℕ) (top n : ℕ) (p : Program) (r : SourceRule) → IsSource reading bytes top p → IsFaulty bytes top n r → ⊥
+  not_faulty bytes top n p (OfLine r) a b = none-some (Syntax n r) (one bytes a.statements b.0 None (Some (Syntax n r)) a.lines b.1).1
+  not_faulty bytes top n p (OfProgram r) a b =
+      let found : refusal b.0 top ≡ Some (n, r) = b.2 in
+      none-some (n, r) (sym a.program.accepted ∙ ap (λ (ss : List Statement). refusal ss top) (one bytes a.statements b.0 None None a.lines b.1).0 ∙ found)
+
+  pub never_both : (bytes : List ℕ) (top n : ℕ) (p : Program) (r : SourceRule) → IsSource reading bytes top p → IsNoSource reading bytes top n r → ⊥
+  never_both bytes top n p r a b = not_faulty bytes top n p r a (is_faulty bytes top n r b)

@@ -13,15 +13,15 @@ use Rattle.cells.proofs.Options.{if_none}
 use Rattle.i80.specs.declared.Instr80.{Instr80}
 use Rattle.i80.specs.declared.Instr80.TheVariants.{Nop}
 use Rattle.i80.specs.Columns.{length80, is_well_formed}
-use Rattle.asm80_program.specs.declared.program.Placed.{Placed}
-use Rattle.asm80_program.specs.Program.{Program, covers, placed_in, is_start, cell_at, named_by, AreLaid, CellsAreLaid, IsLaid, NameStarts, IsCoded, AreCoded, IsProgram, program_of}
-use Rattle.asm80_program.proofs.Lookup.{top_range}
+use Rattle.asm80_program_types.specs.declared.program.Placed.{Placed}
+use Rattle.asm80_program_types.specs.Program.{Program, covers, placed_in, is_start, cell_at, named_by, AreLaid, CellsAreLaid, IsInstructionLaid, NameStarts, IsCoded, AreCoded, IsProgram, program_of}
+use Rattle.asm80_program_types.proofs.Lookup.{top_range}
 use Rattle.asm80_operands.specs.Forms.{HoldsByte}
 use Rattle.asm80_operands.specs.declared.form.Form.{Form}
 use Rattle.asm80_operands.specs.declared.form.Form.TheVariants.{Nothing, Instruction, Data}
-use Rattle.asm80_source.specs.declared.rule.AsmRule.TheVariants.{S1, S7}
-use Rattle.asm80_source.specs.Items.{laid_from}
-use Rattle.asm80_source.specs.Layout.{counted_from, is_filled}
+use Rattle.asm80_source_def.specs.declared.rule.AsmRule.TheVariants.{S1, S7}
+use Rattle.asm80_source_def.specs.Items.{laid_from}
+use Rattle.asm80_source_def.specs.Layout.{counted_from, is_filled}
 use Rattle.asm80_values.specs.declared.item.Item.{Item}
 use Rattle.asm80_values.specs.Items.{cells_of_item, overlap_from, stands_outside, form_breaks, breaks}
 use Rattle.asm80_values.specs.Programs.{placed_by, placed_form, placed_item, data_form, data_item, is_instruction_form, starts_item, IsSoundForm, IsSound, NamesStart, AreHalved, OfForm, OfItem, NamesStarts, AreLawful}
@@ -35,10 +35,10 @@ length80-positive i = omega arith
 -- ---- in ascending order
 
 -- instructions of which none covers a cell of another
-lay : (xs : List Placed) (from limit : ℕ) → All (λ x. from ≤ x.at) xs → All (IsLaid 0x100 limit) xs → IsNonDecreasingBy (λ x. x.at) xs → ((a : ℕ) → covered_times a xs ≤ 1) → AreLaid from limit xs
+lay : (xs : List Placed) (from limit : ℕ) → All (λ x. from ≤ x.at) xs → All (IsInstructionLaid 0x100 limit) xs → IsNonDecreasingBy (λ x. x.at) xs → ((a : ℕ) → covered_times a xs ≤ 1) → AreLaid from limit xs
 lay [] from limit above laid rising times = tt
 lay (x ∷ xs) from limit above laid rising times =
-    let here : IsLaid 0x100 limit x = All-head (IsLaid 0x100 limit) x xs laid in
+    let here : IsInstructionLaid 0x100 limit x = All-head (IsInstructionLaid 0x100 limit) x xs laid in
     let later : All (λ (y : Placed). x.at + length80 x.instr ≤ y.at) xs = λ k d lt.
     (let order : x.at ≤ (get_or xs k d).at = rising 0 (suc k) d (omega arith) (omega arith) in
     let few = times (get_or xs k d).at in
@@ -48,7 +48,7 @@ lay (x ∷ xs) from limit above laid rising times =
     let apart : covers x (get_or xs k d).at ≡ false = one_zero (covers x (get_or xs k d).at) (omega arith) in
     grind (arith, nat_tests)) in
     let tail : (a : ℕ) → covered_times a xs ≤ 1 = λ a. omega (arith, times a) in
-    (All-head (λ (y : Placed). from ≤ y.at) x xs above, here.below, here.good, lay xs (x.at + length80 x.instr) limit later (All-tail (IsLaid 0x100 limit) x xs laid) (λ i j d le lt. rising (suc i) (suc j) d (omega arith) (omega arith)) tail)
+    (All-head (λ (y : Placed). from ≤ y.at) x xs above, here.below, here.good, lay xs (x.at + length80 x.instr) limit later (All-tail (IsInstructionLaid 0x100 limit) x xs laid) (λ i j d le lt. rising (suc i) (suc j) d (omega arith) (omega arith)) tail)
   where
     covers_itself : (x : Placed) → covers x x.at ≡ true
     covers_itself x = let long = length80-positive x.instr in grind (arith, nat_tests)
@@ -110,11 +110,11 @@ form_times top at n line (Data d) low sound within a = omega (arith, cells_times
 
 -- the range of what it makes
 form_laid :
-    (top at n line : ℕ) (f : Form) → IsSoundForm n f → (0 < n → (0x100 ≤ at) × (at + n ≤ top - 2)) → IfSome (placed_form at line f) (λ x. IsLaid 0x100 (top - 2) x)
+    (top at n line : ℕ) (f : Form) → IsSoundForm n f → (0 < n → (0x100 ≤ at) × (at + n ≤ top - 2)) → IfSome (placed_form at line f) (λ x. IsInstructionLaid 0x100 (top - 2) x)
 form_laid top at n line Nothing sound within = tt
 form_laid top at n line (Instruction i) sound within = by_instr i.instr sound.1
   where
-    by_instr : (o : Option Instr80) → IfSome o (λ x. (is_well_formed x ≡ true) × (length80 x ≡ n)) → IfSome (placed_by at line o) (λ x. IsLaid 0x100 (top - 2) x)
+    by_instr : (o : Option Instr80) → IfSome o (λ x. (is_well_formed x ≡ true) × (length80 x ≡ n)) → IfSome (placed_by at line o) (λ x. IsInstructionLaid 0x100 (top - 2) x)
     by_instr None h = tt
     by_instr (Some x) h =
         let long = length80-positive x in
@@ -186,11 +186,11 @@ module _ (top : ℕ) (low : top ≤ 0xFF00) where
       let counted : one (is_filled (cells_of_item i) a || is_filled filled a) ≡ one (is_filled (cells_of_item i) a) + one (is_filled filled a) = one_or (is_filled (cells_of_item i) a) (is_filled filled a) (apart_at filled (cells_of_item i) a split.0) in
       omega (arith, ap one both, cov-cons a (placed_item i) (filter_map placed_item is), held_append a (data_item i) (flat_map data_item is))
 
-  all_laid : (is : List Item) → All IsSound is → find (breaks top S7) is ≡ None → All (IsLaid 0x100 (top - 2)) (filter_map placed_item is)
+  all_laid : (is : List Item) → All IsSound is → find (breaks top S7) is ≡ None → All (IsInstructionLaid 0x100 (top - 2)) (filter_map placed_item is)
   all_laid [] sound within = λ k d lt. absurd (omega arith)
   all_laid (i ∷ is) sound within =
       let area = if_none (stands_outside top i) i (find (breaks top S7) is) within in
-      found-cons (IsLaid 0x100 (top - 2)) (placed_item i) (filter_map placed_item is) (form_laid top i.at i.size i.line i.form (All-head IsSound i is sound) (within_by top i.at i.size area.0)) (all_laid is (All-tail IsSound i is sound) area.1)
+      found-cons (IsInstructionLaid 0x100 (top - 2)) (placed_item i) (filter_map placed_item is) (form_laid top i.at i.size i.line i.form (All-head IsSound i is sound) (within_by top i.at i.size area.0)) (all_laid is (All-tail IsSound i is sound) area.1)
 
   all_within : (is : List Item) → All IsSound is → find (breaks top S7) is ≡ None → All (λ c. (0x100 ≤ c.0) × (c.0 < top - 2)) (flat_map data_item is)
   all_within [] sound within = λ k d lt. absurd (omega arith)
@@ -344,7 +344,7 @@ program_laid top is instrs cells lawful moved rising moved_cells rising_cells =
     let low : top ≤ 0xFF00 = (top_range top lawful.is_top).1 in
     let few : (a : ℕ) → covered_times a instrs + held_times a cells ≤ 1 = λ a.
     omega (arith, covered_moved a (filter_map placed_item is) instrs moved, held_moved a (flat_map data_item is) cells moved_cells, times top low is [] lawful.sound lawful.apart lawful.within a) in
-    let laid : All (IsLaid 0x100 (top - 2)) instrs = All-permutation (IsLaid 0x100 (top - 2)) (filter_map placed_item is) instrs moved (all_laid top low is lawful.sound lawful.within) in
+    let laid : All (IsInstructionLaid 0x100 (top - 2)) instrs = All-permutation (IsInstructionLaid 0x100 (top - 2)) (filter_map placed_item is) instrs moved (all_laid top low is lawful.sound lawful.within) in
     let area : All (λ (c : ℕ × Cell). (0x100 ≤ c.0) × (c.0 < top - 2)) cells = All-permutation (λ (c : ℕ × Cell). (0x100 ≤ c.0) × (c.0 < top - 2)) (flat_map data_item is) cells moved_cells (all_within top low is lawful.sound lawful.within) in
     let starts : (a : ℕ) → list_any (starts_item a) is ≡ true → is_start p a ≡ true = λ a h.
     start_found a instrs (sym (list_any-IsPermutation (λ (x : Placed). x.at == a) (filter_map placed_item is) instrs moved) ∙ start_all top a is lawful.sound lawful.native h) in

@@ -4,9 +4,9 @@ use Rattle.std.proofs.lemmas.Bool.Decides.{nat_tests}
 use Rattle.std.proofs.lemmas.List.{length-map}
 use Rattle.std.proofs.lemmas.Slice.Eq.{bytes_eq-Decides}
 use Rattle.std.specs.Str.{bytes_eq}
-use Rattle.asm80_source.specs.declared.meaning.NameKind.{NameKind}
-use Rattle.asm80_source.specs.declared.meaning.NameKind.TheVariants.{Label, Equate, Settable}
-use Rattle.asm80_source.specs.Names.{Name, named, most_names, is_settable, renamed, clashes_with, clashes, overflows_by, overflows, defined}
+use Rattle.asm80_source_def.specs.declared.meaning.NameKind.{NameKind}
+use Rattle.asm80_source_def.specs.declared.meaning.NameKind.TheVariants.{Label, Equate, Settable}
+use Rattle.asm80_source_def.specs.Names.{Name, named, most_names, is_settable, renamed, clashes_with, clashes, overflows_by, overflows, defined}
 use Rattle.asm80_values.proofs.SetNames.{Made, fresh, again, made, other_made, own_made, Distinct, one, set_count}
 
 -- ---- how many there are

@@ -3,7 +3,7 @@ use Rattle.std.proofs.Common.{◌≡◌, ℕ, ◌+◌, ◌<◌, nat_lt, Bool, tr
 use Rattle.std.proofs.lemmas.Bool.Decides.{nat_tests}
 use Rattle.std.proofs.lemmas.Slice.Eq.{bytes_eq-Decides}
 use Rattle.std.specs.Str.{bytes_eq}
-use Rattle.asm80_source.specs.Names.{Name, named, most_names, is_settable, renamed, clashes_with, clashes, overflows_by, overflows, defined_by, defined}
+use Rattle.asm80_source_def.specs.Names.{Name, named, most_names, is_settable, renamed, clashes_with, clashes, overflows_by, overflows, defined_by, defined}
 
 -- ---- definitions that are made
 

@@ -5,11 +5,11 @@ use Rattle.std.proofs.Math.Path.{fun_ext}
 use Rattle.std.proofs.lemmas.List.{length-map}
 use Rattle.std.proofs.lemmas.List.Concat.{length-flat_map}
 use Rattle.cells.specs.declared.Cell.TheVariants.{Num}
-use Rattle.asm80_tokens.specs.Tree.{Operand, String, Whole, Statement}
-use Rattle.asm80_source.specs.declared.operation.Operation.{Operation}
-use Rattle.asm80_source.specs.declared.operation.Operation.TheVariants.{Db, Dw}
-use Rattle.asm80_source.specs.Walk.{bytes_of_item, size_by}
-use Rattle.asm80_source.specs.Items.{Setting, is_data_op, value, code_address, cells_of_byte, cells_of_word_by, cells_of_word, data_by}
+use Rattle.asm80_statement_types.specs.Tree.{Operand, String, Whole, Statement}
+use Rattle.asm80_source_def.specs.declared.operation.Operation.{Operation}
+use Rattle.asm80_source_def.specs.declared.operation.Operation.TheVariants.{Db, Dw}
+use Rattle.asm80_source_def.specs.Walk.{bytes_of_item, size_by}
+use Rattle.asm80_source_def.specs.Items.{Setting, is_data_op, value, code_address, cells_of_byte, cells_of_word_by, cells_of_word, data_by}
 
 byte_size : (t : Setting) (a : Operand) → length (cells_of_byte t a) ≡ bytes_of_item a
 byte_size t (String bytes) = length-map bytes Num

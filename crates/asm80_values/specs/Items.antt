@@ -2,18 +2,18 @@
 use Rattle.std.specs.Prelude.{◌≡◌, ℕ, ◌-◌, ◌^◌, ◌<◌, nat_lt, ◌&&◌, ◌||◌, Bool, false, cond, List, [], ◌∷◌, ◌++◌, find, Option, Some, None}
 use Rattle.std.specs.List.{list_any}
 use Rattle.std.specs.Option.{option_or}
-use Rattle.asm80_tokens.specs.Tree.{Operand}
+use Rattle.asm80_statement_types.specs.Tree.{Operand}
 use Rattle.asm80_operands.specs.declared.form.Form.{Form}
 use Rattle.asm80_operands.specs.declared.form.Form.TheVariants.{Instruction, Data}
 use Rattle.asm80_operands.specs.Forms.{IsForm}
-use Rattle.asm80_source.specs.declared.operation.Operation.{Operation}
-use Rattle.asm80_source.specs.declared.rule.AsmRule.{AsmRule}
-use Rattle.asm80_source.specs.declared.rule.AsmRule.TheVariants.{S1, S2, S4, S5, S7}
-use Rattle.asm80_source.specs.Walk.{Walk, Row, row_operation, size_of}
-use Rattle.asm80_source.specs.FirstFaults.{Refusal}
-use Rattle.asm80_source.specs.Operands.{second_rule}
-use Rattle.asm80_source.specs.Items.{Setting, setting, address}
-use Rattle.asm80_source.specs.Layout.{counted_from, is_filled}
+use Rattle.asm80_source_def.specs.declared.operation.Operation.{Operation}
+use Rattle.asm80_source_def.specs.declared.rule.AsmRule.{AsmRule}
+use Rattle.asm80_source_def.specs.declared.rule.AsmRule.TheVariants.{S1, S2, S4, S5, S7}
+use Rattle.asm80_source_def.specs.Walk.{Walk, WalkRow, row_operation, size_of_statement}
+use Rattle.asm80_source_def.specs.FirstFaults.{Refusal}
+use Rattle.asm80_source_def.specs.Operands.{second_rule}
+use Rattle.asm80_source_def.specs.Items.{Setting, setting, address}
+use Rattle.asm80_source_def.specs.Layout.{counted_from, is_filled}
 use Rattle.asm80_values.specs.declared.item.Item.{Item}
 
 abbrev pub IsFormBy : Setting → List Operand → Option Operation → Form → Type 0
@@ -21,16 +21,16 @@ IsFormBy t args None f = ⊥
 IsFormBy t args (Some o) f = IsForm t o args f
 
 -- the item is what the row fills its cells with; its operands broke no rule of the second walk
-pub record IsItem (rs : List Row) (end : Walk) (i : Item) (r : Row) : Type 0 where
+pub record IsItem (rs : List WalkRow) (end : Walk) (i : Item) (r : WalkRow) : Type 0 where
   pub line : i.line ≡ r.statement.line
   pub at : i.at ≡ address r
   pub small : i.at < 2 ^ 16
-  pub size : i.size ≡ size_of r.statement
+  pub size : i.size ≡ size_of_statement r.statement
   pub accepted : second_rule end r ≡ None
   pub form : IsFormBy (setting rs end r) r.statement.args (row_operation r) i.form
 
 -- the same one by one
-abbrev pub AreItems : List Row → Walk → List Item → List Row → Type 0
+abbrev pub AreItems : List WalkRow → Walk → List Item → List WalkRow → Type 0
 AreItems rs end [] [] = Unit {0}
 AreItems rs end [] (q ∷ qs) = ⊥
 AreItems rs end (i ∷ is) [] = ⊥

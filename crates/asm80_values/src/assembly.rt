@@ -1,16 +1,16 @@
 // From the statements of a source to its program.
 ghost use Rattle.std.specs.Prelude.{◌≡◌, ℕ, true, map, IfOk, Err};
-ghost use Rattle.asm80_tokens.specs.Tree.{statement_of};
-ghost use Rattle.asm80_program.specs.Program.{is_top};
-ghost use Rattle.asm80_source.specs.declared.rule.AsmRule.{AsmRule};
-ghost use Rattle.asm80_source.specs.Assembly.{IsAssembled, IsRefused};
+ghost use Rattle.asm80_statement_types.specs.Tree.{statement_of};
+ghost use Rattle.asm80_program_types.specs.Program.{is_top};
+ghost use Rattle.asm80_source_def.specs.declared.rule.AsmRule.{AsmRule};
+ghost use Rattle.asm80_source_def.specs.Assembly.{IsAssembled, IsRefused};
 
 use crate::layout::layout_fault;
 use crate::program::program_of_items;
 use crate::second_walk::{items_of, starts_of};
-use asm80_program::Program80;
-use asm80_tokens::Stmt80;
-use asm80_walk::{AsmFault, walk};
+use asm80_first_walk::{AsmFault, walk};
+use asm80_program_types::Program80;
+use asm80_statement_types::Stmt80;
 use std::alloc::Global;
 
 /// The program of the statements of a source, for a top of the program area, a multiple of 100H from 1000H to 0FF00H. A refusal

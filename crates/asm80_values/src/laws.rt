@@ -1,15 +1,16 @@
 // Laws of sources.
 ghost use Rattle.std.specs.Prelude.{◌≡◌, ℕ, List};
-ghost use Rattle.asm80_program.specs.Program.{Program};
-ghost use Rattle.asm80_source.specs.Source.{IsSource, IsNoSource, SourceRule};
+ghost use Rattle.asm80_program_types.specs.Program.{Program};
+ghost use Rattle.asm80_source_def.specs.Source.{IsSource, IsNoSource, SourceRule};
 
-use asm80_text::stream_has_one_outcome;
+use asm80_statement_types::StatementReader;
 
-/// The bytes of a source, with a top of the program area, have at most one outcome: a program, or a line and rule, and never both.
-pub fn source_has_one_outcome()
-    ensures program { (bytes : List ℕ) (top : ℕ) (p q : Program) → IsSource bytes top p → IsSource bytes top q → p ≡ q }
-    ensures refusal { (bytes : List ℕ) (top m n : ℕ) (r s : SourceRule) → IsNoSource bytes top m r → IsNoSource bytes top n s → (m ≡ n) × (r ≡ s) }
-    ensures apart { (bytes : List ℕ) (top n : ℕ) (p : Program) (r : SourceRule) → IsSource bytes top p → IsNoSource bytes top n r → ⊥ }
+/// By the reading of any reader the bytes of a source, with a top of the program area, have at most one outcome: a program, or a
+/// line and rule, and never both.
+pub fn source_has_one_outcome<R: StatementReader>()
+    ensures program { (bytes : List ℕ) (top : ℕ) (p q : Program) → IsSource R.reading bytes top p → IsSource R.reading bytes top q → p ≡ q }
+    ensures refusal { (bytes : List ℕ) (top m n : ℕ) (r s : SourceRule) → IsNoSource R.reading bytes top m r → IsNoSource R.reading bytes top n s → (m ≡ n) × (r ≡ s) }
+    ensures apart { (bytes : List ℕ) (top n : ℕ) (p : Program) (r : SourceRule) → IsSource R.reading bytes top p → IsNoSource R.reading bytes top n r → ⊥ }
 {
-    stream_has_one_outcome()
+    R::reading_has_one_outcome();
 }

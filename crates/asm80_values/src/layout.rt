@@ -2,16 +2,16 @@
 ghost use Rattle.std.specs.Prelude.{◌≡◌, ◌||◌, ℕ, [], ◌++◌, cond, find, List, IfOk, Some, None};
 ghost use Rattle.std.specs.List.{list_any};
 ghost use Rattle.std.specs.Option.{option_or};
-ghost use Rattle.base.specs.Addresses.{has_address, StandsFor};
-ghost use Rattle.asm80_source.specs.Walk.{Walk, Row};
-ghost use Rattle.asm80_source.specs.Items.{items as rows_that_fill, starts_in};
-ghost use Rattle.asm80_source.specs.Layout.{layout_fault};
+ghost use Rattle.base_types.specs.Addresses.{has_address, IsSetOf};
+ghost use Rattle.asm80_source_def.specs.Walk.{Walk, WalkRow};
+ghost use Rattle.asm80_source_def.specs.Items.{item_rows as rows_that_fill, starts_in};
+ghost use Rattle.asm80_source_def.specs.Layout.{layout_fault};
 ghost use Rattle.asm80_values.specs.Items.{AreItems, cells_of_item, overlap_from, stands_outside, breaks, refused_item, profile_fault};
 
 use crate::item::{Item, address_of_cell};
 use asm80_operands::Form;
-use asm80_source::AsmRule;
-use base::AddressSet;
+use asm80_source_def::AsmRule;
+use base_types::AddressSet;
 use std::alloc::{AllocError, Global};
 
 // Whether a cell of an item is in a set.
@@ -28,7 +28,7 @@ fn overlaps(filled: &AddressSet, item: &Item) -> bool
 
 // Adds the cells of an item to a set.
 fn fill(filled: &mut AddressSet, item: &Item)
-    ensures { (addresses : List ℕ) → StandsFor filled.old addresses → StandsFor filled.new (cells_of_item item.now ++ addresses) }
+    ensures { (addresses : List ℕ) → IsSetOf filled.old addresses → IsSetOf filled.new (cells_of_item item.now ++ addresses) }
 {
     for k in 0..item.size {
         filled.insert(address_of_cell(item.at, k));
@@ -99,7 +99,7 @@ pub fn layout_fault(
     starts: &AddressSet,
     top: u16,
 ) -> Result<Option<(u32, AsmRule)>, AllocError>
-    ensures { (rs : List Row) (end : Walk) → AreItems rs end items.now (rows_that_fill rs) → StandsFor starts.now (starts_in rs) → IfOk result (λ fault. fault ≡ layout_fault rs end top) }
+    ensures { (rs : List WalkRow) (end : Walk) → AreItems rs end items.now (rows_that_fill rs) → IsSetOf starts.now (starts_in rs) → IfOk result (λ fault. fault ≡ layout_fault rs end top) }
 {
     if !starts.contains(0x100) {
         return Ok(Some((0, AsmRule::S3)));

@@ -1,4 +1,13 @@
-// The program that statements stand for, or the first rule of names, values and layout that they break.
+// The assembler: the program that statements stand for, or the first rule of names, values and layout that they break.
+//
+// Proved: `assemble` gives, for an allowed top of the program area, the program of the statements by the definition (`assembled`:
+// `IsAssembled`), or the first rule that they break with its line (`refused`: `IsRefused`): of the first walk, else of the second, else of
+// the layout in the order S3, S6, S7, S1, S2, S4, S5. Beside this only want of memory is answered. The program is all that a source gives
+// (`IsProgram`): an instruction starts at 100H, at each target but 0 and 5, and at each code address of an LXI or of the data; no cell
+// belongs to two; all are from 100H up and below the top less 2; operands are in their ranges; a data cell is a number, or half of a code
+// address with the other half beside it. Law `source_has_one_outcome`: bytes, with a top, are the source of one program at most, are
+// refused at one line for one rule at most, and never both. Below it: `items_of` (operands of the second walk), `layout_fault` (the first
+// breach of the layout) and `program_of_items` (the program of the items in the order of their addresses).
 #![tactic(auto)]
 
 mod assembly;
@@ -8,8 +17,8 @@ mod layout;
 mod program;
 mod second_walk;
 
-pub use asm80_program::Program80;
-pub use asm80_source::AsmRule;
-pub use asm80_walk::AsmFault;
+pub use asm80_first_walk::AsmFault;
+pub use asm80_program_types::Program80;
+pub use asm80_source_def::AsmRule;
 pub use assembly::assemble;
 pub use laws::source_has_one_outcome;

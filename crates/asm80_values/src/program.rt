@@ -2,13 +2,13 @@
 ghost use Rattle.std.specs.Prelude.{◌≡◌, ◌++◌, option_to_list, IfOk, OnOk};
 ghost use Rattle.std.specs.List.{filter_map, flat_map};
 ghost use Rattle.std.specs.List.Sorted.{IsPermutation, IsNonDecreasingBy};
-ghost use Rattle.asm80_program.specs.Program.{Program, IsProgram};
-ghost use Rattle.asm80_source.specs.Items.{laid_from};
+ghost use Rattle.asm80_program_types.specs.Program.{Program, IsProgram};
+ghost use Rattle.asm80_source_def.specs.Items.{laid_from};
 ghost use Rattle.asm80_values.specs.Programs.{AreLawful, placed_item, data_item};
 
 use crate::item::{Item, address_of_cell};
 use asm80_operands::Form;
-use asm80_program::{Placed, Program80};
+use asm80_program_types::{Placed, Program80};
 use cells::Cell;
 use std::alloc::{AllocError, Global};
 

@@ -1,21 +1,21 @@
 // The second walk: the operands of instructions, DB and DW.
 ghost use Rattle.std.specs.Prelude.{◌≡◌, ◌||◌, ℕ, List, option_to_list, map, Some, OnOk, IfOk, MatchResult};
-ghost use Rattle.base.specs.Addresses.{has_address, is_among, StandsFor};
-ghost use Rattle.asm80_tokens.specs.declared.stmt.Stmt80.{Stmt80};
-ghost use Rattle.asm80_tokens.specs.Tree.{Statement, operand_of, statement_of};
+ghost use Rattle.base_types.specs.Addresses.{has_address, is_among, IsSetOf};
+ghost use Rattle.asm80_statement_types.specs.declared.stmt.Stmt80.{Stmt80};
+ghost use Rattle.asm80_statement_types.specs.Tree.{Statement, operand_of, statement_of};
 ghost use Rattle.asm80_operands.specs.Forms.{IsForm};
-ghost use Rattle.asm80_walk.specs.Walked.{StandsFor as StandsForRow, Stand, IsWalked};
-ghost use Rattle.asm80_source.specs.Walk.{Row, row_operation, size_by, rows};
-ghost use Rattle.asm80_source.specs.Items.{Setting as Seen, address, is_instruction_op, starts_in};
-ghost use Rattle.asm80_values.specs.Second.{taken_rows, start_of, seen_in, names_set, fault_on, IsItemOf, GivesItem, AreItemsOf, AreRefused};
+ghost use Rattle.asm80_first_walk.specs.Walked.{IsRowOf as StandsForRow, Stand, IsWalked};
+ghost use Rattle.asm80_source_def.specs.Walk.{WalkRow, row_operation, size_by, rows};
+ghost use Rattle.asm80_source_def.specs.Items.{Setting as Seen, address, is_instruction_op, starts_in};
+ghost use Rattle.asm80_values.specs.Second.{taken_rows, start_of_row, seen_in, names_set, fault_on, IsItemOf, GivesItem, AreItemsOf, AreRefused};
 
 use crate::item::Item;
+use asm80_first_walk::{AsmFault, Taken, Walked, size_of};
 use asm80_names::{Names, Scope};
 use asm80_operands::{Form, FormFault, Setting, form_of, kinds_of};
-use asm80_source::{NameKind, Operation};
-use asm80_tokens::{Arg, Stmt80};
-use asm80_walk::{AsmFault, Taken, Walked, size_of};
-use base::AddressSet;
+use asm80_source_def::{NameKind, Operation};
+use asm80_statement_types::{Arg, Stmt80};
+use base_types::AddressSet;
 use std::alloc::{AllocError, Global};
 
 fn is_instruction(operation: Option<Operation>) -> bool
@@ -29,7 +29,7 @@ fn is_instruction(operation: Option<Operation>) -> bool
 
 // Adds the address of an instruction.
 fn mark_start(starts: &mut AddressSet, row: &Taken)
-    ensures { (a : ℕ) → has_address starts.new a ≡ (is_among (option_to_list (start_of row.now)) a || has_address starts.old a) }
+    ensures { (a : ℕ) → has_address starts.new a ≡ (is_among (option_to_list (start_of_row row.now)) a || has_address starts.old a) }
 {
     if is_instruction(row.operation) {
         starts.insert(row.at);
@@ -38,7 +38,7 @@ fn mark_start(starts: &mut AddressSet, row: &Taken)
 
 /// The addresses at which instructions start.
 pub fn starts_of(alloc: Global, taken: &[Taken]) -> Result<AddressSet, AllocError>
-    ensures { (statements : List Stmt80) → Stand statements taken.now (taken_rows statements) → IfOk result (λ set. StandsFor set (starts_in (rows (map statement_of statements)))) }
+    ensures { (statements : List Stmt80) → Stand statements taken.now (taken_rows statements) → IfOk result (λ set. IsSetOf set (starts_in (rows (map statement_of statements)))) }
 {
     let mut starts = AddressSet::new(alloc)?;
     for row in taken {
@@ -59,7 +59,7 @@ fn size_of_form(operation: Operation, args: &[Arg], form: &Form) -> usize
 
 // The item of a form; none where it fills no cells.
 fn item_with(line: u32, at: u16, operation: Operation, args: &[Arg], form: Form) -> Option<Item>
-    ensures { (t : Seen) (r : Row) → line ≡ r.statement.line → at ≡ address r → r.statement.args ≡ map operand_of args.now → row_operation r ≡ Some operation → IsForm t operation r.statement.args form → IsItemOf t r result }
+    ensures { (t : Seen) (r : WalkRow) → line ≡ r.statement.line → at ≡ address r → r.statement.args ≡ map operand_of args.now → row_operation r ≡ Some operation → IsForm t operation r.statement.args form → IsItemOf t r result }
 {
     match form {
         Form::Nothing => None,
@@ -80,7 +80,7 @@ fn item_of(
     names: &Names,
     starts: &AddressSet,
 ) -> Result<Option<Item>, AsmFault>
-    ensures { (statements : List Stmt80) (r : Row) → StandsForRow statements row.now r → statement_of statement.now ≡ r.statement → GivesItem (seen_in names.now starts.now r) r result }
+    ensures { (statements : List Stmt80) (r : WalkRow) → StandsForRow statements row.now r → statement_of statement.now ≡ r.statement → GivesItem (seen_in names.now starts.now r) r result }
 {
     let Some(operation) = row.operation else {
         return Ok(None);
@@ -109,7 +109,7 @@ fn refused(line: u32, fault: FormFault) -> AsmFault
 
 // Sets the name of a SET again.
 fn set_again(names: &mut Names, statement: &Stmt80, row: &Taken) -> Result<(), AllocError>
-    ensures { (statements : List Stmt80) (r : Row) → StandsForRow statements row.now r → statement_of statement.now ≡ r.statement → OnOk result (names.new ≡ names_set r names.old) }
+    ensures { (statements : List Stmt80) (r : WalkRow) → StandsForRow statements row.now r → statement_of statement.now ≡ r.statement → OnOk result (names.new ≡ names_set r names.old) }
 {
     match (row.operation, statement.label) {
         (Some(Operation::Set), Some(label)) => {
@@ -127,7 +127,7 @@ pub fn items_of(
     starts: &AddressSet,
 ) -> Result<Vec<Item>, AsmFault>
     requires walked { IsWalked statements.now walked }
-    requires starts { StandsFor starts.now (starts_in (rows (map statement_of statements.now))) }
+    requires starts { IsSetOf starts.now (starts_in (rows (map statement_of statements.now))) }
     ensures { MatchResult result (λ v. AreItemsOf statements.now v.items) (λ fault. AreRefused statements.now fault) }
 {
     let Walked { rows, names } = walked;

@@ -4,11 +4,11 @@ use Rattle.std.specs.List.{list_all}
 use Rattle.std.specs.Option.{is_some}
 use Rattle.std.proofs.Math.Bool.{and-false}
 use Rattle.std.proofs.lemmas.List.Folds.{list_all-append}
-use Rattle.asm86_lines.specs.declared.line.Label.{Label}
-use Rattle.asm86_lines.specs.declared.line.Stmt86.{Stmt86}
-use Rattle.asm86_lines.specs.declared.line.Stmt86.TheVariants.{Mark}
-use Rattle.asm86_lines.specs.declared.line.TextRule.{TextRule}
-use Rattle.asm86_lines.specs.declared.line.TextRule.TheVariants.{M1, M2}
+use Rattle.asm86_line_types.specs.declared.line.Label.{Label}
+use Rattle.asm86_line_types.specs.declared.line.Stmt86.{Stmt86}
+use Rattle.asm86_line_types.specs.declared.line.Stmt86.TheVariants.{Mark}
+use Rattle.asm86_line_types.specs.declared.line.TextRule.{TextRule}
+use Rattle.asm86_line_types.specs.declared.line.TextRule.TheVariants.{M1, M2}
 use Rattle.asm86_line_reader.specs.Forms.{is_small}
 use Rattle.asm86_line_reader.specs.Results.{checked, all_checked}
 use Rattle.asm86_line_reader.proofs.Each.{both}

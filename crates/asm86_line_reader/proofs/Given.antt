@@ -3,12 +3,12 @@ use Rattle.std.proofs.Common.{◌≡◌, ℕ, zero, suc, ◌<◌, List, [], ◌�
 use Rattle.std.specs.List.{list_all}
 use Rattle.std.proofs.lemmas.Bool.{eqb-true}
 use Rattle.std.specs.Option.{is_some}
-use Rattle.asm86_lines.specs.declared.line.Stmt86.{Stmt86}
-use Rattle.asm86_lines.specs.declared.line.TextRule.{TextRule}
+use Rattle.asm86_line_types.specs.declared.line.Stmt86.{Stmt86}
+use Rattle.asm86_line_types.specs.declared.line.TextRule.{TextRule}
 use Rattle.asm86_line_reader.specs.declared.token.Operand.{Operand}
 use Rattle.asm86_line_reader.specs.declared.token.Operation.{Operation}
 use Rattle.asm86_line_reader.specs.declared.token.Operation.TheVariants.{Db, Dw}
-use Rattle.asm86_line_reader.specs.Forms.{items, formed, single}
+use Rattle.asm86_line_reader.specs.Forms.{items_of, formed, single}
 use Rattle.asm86_line_reader.specs.Operands.{each}
 use Rattle.asm86_line_reader.specs.Results.{checked, all_checked}
 use Rattle.asm86_line_reader.proofs.Each.{both, both_no}
@@ -43,11 +43,11 @@ fails_with f [] i d rule e lt h = absurd (omega arith)
 fails_with f (x ∷ xs) zero d rule e lt h = head_fails (f x) (each f xs) rule (and_parts _ _ e).0 (given f xs (and_parts _ _ e).1) h
 fails_with f (x ∷ xs) (suc i) d rule e lt h = tail_fails (f x) (each f xs) rule (and_parts _ _ e).0 (fails_with f xs i d rule (and_parts _ _ e).1 (omega arith) h)
 
-pub items_are : (f : Operand → Option Stmt86) (os : List Operand) → eqb (length os) 0 ≡ false → items f os ≡ each f os
+pub items_are : (f : Operand → Option Stmt86) (os : List Operand) → eqb (length os) 0 ≡ false → items_of f os ≡ each f os
 items_are f [] ne = absurd cc
 items_are f (o ∷ os) ne = refl
 
-pub no_items : (f : Operand → Option Stmt86) (os : List Operand) → eqb (length os) 0 ≡ true → items f os ≡ None
+pub no_items : (f : Operand → Option Stmt86) (os : List Operand) → eqb (length os) 0 ≡ true → items_of f os ≡ None
 no_items f [] e = refl
 no_items f (o ∷ os) e = absurd (omega (arith, eqb-true _ _ e))
 

@@ -9,8 +9,8 @@ use Rattle.i86.specs.declared.AluOp.{AluOp}
 use Rattle.i86.specs.declared.AluOp.TheVariants.{Add, Or}
 use Rattle.i86.specs.declared.Count.{Count}
 use Rattle.i86.specs.declared.Rotate.{Rotate}
-use Rattle.asm86_lines.specs.declared.line.Stmt86.{Stmt86}
-use Rattle.asm86_lines.specs.declared.line.Stmt86.TheVariants.{Mark}
+use Rattle.asm86_line_types.specs.declared.line.Stmt86.{Stmt86}
+use Rattle.asm86_line_types.specs.declared.line.Stmt86.TheVariants.{Mark}
 use Rattle.asm86_line_reader.specs.declared.token.Operation.{Operation}
 use Rattle.asm86_line_reader.specs.declared.token.Operation.TheVariants as op
 use Rattle.asm86_line_reader.specs.declared.token.Token.{Token}
@@ -19,9 +19,9 @@ use Rattle.asm86_line_reader.specs.declared.token.Operand.{Operand}
 use Rattle.asm86_line_reader.specs.declared.token.Operand.TheVariants.{Reg8 as Byte, Reg16 as Word, Ds, Ss, Number, Label as To, Mem, DirectByte, DirectWord}
 use Rattle.asm86_line_reader.specs.Forms as forms
 use Rattle.asm86_line_reader.specs.Forms.{names_labels}
-use Rattle.asm86_lines.specs.declared.line.Label.{Label}
-use Rattle.asm86_line_reader.specs.Line.{LineGives, sensible}
-use Rattle.asm86_line_reader.specs.Operands.{each, operands_of}
+use Rattle.asm86_line_types.specs.declared.line.Label.{Label}
+use Rattle.asm86_line_reader.specs.Line.{TextLineGives, sensible}
+use Rattle.asm86_line_reader.specs.Operands.{each, operands_in}
 
 fine : Option Stmt86 → Bool
 fine None = true
@@ -224,7 +224,7 @@ unfolding all_fine each
 each_fine f h [] = refl
 each_fine f h (o ∷ os) = both (f o) (each f os) (h o) (each_fine f h os)
 
-items : (f : Operand → Option Stmt86) → ((o : Operand) → fine (f o) ≡ true) → (os : List Operand) → all_fine (forms.items f os) ≡ true
+items : (f : Operand → Option Stmt86) → ((o : Operand) → fine (f o) ≡ true) → (os : List Operand) → all_fine (forms.items_of f os) ≡ true
 unfolding all_fine
 items f h [] = refl
 items f h (o ∷ os) = each_fine f h (o ∷ os)
@@ -247,7 +247,7 @@ formed o os = one (forms.single o os) (single o os)
 body : (ts : List Token) → all_fine (forms.body_of ts) ≡ true
 unfolding all_fine
 body [] = refl
-body (tokens.Operation o ∷ ts) = by_operands o (operands_of ts)
+body (tokens.Operation o ∷ ts) = by_operands o (operands_in ts)
   where
     by_operands : (o : Operation) (os : Option (List Operand)) → all_fine (option_and_then (forms.formed o) os) ≡ true
     by_operands o None = refl
@@ -263,6 +263,6 @@ statements : (ts : List Token) → all_fine (forms.statements_of ts) ≡ true
 statements (tokens.Label l ∷ tokens.Colon ∷ ts) = marked l (forms.body_of ts) (body ts)
 statements ts = body ts
 
-pub line_names_labels : {line : List ℕ} {ss : List Stmt86} → LineGives line (Ok ss) → list_all names_labels ss ≡ true
+pub line_names_labels : {line : List ℕ} {ss : List Stmt86} → TextLineGives line (Ok ss) → list_all names_labels ss ≡ true
 unfolding all_fine
 line_names_labels (sensible {ts = ts} l x e h) = rw e at (statements ts)

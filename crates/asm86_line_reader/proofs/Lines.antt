@@ -3,22 +3,22 @@ use Rattle.std.proofs.Common.{◌≡◌, ℕ, List, ◌∷◌, Bool, true, false
 use Rattle.std.proofs.Common.{◌<◌, ◌≤◌, length, map, inl, inr, ◌⊎◌}
 use Rattle.std.specs.List.{list_all}
 use Rattle.std.specs.Global.{Vec}
-use Rattle.asm86_lines.specs.declared.line.TextRule.TheVariants.{M1}
+use Rattle.asm86_line_types.specs.declared.line.TextRule.TheVariants.{M1}
 use Rattle.asm86_line_reader.specs.declared.fault.LineFault.{LineFault}
 use Rattle.asm86_line_reader.specs.declared.fault.LineFault.TheVariants.{Rule, Memory}
 use Rattle.asm86_line_reader.specs.Letters.{upper}
 use Rattle.asm86_line_reader.specs.Forms.{statements_of, is_small}
-use Rattle.asm86_line_reader.specs.Results.{Answers, all_checked}
+use Rattle.asm86_line_reader.specs.Results.{AnswersLine, all_checked}
 use Rattle.asm86_line_reader.proofs.Checked.{marked_fails}
-use Rattle.asm86_lines.specs.declared.line.Label.{Label}
+use Rattle.asm86_line_types.specs.declared.line.Label.{Label}
 use Rattle.asm86_line_reader.specs.declared.token.Token.TheVariants as tokens
 use Rattle.std.proofs.Common.{◌≢◌}
 use Rattle.asm86_line_reader.specs.Forms.{body_of}
-use Rattle.asm86_lines.specs.declared.line.Stmt86.{Stmt86}
-use Rattle.asm86_lines.specs.declared.line.TextRule.{TextRule}
+use Rattle.asm86_line_types.specs.declared.line.Stmt86.{Stmt86}
+use Rattle.asm86_line_types.specs.declared.line.TextRule.{TextRule}
 use Rattle.asm86_line_reader.specs.declared.token.Token.{Token}
 use Rattle.asm86_line_reader.specs.Tokens.{Lexes, ends, comment, blank, token, faulty}
-use Rattle.asm86_line_reader.specs.Line.{LineGives, long, large, senseless, sensible}
+use Rattle.asm86_line_reader.specs.Line.{TextLineGives, long, large, senseless, sensible}
 use Rattle.asm86_line_reader.specs.Line as line
 use Rattle.std.proofs.lemmas.Bool.{cases_Bool}
 
@@ -59,7 +59,7 @@ record Told (line : List ℕ) (r : Result (List Stmt86) TextRule) : Type 0 where
   lexes : Lexes (map upper line) ts sound
   gives : r ≡ verdict sound ts
 
-told_of : {line : List ℕ} {r : Result (List Stmt86) TextRule} → LineGives line r → ((255 < length line) × (r ≡ Err M1)) ⊎ ((length line ≤ 255) × Told line r)
+told_of : {line : List ℕ} {r : Result (List Stmt86) TextRule} → TextLineGives line r → ((255 < length line) × (r ≡ Err M1)) ⊎ ((length line ≤ 255) × Told line r)
 unfolding verdict
 told_of (long l) = inl (l, refl)
 told_of (line.faulty {ts = ts} l x) = inr (l, record { ts = ts; sound = false; lexes = x; gives = refl })
@@ -70,7 +70,7 @@ told_of (sensible {ts = ts} l x e h) = inr (l, record { ts = ts; sound = true; l
 same_told : {line : List ℕ} {r s : Result (List Stmt86) TextRule} → Told line r → Told line s → r ≡ s
 same_told a b = let h = one_lexing a.lexes b.lexes in let e : verdict a.sound a.ts ≡ verdict b.sound b.ts = rw (h.0, h.1) refl in a.gives ∙ e ∙ sym b.gives
 
-pub one_reading : {line : List ℕ} {r s : Result (List Stmt86) TextRule} → LineGives line r → LineGives line s → r ≡ s
+pub one_reading : {line : List ℕ} {r s : Result (List Stmt86) TextRule} → TextLineGives line r → TextLineGives line s → r ≡ s
 one_reading x y = elim (told_of x) [
   | inl a ↦ elim (told_of y) [
     | inl b ↦ a.1 ∙ sym b.1
@@ -82,7 +82,7 @@ one_reading x y = elim (told_of x) [
   ]
 ]
 
-given_by : (line : List ℕ) (ts : List Token) (x : Option (List Stmt86)) (r : Result (List Stmt86) TextRule) → length line ≤ 255 → Lexes (map upper line) ts true → statements_of ts ≡ x → r ≡ all_checked x → LineGives line r
+given_by : (line : List ℕ) (ts : List Token) (x : Option (List Stmt86)) (r : Result (List Stmt86) TextRule) → length line ≤ 255 → Lexes (map upper line) ts true → statements_of ts ≡ x → r ≡ all_checked x → TextLineGives line r
 given_by line ts None r l x e h = rw h (senseless l x e)
 given_by line ts (Some ss) r l x e h = elim (cases_Bool (list_all is_small ss)) [
   | inl k ↦ let same : r ≡ Ok ss = rw k at h in rw same (sensible l x e k)
@@ -90,14 +90,14 @@ given_by line ts (Some ss) r l x e h = elim (cases_Bool (list_all is_small ss)) 
 ]
 
 -- what was read of the tokens of a line is what the line gives
-pub read : (line : List ℕ) (ts : List Token) (result : Result (Vec Stmt86) LineFault) → length line ≤ 255 → Lexes (map upper line) ts true → Answers (λ r. r ≡ all_checked (statements_of ts)) result → Answers (LineGives line) result
+pub read : (line : List ℕ) (ts : List Token) (result : Result (Vec Stmt86) LineFault) → length line ≤ 255 → Lexes (map upper line) ts true → AnswersLine (λ r. r ≡ all_checked (statements_of ts)) result → AnswersLine (TextLineGives line) result
 read line ts (Ok v) l x h = given_by line ts (statements_of ts) (Ok v.items) l x refl h
 read line ts (Err Memory) l x h = tt
 read line ts (Err (Rule rule)) l x h = given_by line ts (statements_of ts) (Err rule) l x refl h
 
 -- ---- labels
 
-pub marked_fault : (ts rest : List Token) (l : Label) (fault : LineFault) → ts ≡ tokens.Label l ∷ (tokens.Colon ∷ rest) → Answers (λ r. r ≡ all_checked (body_of rest)) (Err fault) → Answers (λ r. r ≡ all_checked (statements_of ts)) (Err fault)
+pub marked_fault : (ts rest : List Token) (l : Label) (fault : LineFault) → ts ≡ tokens.Label l ∷ (tokens.Colon ∷ rest) → AnswersLine (λ r. r ≡ all_checked (body_of rest)) (Err fault) → AnswersLine (λ r. r ≡ all_checked (statements_of ts)) (Err fault)
 marked_fault ts rest l Memory e h = tt
 marked_fault ts rest l (Rule rule) e h = rw e (marked_fails l (body_of rest) rule h)
 

@@ -5,15 +5,15 @@ use Rattle.std.proofs.Math.Seq.{take-append_seam, drop-append_seam}
 use Rattle.std.proofs.lemmas.Bool.Decides.{nat_tests}
 use Rattle.std.proofs.lemmas.List.{append-nil, append_cancel_right, map-append, length-append}
 use Rattle.std.proofs.lemmas.List.Folds.{prefix_len-append}
-use Rattle.asm86_lines.specs.declared.line.Stmt86.{Stmt86}
-use Rattle.asm86_lines.specs.Written.{alone, with_one, with_two}
+use Rattle.asm86_line_types.specs.declared.line.Stmt86.{Stmt86}
+use Rattle.asm86_line_types.specs.Written.{alone, with_one, with_two}
 use Rattle.asm86_line_reader.specs.declared.token.Token.{Token}
 use Rattle.asm86_line_reader.specs.declared.token.Token.TheVariants.{Colon, Comma}
 use Rattle.asm86_line_reader.specs.Letters.{upper, is_inside, is_blank, sign_of, inside_len}
 use Rattle.asm86_line_reader.specs.Words.{word_token}
 use Rattle.asm86_line_reader.specs.Tokens.{found_before, token_at, Lexes, ends, blank, token}
 use Rattle.asm86_line_reader.specs.Forms.{statements_of, is_small}
-use Rattle.asm86_line_reader.specs.Line.{LineGives, sensible}
+use Rattle.asm86_line_reader.specs.Line.{TextLineGives, sensible}
 use Rattle.std.proofs.lemmas.Bool.{and_parts, cases_Bool}
 
 pub record Piece (most : ℕ) (p : List ℕ) (us : List Token) : Type 0 where
@@ -117,25 +117,25 @@ after_sign {q = q} c t u bl ne i s b = record {
 
 -- ---- lines
 
-given : {n : ℕ} {p : List ℕ} {us : List Token} {s : Stmt86} → Piece n p us → n ≤ 255 → statements_of us ≡ Some (s ∷ []) → is_small s ≡ true → LineGives p (Ok (s ∷ []))
+given : {n : ℕ} {p : List ℕ} {us : List Token} {s : Stmt86} → Piece n p us → n ≤ 255 → statements_of us ≡ Some (s ∷ []) → is_small s ≡ true → TextLineGives p (Ok (s ∷ []))
 given {p = p} {us = us} b le e h = sensible (let l = b.short in omega arith) (rw (b.same, ← append-nil p, ← append-nil us) (b.reads [] [] true refl ends)) e (rw h refl)
 
-pub alone_line : {w : List ℕ} {t : Token} {s : Stmt86} (line : List ℕ) → IsWord w t → alone w ≡ line ++ codes "\r\n" → statements_of (t ∷ []) ≡ Some (s ∷ []) → is_small s ≡ true → LineGives line (Ok (s ∷ []))
+pub alone_line : {w : List ℕ} {t : Token} {s : Stmt86} (line : List ℕ) → IsWord w t → alone w ≡ line ++ codes "\r\n" → statements_of (t ∷ []) ≡ Some (s ∷ []) → is_small s ≡ true → TextLineGives line (Ok (s ∷ []))
 alone_line {w = w} {t = t} line i e r h =
     let same : 9 ∷ w ≡ line = append_cancel_right (9 ∷ w) line (codes "\r\n") e in
     rw (← same) (given (after_tab (word w t i)) (omega arith) r h)
 
-pub one_line : {n : ℕ} {w p : List ℕ} {t : Token} {us : List Token} {s : Stmt86} (line : List ℕ) → IsWord w t → Piece n p us → n ≤ 60 → with_one w p ≡ line ++ codes "\r\n" → statements_of (t ∷ us) ≡ Some (s ∷ []) → is_small s ≡ true → LineGives line (Ok (s ∷ []))
+pub one_line : {n : ℕ} {w p : List ℕ} {t : Token} {us : List Token} {s : Stmt86} (line : List ℕ) → IsWord w t → Piece n p us → n ≤ 60 → with_one w p ≡ line ++ codes "\r\n" → statements_of (t ∷ us) ≡ Some (s ∷ []) → is_small s ≡ true → TextLineGives line (Ok (s ∷ []))
 one_line {w = w} {p = p} {t = t} line i b le e r h =
     let same : 9 ∷ (w ++ (9 ∷ p)) ≡ line = append_cancel_right (9 ∷ (w ++ (9 ∷ p))) line (codes "\r\n") (simp append_assoc e) in
     rw (← same) (given (after_tab (join (word w t i) (after_tab b) refl)) (omega arith) r h)
 
-pub two_line : {m n : ℕ} {w p q : List ℕ} {t : Token} {us vs : List Token} {s : Stmt86} (line : List ℕ) → IsWord w t → Piece m p us → Piece n q vs → m ≤ 60 → n ≤ 60 → with_two w p q ≡ line ++ codes "\r\n" → statements_of (t ∷ (us ++ (Comma ∷ vs))) ≡ Some (s ∷ []) → is_small s ≡ true → LineGives line (Ok (s ∷ []))
+pub two_line : {m n : ℕ} {w p q : List ℕ} {t : Token} {us vs : List Token} {s : Stmt86} (line : List ℕ) → IsWord w t → Piece m p us → Piece n q vs → m ≤ 60 → n ≤ 60 → with_two w p q ≡ line ++ codes "\r\n" → statements_of (t ∷ (us ++ (Comma ∷ vs))) ≡ Some (s ∷ []) → is_small s ≡ true → TextLineGives line (Ok (s ∷ []))
 two_line {w = w} {p = p} {q = q} {t = t} line i a b le lf e r h =
     let same : 9 ∷ (w ++ (9 ∷ (p ++ (0x2C ∷ q)))) ≡ line = append_cancel_right (9 ∷ (w ++ (9 ∷ (p ++ (0x2C ∷ q))))) line (codes "\r\n") (simp append_assoc e) in
     rw (← same) (given (after_tab (join (word w t i) (after_tab (join a (after_sign 0x2C Comma refl refl (λ k. absurd (omega arith)) refl refl b) refl)) refl)) (omega arith) r h)
 
-pub mark_line : {w : List ℕ} {t : Token} {s : Stmt86} (line : List ℕ) → IsWord w t → w ++ codes ":\r\n" ≡ line ++ codes "\r\n" → statements_of (t ∷ (Colon ∷ [])) ≡ Some (s ∷ []) → is_small s ≡ true → LineGives line (Ok (s ∷ []))
+pub mark_line : {w : List ℕ} {t : Token} {s : Stmt86} (line : List ℕ) → IsWord w t → w ++ codes ":\r\n" ≡ line ++ codes "\r\n" → statements_of (t ∷ (Colon ∷ [])) ≡ Some (s ∷ []) → is_small s ≡ true → TextLineGives line (Ok (s ∷ []))
 mark_line {w = w} {t = t} line i e r h =
     let same : w ++ (0x3A ∷ []) ≡ line = append_cancel_right (w ++ (0x3A ∷ [])) line (codes "\r\n") (simp append_assoc e) in
     rw (← same) (given (join (word w t i) (after_sign 0x3A Colon refl refl (λ k. absurd (omega arith)) refl refl nothing) refl) (omega arith) r h)

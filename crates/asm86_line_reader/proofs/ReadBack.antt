@@ -17,18 +17,18 @@ use Rattle.i86.specs.declared.Operand16.TheVariants.{Reg as Reg_16, Direct}
 use Rattle.i86.specs.declared.Instr86.{Instr86}
 use Rattle.i86.specs.declared.Instr86.TheVariants.{MovReg8, MovMem8, MovAlDirect, MovDirectAl, MovNum8, MovNum16, MovMemNum, MovReg16, MovDirect16, MovAxDs, MovSsAx, Alu, AluNum, OrClCl, Add16, Count8, Count16, Push, Pop, Xchg8, Xchg16, Rotate8, Rotate16, Not8, Daa, Sahf, Lahf, Cmc, Stc, Nop, Jcc as JccBy, JmpNear, JmpShort, JmpBx, CallNear, Ret, Int224, InAl, OutAl}
 use Rattle.i86.specs.Enc86.{reg_of_stack}
-use Rattle.asm86_lines.specs.declared.line.Label.{Label}
-use Rattle.asm86_lines.specs.declared.line.Value16.TheVariants.{Num, Offset}
-use Rattle.asm86_lines.specs.declared.line.Stmt86.{Stmt86}
-use Rattle.asm86_lines.specs.declared.line.Stmt86.TheVariants.{Cseg, Dseg, Org, Rb, Db, Dw, Mark, Run, MovOffset, Jmp, Jmps, Jcc, Call, EndText}
-use Rattle.asm86_lines.specs.Written.{byte_text, word_text, reg8_text, reg16_text, ptr_text, direct8_text, direct16_text, offset_text, label_text, instr_line, line_of}
+use Rattle.asm86_line_types.specs.declared.line.Label.{Label}
+use Rattle.asm86_line_types.specs.declared.line.Value16.TheVariants.{Num, Offset}
+use Rattle.asm86_line_types.specs.declared.line.Stmt86.{Stmt86}
+use Rattle.asm86_line_types.specs.declared.line.Stmt86.TheVariants.{Cseg, Dseg, Org, Rb, Db, Dw, Mark, Run, MovOffset, Jmp, Jmps, Jcc, Call, EndText}
+use Rattle.asm86_line_types.specs.Written.{byte_text, word_text, reg8_text, reg16_text, ptr_text, direct8_text, direct16_text, offset_text, label_text, instr_line, written_line}
 use Rattle.asm86_line_reader.specs.declared.token.Operation.TheVariants as op
 use Rattle.asm86_line_reader.specs.declared.token.Token.{Token}
 use Rattle.asm86_line_reader.specs.declared.token.Token.TheVariants as tokens
 use Rattle.asm86_line_reader.specs.Operands.{each}
-use Rattle.asm86_line_reader.specs.Words.{name_token, operations, others}
-use Rattle.asm86_line_reader.specs.Numbers.{number_of, value_in}
-use Rattle.asm86_line_reader.specs.Line.{LineGives}
+use Rattle.asm86_line_reader.specs.Words.{name_token, instruction_words, others}
+use Rattle.asm86_line_reader.specs.Numbers.{number_of_word, value_in}
+use Rattle.asm86_line_reader.specs.Line.{TextLineGives}
 use Rattle.asm86_line_reader.specs.ReadBack.{label_fits, instr_fits, has_line}
 use Rattle.asm86_line_reader.proofs.Pieces.{Piece, IsWord, nothing, word, join, after_blank, after_sign, alone_line, one_line, two_line, mark_line}
 use Rattle.asm86_line_reader.proofs.WrittenWords as words
@@ -36,39 +36,39 @@ use Rattle.asm86_line_reader.proofs.WrittenWords as words
 -- ---- words
 
 mov : IsWord (codes "MOV") (tokens.Operation op.Mov)
-unfolding name_token operations others
+unfolding name_token instruction_words others
 mov = words.known (codes "MOV") (tokens.Operation op.Mov) refl refl refl refl
 
 ds : IsWord (codes "DS") tokens.Ds
-unfolding name_token operations others
+unfolding name_token instruction_words others
 ds = words.known (codes "DS") tokens.Ds refl refl refl refl
 
 ss : IsWord (codes "SS") tokens.Ss
-unfolding name_token operations others
+unfolding name_token instruction_words others
 ss = words.known (codes "SS") tokens.Ss refl refl refl refl
 
 byte_word : IsWord (codes "BYTE") tokens.Byte
-unfolding name_token operations others
+unfolding name_token instruction_words others
 byte_word = words.known (codes "BYTE") tokens.Byte refl refl refl refl
 
 word_word : IsWord (codes "WORD") tokens.Word
-unfolding name_token operations others
+unfolding name_token instruction_words others
 word_word = words.known (codes "WORD") tokens.Word refl refl refl refl
 
 ptr_word : IsWord (codes "PTR") tokens.Ptr
-unfolding name_token operations others
+unfolding name_token instruction_words others
 ptr_word = words.known (codes "PTR") tokens.Ptr refl refl refl refl
 
 offset_word : IsWord (codes "OFFSET") tokens.Offset
-unfolding name_token operations others
+unfolding name_token instruction_words others
 offset_word = words.known (codes "OFFSET") tokens.Offset refl refl refl refl
 
 one : IsWord (codes "1") (tokens.Number 1)
-unfolding number_of value_in
+unfolding number_of_word value_in
 one = words.known (codes "1") (tokens.Number 1) refl refl refl refl
 
 two_hundred : IsWord (codes "224") (tokens.Number 224)
-unfolding number_of value_in
+unfolding number_of_word value_in
 two_hundred = words.known (codes "224") (tokens.Number 224) refl refl refl refl
 
 -- ---- operands
@@ -120,43 +120,43 @@ direct16 a h = word_at (after_sign 0x2E tokens.Dot refl refl (λ k. absurd (omeg
 small : (n : ℕ) → ltb n 256 ≡ true → leb n 255 ≡ true
 small n h = let k = ltb-true n 256 h in le-leb n 255 (omega arith)
 
-pushed : (r : StackReg) (line : List ℕ) → instr_line (Push r) ≡ line ++ codes "\r\n" → LineGives line (Ok (Run (Push r) ∷ []))
-unfolding each name_token operations others
+pushed : (r : StackReg) (line : List ℕ) → instr_line (Push r) ≡ line ++ codes "\r\n" → TextLineGives line (Ok (Run (Push r) ∷ []))
+unfolding each name_token instruction_words others
 pushed StackAx line e = one_line line (words.known (codes "PUSH") (tokens.Operation op.Push) refl refl refl refl) (reg16 Ax) (omega arith) e refl refl
 pushed r line e = one_line line (words.known (codes "PUSH") (tokens.Operation op.Push) refl refl refl refl) (reg16 (reg_of_stack r)) (omega arith) e refl refl
 
-popped : (r : StackReg) (line : List ℕ) → instr_line (Pop r) ≡ line ++ codes "\r\n" → LineGives line (Ok (Run (Pop r) ∷ []))
-unfolding each name_token operations others
+popped : (r : StackReg) (line : List ℕ) → instr_line (Pop r) ≡ line ++ codes "\r\n" → TextLineGives line (Ok (Run (Pop r) ∷ []))
+unfolding each name_token instruction_words others
 popped StackAx line e = one_line line (words.known (codes "POP") (tokens.Operation op.Pop) refl refl refl refl) (reg16 Ax) (omega arith) e refl refl
 popped r line e = one_line line (words.known (codes "POP") (tokens.Operation op.Pop) refl refl refl refl) (reg16 (reg_of_stack r)) (omega arith) e refl refl
 
-from_mem : (r : Reg8) (p : Ptr) (line : List ℕ) → instr_line (MovReg8 r (Mem p)) ≡ line ++ codes "\r\n" → LineGives line (Ok (Run (MovReg8 r (Mem p)) ∷ []))
+from_mem : (r : Reg8) (p : Ptr) (line : List ℕ) → instr_line (MovReg8 r (Mem p)) ≡ line ++ codes "\r\n" → TextLineGives line (Ok (Run (MovReg8 r (Mem p)) ∷ []))
 unfolding each reg_of
 from_mem r PtrBx line e = two_line line mov (reg8 r) (ptr PtrBx) (omega arith) (omega arith) e refl refl
 from_mem r PtrSi line e = two_line line mov (reg8 r) (ptr PtrSi) (omega arith) (omega arith) e refl refl
 
-into_mem : (p : Ptr) (r : Reg8) (line : List ℕ) → instr_line (MovMem8 p r) ≡ line ++ codes "\r\n" → LineGives line (Ok (Run (MovMem8 p r) ∷ []))
+into_mem : (p : Ptr) (r : Reg8) (line : List ℕ) → instr_line (MovMem8 p r) ≡ line ++ codes "\r\n" → TextLineGives line (Ok (Run (MovMem8 p r) ∷ []))
 unfolding each reg_of
 into_mem PtrBx r line e = two_line line mov (ptr PtrBx) (reg8 r) (omega arith) (omega arith) e refl refl
 into_mem PtrSi r line e = two_line line mov (ptr PtrSi) (reg8 r) (omega arith) (omega arith) e refl refl
 
-set_mem : (p : Ptr) (n : ℕ) (line : List ℕ) → ltb n 256 ≡ true → instr_line (MovMemNum p n) ≡ line ++ codes "\r\n" → LineGives line (Ok (Run (MovMemNum p n) ∷ []))
+set_mem : (p : Ptr) (n : ℕ) (line : List ℕ) → ltb n 256 ≡ true → instr_line (MovMemNum p n) ≡ line ++ codes "\r\n" → TextLineGives line (Ok (Run (MovMemNum p n) ∷ []))
 unfolding each reg_of
 set_mem PtrBx n line h e = two_line line mov (ptr PtrBx) (byte n h) (omega arith) (omega arith) e refl (small n h)
 set_mem PtrSi n line h e = two_line line mov (ptr PtrSi) (byte n h) (omega arith) (omega arith) e refl (small n h)
 
-alu_mem : (o : AluOp) (p : Ptr) (line : List ℕ) → instr_line (Alu o (Mem p)) ≡ line ++ codes "\r\n" → LineGives line (Ok (Run (Alu o (Mem p)) ∷ []))
+alu_mem : (o : AluOp) (p : Ptr) (line : List ℕ) → instr_line (Alu o (Mem p)) ≡ line ++ codes "\r\n" → TextLineGives line (Ok (Run (Alu o (Mem p)) ∷ []))
 unfolding each reg_of
 alu_mem o PtrBx line e = two_line line (words.alu o) (reg8 Al) (ptr PtrBx) (omega arith) (omega arith) e refl refl
 alu_mem o PtrSi line e = two_line line (words.alu o) (reg8 Al) (ptr PtrSi) (omega arith) (omega arith) e refl refl
 
-count_mem : (c : Count) (p : Ptr) (line : List ℕ) → instr_line (Count8 c (Mem p)) ≡ line ++ codes "\r\n" → LineGives line (Ok (Run (Count8 c (Mem p)) ∷ []))
+count_mem : (c : Count) (p : Ptr) (line : List ℕ) → instr_line (Count8 c (Mem p)) ≡ line ++ codes "\r\n" → TextLineGives line (Ok (Run (Count8 c (Mem p)) ∷ []))
 unfolding each reg_of
 count_mem c PtrBx line e = one_line line (words.count c) (ptr PtrBx) (omega arith) e refl refl
 count_mem c PtrSi line e = one_line line (words.count c) (ptr PtrSi) (omega arith) e refl refl
 
-instr : (i : Instr86) (line : List ℕ) → instr_fits i ≡ true → instr_line i ≡ line ++ codes "\r\n" → LineGives line (Ok (Run i ∷ []))
-unfolding each name_token operations others
+instr : (i : Instr86) (line : List ℕ) → instr_fits i ≡ true → instr_line i ≡ line ++ codes "\r\n" → TextLineGives line (Ok (Run i ∷ []))
+unfolding each name_token instruction_words others
 instr (MovReg8 r (Reg q)) line h e = two_line line mov (reg8 r) (reg8 q) (omega arith) (omega arith) e refl refl
 instr (MovReg8 r (Mem p)) line h e = from_mem r p line e
 instr (MovMem8 p r) line h e = into_mem p r line e
@@ -203,8 +203,8 @@ instr (OutAl n) line h e = two_line line (words.known (codes "OUT") (tokens.Oper
 
 -- ---- statements
 
-pub read_back : (s : Stmt86) (line : List ℕ) → has_line s ≡ true → line_of s ≡ line ++ codes "\r\n" → LineGives line (Ok (s ∷ []))
-unfolding each name_token operations others
+pub read_back : (s : Stmt86) (line : List ℕ) → has_line s ≡ true → written_line s ≡ line ++ codes "\r\n" → TextLineGives line (Ok (s ∷ []))
+unfolding each name_token instruction_words others
 read_back Cseg line h e = alone_line line (words.known (codes "CSEG") (tokens.Operation op.Cseg) refl refl refl refl) e refl refl
 read_back Dseg line h e = alone_line line (words.known (codes "DSEG") (tokens.Operation op.Dseg) refl refl refl refl) e refl refl
 read_back (Org w) line h e = one_line line (words.known (codes "ORG") (tokens.Operation op.Org) refl refl refl refl) (number w h) (omega arith) e refl refl

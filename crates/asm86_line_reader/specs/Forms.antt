@@ -17,17 +17,17 @@ use Rattle.i86.specs.declared.Count.{Count}
 use Rattle.i86.specs.declared.Rotate.{Rotate}
 use Rattle.i86.specs.declared.Instr86.{Instr86}
 use Rattle.i86.specs.declared.Instr86.TheVariants.{MovReg8, MovMem8, MovAlDirect, MovDirectAl, MovNum8, MovNum16, MovMemNum, MovReg16, MovDirect16, MovAxDs, MovSsAx, Alu, AluNum, OrClCl, Add16, Count8, Count16, Push, Pop, Xchg8, Xchg16, Rotate8, Rotate16, Not8, Daa, Sahf, Lahf, Cmc, Stc, Nop, Jcc as JccBy, JmpNear, JmpShort, JmpBx, CallNear, Ret, Int224, InAl, OutAl}
-use Rattle.asm86_lines.specs.declared.line.Label.{Label}
-use Rattle.asm86_lines.specs.declared.line.Value16.TheVariants.{Num, Offset as OffsetOf}
-use Rattle.asm86_lines.specs.declared.line.Stmt86.{Stmt86}
-use Rattle.asm86_lines.specs.declared.line.Stmt86.TheVariants.{Cseg, Dseg, Org, Rb, Db, Dw, Mark, Run, MovOffset, Jmp, Jmps, Jcc, Call, EndText}
+use Rattle.asm86_line_types.specs.declared.line.Label.{Label}
+use Rattle.asm86_line_types.specs.declared.line.Value16.TheVariants.{Num, Offset as OffsetOf}
+use Rattle.asm86_line_types.specs.declared.line.Stmt86.{Stmt86}
+use Rattle.asm86_line_types.specs.declared.line.Stmt86.TheVariants.{Cseg, Dseg, Org, Rb, Db, Dw, Mark, Run, MovOffset, Jmp, Jmps, Jcc, Call, EndText}
 use Rattle.asm86_line_reader.specs.declared.token.Operation.{Operation}
 use Rattle.asm86_line_reader.specs.declared.token.Operation.TheVariants as op
 use Rattle.asm86_line_reader.specs.declared.token.Token.{Token}
 use Rattle.asm86_line_reader.specs.declared.token.Token.TheVariants as tokens
 use Rattle.asm86_line_reader.specs.declared.token.Operand.{Operand}
 use Rattle.asm86_line_reader.specs.declared.token.Operand.TheVariants.{Reg8 as Byte, Reg16 as Word, Ds, Ss, Number, Label as To, Offset, Mem, DirectByte, DirectWord}
-use Rattle.asm86_line_reader.specs.Operands.{each, operands_of}
+use Rattle.asm86_line_reader.specs.Operands.{each, operands_in}
 
 abbrev pub run : Instr86 → Option Stmt86
 run i = Some (Run i)
@@ -268,9 +268,9 @@ word_item (Offset l) = Some (Dw (OffsetOf l))
 word_item _ = None
 
 -- one item or more
-abbrev pub items : (Operand → Option Stmt86) → List Operand → Option (List Stmt86)
-items item [] = None
-items item (o ∷ os) = each item (o ∷ os)
+abbrev pub items_of : (Operand → Option Stmt86) → List Operand → Option (List Stmt86)
+items_of item [] = None
+items_of item (o ∷ os) = each item (o ∷ os)
 
 abbrev pub single : Operation → List Operand → Option Stmt86
 single o [] = bare o
@@ -280,8 +280,8 @@ single o _ = None
 
 -- the statements of an operation with its operands
 abbrev pub formed : Operation → List Operand → Option (List Stmt86)
-formed op.Db os = items byte_item os
-formed op.Dw os = items word_item os
+formed op.Db os = items_of byte_item os
+formed op.Dw os = items_of word_item os
 formed o os = option_map (λ s. s ∷ []) (single o os)
 
 -- ---- the words of a line
@@ -289,7 +289,7 @@ formed o os = option_map (λ s. s ∷ []) (single o os)
 -- what follows the label: nothing, or an operation with its operands
 abbrev pub body_of : List Token → Option (List Stmt86)
 body_of [] = Some []
-body_of (tokens.Operation o ∷ ts) = option_and_then (formed o) (operands_of ts)
+body_of (tokens.Operation o ∷ ts) = option_and_then (formed o) (operands_in ts)
 body_of _ = None
 
 -- a label, if there is one, has a colon, and is a statement of its own
@@ -316,13 +316,13 @@ is_small _ = true
 -- ---- labels
 
 -- a jump or a call with a displacement stands in no text: a statement names the label that it goes to
-abbrev pub is_plain : Instr86 → Bool
-is_plain (JccBy j d) = false
-is_plain (JmpNear d) = false
-is_plain (JmpShort d) = false
-is_plain (CallNear d) = false
-is_plain _ = true
+abbrev pub names_no_offset : Instr86 → Bool
+names_no_offset (JccBy j d) = false
+names_no_offset (JmpNear d) = false
+names_no_offset (JmpShort d) = false
+names_no_offset (CallNear d) = false
+names_no_offset _ = true
 
 abbrev pub names_labels : Stmt86 → Bool
-names_labels (Run i) = is_plain i
+names_labels (Run i) = names_no_offset i
 names_labels _ = true

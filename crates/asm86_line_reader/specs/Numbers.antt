@@ -10,5 +10,5 @@ unfoldable pub value_in : ℕ → List ℕ → Option ℕ
 value_in base ds = cond (list_all (λ c. nat_lt (digit_value c) base) ds && (nat_lt 0 (length ds) && nat_lt (digits_value base ds) 65536)) (Some (digits_value base ds)) None
 
 -- the number that a word is which begins with a digit, if it is one
-unfoldable pub number_of : List ℕ → Option ℕ
-number_of text = cond (slice_index text (length text - 1) == 0x48) (value_in 16 (take (length text - 1) text)) (value_in 10 text)
+unfoldable pub number_of_word : List ℕ → Option ℕ
+number_of_word text = cond (slice_index text (length text - 1) == 0x48) (value_in 16 (take (length text - 1) text)) (value_in 10 text)

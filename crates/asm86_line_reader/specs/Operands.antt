@@ -6,7 +6,7 @@ use Rattle.i86.specs.declared.Reg16.{Reg16}
 use Rattle.i86.specs.declared.Reg16.TheVariants.{Bx, Si}
 use Rattle.i86.specs.declared.Ptr.{Ptr}
 use Rattle.i86.specs.declared.Ptr.TheVariants.{Bx as PtrBx, Si as PtrSi}
-use Rattle.asm86_lines.specs.declared.line.Label.{Label}
+use Rattle.asm86_line_types.specs.declared.line.Label.{Label}
 use Rattle.asm86_line_reader.specs.declared.token.Token.{Token}
 use Rattle.asm86_line_reader.specs.declared.token.Token.TheVariants as tokens
 use Rattle.asm86_line_reader.specs.declared.token.Operand.{Operand}
@@ -69,12 +69,12 @@ plain_alone t [] = plain_operand t
 plain_alone t _ = None
 
 -- the operand that all of the tokens are
-abbrev pub operand_of : List Token → Option Operand
-operand_of [] = None
-operand_of (tokens.Byte ∷ ts) = option_and_then byte_cell (after_ptr ts)
-operand_of (tokens.Word ∷ ts) = option_and_then word_cell (after_ptr ts)
-operand_of (tokens.Offset ∷ ts) = option_map operands.Offset (label_alone ts)
-operand_of (t ∷ ts) = plain_alone t ts
+abbrev pub operand_in : List Token → Option Operand
+operand_in [] = None
+operand_in (tokens.Byte ∷ ts) = option_and_then byte_cell (after_ptr ts)
+operand_in (tokens.Word ∷ ts) = option_and_then word_cell (after_ptr ts)
+operand_in (tokens.Offset ∷ ts) = option_map operands.Offset (label_alone ts)
+operand_in (t ∷ ts) = plain_alone t ts
 
 abbrev pub is_comma : Token → Bool
 is_comma tokens.Comma = true
@@ -86,6 +86,6 @@ each f [] = Some []
 each {Y} f (x ∷ xs) = option_and_then (λ (y : Y). option_map (λ ys. y ∷ ys) (each f xs)) (f x)
 
 -- the operands that tokens are, with commas between them; no tokens are no operands
-abbrev pub operands_of : List Token → Option (List Operand)
-operands_of [] = Some []
-operands_of (t ∷ ts) = each operand_of (slice_split is_comma (t ∷ ts))
+abbrev pub operands_in : List Token → Option (List Operand)
+operands_in [] = Some []
+operands_in (t ∷ ts) = each operand_in (slice_split is_comma (t ∷ ts))

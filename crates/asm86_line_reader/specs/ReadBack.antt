@@ -3,12 +3,12 @@ use Rattle.std.specs.Prelude.{nat_lt, Bool, true, false}
 use Rattle.i86.specs.declared.Operand16.TheVariants.{Direct}
 use Rattle.i86.specs.declared.Instr86.{Instr86}
 use Rattle.i86.specs.declared.Instr86.TheVariants.{MovAlDirect, MovDirectAl, MovNum8, MovNum16, MovMemNum, MovReg16, MovDirect16, AluNum, Jcc as JccBy, JmpNear, JmpShort, CallNear, InAl, OutAl}
-use Rattle.asm86_lines.specs.declared.line.Label.{Label}
-use Rattle.asm86_lines.specs.declared.line.Label.TheVariants.{At, Skip, User}
-use Rattle.asm86_lines.specs.declared.line.Value16.{Value16}
-use Rattle.asm86_lines.specs.declared.line.Value16.TheVariants.{Num, Offset}
-use Rattle.asm86_lines.specs.declared.line.Stmt86.{Stmt86}
-use Rattle.asm86_lines.specs.declared.line.Stmt86.TheVariants.{Org, Rb, Db, Dw, Mark, Run, MovOffset, Jmp, Jmps, Jcc, Call}
+use Rattle.asm86_line_types.specs.declared.line.Label.{Label}
+use Rattle.asm86_line_types.specs.declared.line.Label.TheVariants.{At, Skip, User}
+use Rattle.asm86_line_types.specs.declared.line.Value16.{Value16}
+use Rattle.asm86_line_types.specs.declared.line.Value16.TheVariants.{Num, Offset}
+use Rattle.asm86_line_types.specs.declared.line.Stmt86.{Stmt86}
+use Rattle.asm86_line_types.specs.declared.line.Stmt86.TheVariants.{Org, Rb, Db, Dw, Mark, Run, MovOffset, Jmp, Jmps, Jcc, Call}
 
 abbrev pub label_fits : Label → Bool
 label_fits (At w) = nat_lt w 65536

@@ -4,9 +4,9 @@ use Rattle.std.specs.List.{list_all}
 use Rattle.std.specs.Global.{Vec}
 use Rattle.asm86_line_reader.specs.declared.token.Token.{Token}
 use Rattle.asm86_line_reader.specs.Tokens.{Lexes}
-use Rattle.asm86_lines.specs.declared.line.Stmt86.{Stmt86}
-use Rattle.asm86_lines.specs.declared.line.TextRule.{TextRule}
-use Rattle.asm86_lines.specs.declared.line.TextRule.TheVariants as rules
+use Rattle.asm86_line_types.specs.declared.line.Stmt86.{Stmt86}
+use Rattle.asm86_line_types.specs.declared.line.TextRule.{TextRule}
+use Rattle.asm86_line_types.specs.declared.line.TextRule.TheVariants as rules
 use Rattle.asm86_line_reader.specs.declared.fault.LineFault.{LineFault}
 use Rattle.asm86_line_reader.specs.declared.fault.LineFault.TheVariants.{Rule, Memory}
 use Rattle.asm86_line_reader.specs.declared.items.Size.{Size}
@@ -39,10 +39,10 @@ all_checked None = Err rules.M2
 all_checked (Some ss) = cond (list_all is_small ss) (Ok ss) (Err rules.M1)
 
 -- what was read, unless memory ran out
-abbrev pub Answers : (Result (List Stmt86) TextRule → Type 0) → Result (Vec Stmt86) LineFault → Type 0
-Answers gives (Ok v) = gives (Ok v.items)
-Answers gives (Err Memory) = Unit {0}
-Answers gives (Err (Rule rule)) = gives (Err rule)
+abbrev pub AnswersLine : (Result (List Stmt86) TextRule → Type 0) → Result (Vec Stmt86) LineFault → Type 0
+AnswersLine gives (Ok v) = gives (Ok v.items)
+AnswersLine gives (Err Memory) = Unit {0}
+AnswersLine gives (Err (Rule rule)) = gives (Err rule)
 
 -- the item of a size
 abbrev pub item_of : Size → Operand → Option Stmt86

@@ -9,21 +9,21 @@ use Rattle.i86.specs.declared.AluOp.TheVariants.{Add, Or, Adc, Sbb, And, Sub, Xo
 use Rattle.i86.specs.declared.Count.TheVariants.{Inc, Dec}
 use Rattle.i86.specs.declared.Rotate.TheVariants.{Rol, Ror, Rcl, Rcr}
 use Rattle.i86.specs.declared.Jump.TheVariants.{Jb, Jnb, Jz, Jnz, Js, Jns, Jp, Jnp}
-use Rattle.asm86_lines.specs.declared.line.Label.{Label}
-use Rattle.asm86_lines.specs.declared.line.Label.TheVariants.{At, Skip, User, Sys, End as XEnd}
+use Rattle.asm86_line_types.specs.declared.line.Label.{Label}
+use Rattle.asm86_line_types.specs.declared.line.Label.TheVariants.{At, Skip, User, Sys, End as XEnd}
 use Rattle.asm86_line_reader.specs.declared.token.Operation.TheVariants.{Mov, Alu, Count, Push, Pop, Xchg, Rotate, Not, In, Out, Daa, Sahf, Lahf, Cmc, Stc, Nop, Ret, Int, Jmp, Jmps, Call, Jcc, Cseg, Dseg, Org, Rb, Db, Dw, End}
 use Rattle.asm86_line_reader.specs.declared.token.Token.{Token}
 use Rattle.asm86_line_reader.specs.declared.token.Token.TheVariants as tokens
 use Rattle.asm86_line_reader.specs.Letters.{is_digit}
-use Rattle.asm86_line_reader.specs.Numbers.{value_in, number_of}
+use Rattle.asm86_line_reader.specs.Numbers.{value_in, number_of_word}
 
 -- the entry of a table under a word
-abbrev pub look : List (List ℕ × Token) → List ℕ → Option Token
-look table word = option_map (λ (e : List ℕ × Token). e.1) (find (λ (e : List ℕ × Token). bytes_eq e.0 word) table)
+abbrev pub word_in_table : List (List ℕ × Token) → List ℕ → Option Token
+word_in_table table word = option_map (λ (e : List ℕ × Token). e.1) (find (λ (e : List ℕ × Token). bytes_eq e.0 word) table)
 
 -- the words of instructions
-unfoldable pub operations : List (List ℕ × Token)
-operations =
+unfoldable pub instruction_words : List (List ℕ × Token)
+instruction_words =
     (codes "MOV", tokens.Operation Mov) ∷ (codes "ADD", tokens.Operation (Alu Add)) ∷ (codes "OR", tokens.Operation (Alu Or)) ∷ (codes "ADC", tokens.Operation (Alu Adc)) ∷ (codes "SBB", tokens.Operation (Alu Sbb))
     ∷ (codes "AND", tokens.Operation (Alu And)) ∷ (codes "SUB", tokens.Operation (Alu Sub)) ∷ (codes "XOR", tokens.Operation (Alu Xor)) ∷ (codes "CMP", tokens.Operation (Alu Cmp))
     ∷ (codes "INC", tokens.Operation (Count Inc)) ∷ (codes "DEC", tokens.Operation (Count Dec)) ∷ (codes "PUSH", tokens.Operation Push) ∷ (codes "POP", tokens.Operation Pop) ∷ (codes "XCHG", tokens.Operation Xchg)
@@ -51,23 +51,23 @@ label_with letter None = None
 label_with letter (Some n) = lettered letter n
 
 -- L, K or U with four hexadecimal digits
-abbrev pub numbered : List ℕ → Option Label
-numbered [] = None
-numbered (letter ∷ digits) = cond (length digits == 4) (label_with letter (value_in 16 digits)) None
+abbrev pub numbered_label : List ℕ → Option Label
+numbered_label [] = None
+numbered_label (letter ∷ digits) = cond (length digits == 4) (label_with letter (value_in 16 digits)) None
 
 -- a word that is in no table: a label with a number, or a word that means nothing
 abbrev pub label_or_unknown : Option Label → Token
 label_or_unknown None = tokens.Unknown
 label_or_unknown (Some l) = tokens.Label l
 
-abbrev pub or_else : {X : Type 0} → Option X → X → X
-or_else None other = other
-or_else (Some x) other = x
+abbrev pub value_or : {X : Type 0} → Option X → X → X
+value_or None other = other
+value_or (Some x) other = x
 
 -- the token of a word that begins with no digit
 unfoldable pub name_token : List ℕ → Token
-name_token word = or_else (look operations word) (or_else (look others word) (label_or_unknown (numbered word)))
+name_token word = value_or (word_in_table instruction_words word) (value_or (word_in_table others word) (label_or_unknown (numbered_label word)))
 
 -- the token of a word; a word that begins with a digit and is no number has none
 abbrev pub word_token : List ℕ → Option Token
-word_token word = cond (is_digit (slice_index word 0)) (option_map tokens.Number (number_of word)) (Some (name_token word))
+word_token word = cond (is_digit (slice_index word 0)) (option_map tokens.Number (number_of_word word)) (Some (name_token word))

@@ -6,7 +6,7 @@ ghost use Rattle.asm86_line_reader.specs.Results.{checked, or_m2};
 
 use crate::bytes::byte;
 use crate::token::Operand;
-use asm86_lines::{Stmt86, TextRule};
+use asm86_line_types::{Stmt86, TextRule};
 use i86::{AluOp, Count, Instr86, Operand8, Reg8, Reg16, Rotate, StackReg};
 
 /// ADD and the like.

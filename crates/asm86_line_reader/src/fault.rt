@@ -3,7 +3,7 @@
 ghost use Rattle.std.specs.Prelude.{◌≡◌};
 ghost use Rattle.asm86_line_reader.specs.declared.fault.LineFault.TheVariants as faults;
 
-use asm86_lines::TextRule;
+use asm86_line_types::TextRule;
 use std::alloc::{AllocError, AllocFailed};
 
 /// Why a line is not read.

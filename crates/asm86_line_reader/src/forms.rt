@@ -8,7 +8,7 @@ use crate::computations::{computed, counted, exchanged, inverted, popped, pushed
 use crate::moves::moved;
 use crate::ports::{received, sent};
 use crate::token::{Operand, Operation};
-use asm86_lines::{Label, Stmt86, TextRule};
+use asm86_line_types::{Label, Stmt86, TextRule};
 use i86::{Instr86, Reg16};
 
 /// The statement of an operation that makes one statement.

@@ -2,15 +2,15 @@
 
 ghost use Rattle.std.specs.Prelude.{◌≡◌, IsTrue, is_some};
 ghost use Rattle.std.specs.List.{list_all};
-ghost use Rattle.asm86_line_reader.specs.Forms.{formed, items};
+ghost use Rattle.asm86_line_reader.specs.Forms.{formed, items_of};
 ghost use Rattle.asm86_line_reader.specs.Operands.{each};
-ghost use Rattle.asm86_line_reader.specs.Results.{Answers, all_checked, checked, item_of};
+ghost use Rattle.asm86_line_reader.specs.Results.{AnswersLine, all_checked, checked, item_of};
 
 use crate::bytes::byte;
 use crate::fault::LineFault;
 use crate::forms::single;
 use crate::token::{Operand, Operation};
-use asm86_lines::{Stmt86, TextRule, Value16};
+use asm86_line_types::{Stmt86, TextRule, Value16};
 use std::alloc::Global;
 
 /// What an item fills.
@@ -26,7 +26,7 @@ pub fn formed(
     operation: Operation,
     operands: &[Operand],
 ) -> Result<Vec<Stmt86>, LineFault>
-    ensures { Answers (λ r. r ≡ all_checked (formed operation operands.now)) result }
+    ensures { AnswersLine (λ r. r ≡ all_checked (formed operation operands.now)) result }
 {
     match operation {
         Operation::Db => items(alloc, Size::Byte, operands),
@@ -41,7 +41,7 @@ pub fn formed(
 
 // One item or more, each a statement of its own.
 fn items(alloc: Global, size: Size, operands: &[Operand]) -> Result<Vec<Stmt86>, LineFault>
-    ensures { Answers (λ r. r ≡ all_checked (items (item_of size) operands.now)) result }
+    ensures { AnswersLine (λ r. r ≡ all_checked (items_of (item_of size) operands.now)) result }
 {
     if operands.is_empty() {
         return Err(LineFault::Rule(TextRule::M2));
@@ -69,7 +69,7 @@ fn is_item(size: Size, operand: Operand) -> bool
 
 fn each_item(alloc: Global, size: Size, operands: &[Operand]) -> Result<Vec<Stmt86>, LineFault>
     requires { IsTrue (list_all (λ operand. is_some (item_of size operand)) operands.now) }
-    ensures { Answers (λ r. r ≡ all_checked (each (item_of size) operands.now)) result }
+    ensures { AnswersLine (λ r. r ≡ all_checked (each (item_of size) operands.now)) result }
 {
     let mut statements = Vec::new(alloc);
     for operand in operands {

@@ -1,4 +1,8 @@
-// One line of an ASM-86 text, as its statements.
+// The reader of one line of an ASM-86 text: its statements, or the rule that it breaks.
+//
+// Proved: `read_line` answers exactly the statements that the definition gives a line (`TextLineGives`), or its rule, M1 or M2, and each
+// only where the definition does. Laws: a line gives one thing (`line_has_one_reading`); no statement of a line is a jump or a call with a
+// displacement (`lines_name_labels`); the written line of each statement reads back as that statement alone (`written_lines_read_back`).
 #![tactic(auto)]
 
 mod bytes;

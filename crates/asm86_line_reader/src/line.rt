@@ -2,16 +2,16 @@
 
 ghost use Rattle.std.specs.Prelude.{◌≡◌, ◌≢◌, ◌∷◌, ◌++◌, [], codes, ℕ, List, IsTrue, MatchOption, Ok, Result};
 ghost use Rattle.std.specs.List.{list_all};
-ghost use Rattle.asm86_lines.specs.declared.line.Label.{Label};
-ghost use Rattle.asm86_lines.specs.declared.line.Stmt86.{Stmt86};
-ghost use Rattle.asm86_lines.specs.declared.line.TextRule.{TextRule};
-ghost use Rattle.asm86_lines.specs.Written.{line_of};
+ghost use Rattle.asm86_line_types.specs.declared.line.Label.{Label};
+ghost use Rattle.asm86_line_types.specs.declared.line.Stmt86.{Stmt86};
+ghost use Rattle.asm86_line_types.specs.declared.line.TextRule.{TextRule};
+ghost use Rattle.asm86_line_types.specs.Written.{written_line};
 ghost use Rattle.asm86_line_reader.specs.declared.token.Operation.{Operation};
 ghost use Rattle.asm86_line_reader.specs.declared.token.Token.{Token};
 ghost use Rattle.asm86_line_reader.specs.Forms.{body_of, names_labels, statements_of};
-ghost use Rattle.asm86_line_reader.specs.Line.{LineGives};
+ghost use Rattle.asm86_line_reader.specs.Line.{TextLineGives};
 ghost use Rattle.asm86_line_reader.specs.ReadBack.{has_line};
-ghost use Rattle.asm86_line_reader.specs.Results.{Answers, all_checked};
+ghost use Rattle.asm86_line_reader.specs.Results.{AnswersLine, all_checked};
 
 use crate::fault::LineFault;
 use crate::items::formed;
@@ -19,7 +19,7 @@ use crate::letters::in_capitals;
 use crate::operands::operands_of;
 use crate::token::{Operation, Token};
 use crate::tokens::tokens_of;
-use asm86_lines::{Label, Stmt86, TextRule};
+use asm86_line_types::{Label, Stmt86, TextRule};
 use std::alloc::Global;
 
 /// The most bytes of a line, its LF or CR LF not counted.
@@ -27,7 +27,7 @@ const LONGEST_LINE: usize = 255;
 
 /// The statements of a line, which comes without its LF or CR LF, or the rule that it breaks: M1 or M2.
 pub fn read_line(alloc: Global, line: &[u8]) -> Result<Vec<Stmt86>, LineFault>
-    ensures { Answers (LineGives line.now) result }
+    ensures { AnswersLine (TextLineGives line.now) result }
 {
     if line.len() > LONGEST_LINE {
         return Err(LineFault::Rule(TextRule::M1));
@@ -41,23 +41,23 @@ pub fn read_line(alloc: Global, line: &[u8]) -> Result<Vec<Stmt86>, LineFault>
 
 /// A law: a line gives one thing.
 pub fn line_has_one_reading()
-    ensures { (line : List ℕ) (r s : Result (List Stmt86) TextRule) → LineGives line r → LineGives line s → r ≡ s }
+    ensures { (line : List ℕ) (r s : Result (List Stmt86) TextRule) → TextLineGives line r → TextLineGives line s → r ≡ s }
 {}
 
 /// A law: no statement of a line is a jump or a call with a displacement.
 pub fn lines_name_labels()
-    ensures { (line : List ℕ) (ss : List Stmt86) → LineGives line (Ok ss) → IsTrue (list_all names_labels ss) }
+    ensures { (line : List ℕ) (ss : List Stmt86) → TextLineGives line (Ok ss) → IsTrue (list_all names_labels ss) }
 {}
 
 /// A law: the written line of a statement, without its CR LF, gives that statement alone, where its numbers are within their
 /// ranges and it names the label that it goes to.
 pub fn written_lines_read_back()
-    ensures { (stmt : Stmt86) (line : List ℕ) → IsTrue (has_line stmt) → line_of stmt ≡ line ++ codes "\r\n" → LineGives line (Ok (stmt ∷ [])) }
+    ensures { (stmt : Stmt86) (line : List ℕ) → IsTrue (has_line stmt) → written_line stmt ≡ line ++ codes "\r\n" → TextLineGives line (Ok (stmt ∷ [])) }
 {}
 
 // The statements of tokens: a label, if there is one, and what follows it.
 fn statements_of(alloc: Global, tokens: &[Token]) -> Result<Vec<Stmt86>, LineFault>
-    ensures { Answers (λ r. r ≡ all_checked (statements_of tokens.now)) result }
+    ensures { AnswersLine (λ r. r ≡ all_checked (statements_of tokens.now)) result }
 {
     let Some((label, rest)) = marked(tokens) else {
         return body_of(alloc, tokens);
@@ -79,7 +79,7 @@ fn marked(tokens: &[Token]) -> Option<(Label, &[Token])>
 
 // What follows the label: nothing, or an operation with its operands.
 fn body_of(alloc: Global, tokens: &[Token]) -> Result<Vec<Stmt86>, LineFault>
-    ensures { Answers (λ r. r ≡ all_checked (body_of tokens.now)) result }
+    ensures { AnswersLine (λ r. r ≡ all_checked (body_of tokens.now)) result }
 {
     if tokens.is_empty() {
         return Ok(Vec::new(alloc));

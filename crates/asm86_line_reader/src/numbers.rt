@@ -3,7 +3,7 @@
 ghost use Rattle.std.specs.Prelude.{◌≡◌, ◌≤◌, nat_lt};
 ghost use Rattle.std.specs.Char.{digit_value};
 ghost use Rattle.std.specs.List.{list_all};
-ghost use Rattle.asm86_line_reader.specs.Numbers.{number_of, value_in};
+ghost use Rattle.asm86_line_reader.specs.Numbers.{number_of_word, value_in};
 
 use std::str;
 
@@ -33,9 +33,9 @@ fn all_digits(base: u32, digits: &[u8]) -> bool
 }
 
 /// The value of a word that begins with a digit, if it is a number.
-#[tactic(auto, unfolding(crate::specs::Numbers::number_of))]
+#[tactic(auto, unfolding(crate::specs::Numbers::number_of_word))]
 pub fn number_of(word: &[u8]) -> Option<u16>
-    ensures { result ≡ number_of word.now }
+    ensures { result ≡ number_of_word word.now }
 {
     let Some((last, digits)) = word.split_last() else {
         return value_in(10, word);

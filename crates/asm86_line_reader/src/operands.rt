@@ -2,10 +2,10 @@
 
 ghost use Rattle.std.specs.Prelude.{◌≡◌, ◌∷◌, [], IfOk, MatchOption, map, option_map};
 ghost use Rattle.std.specs.List.{slice_split};
-ghost use Rattle.asm86_line_reader.specs.Operands.{after_ptr, byte_cell, each, is_closing, is_comma, label_alone, number_alone, operand_of, operands_of, plain_alone, plain_operand, pointer, pointer_alone, word_cell};
+ghost use Rattle.asm86_line_reader.specs.Operands.{after_ptr, byte_cell, each, is_closing, is_comma, label_alone, number_alone, operand_in, operands_in, plain_alone, plain_operand, pointer, pointer_alone, word_cell};
 
 use crate::token::{Operand, Token};
-use asm86_lines::Label;
+use asm86_line_types::Label;
 use i86::{Ptr, Reg16};
 use std::alloc::{AllocError, Global};
 
@@ -19,7 +19,7 @@ fn first(tokens: &[Token]) -> Option<(Token, &[Token])>
 
 /// The operands that tokens are, with commas between them, if they are some.
 pub fn operands_of(alloc: Global, tokens: &[Token]) -> Result<Option<Vec<Operand>>, AllocError>
-    ensures { IfOk result (λ found. option_map (λ v. v.items) found ≡ operands_of tokens.now) }
+    ensures { IfOk result (λ found. option_map (λ v. v.items) found ≡ operands_in tokens.now) }
 {
     if tokens.is_empty() {
         return Ok(Some(Vec::new(alloc)));
@@ -46,7 +46,7 @@ fn is_comma(token: Token) -> bool
 
 // The operands that the parts are, each for itself.
 fn each_operand(alloc: Global, parts: &[&[Token]]) -> Result<Option<Vec<Operand>>, AllocError>
-    ensures { IfOk result (λ found. option_map (λ v. v.items) found ≡ each (λ part. operand_of part.now) parts.now) }
+    ensures { IfOk result (λ found. option_map (λ v. v.items) found ≡ each (λ part. operand_in part.now) parts.now) }
 {
     let mut operands = Vec::new(alloc);
     for part in parts {
@@ -60,7 +60,7 @@ fn each_operand(alloc: Global, parts: &[&[Token]]) -> Result<Option<Vec<Operand>
 
 // The operand that all of the tokens are.
 fn operand_of(tokens: &[Token]) -> Option<Operand>
-    ensures { result ≡ operand_of tokens.now }
+    ensures { result ≡ operand_in tokens.now }
 {
     let (token, rest) = first(tokens)?;
     match token {

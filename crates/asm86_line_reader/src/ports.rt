@@ -6,7 +6,7 @@ ghost use Rattle.asm86_line_reader.specs.Results.{checked};
 
 use crate::bytes::byte;
 use crate::token::Operand;
-use asm86_lines::{Stmt86, TextRule};
+use asm86_line_types::{Stmt86, TextRule};
 use i86::{Instr86, Reg8};
 
 /// IN: a byte of a port into AL.

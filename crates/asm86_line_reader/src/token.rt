@@ -1,6 +1,6 @@
 //! The words, numbers and signs of a line, and the operands that they form.
 
-use asm86_lines::Label;
+use asm86_line_types::Label;
 use i86::{AluOp, Count, Jump, Ptr, Reg8, Reg16, Rotate};
 
 /// A word that begins a statement: the operation of an instruction, or a directive.

@@ -3,11 +3,11 @@
 ghost use Rattle.std.specs.Prelude.{◌≡◌, map, option_map};
 ghost use Rattle.std.specs.List.{find};
 ghost use Rattle.std.specs.Str.{bytes_eq};
-ghost use Rattle.asm86_line_reader.specs.Words.{label_or_unknown, lettered, look, name_token, numbered, operations, others, word_token};
+ghost use Rattle.asm86_line_reader.specs.Words.{label_or_unknown, lettered, word_in_table, name_token, numbered_label, instruction_words, others, word_token};
 
 use crate::numbers::{number_of, value_in};
 use crate::token::{Operation, Token};
-use asm86_lines::Label;
+use asm86_line_types::Label;
 use i86::{AluOp, Count, Jump, Reg8, Reg16, Rotate};
 
 /// The words of instructions.
@@ -114,22 +114,22 @@ fn name_token(word: &[u8]) -> Token
     }
 }
 
-#[tactic(auto, unfolding(crate::specs::Words::operations))]
+#[tactic(auto, unfolding(crate::specs::Words::instruction_words))]
 fn operation(word: &[u8]) -> Option<Token>
-    ensures { result ≡ look operations word.now }
+    ensures { result ≡ word_in_table instruction_words word.now }
 {
     look(&OPERATIONS, word)
 }
 
 #[tactic(auto, unfolding(crate::specs::Words::others))]
 fn other(word: &[u8]) -> Option<Token>
-    ensures { result ≡ look others word.now }
+    ensures { result ≡ word_in_table others word.now }
 {
     look(&OTHERS, word)
 }
 
 fn look(table: &[(&[u8], Token)], word: &[u8]) -> Option<Token>
-    ensures { result ≡ look (map (λ e. (e.0.now, e.1)) table.now) word.now }
+    ensures { result ≡ word_in_table (map (λ e. (e.0.now, e.1)) table.now) word.now }
 {
     match entry(table, word) {
         Some((_, token)) => Some(*token),
@@ -145,7 +145,7 @@ fn entry<'a>(table: &'a [(&'a [u8], Token)], word: &[u8]) -> Option<&'a (&'a [u8
 
 // The label that L, K or U with four hexadecimal digits is.
 fn numbered(word: &[u8]) -> Option<Label>
-    ensures { result ≡ numbered word.now }
+    ensures { result ≡ numbered_label word.now }
 {
     let (letter, digits) = word.split_first()?;
     if digits.len() != 4 {

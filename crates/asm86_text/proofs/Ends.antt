@@ -23,13 +23,13 @@ use Rattle.i86.specs.declared.Jump.TheVariants.{Jb, Jnb, Jz, Jnz, Js, Jns, Jp, J
 use Rattle.i86.specs.declared.Instr86.{Instr86}
 use Rattle.i86.specs.declared.Instr86.TheVariants.{MovReg8, MovMem8, MovAlDirect, MovDirectAl, MovNum8, MovNum16, MovMemNum, MovReg16, MovDirect16, MovAxDs, MovSsAx, Alu, AluNum, OrClCl, Add16, Count8, Count16, Push, Pop, Xchg8, Xchg16, Rotate8, Rotate16, Not8, Daa, Sahf, Lahf, Cmc, Stc, Nop, Jcc, JmpNear, JmpShort, JmpBx, CallNear, Ret, Int224, InAl, OutAl}
 use Rattle.i86.specs.Enc86.{reg_of_stack}
-use Rattle.asm86_lines.specs.declared.line.Label.{Label}
-use Rattle.asm86_lines.specs.declared.line.Label.TheVariants.{At, Skip, User, Sys, End}
-use Rattle.asm86_lines.specs.declared.line.Value16.{Value16}
-use Rattle.asm86_lines.specs.declared.line.Value16.TheVariants.{Num, Offset}
-use Rattle.asm86_lines.specs.declared.line.Stmt86.{Stmt86}
-use Rattle.asm86_lines.specs.declared.line.Stmt86.TheVariants.{Cseg, Dseg, Org, Rb, Db, Dw, Mark, Run, MovOffset, Jmp, Jmps, Jcc as JccTo, Call, EndText}
-use Rattle.asm86_lines.specs.Written.{digit, four_digits, byte_text, word_text, reg8_text, reg16_text, ptr_text, operand8_text, direct8_text, direct16_text, operand16_text, alu_text, count_text, rotate_text, jump_text, label_text, offset_text, value_text, alone, with_one, with_two, instr_line, line_of}
+use Rattle.asm86_line_types.specs.declared.line.Label.{Label}
+use Rattle.asm86_line_types.specs.declared.line.Label.TheVariants.{At, Skip, User, Sys, End}
+use Rattle.asm86_line_types.specs.declared.line.Value16.{Value16}
+use Rattle.asm86_line_types.specs.declared.line.Value16.TheVariants.{Num, Offset}
+use Rattle.asm86_line_types.specs.declared.line.Stmt86.{Stmt86}
+use Rattle.asm86_line_types.specs.declared.line.Stmt86.TheVariants.{Cseg, Dseg, Org, Rb, Db, Dw, Mark, Run, MovOffset, Jmp, Jmps, Jcc as JccTo, Call, EndText}
+use Rattle.asm86_line_types.specs.Written.{digit, four_digits, byte_text, word_text, reg8_text, reg16_text, ptr_text, operand8_text, direct8_text, direct16_text, operand16_text, alu_text, count_text, rotate_text, jump_text, label_text, offset_text, value_text, alone, with_one, with_two, instr_line, written_line}
 use Rattle.asm86_line_reader.specs.ReadBack.{instr_fits, has_line}
 use Rattle.asm86_text.specs.Stream.{IsNotLf}
 use Rattle.asm86_text.proofs.Lines.{true_false}
@@ -233,7 +233,7 @@ instr_ends (InAl n) h = word_two (codes "IN") (codes "AL") (byte_text n) refl (t
 instr_ends (OutAl n) h = word_two (codes "OUT") (byte_text n) (codes "AL") refl (byte_plain n) (tested (codes "AL") refl)
 
 -- the written line of a statement
-pub line_ends : (s : Stmt86) → has_line s ≡ true → EndsOnce (line_of s)
+pub line_ends : (s : Stmt86) → has_line s ≡ true → EndsOnce (written_line s)
 line_ends Cseg h = alone_ends (codes "CSEG") refl
 line_ends Dseg h = alone_ends (codes "DSEG") refl
 line_ends (Org w) h = word_one (codes "ORG") (word_text w) refl (word_plain w)

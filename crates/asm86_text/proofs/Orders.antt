@@ -2,13 +2,13 @@
 use Rattle.std.proofs.Common.{◌≡◌, ℕ, ◌+◌, ◌==◌, ◌||◌, ◌&&◌, Bool, true, false, not, List, [], ◌∷◌, ◌++◌, refl, sym, ap, ◌∙◌, arith, min}
 use Rattle.std.proofs.lemmas.List.Folds.{list_any-append}
 use Rattle.std.specs.List.{list_any}
-use Rattle.base.specs.Addresses.{has_address}
-use Rattle.asm86_lines.specs.declared.line.Stmt86.{Stmt86}
-use Rattle.asm86_lines.specs.Order.{Reading, after, at_start, in_order, is_end, is_empty, may_stand}
-use Rattle.asm86_lines.proofs.Sorting.{or_swap}
+use Rattle.base_types.specs.Addresses.{has_address}
+use Rattle.asm86_line_types.specs.declared.line.Stmt86.{Stmt86}
+use Rattle.asm86_line_types.specs.Order.{Reading, reading_after, at_start, in_order, ends_text, has_no_statement, may_stand}
+use Rattle.asm86_line_types.proofs.Sorting.{or_swap}
 use Rattle.asm86_text.specs.declared.order.Order.{Order}
 use Rattle.asm86_text.specs.declared.order.Group.TheVariants.{Neither}
-use Rattle.asm86_text.specs.Place.{IsAt, after_all, IsAfter}
+use Rattle.asm86_text.specs.Place.{IsOrderAt, after_all, IsAfter}
 
 one_step : (m e f i t a v : Bool) → (m && ((not e || f) && i)) ≡ true → t ≡ (not a && v) → (m && ((not e || false) && t)) ≡ (not (e || a) && v)
 one_step false e f i t a v h k = absurd cc
@@ -26,19 +26,19 @@ alone true true = refl
 alone true false = refl
 alone false e = refl
 
-not_empty : (xs : List Stmt86) (x : Stmt86) → is_empty (xs ++ x ∷ []) ≡ false
+not_empty : (xs : List Stmt86) (x : Stmt86) → has_no_statement (xs ++ x ∷ []) ≡ false
 not_empty [] x = refl
 not_empty (y ∷ xs) x = refl
 
 -- a statement may stand behind others that are in order where END has not come, and it may stand after them
-pub one_more : (r : Reading) (xs : List Stmt86) (x : Stmt86) → in_order r xs ≡ true → in_order r (xs ++ x ∷ []) ≡ (not (list_any is_end xs) && may_stand (after_all r xs) x)
-one_more r [] x h = alone (may_stand r x) (is_end x)
+pub one_more : (r : Reading) (xs : List Stmt86) (x : Stmt86) → in_order r xs ≡ true → in_order r (xs ++ x ∷ []) ≡ (not (list_any ends_text xs) && may_stand (after_all r xs) x)
+one_more r [] x h = alone (may_stand r x) (ends_text x)
 one_more r (y ∷ xs) x h =
-    rw (not_empty xs x) (one_step (may_stand r y) (is_end y) (is_empty xs) (in_order (after r y) xs) (in_order (after r y) (xs ++ x ∷ [])) (list_any is_end xs) (may_stand (after_all (after r y) xs) x) h (one_more (after r y) xs x (rest_in_order (may_stand r y) (is_end y) (is_empty xs) (in_order (after r y) xs) h)))
+    rw (not_empty xs x) (one_step (may_stand r y) (ends_text y) (has_no_statement xs) (in_order (reading_after r y) xs) (in_order (reading_after r y) (xs ++ x ∷ [])) (list_any ends_text xs) (may_stand (after_all (reading_after r y) xs) x) h (one_more (reading_after r y) xs x (rest_in_order (may_stand r y) (ends_text y) (has_no_statement xs) (in_order (reading_after r y) xs) h)))
 
-pub after_one_more : (r : Reading) (xs : List Stmt86) (x : Stmt86) → after_all r (xs ++ x ∷ []) ≡ after (after_all r xs) x
+pub after_one_more : (r : Reading) (xs : List Stmt86) (x : Stmt86) → after_all r (xs ++ x ∷ []) ≡ reading_after (after_all r xs) x
 after_one_more r [] x = refl
-after_one_more r (y ∷ xs) x = after_one_more (after r y) xs x
+after_one_more r (y ∷ xs) x = after_one_more (reading_after r y) xs x
 
 -- one more statement, where the order tells whether END has come
 verdict_by : (order : Order) (xs : List Stmt86) (x : Stmt86) (came stands : Bool) → IsAfter order xs → order.is_ended ≡ came → stands ≡ (not came && may_stand (after_all at_start xs) x) → stands ≡ in_order at_start (xs ++ x ∷ [])
@@ -55,15 +55,15 @@ either_end true b = refl
 either_end false true = refl
 either_end false false = refl
 
-pub moved : (old new : Order) (xs : List Stmt86) (x : Stmt86) → IsAfter old xs → in_order at_start (xs ++ x ∷ []) ≡ true → IsAt new (after (after_all at_start xs) x) → new.is_ended ≡ (old.is_ended || is_end x) → IsAfter new (xs ++ x ∷ [])
+pub moved : (old new : Order) (xs : List Stmt86) (x : Stmt86) → IsAfter old xs → in_order at_start (xs ++ x ∷ []) ≡ true → IsOrderAt new (reading_after (after_all at_start xs) x) → new.is_ended ≡ (old.is_ended || ends_text x) → IsAfter new (xs ++ x ∷ [])
 moved old new xs x h i p e = record {
   in_order = i;
   place = rw (after_one_more at_start xs x) p;
-  ended = e ∙ rw (h.ended, list_any-append is_end xs (x ∷ [])) (sym (either_end (list_any is_end xs) (is_end x)));
+  ended = e ∙ rw (h.ended, list_any-append ends_text xs (x ∷ [])) (sym (either_end (list_any ends_text xs) (ends_text x)));
 }
 
 -- a word's second cell is the one above its first
-pub two_cells : (order : Order) (r : Reading) → IsAt order (record r { at = (r.at + 1) + 1; filled = (r.at + 1) ∷ (r.at ∷ r.filled) }) → IsAt order (record r { at = r.at + 2; filled = r.at ∷ ((r.at + 1) ∷ r.filled) })
+pub two_cells : (order : Order) (r : Reading) → IsOrderAt order (record r { at = (r.at + 1) + 1; filled = (r.at + 1) ∷ (r.at ∷ r.filled) }) → IsOrderAt order (record r { at = r.at + 2; filled = r.at ∷ ((r.at + 1) ∷ r.filled) })
 two_cells order r h = record {
   group = h.group;
   code_came = h.code_came;

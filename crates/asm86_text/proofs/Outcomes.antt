@@ -1,8 +1,8 @@
 -- Outcomes of a reading that are the same.
 use Rattle.std.proofs.Common.{◌≡◌, ℕ, List}
 use Rattle.std.specs.Prelude.{Result, Ok, Err}
-use Rattle.asm86_lines.specs.declared.line.Line86.{Line86}
-use Rattle.asm86_lines.specs.declared.line.TextRule.{TextRule}
+use Rattle.asm86_line_types.specs.declared.line.Line86.{Line86}
+use Rattle.asm86_line_types.specs.declared.line.TextRule.{TextRule}
 
 abbrev pub Same : Result (List Line86) (ℕ × TextRule) → Result (List Line86) (ℕ × TextRule) → Type 0
 Same a b = a ≡ b

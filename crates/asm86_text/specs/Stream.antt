@@ -2,14 +2,14 @@
 -- project's).
 use Rattle.std.specs.Prelude.{◌≡◌, ◌≢◌, ℕ, suc, Bool, true, false, List, [], ◌∷◌, ◌++◌, map, Result, Ok, Err}
 use Rattle.std.specs.List.{list_any}
-use Rattle.asm86_lines.specs.declared.line.Line86.{Line86}
-use Rattle.asm86_lines.specs.declared.line.Stmt86.{Stmt86}
-use Rattle.asm86_lines.specs.declared.line.TextRule.{TextRule}
-use Rattle.asm86_lines.specs.declared.line.TextRule.TheVariants.{M5, M6}
-use Rattle.asm86_lines.specs.Image.{statements}
-use Rattle.asm86_lines.specs.Order.{at_start, in_order, is_end}
-use Rattle.asm86_line_reader.specs.Line.{LineGives}
-use Rattle.base.specs.Cut.{Cut, without_cr, last_line}
+use Rattle.asm86_line_types.specs.declared.line.Line86.{Line86}
+use Rattle.asm86_line_types.specs.declared.line.Stmt86.{Stmt86}
+use Rattle.asm86_line_types.specs.declared.line.TextRule.{TextRule}
+use Rattle.asm86_line_types.specs.declared.line.TextRule.TheVariants.{M5, M6}
+use Rattle.asm86_line_types.specs.Image.{statements}
+use Rattle.asm86_line_types.specs.Order.{at_start, in_order, ends_text}
+use Rattle.asm86_line_reader.specs.Line.{TextLineGives}
+use Rattle.base_types.specs.Cut.{Cut, without_cr, last_line}
 
 -- the bytes of a line
 abbrev pub IsNotLf : ℕ → Type 0
@@ -18,28 +18,28 @@ IsNotLf b = b ≢ 10
 -- ---- statements
 
 -- the statements of the line of a number
-abbrev pub numbered : ℕ → List Stmt86 → List Line86
-numbered n ss = map (λ (s : Stmt86). record { line = n; stmt = s }) ss
+abbrev pub lines_of_number : ℕ → List Stmt86 → List Line86
+lines_of_number n ss = map (λ (s : Stmt86). record { line = n; stmt = s }) ss
 
 -- each statement may stand where it stands, and none stands after END
 abbrev pub are_in_order : List Line86 → Bool
 are_in_order xs = in_order at_start (statements xs)
 
 abbrev pub has_end : List Line86 → Bool
-has_end xs = list_any is_end (statements xs)
+has_end xs = list_any ends_text (statements xs)
 
 -- The line of a number adds its statements to those of the lines before it, and all of them are in order.
-pub record Adds (xs : List Line86) (n : ℕ) (line : List ℕ) (ys : List Line86) : Type 0 where
+pub record AddsLine (xs : List Line86) (n : ℕ) (line : List ℕ) (ys : List Line86) : Type 0 where
   pub given : List Stmt86
-  pub reads : LineGives line (Ok given)
-  pub whole : ys ≡ xs ++ numbered n given
+  pub reads : TextLineGives line (Ok given)
+  pub whole : ys ≡ xs ++ lines_of_number n given
   pub in_order : are_in_order ys ≡ true
 
 -- The line of a number, behind those that gave these statements, breaks a rule: of itself, or else M5 where not all of its
 -- statements may stand there.
 pub data Breaks : List Line86 → ℕ → List ℕ → TextRule → Type 0 where
-  unread : {xs : List Line86} {n : ℕ} {line : List ℕ} {rule : TextRule} → LineGives line (Err rule) → Breaks xs n line rule
-  misplaced : {xs : List Line86} {n : ℕ} {line : List ℕ} {ss : List Stmt86} → LineGives line (Ok ss) → are_in_order (xs ++ numbered n ss) ≡ false → Breaks xs n line M5
+  unread : {xs : List Line86} {n : ℕ} {line : List ℕ} {rule : TextRule} → TextLineGives line (Err rule) → Breaks xs n line rule
+  misplaced : {xs : List Line86} {n : ℕ} {line : List ℕ} {ss : List Stmt86} → TextLineGives line (Ok ss) → are_in_order (xs ++ lines_of_number n ss) ≡ false → Breaks xs n line M5
 
 -- how lines end: END has not come; it has come; or the line of a number breaks a rule
 pub data Ending : Type 0 where
@@ -49,19 +49,19 @@ pub data Ending : Type 0 where
 
 -- What lines from number n on make of the statements before them: all statements up to the first line with END or with a
 -- fault, and which of these it was. The lines behind it are not read.
-pub data LinesGive : ℕ → List Line86 → List (List ℕ) → List Line86 → Ending → Type 0 where
-  none_left : {n : ℕ} {xs : List Line86} → LinesGive n xs [] xs Open
-  next : {n : ℕ} {xs ys zs : List Line86} {line : List ℕ} {lines : List (List ℕ)} {e : Ending} → Adds xs n line ys → has_end ys ≡ false → LinesGive (suc n) ys lines zs e → LinesGive n xs (line ∷ lines) zs e
-  ends : {n : ℕ} {xs ys : List Line86} {line : List ℕ} {lines : List (List ℕ)} → Adds xs n line ys → has_end ys ≡ true → LinesGive n xs (line ∷ lines) ys Ended
-  breaks : {n : ℕ} {xs : List Line86} {line : List ℕ} {lines : List (List ℕ)} {rule : TextRule} → Breaks xs n line rule → LinesGive n xs (line ∷ lines) xs (Broken n rule)
+pub data TextLinesGive : ℕ → List Line86 → List (List ℕ) → List Line86 → Ending → Type 0 where
+  none_left : {n : ℕ} {xs : List Line86} → TextLinesGive n xs [] xs Open
+  next : {n : ℕ} {xs ys zs : List Line86} {line : List ℕ} {lines : List (List ℕ)} {e : Ending} → AddsLine xs n line ys → has_end ys ≡ false → TextLinesGive (suc n) ys lines zs e → TextLinesGive n xs (line ∷ lines) zs e
+  ends : {n : ℕ} {xs ys : List Line86} {line : List ℕ} {lines : List (List ℕ)} → AddsLine xs n line ys → has_end ys ≡ true → TextLinesGive n xs (line ∷ lines) ys Ended
+  breaks : {n : ℕ} {xs : List Line86} {line : List ℕ} {lines : List (List ℕ)} {rule : TextRule} → Breaks xs n line rule → TextLinesGive n xs (line ∷ lines) xs (Broken n rule)
 
 -- ---- texts
 
 -- what a whole text is read as: its statements, or a line and the rule that it breaks; M6 stands at line 0
-abbrev pub outcome_of : List Line86 → Ending → Result (List Line86) (ℕ × TextRule)
-outcome_of xs Open = Err (0, M6)
-outcome_of xs Ended = Ok xs
-outcome_of xs (Broken n rule) = Err (n, rule)
+abbrev pub outcome_of_text : List Line86 → Ending → Result (List Line86) (ℕ × TextRule)
+outcome_of_text xs Open = Err (0, M6)
+outcome_of_text xs Ended = Ok xs
+outcome_of_text xs (Broken n rule) = Err (n, rule)
 
 pub record TextGives (text : List ℕ) (outcome : Result (List Line86) (ℕ × TextRule)) : Type 0 where
   pub raw : List (List ℕ)
@@ -69,13 +69,13 @@ pub record TextGives (text : List ℕ) (outcome : Result (List Line86) (ℕ × T
   pub found : List Line86
   pub ending : Ending
   pub cut : Cut IsNotLf text raw rest
-  pub lines : LinesGive 1 [] (map without_cr raw ++ last_line rest) found ending
-  pub is : outcome ≡ outcome_of found ending
+  pub lines : TextLinesGive 1 [] (map without_cr raw ++ last_line rest) found ending
+  pub is : outcome ≡ outcome_of_text found ending
 
 -- a line of this number is complete in the stream so far and breaks the rule, and no line before it has a fault or END
-pub record HoldsFault (stream : List ℕ) (n : ℕ) (rule : TextRule) : Type 0 where
+pub record HoldsTextFault (stream : List ℕ) (n : ℕ) (rule : TextRule) : Type 0 where
   pub raw : List (List ℕ)
   pub rest : List ℕ
   pub found : List Line86
   pub cut : Cut IsNotLf stream raw rest
-  pub lines : LinesGive 1 [] (map without_cr raw) found (Broken n rule)
+  pub lines : TextLinesGive 1 [] (map without_cr raw) found (Broken n rule)

@@ -2,7 +2,7 @@
 ghost use Rattle.std.specs.Prelude.{◌≡◌};
 ghost use Rattle.asm86_text.specs.declared.fault.TextFault.TheVariants as faults;
 
-use asm86_lines::TextRule;
+use asm86_line_types::TextRule;
 use std::alloc::{AllocError, AllocFailed};
 use thiserror::Error;
 

@@ -7,7 +7,7 @@ ghost use Rattle.asm86_text.specs.declared.fault.TextFault.TheVariants.{Memory};
 use crate::fault::TextFault;
 use crate::order::Order;
 use asm86_line_reader::{LineFault, read_line};
-use asm86_lines::{Line86, Stmt86, TextRule};
+use asm86_line_types::{Line86, Stmt86, TextRule};
 use std::alloc::{AllocError, Global};
 
 /// The most statements that are listed, since a text of fewer than 2^28 can be assembled. One more is answered with want of

@@ -1,8 +1,8 @@
 // What stands in which group of a text, told of one statement after the other.
 ghost use Rattle.std.specs.Prelude.{◌≡◌, ◌≤◌};
 
-use asm86_lines::Stmt86;
-use base::AddressSet;
+use asm86_line_types::Stmt86;
+use base_types::AddressSet;
 use std::alloc::{AllocError, Global};
 
 /// The address past the last cell of memory.
@@ -35,9 +35,9 @@ pub struct Order {
 impl Order {
     ghost use Rattle.std.specs.Prelude.{ℕ, ◌+◌, List, [], ◌∷◌, ◌++◌, IfOk, IsTrue, nat_le, not, ◌&&◌, ◌||◌, false};
     ghost use Rattle.std.specs.List.{list_any};
-    ghost use Rattle.asm86_lines.specs.declared.line.Stmt86.{Stmt86};
-    ghost use Rattle.asm86_lines.specs.Order.{Reading, after, at_start, in_order, is_free, is_end, may_stand};
-    ghost use Rattle.asm86_text.specs.Place.{IsAt, IsAfter};
+    ghost use Rattle.asm86_line_types.specs.declared.line.Stmt86.{Stmt86};
+    ghost use Rattle.asm86_line_types.specs.Order.{Reading, reading_after, at_start, in_order, is_free_cell, ends_text, may_stand};
+    ghost use Rattle.asm86_text.specs.Place.{IsOrderAt, IsAfter};
 
     /// Before the first statement.
     pub fn new(alloc: Global) -> Result<Order, AllocError>
@@ -55,7 +55,7 @@ impl Order {
 
     /// Whether END has come.
     pub fn is_ended(&self) -> bool
-        ensures { (xs : List Stmt86) → IsAfter self.now xs → result ≡ list_any is_end xs }
+        ensures { (xs : List Stmt86) → IsAfter self.now xs → result ≡ list_any ends_text xs }
     {
         self.is_ended
     }
@@ -81,7 +81,7 @@ impl Order {
 
     // Whether a statement may stand here, where END has not come.
     fn may_stand(&self, stmt: Stmt86) -> bool
-        ensures { (r : Reading) → IsAt self.now r → result ≡ may_stand r stmt }
+        ensures { (r : Reading) → IsOrderAt self.now r → result ≡ may_stand r stmt }
     {
         match stmt {
             Stmt86::Cseg => !self.code_came,
@@ -98,7 +98,7 @@ impl Order {
 
     // Whether a data cell may be filled: from 100H up, within memory, and not filled before.
     fn is_free(&self, at: usize) -> bool
-        ensures { (r : Reading) → IsAt self.now r → result ≡ is_free r at }
+        ensures { (r : Reading) → IsOrderAt self.now r → result ≡ is_free_cell r at }
     {
         match u16::try_from(at) {
             Ok(at) => FIRST_CELL <= at && !self.filled.contains(at),
@@ -108,8 +108,8 @@ impl Order {
 
     // Moves on past a statement that may stand here.
     fn move_past(&mut self, stmt: Stmt86)
-        ensures place { (r : Reading) → IsAt self.old r → IsAt self.new (after r stmt) }
-        ensures ended { self.new.is_ended ≡ (self.old.is_ended || is_end stmt) }
+        ensures place { (r : Reading) → IsOrderAt self.old r → IsOrderAt self.new (reading_after r stmt) }
+        ensures ended { self.new.is_ended ≡ (self.old.is_ended || ends_text stmt) }
     {
         match stmt {
             Stmt86::Cseg => {
@@ -135,7 +135,7 @@ impl Order {
 
     // Fills the cell at the data address, and moves on to the next.
     fn fill(&mut self)
-        ensures place { (r : Reading) → IsAt self.old r → IsAt self.new (record r { at = r.at + 1; filled = r.at ∷ r.filled }) }
+        ensures place { (r : Reading) → IsOrderAt self.old r → IsOrderAt self.new (record r { at = r.at + 1; filled = r.at ∷ r.filled }) }
         ensures ended { self.new.is_ended ≡ self.old.is_ended }
     {
         if let Ok(at) = u16::try_from(self.at) {

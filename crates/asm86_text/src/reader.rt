@@ -1,20 +1,20 @@
 // A reader of a text that is fed a stream in pieces.
 ghost use Rattle.std.specs.Prelude.{◌≡◌, ◌≢◌, ◌<◌, ◌^◌, ◌∷◌, [], ◌++◌, ◌⊎◌, ℕ, List, Option, None, Some, Result, Err, IfOk, IfSome, MatchResult, true, length, is_some, ◌||◌};
-ghost use Rattle.asm86_lines.specs.declared.line.Line86.{Line86};
-ghost use Rattle.asm86_lines.specs.declared.line.TextRule.{TextRule};
-ghost use Rattle.asm86_lines.specs.Image.{statements};
-ghost use Rattle.asm86_lines.specs.Order.{at_start, in_order};
+ghost use Rattle.asm86_line_types.specs.declared.line.Line86.{Line86};
+ghost use Rattle.asm86_line_types.specs.declared.line.TextRule.{TextRule};
+ghost use Rattle.asm86_line_types.specs.Image.{statements};
+ghost use Rattle.asm86_line_types.specs.Order.{at_start, in_order};
 ghost use Rattle.asm86_text.specs.declared.fault.TextFault.{TextFault};
 ghost use Rattle.asm86_text.specs.declared.fault.TextFault.TheVariants.{Line, Memory};
-ghost use Rattle.base.specs.Cut.{without_cr};
-ghost use Rattle.base.specs.Held.{with_byte, Holds};
-ghost use Rattle.asm86_text.specs.Reader.{After, AfterAll, Agrees, Finishes, Reads, ReadsRest, answer_of};
-ghost use Rattle.asm86_text.specs.Stream.{HoldsFault, TextGives, has_end};
+ghost use Rattle.base_types.specs.Cut.{without_cr};
+ghost use Rattle.base_types.specs.Held.{held_with_byte, HoldsLine};
+ghost use Rattle.asm86_text.specs.Reader.{AfterText, AfterAll, AgreesWithText, FinishesText, ReadsLine, ReadsRest, answer_of_fault};
+ghost use Rattle.asm86_text.specs.Stream.{HoldsTextFault, TextGives, has_end};
 
 use crate::fault::TextFault;
 use crate::listing::Listing;
-use asm86_lines::{Line86, TextRule};
-use base::{HeldLine, without_cr};
+use asm86_line_types::{Line86, TextRule};
+use base_types::{HeldLine, without_cr};
 use std::alloc::{AllocError, Global};
 use std::marker::Model;
 use std::mem;
@@ -30,9 +30,9 @@ pub struct Text86 {
 
 impl Model for Text86 {
     ghost use Rattle.std.specs.Prelude.{◌≡◌, None};
-    ghost use Rattle.asm86_text.specs.Reader.{Reader, IsListed};
+    ghost use Rattle.asm86_text.specs.Reader.{TextReader, IsListed};
 
-    ghost Value = { Reader };
+    ghost Value = { TextReader };
 
     ghost view = { λ a. record { lines = a.listing.lines.items; number = a.listing.number; held = a.held; fault = a.fault } };
 
@@ -42,7 +42,7 @@ impl Model for Text86 {
 impl Text86 {
     /// A reader of a text of which nothing has come yet.
     pub fn new(alloc: Global) -> Result<Text86, AllocError>
-        ensures { IfOk result (After []) }
+        ensures { IfOk result (AfterText []) }
     {
         Ok(Text86 {
             listing: Listing::new(alloc)?,
@@ -55,12 +55,12 @@ impl Text86 {
     /// complete once its line feed has come. After a fault each later call answers the same fault.
     pub fn feed(&mut self, piece: &[u8]) -> Result<(), TextFault>
         // The text so far grows by the piece.
-        ensures grows { self.new.fault ≢ Some Memory → (stream : List ℕ) → After stream self.old → After (stream ++ piece.now) self.new }
-        ensures answer { result ≡ answer_of self.new.fault }
+        ensures grows { self.new.fault ≢ Some Memory → (stream : List ℕ) → AfterText stream self.old → AfterText (stream ++ piece.now) self.new }
+        ensures answer { result ≡ answer_of_fault self.new.fault }
 
         // Line comes exactly where a faulty line, not after END, is complete in the text so far.
-        ensures faulty { (stream : List ℕ) (n : ℕ) (rule : TextRule) → After stream self.old → result ≡ Err (Line n rule) → HoldsFault (stream ++ piece.now) n rule }
-        ensures found { (stream : List ℕ) (n : ℕ) (rule : TextRule) → After stream self.old → HoldsFault (stream ++ piece.now) n rule → (result ≡ Err (Line n rule)) ⊎ (result ≡ Err Memory) }
+        ensures faulty { (stream : List ℕ) (n : ℕ) (rule : TextRule) → AfterText stream self.old → result ≡ Err (Line n rule) → HoldsTextFault (stream ++ piece.now) n rule }
+        ensures found { (stream : List ℕ) (n : ℕ) (rule : TextRule) → AfterText stream self.old → HoldsTextFault (stream ++ piece.now) n rule → (result ≡ Err (Line n rule)) ⊎ (result ≡ Err Memory) }
 
         // A fault stands, and behind END nothing is read.
         ensures stands { self.old.fault ≢ None → self.new ≡ self.old }
@@ -74,7 +74,7 @@ impl Text86 {
 
     // The fault that there is.
     fn answer(&self) -> Result<(), TextFault>
-        ensures { result ≡ answer_of self.now.fault }
+        ensures { result ≡ answer_of_fault self.now.fault }
     {
         match self.fault {
             Some(fault) => Err(fault),
@@ -86,8 +86,8 @@ impl Text86 {
     /// the last line too if no line feed ended it; else line 0 and M6 where no END came.
     pub fn finish(self) -> Result<Vec<Line86>, TextFault>
         // Line comes exactly where the text has a fault, with its first one.
-        ensures outcome { (stream : List ℕ) → After stream self → Finishes stream result }
-        ensures only { (stream : List ℕ) (outcome : Result (List Line86) (ℕ × TextRule)) → After stream self → TextGives stream outcome → Agrees result outcome }
+        ensures outcome { (stream : List ℕ) → AfterText stream self → FinishesText stream result }
+        ensures only { (stream : List ℕ) (outcome : Result (List Line86) (ℕ × TextRule)) → AfterText stream self → TextGives stream outcome → AgreesWithText result outcome }
 
         // A fault stands, and once END has come there is an answer.
         ensures stands { IfSome self.fault (λ fault. result ≡ Err fault) }
@@ -104,7 +104,7 @@ impl Text86 {
 
     // What is answered where the text has ended.
     fn outcome(self) -> Result<Vec<Line86>, TextFault>
-        ensures value { (text : List ℕ) → (self.fault ≢ Some Memory → AfterAll text self) → Finishes text result }
+        ensures value { (text : List ℕ) → (self.fault ≢ Some Memory → AfterAll text self) → FinishesText text result }
         ensures stands { IfSome self.fault (λ fault. result ≡ Err fault) }
         ensures ended { self.fault ≡ None → has_end self.lines ≡ true → MatchResult result (λ v. v.items ≡ self.lines) (λ _. ⊥) }
         ensures in_order { IfOk result (λ v. in_order at_start (statements v.items) ≡ true) }
@@ -121,7 +121,7 @@ impl Text86 {
 
     // Takes the next byte of the text, unless there is a fault or END has come.
     fn step(&mut self, b: u8)
-        ensures grows { self.new.fault ≢ Some Memory → (stream : List ℕ) → After stream self.old → After (stream ++ b ∷ []) self.new }
+        ensures grows { self.new.fault ≢ Some Memory → (stream : List ℕ) → AfterText stream self.old → AfterText (stream ++ b ∷ []) self.new }
         ensures stands { self.old.fault ≢ None → self.new ≡ self.old }
         ensures ended { has_end self.old.lines ≡ true → self.new ≡ self.old }
     {
@@ -143,7 +143,7 @@ impl Text86 {
     }
 
     fn hold(&mut self, b: u8)
-        ensures { self.new ≡ record self.old { held = with_byte self.old.held b } }
+        ensures { self.new ≡ record self.old { held = held_with_byte self.old.held b } }
     {
         self.held.push(b);
     }
@@ -151,7 +151,7 @@ impl Text86 {
     // The line that is held is complete by a LF.
     fn end_line(&mut self)
         requires { self.old.fault ≡ None }
-        ensures { (line : List ℕ) → Holds self.old.held line → Reads (without_cr line) self.old self.new }
+        ensures { (line : List ℕ) → HoldsLine self.old.held line → ReadsLine (without_cr line) self.old self.new }
     {
         let held = mem::replace(&mut self.held, HeldLine::new());
         match held.line() {
@@ -162,7 +162,7 @@ impl Text86 {
 
     // The text ends.
     fn end(&mut self)
-        ensures whole { self.new.fault ≢ Some Memory → (stream : List ℕ) → After stream self.old → AfterAll stream self.new }
+        ensures whole { self.new.fault ≢ Some Memory → (stream : List ℕ) → AfterText stream self.old → AfterAll stream self.new }
         ensures stands { self.old.fault ≢ None → self.new ≡ self.old }
         ensures ended { has_end self.old.lines ≡ true → self.new ≡ self.old }
     {
@@ -175,7 +175,7 @@ impl Text86 {
     // The line that is held is the last, and no LF ended it.
     fn end_rest(&mut self)
         requires { self.old.fault ≡ None }
-        ensures { (rest : List ℕ) → Holds self.old.held rest → ReadsRest rest self.old self.new }
+        ensures { (rest : List ℕ) → HoldsLine self.old.held rest → ReadsRest rest self.old self.new }
     {
         let held = mem::replace(&mut self.held, HeldLine::new());
         match held.line() {
@@ -191,7 +191,7 @@ impl Text86 {
     // Refuses a line that was too long to be held.
     fn refuse_long(&mut self)
         requires { self.old.fault ≡ None }
-        ensures { (line : List ℕ) → 255 < length line → Reads line self.old self.new }
+        ensures { (line : List ℕ) → 255 < length line → ReadsLine line self.old self.new }
     {
         self.fault = Some(self.listing.refuse_long());
     }
@@ -200,7 +200,7 @@ impl Text86 {
     fn read(&mut self, line: &[u8])
         requires fault { self.old.fault ≡ None }
         requires held { self.old.held ≡ Some [] }
-        ensures { Reads line.now self.old self.new }
+        ensures { ReadsLine line.now self.old self.new }
     {
         if let Err(fault) = self.listing.read(line) {
             self.fault = Some(fault);

@@ -12,10 +12,10 @@ use Rattle.std.proofs.lemmas.List.{length-set, length-append, length-replicate}
 use Rattle.std.proofs.lemmas.List.Edits.{length-insert, length-remove}
 use Rattle.std.proofs.lemmas.Option.{slice_get-get_or, slice_get_past}
 use Rattle.std.proofs.lemmas.Slice.Eq.{bytes_eq-Decides}
-use Rattle.bdos_disk.specs.Names.{is_name_byte, is_name, is_before, is_after}
+use Rattle.bdos_disk.specs.Names.{is_name_byte, is_file_name, is_before, is_after}
 use Rattle.bdos_disk.proofs.Order.{before_trans, before_back, before_cases, before_differs_back, after_later}
 use Rattle.bdos_disk.specs.Stored.{Stored, zero_record}
-use Rattle.bdos_disk.specs.Disks.{IsFile, AreFilesAfter, records_in, IsDisk, has_name, file_named, with_file, without_file, with_records, growth, written_at}
+use Rattle.bdos_disk.specs.Disks.{IsStoredFile, AreFilesAfter, records_in, IsDisk, has_name, file_named, with_file, without_file, with_records, growth, written_at}
 
 abbrev pub count_of : Stored → ℕ
 count_of f = length f.records
@@ -112,18 +112,18 @@ with_file-insert n last [] h free = refl
 with_file-insert n last (g ∷ fs) h free =
     insert_by n g fs h.2 free (with_file-insert n (Some g.name) fs h.2 (not_named n.name g fs free).1) (before_cases g.name n.name)
 
-files_by : (n g : Stored) (last : Option (List ℕ)) (fs : List Stored) → IsFile n → is_after last n.name ≡ true → AreFilesAfter last (g ∷ fs) → file_named n.name (g ∷ fs) ≡ None → (is_before g.name n.name ≡ true → AreFilesAfter (Some g.name) (with_file n fs)) → (is_before g.name n.name ≡ true) ⊎ ((g.name ≡ n.name) ⊎ (is_before n.name g.name ≡ true)) → AreFilesAfter last (with_file n (g ∷ fs))
+files_by : (n g : Stored) (last : Option (List ℕ)) (fs : List Stored) → IsStoredFile n → is_after last n.name ≡ true → AreFilesAfter last (g ∷ fs) → file_named n.name (g ∷ fs) ≡ None → (is_before g.name n.name ≡ true → AreFilesAfter (Some g.name) (with_file n fs)) → (is_before g.name n.name ≡ true) ⊎ ((g.name ≡ n.name) ⊎ (is_before n.name g.name ≡ true)) → AreFilesAfter last (with_file n (g ∷ fs))
 files_by n g last fs new here h free rest (inl e) = subst (AreFilesAfter last) (sym (first_before n g fs e)) (h.0, h.1, rest e)
 files_by n g last fs new here h free rest (inr (inl same)) = absurd (others n.name g (not_named n.name g fs free).0 same)
 files_by n g last fs new here h free rest (inr (inr e)) = subst (AreFilesAfter last) (sym (first_after n g fs e h.2)) (new, here, (h.0, e, h.2))
 
-pub files-with_file : (n : Stored) (last : Option (List ℕ)) (fs : List Stored) → IsFile n → is_after last n.name ≡ true → AreFilesAfter last fs → file_named n.name fs ≡ None → AreFilesAfter last (with_file n fs)
+pub files-with_file : (n : Stored) (last : Option (List ℕ)) (fs : List Stored) → IsStoredFile n → is_after last n.name ≡ true → AreFilesAfter last fs → file_named n.name fs ≡ None → AreFilesAfter last (with_file n fs)
 files-with_file n last [] new here h free = (new, here, tt)
 files-with_file n last (g ∷ fs) new here h free =
     files_by n g last fs new here h free (λ e. files-with_file n (Some g.name) fs new e h.2 (not_named n.name g fs free).1) (before_cases g.name n.name)
 
 -- the disk with one file more
-pub disk-with_file : (n : Stored) (d : List Stored) → IsFile n → IsDisk d → file_named n.name d ≡ None → length d < 64 → records_in d + length n.records ≤ 8000 → IsDisk (with_file n d)
+pub disk-with_file : (n : Stored) (d : List Stored) → IsStoredFile n → IsDisk d → file_named n.name d ≡ None → length d < 64 → records_in d + length n.records ≤ 8000 → IsDisk (with_file n d)
 disk-with_file n d new h free room small =
     let k = length (filter (before n.name) d) in
     let same = with_file-insert n None d h.files free in
@@ -214,7 +214,7 @@ module _ (name : List ℕ) where
   named_by records f true = refl
   named_by records f false = refl
 
-  given_by : (records : List (List ℕ)) (f : Stored) → All (λ r. length r ≡ 128) records → IsFile f → (b : Bool) → IsFile (cond b (record { name = f.name; records = records }) f)
+  given_by : (records : List (List ℕ)) (f : Stored) → All (λ r. length r ≡ 128) records → IsStoredFile f → (b : Bool) → IsStoredFile (cond b (record { name = f.name; records = records }) f)
   given_by records f whole is true = record { name = is.name; records = whole }
   given_by records f whole is false = is
 
@@ -228,7 +228,7 @@ module _ (name : List ℕ) where
       )
 
 -- a file among others
-pub file-at : (last : Option (List ℕ)) (fs : List Stored) (k : ℕ) (d : Stored) → AreFilesAfter last fs → k < length fs → IsFile (get_or fs k d)
+pub file-at : (last : Option (List ℕ)) (fs : List Stored) (k : ℕ) (d : Stored) → AreFilesAfter last fs → k < length fs → IsStoredFile (get_or fs k d)
 file-at last [] k d h lt = absurd (omega arith)
 file-at last (f ∷ fs) zero d h lt = h.0
 file-at last (f ∷ fs) (suc k) d h lt = file-at (Some f.name) fs k d h.2 (omega arith)
@@ -247,7 +247,7 @@ whole-written_at position r records one whole =
     (All-append (λ r. length r ≡ 128) records (replicate g zero_record) whole (All-replicate (λ r. length r ≡ 128) g zero_record (length-replicate {A = ℕ} 128 0)))
 
 -- the disk after a file is renamed
-pub disk-renamed : (from to : List ℕ) (d : List Stored) (f : Stored) → IsDisk d → is_name to ≡ true → file_named to d ≡ None → position_or_len (has_name from) d < length d → f ≡ get_or d (position_or_len (has_name from) d) f → IsDisk (with_file (record { name = to; records = f.records }) (without_file from d))
+pub disk-renamed : (from to : List ℕ) (d : List Stored) (f : Stored) → IsDisk d → is_file_name to ≡ true → file_named to d ≡ None → position_or_len (has_name from) d < length d → f ≡ get_or d (position_or_len (has_name from) d) f → IsDisk (with_file (record { name = to; records = f.records }) (without_file from d))
 disk-renamed from to d f h lawful free lt is =
     let k = position_or_len (has_name from) d in
     let n : Stored = record { name = to; records = f.records } in
@@ -257,7 +257,7 @@ disk-renamed from to d f h lawful free lt is =
     let fewer : records_in rest + length f.records ≡ records_in d = ap (λ l. records_in l + length f.records) (sym same) ∙ ap (λ x. records_in (remove d k) + length x.records) is ∙ sum_by-remove count_of d k f lt in
     let few : length d ≤ 64 = h.few in
     let small : records_in d ≤ 8000 = h.small in
-    let kept : IsFile f = subst IsFile (sym is) (file-at None d k f h.files lt) in
+    let kept : IsStoredFile f = subst IsStoredFile (sym is) (file-at None d k f h.files lt) in
     disk-with_file n rest (record { name = lawful; records = kept.records }) (disk-filter (λ g. not (has_name from g)) d h) (free-filter to (λ g. not (has_name from g)) d free) (omega arith) (omega arith)
 
 -- the disk after a record is written
@@ -265,7 +265,7 @@ pub disk-written : (name : List ℕ) (position : ℕ) (r : List ℕ) (d : List S
 disk-written name position r d f h one lt is room =
     let k = position_or_len (has_name name) d in
     let records = written_at position r f.records in
-    let kept : IsFile f = subst IsFile (sym is) (file-at None d k f h.files lt) in
+    let kept : IsStoredFile f = subst IsStoredFile (sym is) (file-at None d k f h.files lt) in
     let whole = whole-written_at position r f.records one kept.records in
     let y : Stored = record { name = (get_or d k f).name; records = records } in
     let same : set d k y ≡ with_records name records d = set-place name records None d f h.files lt in
@@ -280,17 +280,17 @@ disk-written name position r d f h one lt is room =
     }
 
 -- a file that is found among others
-found_by : (p : Stored → Bool) (last : Option (List ℕ)) (g f : Stored) (fs : List Stored) → AreFilesAfter last (g ∷ fs) → (find p fs ≡ Some f → IsFile f × (length f.records ≤ records_in fs)) → (b : Bool) → cond b (Some g) (find p fs) ≡ Some f → IsFile f × (length f.records ≤ records_in (g ∷ fs))
+found_by : (p : Stored → Bool) (last : Option (List ℕ)) (g f : Stored) (fs : List Stored) → AreFilesAfter last (g ∷ fs) → (find p fs ≡ Some f → IsStoredFile f × (length f.records ≤ records_in fs)) → (b : Bool) → cond b (Some g) (find p fs) ≡ Some f → IsStoredFile f × (length f.records ≤ records_in (g ∷ fs))
 found_by p last g f fs h rest true e =
     let same : g ≡ f = cc in
     let sum = sum_by-cons count_of g fs in
-    subst (λ x. IsFile x × (length x.records ≤ records_in (g ∷ fs))) same (h.0, omega arith)
+    subst (λ x. IsStoredFile x × (length x.records ≤ records_in (g ∷ fs))) same (h.0, omega arith)
 found_by p last g f fs h rest false e =
     let found = rest e in
     let sum = sum_by-cons count_of g fs in
     (found.0, omega (arith, found.1))
 
-found_among : (p : Stored → Bool) (last : Option (List ℕ)) (f : Stored) (fs : List Stored) → AreFilesAfter last fs → find p fs ≡ Some f → IsFile f × (length f.records ≤ records_in fs)
+found_among : (p : Stored → Bool) (last : Option (List ℕ)) (f : Stored) (fs : List Stored) → AreFilesAfter last fs → find p fs ≡ Some f → IsStoredFile f × (length f.records ≤ records_in fs)
 found_among p last f [] h e = cc
 found_among p last f (g ∷ fs) h e = found_by p last g f fs h (found_among p (Some g.name) f fs h.2) (p g) e
 

@@ -9,8 +9,8 @@ use Rattle.std.specs.Str.{bytes_eq}
 use Rattle.std.proofs.lemmas.Bool.{both_ways, cases_Bool, not-true, ltb-true, leb-true, and_parts, and_from, eq-eqb, eqb-true, not_from_false, agree_below_at}
 use Rattle.std.proofs.lemmas.List.{append-nil, length-append, length-take-le, length-replicate, take-append-drop, take-append-le, take_more, set_at}
 use Rattle.std.proofs.lemmas.Slice.Eq.{bytes_eq-Decides}
-use Rattle.bdos_disk.specs.Names.{is_name_byte, is_name, is_before, is_after, top_byte, highest, IsNameBetween}
-use Rattle.bdos_disk.specs.Spelled.{Begins, BreaksAt}
+use Rattle.bdos_disk.specs.Names.{is_name_byte, is_file_name, is_before, is_after, top_byte, highest, IsNameBetween}
+use Rattle.bdos_disk.specs.Spelled.{IsPrefixOf, BreaksAt}
 use Rattle.bdos_disk.proofs.Order.{compared, compared-append, compared_itself, same_from_compared, before_trans, before_back, before_itself, before_cases}
 
 -- the lowest and the highest bytes of names
@@ -101,17 +101,17 @@ all_tops zero = refl
 all_tops (suc m) = all_tops m
 
 -- the highest name is one
-pub highest_lawful : (after : ℕ) → after ≤ 63 → is_name (highest after) ≡ true
+pub highest_lawful : (after : ℕ) → after ≤ 63 → is_file_name (highest after) ≡ true
 highest_lawful after le =
     let last : is_name_byte (top_byte after) ≡ true = agree_below_at (λ k. is_name_byte (top_byte k)) (λ _. true) 64 after refl (omega arith) in
     ap (λ b. b && true) last
 
-pub name_parts : (n : List ℕ) → is_name n ≡ true → (length n ≡ 11) × (list_all is_name_byte n ≡ true)
+pub name_parts : (n : List ℕ) → is_file_name n ≡ true → (length n ≡ 11) × (list_all is_name_byte n ≡ true)
 name_parts n e =
     let each = and_parts (length n == 11) (list_all is_name_byte n) e in
     (eqb-true (length n) 11 each.0, each.1)
 
-name_from : (n : List ℕ) → length n ≡ 11 → list_all is_name_byte n ≡ true → is_name n ≡ true
+name_from : (n : List ℕ) → length n ≡ 11 → list_all is_name_byte n ≡ true → is_file_name n ≡ true
 name_from n e f = and_from (length n == 11) (list_all is_name_byte n) (eq-eqb (length n) 11 e) f
 
 -- what is greater stays so, whatever follows
@@ -164,7 +164,7 @@ module _ (last : Option (List ℕ)) (after : ℕ) (bytes : List ℕ) (le : after
         ap is_lt (split (tops (11 - k))) ∙ greater_stays (compared start (take k bytes)) (compared rest (lows (11 - k))) (compared rest (tops (11 - k))) (λ e. differs (same_from_compared start (take k bytes) e)) (sym (ap is_lt (split (lows (11 - k)))) ∙ low)
 
     -- a name that begins with the first k bytes
-    pub going_name : (v : List ℕ) × IsNameBetween last after v × Begins (take k bytes) v
+    pub going_name : (v : List ℕ) × IsNameBetween last after v × IsPrefixOf (take k bytes) v
     going_name =
         elim (cases_Bool (bytes_eq (take k (highest after)) (take k bytes))) [
           | inl e ↦ (highest after, record { lawful = highest_lawful after le; above = can; room = before_itself (highest after) }, (drop k (highest after), sym (take-append-drop k (highest after)) ∙ ap (λ p. p ++ drop k (highest after)) ((bytes_eq-Decides (take k (highest after)) (take k bytes)).0 e)))
@@ -180,14 +180,14 @@ module _ (last : Option (List ℕ)) (after : ℕ) (bytes : List ℕ) (le : after
         ]
 
     -- no name begins with the bytes where none goes on with the next
-    none_by : k < 11 → (k < length bytes → (v : List ℕ) → IsNameBetween last after v → Begins (take (k + 1) bytes) v → ⊥) → (v : List ℕ) → IsNameBetween last after v → Begins v bytes → ⊥
+    none_by : k < 11 → (k < length bytes → (v : List ℕ) → IsNameBetween last after v → IsPrefixOf (take (k + 1) bytes) v → ⊥) → (v : List ℕ) → IsNameBetween last after v → IsPrefixOf v bytes → ⊥
     none_by lt never v is b =
         let long : length v ≡ 11 = (name_parts v is.lawful).0 in
         let all : length bytes ≡ length v + length b.0 = ap length b.1 ∙ length-append v b.0 in
         let start : take (k + 1) bytes ≡ take (k + 1) v = ap (take (k + 1)) b.1 ∙ take-append-le (k + 1) v b.0 (omega (arith, long)) in
         never (omega (arith, long, all)) v is (drop (k + 1) v, sym (take-append-drop (k + 1) v) ∙ ap (λ p. p ++ drop (k + 1) v) (sym start))
 
-    breaks_by : k < 11 → (k < length bytes → (v : List ℕ) → IsNameBetween last after v → Begins (take (k + 1) bytes) v → ⊥) → BreaksAt (IsNameBetween last after) (λ name. name) bytes k
+    breaks_by : k < 11 → (k < length bytes → (v : List ℕ) → IsNameBetween last after v → IsPrefixOf (take (k + 1) bytes) v → ⊥) → BreaksAt (IsNameBetween last after) (λ name. name) bytes k
     breaks_by lt never = record { within = g.within; so_far = going_name; none = none_by lt never; no_further = never }
 
     -- the bytes end
@@ -234,7 +234,7 @@ module _ (last : Option (List ℕ)) (after : ℕ) (bytes : List ℕ) (le : after
           }
 
       -- a name that begins with one byte more passes the test
-      passes : (v : List ℕ) → IsNameBetween last after v → Begins (take (k + 1) bytes) v → goes ≡ true
+      passes : (v : List ℕ) → IsNameBetween last after v → IsPrefixOf (take (k + 1) bytes) v → goes ≡ true
       passes v is b =
           let p = take (k + 1) bytes in
           let u = b.0 in

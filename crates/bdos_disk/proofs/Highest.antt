@@ -8,7 +8,7 @@ use Rattle.std.proofs.lemmas.Bool.{ltb-true, ltb-false, leb-false, lt-ltb, and_p
 use Rattle.std.proofs.lemmas.List.{length-take-le, take-append-drop, drop_all}
 use Rattle.std.proofs.lemmas.Cmp.{nat_list_cmp_total}
 use Rattle.std.proofs.Common.{drop-cons}
-use Rattle.bdos_disk.specs.Names.{is_name_byte, is_name, is_before, top_byte, highest}
+use Rattle.bdos_disk.specs.Names.{is_name_byte, is_file_name, is_before, top_byte, highest}
 use Rattle.bdos_disk.proofs.Order.{compared, compared-append}
 use Rattle.bdos_disk.proofs.Going.{tops, tops_most, name_parts, first_not_below, all_parts}
 
@@ -97,7 +97,7 @@ last_byte n e =
     ∙ ap (λ l. take 10 n ++ l) (drop-cons n 10 0 (omega arith) ∙ ap (λ l. get_or n 10 0 ∷ l) (drop_all 11 n (omega arith)))
 
 -- a name below the highest is not above the next
-pub next_highest : (k : ℕ) (n : List ℕ) → k + 1 ≤ 63 → is_name n ≡ true → is_before n (highest k) ≡ true → is_before (highest (k + 1)) n ≡ false
+pub next_highest : (k : ℕ) (n : List ℕ) → k + 1 ≤ 63 → is_file_name n ≡ true → is_before n (highest k) ≡ true → is_before (highest (k + 1)) n ≡ false
 next_highest k n le name below =
     let parts = name_parts n name in
     let a = take 10 n in
@@ -116,7 +116,7 @@ next_highest k n le name below =
     by_order k x le name Greater p back here = cc
 
 -- the highest of all
-pub below_highest : (n : List ℕ) → is_name n ≡ true → is_before (highest 0) n ≡ false
+pub below_highest : (n : List ℕ) → is_file_name n ≡ true → is_before (highest 0) n ≡ false
 below_highest n name =
     let parts = name_parts n name in
     ap (λ m. is_before (tops m) n) (sym parts.0) ∙ tops_most n parts.1

@@ -7,18 +7,18 @@ use Rattle.std.proofs.lemmas.List.Elements.{All-nil, All-cons, All-head, All-tai
 use Rattle.std.proofs.Math.Seq.{take-add}
 use Rattle.std.proofs.lemmas.List.Sums.{sum_by-cons}
 use Rattle.std.proofs.lemmas.List.Concat.{flat_map-append}
-use Rattle.bdos_disk.specs.Names.{is_name, is_before, highest}
+use Rattle.bdos_disk.specs.Names.{is_file_name, is_before, highest}
 use Rattle.bdos_disk.specs.Spelled.{BreaksAt}
 use Rattle.bdos_disk.proofs.Going.{highest_lawful, upto_then, upto_lt}
 use Rattle.bdos_disk.proofs.Highest.{highest_falls, next_highest, below_highest}
 use Rattle.bdos_disk.specs.Stored.{Stored}
 use Rattle.bdos_disk.specs.Disks.{AreFilesAfter, records_in}
-use Rattle.bdos_disk.specs.DiskFile.{mark, word, all_records}
+use Rattle.bdos_disk.specs.DiskFile.{disk_mark, word_bytes, all_records}
 use Rattle.bdos_disk.specs.Reading.{AreFiles}
 use Rattle.bdos_disk.proofs.Files.{count_of}
 use Rattle.bdos_disk.proofs.Parts.{same_front}
 
-word_low : (low : ℕ) → low < 256 → word low ≡ low ∷ (0 ∷ [])
+word_low : (low : ℕ) → low < 256 → word_bytes low ≡ low ∷ (0 ∷ [])
 word_low low lt =
     let a : low % 256 ≡ low = omega arith in
     let b : low / 256 ≡ 0 = omega arith in
@@ -26,34 +26,34 @@ word_low low lt =
 
 module _ (most : ℕ) where
   -- no first byte
-  pub word_none : BreaksAt (λ n. n ≤ most) word [] 0
+  pub word_none : BreaksAt (λ n. n ≤ most) word_bytes [] 0
   word_none = record {
     within = omega arith;
-    so_far = (0, (omega arith), (word 0, refl));
+    so_far = (0, (omega arith), (word_bytes 0, refl));
     none = λ v is b. let e = ap length b.1 in absurd (omega (arith, e));
     no_further = λ lt. absurd (omega (arith, lt));
   }
 
   -- a first byte that is too high
-  pub word_first : (low : ℕ) (bs : List ℕ) → most < low → BreaksAt (λ n. n ≤ most) word (low ∷ bs) 0
+  pub word_first : (low : ℕ) (bs : List ℕ) → most < low → BreaksAt (λ n. n ≤ most) word_bytes (low ∷ bs) 0
   word_first low bs high = record {
     within = omega arith;
-    so_far = (0, (omega arith), (word 0, refl));
+    so_far = (0, (omega arith), (word_bytes 0, refl));
     none = λ v is b. let e : low ≡ v % 256 = ap (λ l. get_or l 0 0) b.1 in absurd (omega (arith, e, is));
     no_further = λ lt v is b. let e : v % 256 ≡ low = ap (λ l. get_or l 0 0) b.1 in absurd (omega (arith, e, is));
   }
 
   -- no second byte
-  pub word_short : (low : ℕ) → low ≤ most → low < 256 → BreaksAt (λ n. n ≤ most) word (low ∷ []) 1
+  pub word_short : (low : ℕ) → low ≤ most → low < 256 → BreaksAt (λ n. n ≤ most) word_bytes (low ∷ []) 1
   word_short low le lt = record {
     within = omega arith;
     so_far = (low, le, (0 ∷ [], word_low low lt));
-    none = λ v is b. let e = ap length b.1 in let f = length-append (word v) b.0 in absurd (omega (arith, e, f));
+    none = λ v is b. let e = ap length b.1 in let f = length-append (word_bytes v) b.0 in absurd (omega (arith, e, f));
     no_further = λ less. absurd (omega (arith, less));
   }
 
   -- a second byte that is too high
-  pub word_second : (low high : ℕ) (bs : List ℕ) → low ≤ most → low < 256 → most < low + 256 * high → BreaksAt (λ n. n ≤ most) word (low ∷ (high ∷ bs)) 1
+  pub word_second : (low high : ℕ) (bs : List ℕ) → low ≤ most → low < 256 → most < low + 256 * high → BreaksAt (λ n. n ≤ most) word_bytes (low ∷ (high ∷ bs)) 1
   word_second low high bs le lt large = record {
     within = omega arith;
     so_far = (low, le, (0 ∷ [], word_low low lt));
@@ -67,7 +67,7 @@ module _ (most : ℕ) where
         absurd (omega (arith, e, f, is));
   }
 
-  pub word_only : (a c : ℕ) → (length (word c) ≡ length (word a)) × (word c ≡ word a → c ≡ a)
+  pub word_only : (a c : ℕ) → (length (word_bytes c) ≡ length (word_bytes a)) × (word_bytes c ≡ word_bytes a → c ≡ a)
   word_only a c = (refl, λ e. let f : c % 256 ≡ a % 256 = ap (λ l. get_or l 0 0) e in let g : c / 256 ≡ a / 256 = ap (λ l. get_or l 1 0) e in omega (arith, f, g))
 
 -- so many records
@@ -131,7 +131,7 @@ records_only n rs h ts g =
     (omega (arith, length-all_records rs h.whole, length-all_records ts g.whole), same_records ts rs g.whole h.whole (omega arith))
 
 -- the names of files leave room for those behind them
-pub files_leave_room : (n : List ℕ) (fs : List Stored) (count : ℕ) → count ≤ 63 → is_name n ≡ true → AreFilesAfter (Some n) fs → length fs ≡ count → is_before (highest count) n ≡ false
+pub files_leave_room : (n : List ℕ) (fs : List Stored) (count : ℕ) → count ≤ 63 → is_file_name n ≡ true → AreFilesAfter (Some n) fs → length fs ≡ count → is_before (highest count) n ≡ false
 files_leave_room n [] zero le name h e = below_highest n name
 files_leave_room n [] (suc k) le name h e = absurd (omega (arith, e))
 files_leave_room n (f ∷ fs) zero le name h e = absurd (omega (arith, e))
@@ -178,29 +178,29 @@ room_for name k room le h = record {
 
 -- the same of bytes by their places
 module _ (most : ℕ) where
-  pub word_short_at : (bytes : List ℕ) → length bytes ≡ 1 → get_or bytes 0 0 ≤ most → get_or bytes 0 0 < 256 → BreaksAt (λ n. n ≤ most) word bytes 1
+  pub word_short_at : (bytes : List ℕ) → length bytes ≡ 1 → get_or bytes 0 0 ≤ most → get_or bytes 0 0 < 256 → BreaksAt (λ n. n ≤ most) word_bytes bytes 1
   word_short_at [] e le lt = absurd (omega (arith, e))
   word_short_at (low ∷ []) e le lt = word_short most low le lt
   word_short_at (low ∷ (high ∷ bs)) e le lt = absurd (omega (arith, e))
 
-  pub word_second_at : (bytes : List ℕ) → 1 < length bytes → get_or bytes 0 0 ≤ most → get_or bytes 0 0 < 256 → most < get_or bytes 0 0 + 256 * get_or bytes 1 0 → BreaksAt (λ n. n ≤ most) word bytes 1
+  pub word_second_at : (bytes : List ℕ) → 1 < length bytes → get_or bytes 0 0 ≤ most → get_or bytes 0 0 < 256 → most < get_or bytes 0 0 + 256 * get_or bytes 1 0 → BreaksAt (λ n. n ≤ most) word_bytes bytes 1
   word_second_at [] e le lt large = absurd (omega (arith, e))
   word_second_at (low ∷ []) e le lt large = absurd (omega (arith, e))
   word_second_at (low ∷ (high ∷ bs)) e le lt large = word_second most low high bs le lt large
 
-pub mark_breaks : (bytes : List ℕ) (k : ℕ) → k < 8 → k ≤ length bytes → take k bytes ≡ take k mark → (k < length bytes → get_or bytes k 0 ≡ get_or mark k 0 → ⊥) → BreaksAt {V = Unit {0}} (λ _. Unit {0}) (λ _. mark) bytes k
+pub mark_breaks : (bytes : List ℕ) (k : ℕ) → k < 8 → k ≤ length bytes → take k bytes ≡ take k disk_mark → (k < length bytes → get_or bytes k 0 ≡ get_or disk_mark k 0 → ⊥) → BreaksAt {V = Unit {0}} (λ _. Unit {0}) (λ _. disk_mark) bytes k
 mark_breaks bytes k lt le same differs =
-    let further : k < length bytes → (rest : List ℕ) → mark ≡ take (k + 1) bytes ++ rest → ⊥ = λ less rest e.
+    let further : k < length bytes → (rest : List ℕ) → disk_mark ≡ take (k + 1) bytes ++ rest → ⊥ = λ less rest e.
     let long : length (take (k + 1) bytes) ≡ k + 1 = length-take-le (k + 1) bytes (omega (arith, less)) in
     differs less (sym (get_or-take (k + 1) bytes k 0 (omega arith)) ∙ sym (get_or_append_left (take (k + 1) bytes) rest 0 k (omega (arith, long))) ∙ ap (λ l. get_or l k 0) (sym e)) in
     record {
       within = le;
-      so_far = (tt, tt, (drop k mark, sym (take-append-drop k mark) ∙ ap (λ p. p ++ drop k mark) (sym same)));
+      so_far = (tt, tt, (drop k disk_mark, sym (take-append-drop k disk_mark) ∙ ap (λ p. p ++ drop k disk_mark) (sym same)));
       none = λ v is b.
-          let all = length-append mark b.0 in
+          let all = length-append disk_mark b.0 in
           let less : k < length bytes = omega (arith, lt, ap length b.1, all) in
-          let start : take (k + 1) bytes ≡ take (k + 1) mark = ap (take (k + 1)) b.1 ∙ take-append-le (k + 1) mark b.0 (omega (arith, lt)) in
-          further less (drop (k + 1) mark) (sym (take-append-drop (k + 1) mark) ∙ ap (λ p. p ++ drop (k + 1) mark) (sym start));
+          let start : take (k + 1) bytes ≡ take (k + 1) disk_mark = ap (take (k + 1)) b.1 ∙ take-append-le (k + 1) disk_mark b.0 (omega (arith, lt)) in
+          further less (drop (k + 1) disk_mark) (sym (take-append-drop (k + 1) disk_mark) ∙ ap (λ p. p ++ drop (k + 1) disk_mark) (sym start));
       no_further = λ less v is b. further less b.0 b.1;
     }
 

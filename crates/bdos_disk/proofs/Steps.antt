@@ -12,7 +12,7 @@ use Rattle.bdos_disk.proofs.Going.{name_parts, upto_lt}
 use Rattle.bdos_disk.proofs.Highest.{highest_falls}
 use Rattle.bdos_disk.specs.Stored.{Stored, zero_record}
 use Rattle.bdos_disk.specs.Disks.{records_in}
-use Rattle.bdos_disk.specs.DiskFile.{word, all_records, file_bytes, files_bytes}
+use Rattle.bdos_disk.specs.DiskFile.{word_bytes, all_records, file_bytes, files_bytes}
 use Rattle.bdos_disk.specs.Reading.{AreFiles, IsNextFile}
 use Rattle.bdos_disk.proofs.Files.{count_of}
 use Rattle.bdos_disk.proofs.Parts.{first_breaks, second_breaks}
@@ -25,7 +25,7 @@ pub record IsRest (name : List ℕ) (after room : ℕ) (p : List (List ℕ) × L
   pub others : AreFiles (Some name) after (room - length p.0) p.1
 
 abbrev pub rest_bytes : List (List ℕ) × List Stored → List ℕ
-rest_bytes p = word (length p.0) ++ (all_records p.0 ++ files_bytes p.1)
+rest_bytes p = word_bytes (length p.0) ++ (all_records p.0 ++ files_bytes p.1)
 
 -- the same behind the number of records
 pub record IsBody (name : List ℕ) (after room count : ℕ) (p : List (List ℕ) × List Stored) : Type 0 where
@@ -48,8 +48,8 @@ module _ (last : Option (List ℕ)) (after room : ℕ) (le : after ≤ 63) where
   -- a name, and what stands behind it
   file_apart : (f : Stored) (fs : List Stored) → files_bytes (f ∷ fs) ≡ f.name ++ rest_bytes (f.records, fs)
   file_apart f fs =
-      append_assoc f.name (word (length f.records) ++ all_records f.records) (files_bytes fs)
-      ∙ ap (λ l. f.name ++ l) (append_assoc (word (length f.records)) (all_records f.records) (files_bytes fs))
+      append_assoc f.name (word_bytes (length f.records) ++ all_records f.records) (files_bytes fs)
+      ∙ ap (λ l. f.name ++ l) (append_assoc (word_bytes (length f.records)) (all_records f.records) (files_bytes fs))
 
   name_parts_of : (v : List Stored) → Whole v → (a : List ℕ) × (b : List (List ℕ) × List Stored) × Named a × IsRest a after room b × (files_bytes v ≡ name_bytes a ++ rest_bytes b)
   name_parts_of [] h = absurd (let e : 0 ≡ after + 1 = h.count_is in omega (arith, e))
@@ -102,10 +102,10 @@ module _ (last : Option (List ℕ)) (after room : ℕ) (le : after ≤ 63) where
     behind_name = second_breaks Named name_bytes (λ a. IsRest a after room) rest_bytes Whole files_bytes name_parts_of name_join name named name_only
 
     -- the number of records, and what stands behind it
-    count_parts : (v : List (List ℕ) × List Stored) → IsRest name after room v → (a : ℕ) × (b : List (List ℕ) × List Stored) × (a ≤ room) × IsBody name after room a b × (rest_bytes v ≡ word a ++ body_bytes b)
+    count_parts : (v : List (List ℕ) × List Stored) → IsRest name after room v → (a : ℕ) × (b : List (List ℕ) × List Stored) × (a ≤ room) × IsBody name after room a b × (rest_bytes v ≡ word_bytes a ++ body_bytes b)
     count_parts v h = (length v.0, v, h.small, record { records = record { count_is = refl; whole = h.whole }; others = h.others }, refl)
 
-    count_join : (a : ℕ) (b : List (List ℕ) × List Stored) → a ≤ room → IsBody name after room a b → (v : List (List ℕ) × List Stored) × IsRest name after room v × (rest_bytes v ≡ word a ++ body_bytes b)
+    count_join : (a : ℕ) (b : List (List ℕ) × List Stored) → a ≤ room → IsBody name after room a b → (v : List (List ℕ) × List Stored) × IsRest name after room v × (rest_bytes v ≡ word_bytes a ++ body_bytes b)
     count_join a b small body =
         let same : a ≡ length b.0 = sym body.records.count_is in (
           b,
@@ -114,7 +114,7 @@ module _ (last : Option (List ℕ)) (after room : ℕ) (le : after ≤ 63) where
             small = subst (λ n. n ≤ room) same small;
             others = subst (λ n. AreFiles (Some name) after (room - n) b.1) same body.others;
           },
-          ap (λ n. word n ++ body_bytes b) (sym same),
+          ap (λ n. word_bytes n ++ body_bytes b) (sym same),
         )
 
     count_some : (a : ℕ) → a ≤ room → (b : List (List ℕ) × List Stored) × IsBody name after room a b
@@ -126,14 +126,14 @@ module _ (last : Option (List ℕ)) (after room : ℕ) (le : after ≤ 63) where
       },
     )
 
-    pub count_breaks : (bytes rest : List ℕ) → bytes ≡ name ++ rest → (k : ℕ) → BreaksAt (λ n. n ≤ room) word rest k → BreaksAt (AreFiles last (after + 1) room) files_bytes bytes (length name + k)
+    pub count_breaks : (bytes rest : List ℕ) → bytes ≡ name ++ rest → (k : ℕ) → BreaksAt (λ n. n ≤ room) word_bytes rest k → BreaksAt (AreFiles last (after + 1) room) files_bytes bytes (length name + k)
     count_breaks bytes rest e k h =
-        behind_name bytes rest e k (first_breaks (λ n. n ≤ room) word (λ a. IsBody name after room a) body_bytes (IsRest name after room) rest_bytes count_parts count_join count_some rest k h)
+        behind_name bytes rest e k (first_breaks (λ n. n ≤ room) word_bytes (λ a. IsBody name after room a) body_bytes (IsRest name after room) rest_bytes count_parts count_join count_some rest k h)
 
     module _ (count : ℕ) (small : count ≤ room) where
-      behind_count : (bytes rest : List ℕ) → bytes ≡ name ++ (word count ++ rest) → (k : ℕ) → BreaksAt (IsBody name after room count) body_bytes rest k → BreaksAt Whole files_bytes bytes (length name + (2 + k))
+      behind_count : (bytes rest : List ℕ) → bytes ≡ name ++ (word_bytes count ++ rest) → (k : ℕ) → BreaksAt (IsBody name after room count) body_bytes rest k → BreaksAt Whole files_bytes bytes (length name + (2 + k))
       behind_count bytes rest e k h =
-          behind_name bytes (word count ++ rest) e (2 + k) (second_breaks (λ n. n ≤ room) word (λ a. IsBody name after room a) body_bytes (IsRest name after room) rest_bytes count_parts count_join count small (λ c h. word_only room count c) (word count ++ rest) rest refl k h)
+          behind_name bytes (word_bytes count ++ rest) e (2 + k) (second_breaks (λ n. n ≤ room) word_bytes (λ a. IsBody name after room a) body_bytes (IsRest name after room) rest_bytes count_parts count_join count small (λ c h. word_only room count c) (word_bytes count ++ rest) rest refl k h)
 
       -- the records, and the files behind them
       records_parts : (v : List (List ℕ) × List Stored) → IsBody name after room count v → (a : List (List ℕ)) × (b : List Stored) × AreRecords count a × AreFiles (Some name) after (room - count) b × (body_bytes v ≡ all_records a ++ files_bytes b)
@@ -142,14 +142,14 @@ module _ (last : Option (List ℕ)) (after room : ℕ) (le : after ≤ 63) where
       records_join : (a : List (List ℕ)) (b : List Stored) → AreRecords count a → AreFiles (Some name) after (room - count) b → (v : List (List ℕ) × List Stored) × IsBody name after room count v × (body_bytes v ≡ all_records a ++ files_bytes b)
       records_join a b records others = ((a, b), record { records = records; others = others }, refl)
 
-      pub records_break : (bytes rest : List ℕ) → bytes ≡ name ++ (word count ++ rest) → length rest < 128 * count → BreaksAt (AreFiles last (after + 1) room) files_bytes bytes (length bytes)
+      pub records_break : (bytes rest : List ℕ) → bytes ≡ name ++ (word_bytes count ++ rest) → length rest < 128 * count → BreaksAt (AreFiles last (after + 1) room) files_bytes bytes (length bytes)
       records_break bytes rest e lt =
           let short = records_short count rest lt in
-          let at : length name + (2 + length rest) ≡ length bytes = omega (arith, ap length e, length-append name (word count ++ rest), length-append (word count) rest) in
+          let at : length name + (2 + length rest) ≡ length bytes = omega (arith, ap length e, length-append name (word_bytes count ++ rest), length-append (word_bytes count) rest) in
           subst (λ k. BreaksAt Whole files_bytes bytes k) at
           (behind_count bytes rest e (length rest) (first_breaks (AreRecords count) all_records (λ _. AreFiles (Some name) after (room - count)) files_bytes (IsBody name after room count) body_bytes records_parts records_join (λ a h. (top_files after, room_for name after (room - count) le named.room)) rest (length rest) short))
 
-      pub files_break : (records : List (List ℕ)) → AreRecords count records → (bytes rest : List ℕ) → bytes ≡ name ++ (word count ++ (all_records records ++ rest)) → (k : ℕ) → BreaksAt (AreFiles (Some name) after (room - count)) files_bytes rest k → BreaksAt (AreFiles last (after + 1) room) files_bytes bytes (length name + (2 + (length (all_records records) + k)))
+      pub files_break : (records : List (List ℕ)) → AreRecords count records → (bytes rest : List ℕ) → bytes ≡ name ++ (word_bytes count ++ (all_records records ++ rest)) → (k : ℕ) → BreaksAt (AreFiles (Some name) after (room - count)) files_bytes rest k → BreaksAt (AreFiles last (after + 1) room) files_bytes bytes (length name + (2 + (length (all_records records) + k)))
       files_break records h bytes rest e k breaks =
           behind_count bytes (all_records records ++ rest) e (length (all_records records) + k)
           (second_breaks (AreRecords count) all_records (λ _. AreFiles (Some name) after (room - count)) files_bytes (IsBody name after room count) body_bytes records_parts records_join records h (records_only count records h) (all_records records ++ rest) rest refl k breaks)
@@ -159,9 +159,9 @@ module _ (last : Option (List ℕ)) (after room : ℕ) (le : after ≤ 63) where
   next_breaks bytes f used next k h =
       let rest = drop used bytes in
       let n = length f.records in
-      let apart : bytes ≡ f.name ++ (word n ++ (all_records f.records ++ rest)) = next.bytes_are ∙ append_assoc f.name (word n ++ all_records f.records) rest ∙ ap (λ l. f.name ++ l) (append_assoc (word n) (all_records f.records) rest) in
-      let sizes = length-append f.name (word n ++ (all_records f.records ++ rest)) in
-      let words = length-append (word n) (all_records f.records ++ rest) in
+      let apart : bytes ≡ f.name ++ (word_bytes n ++ (all_records f.records ++ rest)) = next.bytes_are ∙ append_assoc f.name (word_bytes n ++ all_records f.records) rest ∙ ap (λ l. f.name ++ l) (append_assoc (word_bytes n) (all_records f.records) rest) in
+      let sizes = length-append f.name (word_bytes n ++ (all_records f.records ++ rest)) in
+      let words = length-append (word_bytes n) (all_records f.records ++ rest) in
       let more = length-append (all_records f.records) rest in
       let left = length-drop used bytes in
       let at : length f.name + (2 + (length (all_records f.records) + k)) ≡ used + k = omega (arith, ap length apart, sizes, words, more, left, next.within) in
@@ -173,19 +173,19 @@ pub named_front : (last : Option (List ℕ)) (after : ℕ) (name bytes : List �
 named_front last after name bytes e = sym (take-append-drop 11 bytes) ∙ ap (λ p. p ++ drop 11 bytes) e
 
 -- the file that was read
-pub next_file : (last : Option (List ℕ)) (after room : ℕ) (bytes name : List ℕ) (count used : ℕ) (records : List (List ℕ)) → IsNameBetween last after name → bytes ≡ name ++ drop 11 bytes → 11 ≤ length bytes → count ≤ room → drop 11 bytes ≡ word count ++ drop 13 bytes → length records ≡ count → All (λ r. length r ≡ 128) records → all_records records ≡ take (count * 128) (drop 13 bytes) → used ≡ 13 + count * 128 → used ≤ length bytes → IsNextFile last after room bytes (record { name = name; records = records }) used
+pub next_file : (last : Option (List ℕ)) (after room : ℕ) (bytes name : List ℕ) (count used : ℕ) (records : List (List ℕ)) → IsNameBetween last after name → bytes ≡ name ++ drop 11 bytes → 11 ≤ length bytes → count ≤ room → drop 11 bytes ≡ word_bytes count ++ drop 13 bytes → length records ≡ count → All (λ r. length r ≡ 128) records → all_records records ≡ take (count * 128) (drop 13 bytes) → used ≡ 13 + count * 128 → used ≤ length bytes → IsNextFile last after room bytes (record { name = name; records = records }) used
 next_file last after room bytes name count used records named front long small counted length_is whole records_are used_is within =
     let rest = drop 13 bytes in
     let left : drop used bytes ≡ drop (count * 128) rest = ap (λ n. drop n bytes) used_is ∙ sym (drop-drop (count * 128) 13 bytes) in
     let behind : rest ≡ all_records records ++ drop used bytes = sym (take-append-drop (count * 128) rest) ∙ ap (λ p. p ++ drop (count * 128) rest) (sym records_are) ∙ ap (λ l. all_records records ++ l) (sym left) in
-    let w = word (length records) in
+    let w = word_bytes (length records) in
     record {
       name = named;
       records = whole;
       small = subst (λ n. n ≤ room) (sym length_is) small;
       bytes_are =
           front
-          ∙ ap (λ l. name ++ l) (counted ∙ ap (λ n. word n ++ rest) (sym length_is) ∙ ap (λ l. w ++ l) behind)
+          ∙ ap (λ l. name ++ l) (counted ∙ ap (λ n. word_bytes n ++ rest) (sym length_is) ∙ ap (λ l. w ++ l) behind)
           ∙ ap (λ l. name ++ l) (sym (append_assoc w (all_records records) (drop used bytes)))
           ∙ sym (append_assoc name (w ++ all_records records) (drop used bytes));
       within = within;

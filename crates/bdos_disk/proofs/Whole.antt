@@ -11,14 +11,14 @@ use Rattle.bdos_disk.specs.declared.reading.Stop.{Stop}
 use Rattle.bdos_disk.specs.declared.reading.Stop.TheVariants.{At, Memory}
 use Rattle.bdos_disk.specs.Stored.{Stored}
 use Rattle.bdos_disk.specs.Disks.{AreFilesAfter, records_in, IsDisk}
-use Rattle.bdos_disk.specs.DiskFile.{mark, word, all_records, file_bytes, files_bytes, disk_file, IsBadAt}
-use Rattle.bdos_disk.specs.Reading.{AreFiles, StopsBy, behind}
+use Rattle.bdos_disk.specs.DiskFile.{disk_mark, word_bytes, all_records, file_bytes, files_bytes, disk_file, IsBadAt}
+use Rattle.bdos_disk.specs.Reading.{AreFiles, StopsBy, stop_after}
 use Rattle.bdos_disk.proofs.Files.{count_of}
 use Rattle.bdos_disk.proofs.Parts.{same_front, first_breaks, second_breaks}
 use Rattle.bdos_disk.proofs.Languages.{length-all_records, same_records, word_only, top_files, length-top_files, none-top_files, top_files-after}
 
 -- stops behind other bytes
-pub stops_behind : (P Q : ℕ → Type 0) (n : ℕ) (s : Stop) → StopsBy P s → ((k : ℕ) → P k → Q (n + k)) → StopsBy Q (behind n s)
+pub stops_behind : (P Q : ℕ → Type 0) (n : ℕ) (s : Stop) → StopsBy P s → ((k : ℕ) → P k → Q (n + k)) → StopsBy Q (stop_after n s)
 stops_behind P Q n (At k) h f = f k h
 stops_behind P Q n Memory h f = tt
 
@@ -34,7 +34,7 @@ length-files_bytes last (f ∷ fs) h =
     let sum = sum_by-cons count_of f fs in
     let rest = length-files_bytes (Some f.name) fs h.2 in
     let one = length-append (file_bytes f) (files_bytes fs) in
-    let two = length-append f.name (word (length f.records) ++ all_records f.records) in
+    let two = length-append f.name (word_bytes (length f.records) ++ all_records f.records) in
     let three = length-all_records f.records h.0.records in
     omega arith
 
@@ -43,7 +43,7 @@ length-disk_file d h =
     let files = length-files_bytes None d h.files in
     let few : length d ≤ 64 = h.few in
     let small : records_in d ≤ 8000 = h.small in
-    let whole = length-append mark (word (length d) ++ files_bytes d) in
+    let whole = length-append disk_mark (word_bytes (length d) ++ files_bytes d) in
     omega arith
 
 pub bad_small : (bytes : List ℕ) (k : ℕ) → IsBadAt bytes k → k < 2 ^ 32
@@ -66,13 +66,13 @@ bad_from bytes k h = record {
 
 -- the number of files, and the files
 abbrev counted : List Stored → List ℕ
-counted d = word (length d) ++ files_bytes d
+counted d = word_bytes (length d) ++ files_bytes d
 
 abbrev IsMark : Unit {0} → Type 0
 IsMark _ = Unit {0}
 
 abbrev mark_bytes : Unit {0} → List ℕ
-mark_bytes _ = mark
+mark_bytes _ = disk_mark
 
 abbrev IsMarked : Unit {0} → List Stored → Type 0
 IsMarked _ d = IsDisk d
@@ -92,19 +92,19 @@ mark_join a b m is = (b, is, refl)
 empty_disk : IsDisk []
 empty_disk = record { files = tt; few = omega arith; small = omega arith }
 
-pub bad_mark : (bytes : List ℕ) (k : ℕ) → BreaksAt {V = Unit {0}} (λ _. Unit {0}) (λ _. mark) bytes k → IsBadAt bytes k
+pub bad_mark : (bytes : List ℕ) (k : ℕ) → BreaksAt {V = Unit {0}} (λ _. Unit {0}) (λ _. disk_mark) bytes k → IsBadAt bytes k
 bad_mark bytes k h = bad_from bytes k (first_breaks IsMark mark_bytes IsMarked counted IsDisk disk_file mark_parts mark_join (λ a m. ([], empty_disk)) bytes k h)
 
-behind_mark : (bytes rest : List ℕ) → bytes ≡ mark ++ rest → (k : ℕ) → BreaksAt IsDisk counted rest k → IsBadAt bytes (8 + k)
+behind_mark : (bytes rest : List ℕ) → bytes ≡ disk_mark ++ rest → (k : ℕ) → BreaksAt IsDisk counted rest k → IsBadAt bytes (8 + k)
 behind_mark bytes rest e k h = bad_from bytes (8 + k) (second_breaks IsMark mark_bytes IsMarked counted IsDisk disk_file mark_parts mark_join tt tt (λ c m. (refl, λ _. refl)) bytes rest e k h)
 
-count_parts : (v : List Stored) → IsDisk v → (a : ℕ) × (b : List Stored) × IsCount a × IsCounted a b × (counted v ≡ word a ++ files_bytes b)
+count_parts : (v : List Stored) → IsDisk v → (a : ℕ) × (b : List Stored) × IsCount a × IsCounted a b × (counted v ≡ word_bytes a ++ files_bytes b)
 count_parts v is = (length v, v, is.few, record { files = is.files; count_is = refl; small = is.small }, refl)
 
-count_join : (a : ℕ) (b : List Stored) → IsCount a → IsCounted a b → (v : List Stored) × IsDisk v × (counted v ≡ word a ++ files_bytes b)
+count_join : (a : ℕ) (b : List Stored) → IsCount a → IsCounted a b → (v : List Stored) × IsDisk v × (counted v ≡ word_bytes a ++ files_bytes b)
 count_join a b le h =
     let count : length b ≡ a = h.count_is in
-    (b, record { files = h.files; few = subst (λ n. n ≤ 64) (sym count) le; small = h.small }, ap (λ n. word n ++ files_bytes b) count)
+    (b, record { files = h.files; few = subst (λ n. n ≤ 64) (sym count) le; small = h.small }, ap (λ n. word_bytes n ++ files_bytes b) count)
 
 some_files : (n : ℕ) → n ≤ 64 → AreFiles None n 8000 (top_files n)
 some_files zero le = record { files = tt; count_is = refl; small = omega arith }
@@ -114,15 +114,15 @@ some_files (suc n) le = record {
   small = omega (arith, none-top_files (suc n));
 }
 
-pub bad_count : (bytes rest : List ℕ) → bytes ≡ mark ++ rest → (k : ℕ) → BreaksAt (λ n. n ≤ 64) word rest k → IsBadAt bytes (8 + k)
+pub bad_count : (bytes rest : List ℕ) → bytes ≡ disk_mark ++ rest → (k : ℕ) → BreaksAt (λ n. n ≤ 64) word_bytes rest k → IsBadAt bytes (8 + k)
 bad_count bytes rest e k h =
-    behind_mark bytes rest e k (first_breaks IsCount word IsCounted files_bytes IsDisk counted count_parts count_join (λ n le. (top_files n, some_files n le)) rest k h)
+    behind_mark bytes rest e k (first_breaks IsCount word_bytes IsCounted files_bytes IsDisk counted count_parts count_join (λ n le. (top_files n, some_files n le)) rest k h)
 
-pub bad_files : (bytes rest : List ℕ) (n : ℕ) → n ≤ 64 → bytes ≡ mark ++ (word n ++ rest) → (k : ℕ) → BreaksAt (AreFiles None n 8000) files_bytes rest k → IsBadAt bytes (10 + k)
+pub bad_files : (bytes rest : List ℕ) (n : ℕ) → n ≤ 64 → bytes ≡ disk_mark ++ (word_bytes n ++ rest) → (k : ℕ) → BreaksAt (AreFiles None n 8000) files_bytes rest k → IsBadAt bytes (10 + k)
 bad_files bytes rest n le e k h =
     let same : 8 + (2 + k) ≡ 10 + k = omega arith in
     subst (IsBadAt bytes) same
-    (behind_mark bytes (word n ++ rest) e (2 + k) (second_breaks IsCount word IsCounted files_bytes IsDisk counted count_parts count_join n le (λ c h. word_only 64 n c) (word n ++ rest) rest refl k h))
+    (behind_mark bytes (word_bytes n ++ rest) e (2 + k) (second_breaks IsCount word_bytes IsCounted files_bytes IsDisk counted count_parts count_join n le (λ c h. word_only 64 n c) (word_bytes n ++ rest) rest refl k h))
 
 -- a disk is told by its file
 files_only : (last past : Option (List ℕ)) (fs gs : List Stored) (r s : List ℕ) → AreFilesAfter last fs → AreFilesAfter past gs → length fs ≡ length gs → files_bytes fs ++ r ≡ files_bytes gs ++ s → (fs ≡ gs) × (r ≡ s)
@@ -130,13 +130,13 @@ files_only last past [] [] r s h g n e = (refl, e)
 files_only last past [] (y ∷ gs) r s h g n e = absurd (omega (arith, n))
 files_only last past (f ∷ fs) [] r s h g n e = absurd (omega (arith, n))
 files_only last past (f ∷ fs) (y ∷ gs) r s h g n e =
-    let opened : (x : Stored) (xs : List Stored) (t : List ℕ) → files_bytes (x ∷ xs) ++ t ≡ x.name ++ (word (length x.records) ++ (all_records x.records ++ (files_bytes xs ++ t))) = λ x xs t.
+    let opened : (x : Stored) (xs : List Stored) (t : List ℕ) → files_bytes (x ∷ xs) ++ t ≡ x.name ++ (word_bytes (length x.records) ++ (all_records x.records ++ (files_bytes xs ++ t))) = λ x xs t.
     append_assoc (file_bytes x) (files_bytes xs) t
-    ∙ append_assoc x.name (word (length x.records) ++ all_records x.records) (files_bytes xs ++ t)
-    ∙ ap (λ l. x.name ++ l) (append_assoc (word (length x.records)) (all_records x.records) (files_bytes xs ++ t)) in
+    ∙ append_assoc x.name (word_bytes (length x.records) ++ all_records x.records) (files_bytes xs ++ t)
+    ∙ ap (λ l. x.name ++ l) (append_assoc (word_bytes (length x.records)) (all_records x.records) (files_bytes xs ++ t)) in
     let names : length f.name ≡ length y.name = (name_parts f.name h.0.name).0 ∙ sym (name_parts y.name g.0.name).0 in
     let name = same_front f.name y.name _ _ (sym (opened f fs r) ∙ e ∙ opened y gs s) names in
-    let count = same_front (word (length f.records)) (word (length y.records)) _ _ name.1 refl in
+    let count = same_front (word_bytes (length f.records)) (word_bytes (length y.records)) _ _ name.1 refl in
     let as_many : length f.records ≡ length y.records = (word_only 0 (length y.records) (length f.records)).1 count.0 in
     let long : length (all_records f.records) ≡ length (all_records y.records) = omega (arith, length-all_records f.records h.0.records, length-all_records y.records g.0.records, as_many) in
     let records = same_front (all_records f.records) (all_records y.records) _ _ count.1 long in
@@ -147,10 +147,10 @@ files_only last past (f ∷ fs) (y ∷ gs) r s h g n e =
 
 pub disk_only : (d c : List Stored) (r s : List ℕ) → IsDisk d → IsDisk c → disk_file d ++ r ≡ disk_file c ++ s → (d ≡ c) × (r ≡ s)
 disk_only d c r s h g e =
-    let opened : (x : List Stored) (t : List ℕ) → disk_file x ++ t ≡ mark ++ (word (length x) ++ (files_bytes x ++ t)) = λ x t.
-    append_assoc mark (word (length x) ++ files_bytes x) t ∙ ap (λ l. mark ++ l) (append_assoc (word (length x)) (files_bytes x) t) in
-    let marks = same_front mark mark _ _ (sym (opened d r) ∙ e ∙ opened c s) refl in
-    let count = same_front (word (length d)) (word (length c)) _ _ marks.1 refl in
+    let opened : (x : List Stored) (t : List ℕ) → disk_file x ++ t ≡ disk_mark ++ (word_bytes (length x) ++ (files_bytes x ++ t)) = λ x t.
+    append_assoc disk_mark (word_bytes (length x) ++ files_bytes x) t ∙ ap (λ l. disk_mark ++ l) (append_assoc (word_bytes (length x)) (files_bytes x) t) in
+    let marks = same_front disk_mark disk_mark _ _ (sym (opened d r) ∙ e ∙ opened c s) refl in
+    let count = same_front (word_bytes (length d)) (word_bytes (length c)) _ _ marks.1 refl in
     files_only None None d c r s h.files g.files ((word_only 0 (length c) (length d)).1 count.0) count.1
 
 -- bytes behind a disk file
@@ -172,14 +172,14 @@ bad_behind bytes rest d is e lt =
     }
 
 -- the disk of bytes that were read to the end of its files
-pub whole_disk : (bytes rest : List ℕ) (d : List Stored) (n : ℕ) → n ≤ 64 → AreFiles None n 8000 d → bytes ≡ mark ++ (word n ++ (files_bytes d ++ rest)) → IsDisk d × (bytes ≡ disk_file d ++ rest)
+pub whole_disk : (bytes rest : List ℕ) (d : List Stored) (n : ℕ) → n ≤ 64 → AreFiles None n 8000 d → bytes ≡ disk_mark ++ (word_bytes n ++ (files_bytes d ++ rest)) → IsDisk d × (bytes ≡ disk_file d ++ rest)
 whole_disk bytes rest d n le h e =
     let count : length d ≡ n = h.count_is in (
       record { files = h.files; few = subst (λ m. m ≤ 64) (sym count) le; small = h.small },
       e
-          ∙ ap (λ m. mark ++ (word m ++ (files_bytes d ++ rest))) (sym count)
-          ∙ ap (λ l. mark ++ l) (sym (append_assoc (word (length d)) (files_bytes d) rest))
-          ∙ sym (append_assoc mark (word (length d) ++ files_bytes d) rest),
+          ∙ ap (λ m. disk_mark ++ (word_bytes m ++ (files_bytes d ++ rest))) (sym count)
+          ∙ ap (λ l. disk_mark ++ l) (sym (append_assoc (word_bytes (length d)) (files_bytes d) rest))
+          ∙ sym (append_assoc disk_mark (word_bytes (length d) ++ files_bytes d) rest),
     )
 
 -- the file of a disk is that of no other, and is not refused

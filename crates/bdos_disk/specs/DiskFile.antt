@@ -2,33 +2,33 @@
 -- order, its name, the number of its records as two bytes, the low one first, and its records. Nothing follows.
 use Rattle.std.specs.Prelude.{◌≡◌, ◌≢◌, ℕ, ◌+◌, ◌<◌, ◌≤◌, ◌%◌, ◌/◌, List, [], ◌∷◌, ◌++◌, length, take, codes}
 use Rattle.std.specs.List.{flat_map}
-use Rattle.bdos_disk.specs.Spelled.{Begins}
+use Rattle.bdos_disk.specs.Spelled.{IsPrefixOf}
 use Rattle.bdos_disk.specs.Stored.{Stored}
 use Rattle.bdos_disk.specs.Disks.{IsDisk}
 
-abbrev pub mark : List ℕ
-mark = codes "XLTDISK1"
+abbrev pub disk_mark : List ℕ
+disk_mark = codes "XLTDISK1"
 
 -- a number below 65,536 as two bytes
-abbrev pub word : ℕ → List ℕ
-word n = n % 256 ∷ n / 256 ∷ []
+abbrev pub word_bytes : ℕ → List ℕ
+word_bytes n = n % 256 ∷ n / 256 ∷ []
 
 abbrev pub all_records : List (List ℕ) → List ℕ
 all_records records = flat_map (λ r. r) records
 
 abbrev pub file_bytes : Stored → List ℕ
-file_bytes f = f.name ++ (word (length f.records) ++ all_records f.records)
+file_bytes f = f.name ++ (word_bytes (length f.records) ++ all_records f.records)
 
 abbrev pub files_bytes : List Stored → List ℕ
 files_bytes fs = flat_map file_bytes fs
 
 abbrev pub disk_file : List Stored → List ℕ
-disk_file d = mark ++ (word (length d) ++ files_bytes d)
+disk_file d = disk_mark ++ (word_bytes (length d) ++ files_bytes d)
 
 -- bytes that are no disk file, and the first byte at which they cannot become one: the file of some disk begins with the
 -- first k bytes, and that of no disk with one byte more; or k is the number of the bytes, and they end early
 pub record IsBadAt (bytes : List ℕ) (k : ℕ) : Type 0 where
   pub within : k ≤ length bytes
-  pub so_far : (d : List Stored) × IsDisk d × Begins (take k bytes) (disk_file d)
-  pub no_further : k < length bytes → (d : List Stored) → IsDisk d → Begins (take (k + 1) bytes) (disk_file d) → ⊥
+  pub so_far : (d : List Stored) × IsDisk d × IsPrefixOf (take k bytes) (disk_file d)
+  pub no_further : k < length bytes → (d : List Stored) → IsDisk d → IsPrefixOf (take (k + 1) bytes) (disk_file d) → ⊥
   pub early : k ≡ length bytes → (d : List Stored) → IsDisk d → bytes ≢ disk_file d

@@ -3,18 +3,18 @@
 use Rattle.std.specs.Prelude.{◌≡◌, ℕ, ◌+◌, ◌-◌, ◌≤◌, ◌&&◌, not, Bool, true, cond, List, [], ◌∷◌, ◌++◌, map, length, replicate, slice_set, Option, Some, None}
 use Rattle.std.specs.List.{All, filter, find, list_any, sum_by}
 use Rattle.std.specs.Str.{bytes_eq}
-use Rattle.bdos_disk.specs.Names.{is_name, is_before, is_after, matches}
+use Rattle.bdos_disk.specs.Names.{is_file_name, is_before, is_after, matches}
 use Rattle.bdos_disk.specs.Stored.{Stored, zero_record}
 
 -- a file that a disk may have
-pub record IsFile (f : Stored) : Type 0 where
-  pub name : is_name f.name ≡ true
+pub record IsStoredFile (f : Stored) : Type 0 where
+  pub name : is_file_name f.name ≡ true
   pub records : All (λ r. length r ≡ 128) f.records
 
 -- files in strictly ascending order of their names, all of them after a name if there is one
 abbrev pub AreFilesAfter : Option (List ℕ) → List Stored → Type 0
 AreFilesAfter last [] = Unit {0}
-AreFilesAfter last (f ∷ fs) = IsFile f × (is_after last f.name ≡ true) × AreFilesAfter (Some f.name) fs
+AreFilesAfter last (f ∷ fs) = IsStoredFile f × (is_after last f.name ≡ true) × AreFilesAfter (Some f.name) fs
 
 -- the number of records of all files
 abbrev pub records_in : List Stored → ℕ

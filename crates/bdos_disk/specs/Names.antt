@@ -11,8 +11,8 @@ abbrev pub is_name_byte : ℕ → Bool
 is_name_byte b = nat_le 0x20 b && (nat_lt b 0x7F && (not (b == 0x3F) && not (nat_le 0x61 b && nat_le b 0x7A)))
 
 -- a name that a file may have
-abbrev pub is_name : List ℕ → Bool
-is_name name = (length name == 11) && list_all is_name_byte name
+abbrev pub is_file_name : List ℕ → Bool
+is_file_name name = (length name == 11) && list_all is_name_byte name
 
 -- the order of a directory: the first byte that differs decides
 abbrev pub is_before : List ℕ → List ℕ → Bool
@@ -35,8 +35,8 @@ matches pattern name = list_all matches_byte (zip pattern name)
 abbrev pub low_seven : ℕ → ℕ
 low_seven b = b % 128
 
-abbrev pub name_in : List ℕ → List ℕ
-name_in block = map low_seven (take 11 (drop 1 block))
+abbrev pub name_in_block : List ℕ → List ℕ
+name_in_block block = map low_seven (take 11 (drop 1 block))
 
 -- the highest bytes of names, from 7EH down: there are four above the lower-case letters, and `?` is left out below
 abbrev pub top_byte : ℕ → ℕ
@@ -48,6 +48,6 @@ highest after = replicate 10 0x7E ++ top_byte after ∷ []
 
 -- a name that a file may have that stands after `last` and has so many files after it
 pub record IsNameBetween (last : Option (List ℕ)) (after : ℕ) (name : List ℕ) : Type 0 where
-  pub lawful : is_name name ≡ true
+  pub lawful : is_file_name name ≡ true
   pub above : is_after last name ≡ true
   pub room : is_before (highest after) name ≡ false

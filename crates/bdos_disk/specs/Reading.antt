@@ -30,9 +30,9 @@ StopsBy P (At k) = P k
 StopsBy P Memory = Unit {0}
 
 -- the same place, counted from so many bytes before
-abbrev pub behind : ℕ → Stop → Stop
-behind n (At k) = At (n + k)
-behind n Memory = Memory
+abbrev pub stop_after : ℕ → Stop → Stop
+stop_after n (At k) = At (n + k)
+stop_after n Memory = Memory
 
 abbrev pub fault_of : Stop → DiskFault
 fault_of (At k) = Bad k

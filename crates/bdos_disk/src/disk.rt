@@ -2,7 +2,7 @@
 ghost use Rattle.std.specs.Prelude.{◌≡◌, ◌<◌, ◌≤◌, ◌+◌, true, [], None, length, insert, slice_get, slice_set, IsSome, IfSome, OnOk, OnErr, vec_len, vec_capacity};
 ghost use Rattle.std.specs.List.{filter, position};
 ghost use Rattle.std.specs.Option.{option_copied};
-ghost use Rattle.bdos_disk.specs.Names.{is_name, is_before};
+ghost use Rattle.bdos_disk.specs.Names.{is_file_name, is_before};
 ghost use Rattle.bdos_disk.specs.Disks.{IsDisk, records_in, file_named, next_matching, any_matching, without_matching, with_file, without_file, with_records, growth, written_at, has_name};
 
 use crate::file::File;
@@ -95,7 +95,7 @@ impl Disk {
 
     /// Adds a file without records. After want of memory the disk is as before.
     pub fn add(&mut self, alloc: Global, name: Name) -> Result<(), AllocError>
-        requires lawful { is_name name ≡ true }
+        requires lawful { is_file_name name ≡ true }
         requires free { file_named name self.old ≡ None }
         requires room { length self.old < 64 }
         ensures ok { OnOk result (self.new ≡ with_file (record { name = name; records = [] }) self.old) }
@@ -108,7 +108,7 @@ impl Disk {
 
     /// Gives the file of a name another one. After want of memory the disk is as before.
     pub fn rename(&mut self, from: &Name, to: Name) -> Result<(), AllocError>
-        requires lawful { is_name to ≡ true }
+        requires lawful { is_file_name to ≡ true }
         requires free { file_named to self.old ≡ None }
         requires found { IsSome (file_named from.now self.old) }
         ensures ok { OnOk result (IfSome (file_named from.now self.old) (λ f. self.new ≡ with_file (record { name = to; records = f.records }) (without_file from.now self.old))) }

@@ -1,7 +1,7 @@
 // The disk file that is written.
 ghost use Rattle.std.specs.Prelude.{◌≡◌, ℕ, List, ◌<◌, ◌++◌, length, IfOk, OnOk};
 ghost use Rattle.bdos_disk.specs.Disks.{IsDisk, records_in};
-ghost use Rattle.bdos_disk.specs.DiskFile.{word, all_records, file_bytes, files_bytes, disk_file, IsBadAt};
+ghost use Rattle.bdos_disk.specs.DiskFile.{word_bytes, all_records, file_bytes, files_bytes, disk_file, IsBadAt};
 ghost use Rattle.bdos_disk.specs.Stored.{Stored};
 
 use crate::disk::Disk;
@@ -35,7 +35,7 @@ pub fn disks_read_back()
 
 // A number as two bytes.
 fn push_word(bytes: &mut Vec<u8>, number: u16) -> Result<(), AllocError>
-    ensures { OnOk result (bytes.new.items ≡ bytes.old.items ++ word number) }
+    ensures { OnOk result (bytes.new.items ≡ bytes.old.items ++ word_bytes number) }
 {
     bytes.push((number % 256) as u8)?;
     bytes.push((number / 256) as u8)?;

@@ -2,7 +2,7 @@
 ghost use Rattle.std.specs.Prelude.{◌≡◌, ◌≤◌, length, map};
 ghost use Rattle.std.specs.List.{list_all};
 ghost use Rattle.std.specs.Str.{bytes_eq};
-ghost use Rattle.bdos_disk.specs.Names.{is_name_byte, is_name, is_before, is_after, matches, low_seven, name_in, highest, top_byte};
+ghost use Rattle.bdos_disk.specs.Names.{is_name_byte, is_file_name, is_before, is_after, matches, low_seven, name_in_block, highest, top_byte};
 
 use std::marker::Model;
 
@@ -36,7 +36,7 @@ impl Name {
     /// The name or the pattern in a file control block, from the block's byte 0 on: bytes 1 to 11 with bit 7 dropped.
     pub fn in_block(block: &[u8]) -> Name
         requires { 12 ≤ length block.now }
-        ensures { result ≡ name_in block.now }
+        ensures { result ≡ name_in_block block.now }
     {
         Name {
             bytes: low_sevens(&block[1..12]),
@@ -63,7 +63,7 @@ impl Name {
 
     /// Whether a file may have this name: its bytes are blanks and printable characters, but no `?` and no lower-case letter.
     pub fn is_lawful(&self) -> bool
-        ensures { result ≡ is_name self.now }
+        ensures { result ≡ is_file_name self.now }
     {
         are_name_bytes(&self.bytes)
     }

@@ -4,8 +4,8 @@ ghost use Rattle.std.specs.List.{All};
 ghost use Rattle.bdos_disk.specs.Names.{is_after, highest};
 ghost use Rattle.bdos_disk.specs.Spelled.{BreaksAt};
 ghost use Rattle.bdos_disk.specs.Disks.{IsDisk};
-ghost use Rattle.bdos_disk.specs.DiskFile.{mark, word, files_bytes, all_records, disk_file, IsBadAt};
-ghost use Rattle.bdos_disk.specs.Reading.{AreFiles, IsNextFile, StopsBy, behind, fault_of, IsFaultOf};
+ghost use Rattle.bdos_disk.specs.DiskFile.{disk_mark, word_bytes, files_bytes, all_records, disk_file, IsBadAt};
+ghost use Rattle.bdos_disk.specs.Reading.{AreFiles, IsNextFile, StopsBy, stop_after, fault_of, IsFaultOf};
 
 use crate::disk::{Disk, MOST_FILES, MOST_RECORDS};
 use crate::fault::DiskFault;
@@ -38,7 +38,7 @@ impl Stop {
     // The same behind so many bytes.
     fn after(self, count: usize) -> Stop
         requires { StopsBy (λ k. count + k < 2 ^ 64) self }
-        ensures { result ≡ behind count self }
+        ensures { result ≡ stop_after count self }
     {
         match self {
             Stop::At(place) => Stop::At(count + place),
@@ -95,8 +95,8 @@ fn read_disk(alloc: Global, bytes: &[u8]) -> Result<Disk, Stop>
 // What a disk file begins with.
 fn read_mark(bytes: &[u8]) -> Result<(), usize>
     ensures { MatchResult result
-        (λ _. (bytes.now ≡ mark ++ drop 8 bytes.now) × (8 ≤ length bytes.now))
-        (λ k. BreaksAt {V = Unit {0}} (λ _. Unit {0}) (λ _. mark) bytes.now k) }
+        (λ _. (bytes.now ≡ disk_mark ++ drop 8 bytes.now) × (8 ≤ length bytes.now))
+        (λ k. BreaksAt {V = Unit {0}} (λ _. Unit {0}) (λ _. disk_mark) bytes.now k) }
 {
     for place in 0..MARK.len() {
         let Some(byte) = bytes.get(place) else {
@@ -113,8 +113,8 @@ fn read_mark(bytes: &[u8]) -> Result<(), usize>
 fn read_word(bytes: &[u8], most: usize) -> Result<usize, usize>
     requires { most < 0x10000 }
     ensures { MatchResult result
-        (λ n. (n ≤ most) × (bytes.now ≡ word n ++ drop 2 bytes.now) × (2 ≤ length bytes.now))
-        (λ k. BreaksAt (λ n. n ≤ most) word bytes.now k) }
+        (λ n. (n ≤ most) × (bytes.now ≡ word_bytes n ++ drop 2 bytes.now) × (2 ≤ length bytes.now))
+        (λ k. BreaksAt (λ n. n ≤ most) word_bytes bytes.now k) }
 {
     let Some(low) = bytes.first() else {
         return Err(0);

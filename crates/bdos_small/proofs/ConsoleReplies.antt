@@ -12,10 +12,10 @@ use Rattle.dialogue.specs.declared.table.AnswerKind.TheVariants.{NoAnswer}
 use Rattle.dialogue.specs.declared.table.AnswerRule.TheVariants.{Always, ByteWhere}
 use Rattle.dialogue.specs.declared.table.Extent.TheVariants.{F, Line}
 use Rattle.dialogue.specs.Table.{Row, row_of}
-use Rattle.dialogue.specs.Shape.{address_of, ranges}
+use Rattle.dialogue.specs.Shape.{argument_address, ranges}
 use Rattle.dialogue.specs.Fits.{kind_by, answer_fits, fits_row, fits, writes_fit, line_fits}
-use Rattle.dialogue.specs.Lawful.{AreRangesOf, first_byte, IsLawful}
-use Rattle.bdos_small.specs.Console.{Answered, place_in, line_read, line_left, read_console_line, status_of, told, FitsRequest, IsByte, IsDirect}
+use Rattle.dialogue.specs.Lawful.{AreRangesOf, first_byte, IsLawfulRequest}
+use Rattle.bdos_small.specs.Console.{ConsoleAnswered, place_in, line_read, line_left, read_console_line, console_status, told, FitsRequest, IsByte, IsDirect}
 use Rattle.bdos_small.specs.declared.console.Answer.{Answer}
 use Rattle.bdos_small.specs.declared.console.Answer.TheVariants.{Reply as Replies, InputEnded, NoDrive}
 
@@ -51,7 +51,7 @@ status_told : (q : Request) (n : ℕ) → q.shape.function ≡ 11 → n < 256 �
 unfolding row_of
 status_told q n is lt = told_fits q n 11 _ is refl refl (lt-ltb n 256 lt)
 
-pub status_fits : (q : Request) (input : List ℕ) (a : Answer) → q.shape.function ≡ 11 → a ≡ told (status_of input) → FitsRequest q a
+pub status_fits : (q : Request) (input : List ℕ) (a : Answer) → q.shape.function ≡ 11 → a ≡ told (console_status input) → FitsRequest q a
 status_fits q [] a is e = subst (FitsRequest q) (sym e) (status_told q 0 is (omega arith))
 status_fits q (b ∷ bs) a is e = subst (FitsRequest q) (sym e) (status_told q 0xFF is (omega arith))
 
@@ -74,11 +74,11 @@ line_row_at = refl
 pub record LineRange (q : Request) : Type 0 where
   pub range : Range
   pub only : ranges q.shape.writes ≡ range ∷ []
-  pub at : range.at ≡ address_of q.shape.arg + 1
+  pub at : range.at ≡ argument_address q.shape.arg + 1
   pub len : range.len ≡ first_byte q.blocks + 1
   pub first : place_in q.shape.writes ≡ range.at
 
-in_places : (q : Request) (dma : ℕ) (places : List (Option Range)) → q.shape.writes ≡ places → AreRangesOf (address_of q.shape.arg) dma (first_byte q.blocks) (Line ∷ []) places → LineRange q
+in_places : (q : Request) (dma : ℕ) (places : List (Option Range)) → q.shape.writes ≡ places → AreRangesOf (argument_address q.shape.arg) dma (first_byte q.blocks) (Line ∷ []) places → LineRange q
 in_places q dma [] e h = absurd h
 in_places q dma (None ∷ places) e h = absurd h
 in_places q dma (Some r ∷ places) e h = record {
@@ -89,44 +89,44 @@ in_places q dma (Some r ∷ places) e h = record {
   first = ap place_in e;
 }
 
-pub line_range : (q : Request) → IsLawful q → q.shape.function ≡ 10 → LineRange q
+pub line_range : (q : Request) → IsLawfulRequest q → q.shape.function ≡ 10 → LineRange q
 unfolding line_row
 line_range q l is =
     let same : Some l.row ≡ Some line_row = sym l.in_table ∙ ap row_of is ∙ line_row_at in
     let row : l.row ≡ line_row = cc in
-    in_places q l.dma q.shape.writes refl (subst (λ (w : Row). AreRangesOf (address_of q.shape.arg) l.dma (first_byte q.blocks) w.writes q.shape.writes) row l.writes)
+    in_places q l.dma q.shape.writes refl (subst (λ (w : Row). AreRangesOf (argument_address q.shape.arg) l.dma (first_byte q.blocks) w.writes q.shape.writes) row l.writes)
 
 -- a line that has room
 abbrev line_reply : ℕ → List ℕ → Reply
 line_reply at line = record { answer = 0; writes = record { at = at; bytes = length line ∷ line } ∷ [] }
 
-line_reply_fits : (q : Request) (line : List ℕ) → IsLawful q → q.shape.function ≡ 10 → length line ≤ first_byte q.blocks → fits q (line_reply (address_of q.shape.arg + 1) line) ≡ true
+line_reply_fits : (q : Request) (line : List ℕ) → IsLawfulRequest q → q.shape.function ≡ 10 → length line ≤ first_byte q.blocks → fits q (line_reply (argument_address q.shape.arg + 1) line) ≡ true
 unfolding line_row
 line_reply_fits q line l is le =
-    let y = line_reply (address_of q.shape.arg + 1) line in
+    let y = line_reply (argument_address q.shape.arg + 1) line in
     let r = line_range q l is in
-    let b : Block = record { at = address_of q.shape.arg + 1; bytes = length line ∷ line } in
+    let b : Block = record { at = argument_address q.shape.arg + 1; bytes = length line ∷ line } in
     let size : r.range.len ≡ first_byte q.blocks + 1 = r.len in
     ap (λ o. fits_row o q y) (ap row_of is ∙ line_row_at)
     ∙ ap (λ t. cond t (line_fits (ranges q.shape.writes) y.writes) (writes_fit (ranges q.shape.writes) y.writes)) (ap (λ f. f == 10) is)
     ∙ ap (λ rs. line_fits rs y.writes) r.only
     ∙ and_from (b.at == r.range.at) (nat_lt (length line) r.range.len && (length line == length line)) (eq-eqb b.at r.range.at (sym r.at)) (and_from (nat_lt (length line) r.range.len) (length line == length line) (lt-ltb (length line) r.range.len (omega arith)) (eq-eqb (length line) (length line) refl))
 
-module _ (q : Request) (input line left : List ℕ) (l : IsLawful q) (is : q.shape.function ≡ 10) (reads : line ≡ line_read (first_byte q.blocks) input) where
-  place : place_in q.shape.writes ≡ address_of q.shape.arg + 1
+module _ (q : Request) (input line left : List ℕ) (l : IsLawfulRequest q) (is : q.shape.function ≡ 10) (reads : line ≡ line_read (first_byte q.blocks) input) where
+  place : place_in q.shape.writes ≡ argument_address q.shape.arg + 1
   place = let r = line_range q l is in r.first ∙ r.at
 
   -- the line that function 10 reads
-  pub line_answer : (y : Reply) → y ≡ line_reply (place_in q.shape.writes) line → input ≢ [] → left ≡ line_left (first_byte q.blocks) input → ◌≡◌ {A = Answered} (record { answer = Replies y; left = left }) (read_console_line (address_of q.shape.arg + 1) (first_byte q.blocks) input)
+  pub line_answer : (y : Reply) → y ≡ line_reply (place_in q.shape.writes) line → input ≢ [] → left ≡ line_left (first_byte q.blocks) input → ◌≡◌ {A = ConsoleAnswered} (record { answer = Replies y; left = left }) (read_console_line (argument_address q.shape.arg + 1) (first_byte q.blocks) input)
   line_answer y e some rest = by_input input some reads rest
     where
-      by_input : (input : List ℕ) → input ≢ [] → line ≡ line_read (first_byte q.blocks) input → left ≡ line_left (first_byte q.blocks) input → ◌≡◌ {A = Answered} (record { answer = Replies y; left = left }) (read_console_line (address_of q.shape.arg + 1) (first_byte q.blocks) input)
+      by_input : (input : List ℕ) → input ≢ [] → line ≡ line_read (first_byte q.blocks) input → left ≡ line_left (first_byte q.blocks) input → ◌≡◌ {A = ConsoleAnswered} (record { answer = Replies y; left = left }) (read_console_line (argument_address q.shape.arg + 1) (first_byte q.blocks) input)
       by_input [] some reads rest = absurd (some refl)
       by_input (b ∷ bs) some reads rest =
           ap (λ y. record { answer = Replies y; left = left }) e
           ∙ ap (λ at. record { answer = Replies (line_reply at line); left = left }) place
-          ∙ ap (λ x. record { answer = Replies (line_reply (address_of q.shape.arg + 1) x); left = left }) reads
-          ∙ ap (λ x. record { answer = Replies (line_reply (address_of q.shape.arg + 1) (line_read (first_byte q.blocks) (b ∷ bs))); left = x }) rest
+          ∙ ap (λ x. record { answer = Replies (line_reply (argument_address q.shape.arg + 1) x); left = left }) reads
+          ∙ ap (λ x. record { answer = Replies (line_reply (argument_address q.shape.arg + 1) (line_read (first_byte q.blocks) (b ∷ bs))); left = x }) rest
 
   pub line_answer_fits : (y : Reply) → y ≡ line_reply (place_in q.shape.writes) line → FitsRequest q (Replies y)
   line_answer_fits y e =

@@ -11,15 +11,15 @@ use Rattle.dialogue.specs.declared.table.AnswerRule.{AnswerRule}
 use Rattle.dialogue.specs.declared.table.AnswerRule.TheVariants.{Always, ByteWhere}
 use Rattle.dialogue.specs.declared.table.Extent.{Extent}
 use Rattle.dialogue.specs.Table.{Row, row_of}
-use Rattle.dialogue.specs.Shape.{address_of, ranges}
-use Rattle.dialogue.specs.Fits.{kind_by, answer_fits, fills, fits_row, fits, writes_fit, line_fits}
-use Rattle.dialogue.specs.Lawful.{AreRangesOf, first_byte, IsLawful}
+use Rattle.dialogue.specs.Shape.{argument_address, ranges}
+use Rattle.dialogue.specs.Fits.{kind_by, answer_fits, fills_range, fits_row, fits, writes_fit, line_fits}
+use Rattle.dialogue.specs.Lawful.{AreRangesOf, first_byte, IsLawfulRequest}
 use Rattle.bdos_small.specs.Console.{place_in}
-use Rattle.bdos_small.specs.Calls.{telling, writing, writing_both}
+use Rattle.bdos_small.specs.Calls.{telling, reply_writing, writing_both}
 use Rattle.bdos_small.proofs.Lawful.{has_cells, cells_of, range_len}
 
 -- blocks that fill ranges, one after another, are fit
-fills_place : (r : Range) (at : ℕ) (bytes : List ℕ) → at ≡ r.at → length bytes ≡ r.len → fills r (record { at = at; bytes = bytes }) ≡ true
+fills_place : (r : Range) (at : ℕ) (bytes : List ℕ) → at ≡ r.at → length bytes ≡ r.len → fills_range r (record { at = at; bytes = bytes }) ≡ true
 fills_place r at bytes e f = and_from (at == r.at) (length bytes == r.len) (eq-eqb at r.at e) (eq-eqb (length bytes) r.len f)
 
 -- the first range of a list, and the first two
@@ -61,7 +61,7 @@ answer_by : (rule : AnswerRule) (arg : ArgWord) (n : ℕ) → answers_by rule n 
 answer_by (Always kind) arg n e = e
 answer_by (ByteWhere asked) arg n e = cc
 
-module _ (q : Request) (l : IsLawful q) (k : ℕ) (is : q.shape.function ≡ k) (other : (k == 10) ≡ false) where
+module _ (q : Request) (l : IsLawfulRequest q) (k : ℕ) (is : q.shape.function ≡ k) (other : (k == 10) ≡ false) where
   in_row : row_of k ≡ Some l.row
   in_row = ap row_of (sym is) ∙ l.in_table
 
@@ -76,17 +76,17 @@ module _ (q : Request) (l : IsLawful q) (k : ℕ) (is : q.shape.function ≡ k) 
   pub telling_fits : (n : ℕ) → answers (row_of k) n ≡ true → fits q (telling n) ≡ true
   telling_fits n answer = reply_fits (telling n) answer refl
 
-  writing_by : (n : ℕ) (bytes : List ℕ) (xs : List Extent) → l.row.writes ≡ xs → may_write xs (length bytes ∷ []) ≡ true → writes_fit (ranges q.shape.writes) (writing q n bytes).writes ≡ true
+  writing_by : (n : ℕ) (bytes : List ℕ) (xs : List Extent) → l.row.writes ≡ xs → may_write xs (length bytes ∷ []) ≡ true → writes_fit (ranges q.shape.writes) (reply_writing q n bytes).writes ≡ true
   writing_by n bytes [] e may = cc
   writing_by n bytes (x ∷ xs) e may =
       let here = and_parts (has_cells x && (cells_of x == length bytes)) true may in
       let fact = and_parts (has_cells x) (cells_of x == length bytes) here.0 in
-      one_by (address_of q.shape.arg) l.dma (first_byte q.blocks) x xs q.shape.writes bytes fact.0 (eqb-true (cells_of x) (length bytes) fact.1)
-      (subst (λ ys. AreRangesOf (address_of q.shape.arg) l.dma (first_byte q.blocks) ys q.shape.writes) e l.writes)
+      one_by (argument_address q.shape.arg) l.dma (first_byte q.blocks) x xs q.shape.writes bytes fact.0 (eqb-true (cells_of x) (length bytes) fact.1)
+      (subst (λ ys. AreRangesOf (argument_address q.shape.arg) l.dma (first_byte q.blocks) ys q.shape.writes) e l.writes)
 
-  pub writing_fits : (n : ℕ) (bytes : List ℕ) → answers (row_of k) n ≡ true → writes_by (row_of k) (length bytes ∷ []) ≡ true → fits q (writing q n bytes) ≡ true
+  pub writing_fits : (n : ℕ) (bytes : List ℕ) → answers (row_of k) n ≡ true → writes_by (row_of k) (length bytes ∷ []) ≡ true → fits q (reply_writing q n bytes) ≡ true
   writing_fits n bytes answer may =
-      reply_fits (writing q n bytes) answer (writing_by n bytes l.row.writes refl (ap (λ o. writes_by o (length bytes ∷ [])) (sym in_row) ∙ may))
+      reply_fits (reply_writing q n bytes) answer (writing_by n bytes l.row.writes refl (ap (λ o. writes_by o (length bytes ∷ [])) (sym in_row) ∙ may))
 
   both_by : (n : ℕ) (bytes others : List ℕ) (xs : List Extent) → l.row.writes ≡ xs → may_write xs (length bytes ∷ (length others ∷ [])) ≡ true → writes_fit (ranges q.shape.writes) (writing_both q n bytes others).writes ≡ true
   both_by n bytes others [] e may = cc
@@ -98,8 +98,8 @@ module _ (q : Request) (l : IsLawful q) (k : ℕ) (is : q.shape.function ≡ k) 
       let there = and_parts (has_cells y && (cells_of y == length others)) true here.1 in
       let fact = and_parts (has_cells x) (cells_of x == length bytes) here.0 in
       let also = and_parts (has_cells y) (cells_of y == length others) there.0 in
-      two_by (address_of q.shape.arg) l.dma (first_byte q.blocks) x y xs q.shape.writes bytes others fact.0 also.0 (eqb-true (cells_of x) (length bytes) fact.1) (eqb-true (cells_of y) (length others) also.1)
-      (subst (λ ys. AreRangesOf (address_of q.shape.arg) l.dma (first_byte q.blocks) ys q.shape.writes) e l.writes)
+      two_by (argument_address q.shape.arg) l.dma (first_byte q.blocks) x y xs q.shape.writes bytes others fact.0 also.0 (eqb-true (cells_of x) (length bytes) fact.1) (eqb-true (cells_of y) (length others) also.1)
+      (subst (λ ys. AreRangesOf (argument_address q.shape.arg) l.dma (first_byte q.blocks) ys q.shape.writes) e l.writes)
 
   pub both_fit : (n : ℕ) (bytes others : List ℕ) → answers (row_of k) n ≡ true → writes_by (row_of k) (length bytes ∷ (length others ∷ [])) ≡ true → fits q (writing_both q n bytes others) ≡ true
   both_fit n bytes others answer may =

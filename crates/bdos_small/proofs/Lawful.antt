@@ -9,9 +9,9 @@ use Rattle.dialogue.specs.declared.request.Request.{Request}
 use Rattle.dialogue.specs.declared.table.Extent.{Extent}
 use Rattle.dialogue.specs.declared.table.Extent.TheVariants.{F, Dma, Text, Line}
 use Rattle.dialogue.specs.Table.{Row, row_of}
-use Rattle.dialogue.specs.Shape.{address_of, ranges}
-use Rattle.dialogue.specs.Lawful.{IsRangeOf, AreRangesOf, first_byte, range_of_block, IsLawful}
-use Rattle.bdos_small.specs.Calls.{bytes_in, block_at, fcb_of, takes_fcb}
+use Rattle.dialogue.specs.Shape.{argument_address, ranges}
+use Rattle.dialogue.specs.Lawful.{IsRangeOf, AreRangesOf, first_byte, range_of_block, IsLawfulRequest}
+use Rattle.bdos_small.specs.Calls.{bytes_of_block, block_read, fcb_of, takes_fcb}
 
 -- how many cells a range of the table has, where the call does not decide
 abbrev pub cells_of : Extent → ℕ
@@ -47,7 +47,7 @@ block_lens : (bs : List Block) → map (λ b. length b.bytes) bs ≡ map (λ r. 
 block_lens [] = refl
 block_lens (b ∷ bs) = ap (λ l. length b.bytes ∷ l) (block_lens bs)
 
-block_len : (bs : List Block) (k : ℕ) → length (bytes_in (slice_get bs k)) ≡ slice_index (map (λ b. length b.bytes) bs) k
+block_len : (bs : List Block) (k : ℕ) → length (bytes_of_block (slice_get bs k)) ≡ slice_index (map (λ b. length b.bytes) bs) k
 block_len [] k = refl
 block_len (b ∷ bs) zero = refl
 block_len (b ∷ bs) (suc k) = block_len bs k
@@ -61,22 +61,22 @@ abbrev pub all_have_cells : Option Row → Bool
 all_have_cells None = false
 all_have_cells (Some row) = list_all has_cells row.reads && list_all has_cells row.writes
 
-module _ (q : Request) (l : IsLawful q) (k : ℕ) (is : q.shape.function ≡ k) where
+module _ (q : Request) (l : IsLawfulRequest q) (k : ℕ) (is : q.shape.function ≡ k) where
   row_is : row_of k ≡ Some l.row
   row_is = ap row_of (sym is) ∙ l.in_table
 
   parts : all_have_cells (row_of k) ≡ true → (list_all has_cells l.row.reads ≡ true) × (list_all has_cells l.row.writes ≡ true)
   parts e = and_parts (list_all has_cells l.row.reads) (list_all has_cells l.row.writes) (ap all_have_cells (sym row_is) ∙ e)
 
-  pub read_len : (j : ℕ) → all_have_cells (row_of k) ≡ true → length (block_at j q) ≡ slice_index (lens_in (λ row. row.reads) (row_of k)) j
+  pub read_len : (j : ℕ) → all_have_cells (row_of k) ≡ true → length (block_read j q) ≡ slice_index (lens_in (λ row. row.reads) (row_of k)) j
   read_len j e =
       block_len q.blocks j
-      ∙ ap (λ ns. slice_index ns j) (block_lens q.blocks ∙ ap (map (λ r. r.len)) l.blocks ∙ range_lens (address_of q.shape.arg) l.dma (first_byte q.blocks) l.row.reads q.shape.reads (parts e).0 l.reads)
+      ∙ ap (λ ns. slice_index ns j) (block_lens q.blocks ∙ ap (map (λ r. r.len)) l.blocks ∙ range_lens (argument_address q.shape.arg) l.dma (first_byte q.blocks) l.row.reads q.shape.reads (parts e).0 l.reads)
       ∙ ap (λ o. slice_index (lens_in (λ row. row.reads) o) j) (sym row_is)
 
   pub write_lens : all_have_cells (row_of k) ≡ true → map (λ r. r.len) (ranges q.shape.writes) ≡ lens_in (λ row. row.writes) (row_of k)
   write_lens e =
-      range_lens (address_of q.shape.arg) l.dma (first_byte q.blocks) l.row.writes q.shape.writes (parts e).1 l.writes
+      range_lens (argument_address q.shape.arg) l.dma (first_byte q.blocks) l.row.writes q.shape.writes (parts e).1 l.writes
       ∙ ap (lens_in (λ row. row.writes)) (sym row_is)
 
 -- the functions that name a file by an FCB bring its first twelve bytes and more
@@ -92,7 +92,7 @@ each_holds p f (k ∷ ks) some all =
       | inr e ↦ each_holds p f ks e each.1
     ]
 
-pub fcb_long : (q : Request) → IsLawful q → takes_fcb q.shape.function ≡ true → 12 ≤ length (fcb_of q)
+pub fcb_long : (q : Request) → IsLawfulRequest q → takes_fcb q.shape.function ≡ true → 12 ≤ length (fcb_of q)
 unfolding has_fcb row_of
 fcb_long q l takes =
     let k = q.shape.function in
@@ -102,15 +102,15 @@ fcb_long q l takes =
     omega (arith, long, read_len q l k refl 0 both.0)
 
 -- 21 and 34 bring a record, 23 a second name
-pub record_21 : (q : Request) → IsLawful q → q.shape.function ≡ 21 → length (block_at 1 q) ≡ 128
+pub record_21 : (q : Request) → IsLawfulRequest q → q.shape.function ≡ 21 → length (block_read 1 q) ≡ 128
 unfolding row_of
 record_21 q l is = read_len q l 21 is 1 refl
 
-pub record_34 : (q : Request) → IsLawful q → q.shape.function ≡ 34 → length (block_at 2 q) ≡ 128
+pub record_34 : (q : Request) → IsLawfulRequest q → q.shape.function ≡ 34 → length (block_read 2 q) ≡ 128
 unfolding row_of
 record_34 q l is = read_len q l 34 is 2 refl
 
-pub name_23 : (q : Request) → IsLawful q → q.shape.function ≡ 23 → 12 ≤ length (block_at 1 q)
+pub name_23 : (q : Request) → IsLawfulRequest q → q.shape.function ≡ 23 → 12 ≤ length (block_read 1 q)
 unfolding row_of
 name_23 q l is = omega (arith, read_len q l 23 is 1 refl)
 

@@ -6,21 +6,21 @@ use Rattle.std.proofs.Math.Seq.{take-nil}
 use Rattle.std.proofs.lemmas.Bool.{le-leb}
 use Rattle.std.proofs.Math.Dec.{leb-suc-suc, leb-suc-zero}
 use Rattle.std.specs.List.{filter, position_or_len, after_first}
-use Rattle.bdos_small.specs.Console.{is_lf, is_kept, first_line, after_kept, line_read, line_left}
+use Rattle.bdos_small.specs.Console.{is_lf, is_no_cr, first_line, after_kept, line_read, line_left}
 
 -- a LF in front
 line-lf : (b : ℕ) (bs : List ℕ) → is_lf b ≡ true → first_line (b ∷ bs) ≡ []
-line-lf b bs e = ap (λ t. filter is_kept (take (cond (not t) (1 + position_or_len is_lf bs) 0) (b ∷ bs))) e
+line-lf b bs e = ap (λ t. filter is_no_cr (take (cond (not t) (1 + position_or_len is_lf bs) 0) (b ∷ bs))) e
 
 after-lf : (b : ℕ) (bs : List ℕ) → is_lf b ≡ true → after_first is_lf (b ∷ bs) ≡ bs
 after-lf b bs e = ap (λ t. drop (cond (not t) (1 + position_or_len is_lf bs) 0 + 1) (b ∷ bs)) e
 
 -- another byte in front
-line-other : (b : ℕ) (bs : List ℕ) → is_lf b ≡ false → first_line (b ∷ bs) ≡ cond (is_kept b) (b ∷ first_line bs) (first_line bs)
+line-other : (b : ℕ) (bs : List ℕ) → is_lf b ≡ false → first_line (b ∷ bs) ≡ cond (is_no_cr b) (b ∷ first_line bs) (first_line bs)
 line-other b bs e =
     let n = position_or_len is_lf bs in
     let one : 1 + n ≡ suc n = omega arith in
-    ap (λ t. filter is_kept (take (cond (not t) (1 + n) 0) (b ∷ bs))) e ∙ ap (λ k. filter is_kept (take k (b ∷ bs))) one
+    ap (λ t. filter is_no_cr (take (cond (not t) (1 + n) 0) (b ∷ bs))) e ∙ ap (λ k. filter is_no_cr (take k (b ∷ bs))) one
 
 after-other : (b : ℕ) (bs : List ℕ) → is_lf b ≡ false → after_first is_lf (b ∷ bs) ≡ after_first is_lf bs
 after-other b bs e =
@@ -51,26 +51,26 @@ left-lf m b bs e =
     ∙ ap (λ t. cond t (after_kept (suc m) (b ∷ bs)) (after_first is_lf (b ∷ bs))) (leb-suc-zero m)
     ∙ after-lf b bs e
 
-line-kept : (b : ℕ) (bs : List ℕ) → is_lf b ≡ false → is_kept b ≡ true → first_line (b ∷ bs) ≡ b ∷ first_line bs
+line-kept : (b : ℕ) (bs : List ℕ) → is_lf b ≡ false → is_no_cr b ≡ true → first_line (b ∷ bs) ≡ b ∷ first_line bs
 line-kept b bs e f = line-other b bs e ∙ ap (λ t. cond t (b ∷ first_line bs) (first_line bs)) f
 
-line-skipped : (b : ℕ) (bs : List ℕ) → is_lf b ≡ false → is_kept b ≡ false → first_line (b ∷ bs) ≡ first_line bs
+line-skipped : (b : ℕ) (bs : List ℕ) → is_lf b ≡ false → is_no_cr b ≡ false → first_line (b ∷ bs) ≡ first_line bs
 line-skipped b bs e f = line-other b bs e ∙ ap (λ t. cond t (b ∷ first_line bs) (first_line bs)) f
 
-read-kept : (m b : ℕ) (bs : List ℕ) → is_lf b ≡ false → is_kept b ≡ true → line_read (suc m) (b ∷ bs) ≡ b ∷ line_read m bs
+read-kept : (m b : ℕ) (bs : List ℕ) → is_lf b ≡ false → is_no_cr b ≡ true → line_read (suc m) (b ∷ bs) ≡ b ∷ line_read m bs
 read-kept m b bs e f = ap (take (suc m)) (line-kept b bs e f)
 
-left-kept : (m b : ℕ) (bs : List ℕ) → is_lf b ≡ false → is_kept b ≡ true → line_left (suc m) (b ∷ bs) ≡ line_left m bs
+left-kept : (m b : ℕ) (bs : List ℕ) → is_lf b ≡ false → is_no_cr b ≡ true → line_left (suc m) (b ∷ bs) ≡ line_left m bs
 left-kept m b bs e f =
     ap (left_by (suc m) (b ∷ bs)) (line-kept b bs e f)
     ∙ ap (λ t. cond t (after_kept (suc m) (b ∷ bs)) (after_first is_lf (b ∷ bs))) (leb-suc-suc m (length (first_line bs)))
     ∙ ap (λ t. cond (nat_le m (length (first_line bs))) (cond t (after_kept m bs) (after_kept (suc m) bs)) (after_first is_lf (b ∷ bs))) f
     ∙ ap (λ x. cond (nat_le m (length (first_line bs))) (after_kept m bs) x) (after-other b bs e)
 
-read-skipped : (m b : ℕ) (bs : List ℕ) → is_lf b ≡ false → is_kept b ≡ false → line_read m (b ∷ bs) ≡ line_read m bs
+read-skipped : (m b : ℕ) (bs : List ℕ) → is_lf b ≡ false → is_no_cr b ≡ false → line_read m (b ∷ bs) ≡ line_read m bs
 read-skipped m b bs e f = ap (take m) (line-skipped b bs e f)
 
-left-skipped : (m b : ℕ) (bs : List ℕ) → is_lf b ≡ false → is_kept b ≡ false → line_left (suc m) (b ∷ bs) ≡ line_left (suc m) bs
+left-skipped : (m b : ℕ) (bs : List ℕ) → is_lf b ≡ false → is_no_cr b ≡ false → line_left (suc m) (b ∷ bs) ≡ line_left (suc m) bs
 left-skipped m b bs e f =
     ap (left_by (suc m) (b ∷ bs)) (line-skipped b bs e f)
     ∙ ap (λ t. cond (nat_le (suc m) (length (first_line bs))) (cond t (after_kept m bs) (after_kept (suc m) bs)) (after_first is_lf (b ∷ bs))) f
@@ -130,7 +130,7 @@ module _ (room : ℕ) (input so_far : List ℕ) (i d : ℕ) where
           left = sym (left-lf m b rest e) ∙ ap (λ k. line_left k (b ∷ rest)) (more s ne) ∙ go.1;
         }
 
-    pub stands_skipped : Stands room input so_far i → length so_far ≢ room → is_lf (get_or input i d) ≡ false → is_kept (get_or input i d) ≡ false → Stands room input so_far (i + 1)
+    pub stands_skipped : Stands room input so_far i → length so_far ≢ room → is_lf (get_or input i d) ≡ false → is_no_cr (get_or input i d) ≡ false → Stands room input so_far (i + 1)
     stands_skipped s ne e f =
         let b = get_or input i d in
         let rest = drop (i + 1) input in
@@ -142,7 +142,7 @@ module _ (room : ℕ) (input so_far : List ℕ) (i d : ℕ) where
           left = ap (λ k. line_left k rest) (sym (more s ne)) ∙ sym (left-skipped m b rest e f) ∙ ap (λ k. line_left k (b ∷ rest)) (more s ne) ∙ go.1;
         }
 
-    pub stands_kept : Stands room input so_far i → length so_far ≢ room → is_lf (get_or input i d) ≡ false → is_kept (get_or input i d) ≡ true → Stands room input (so_far ++ get_or input i d ∷ []) (i + 1)
+    pub stands_kept : Stands room input so_far i → length so_far ≢ room → is_lf (get_or input i d) ≡ false → is_no_cr (get_or input i d) ≡ true → Stands room input (so_far ++ get_or input i d ∷ []) (i + 1)
     stands_kept s ne e f =
         let b = get_or input i d in
         let rest = drop (i + 1) input in

@@ -7,16 +7,16 @@ use Rattle.dialogue.specs.declared.request.Request.{Request}
 use Rattle.bdos_small.specs.Console.{place_in}
 
 -- the bytes of the k-th block that a call reads
-abbrev pub bytes_in : Option Block → List ℕ
-bytes_in None = []
-bytes_in (Some b) = b.bytes
+abbrev pub bytes_of_block : Option Block → List ℕ
+bytes_of_block None = []
+bytes_of_block (Some b) = b.bytes
 
-abbrev pub block_at : ℕ → Request → List ℕ
-block_at k q = bytes_in (slice_get q.blocks k)
+abbrev pub block_read : ℕ → Request → List ℕ
+block_read k q = bytes_of_block (slice_get q.blocks k)
 
 -- the FCB: the first block that a call reads
 abbrev pub fcb_of : Request → List ℕ
-fcb_of q = block_at 0 q
+fcb_of q = block_read 0 q
 
 -- where the first and the second range begin that a call may write
 abbrev pub first_place : Request → ℕ
@@ -29,8 +29,8 @@ second_place q = place_in (drop 1 q.shape.writes)
 abbrev pub telling : ℕ → Reply
 telling n = record { answer = n; writes = [] }
 
-abbrev pub writing : Request → ℕ → List ℕ → Reply
-writing q n bytes = record { answer = n; writes = record { at = first_place q; bytes = bytes } ∷ [] }
+abbrev pub reply_writing : Request → ℕ → List ℕ → Reply
+reply_writing q n bytes = record { answer = n; writes = record { at = first_place q; bytes = bytes } ∷ [] }
 
 abbrev pub writing_both : Request → ℕ → List ℕ → List ℕ → Reply
 writing_both q n bytes others =

@@ -5,7 +5,7 @@ use Rattle.dialogue.specs.declared.request.Request.{Request}
 use Rattle.dialogue.specs.declared.request.Reply.{Reply as ReplyTo}
 use Rattle.bdos_small.specs.declared.console.Answer.{Answer}
 use Rattle.bdos_small.specs.declared.console.Answer.TheVariants.{Reply, InputEnded, NoDrive}
-use Rattle.bdos_small.specs.Console.{Answered as ByConsole, console_answer}
+use Rattle.bdos_small.specs.Console.{ConsoleAnswered as ByConsole, console_answer}
 use Rattle.bdos_disk.specs.Stored.{Stored}
 use Rattle.bdos_small.specs.Fcb.{drive_in}
 use Rattle.bdos_small.specs.Calls.{fcb_of, takes_fcb}
@@ -19,7 +19,7 @@ pub record Small : Type 0 where
   pub search : Option Search
 
 abbrev pub small_of : List Stored → List ℕ → Option Search → Small
-small_of disk input search = record { disk = disk; input = input; search = search }
+small_of disk input found = record { disk = disk; input = input; search = found }
 
 -- what is answered, and what is left
 pub record Answered : Type 0 where

@@ -1,7 +1,7 @@
 // The small BDOS and its answers.
 ghost use Rattle.std.specs.Prelude.{◌≡◌, true, IfOk, OnErr, None};
 ghost use Rattle.dialogue.specs.Fits.{fits};
-ghost use Rattle.dialogue.specs.Lawful.{IsLawful};
+ghost use Rattle.dialogue.specs.Lawful.{IsLawfulRequest};
 ghost use Rattle.bdos_small.specs.Console.{FitsRequest};
 ghost use Rattle.bdos_small.specs.Calls.{takes_fcb};
 
@@ -60,7 +60,7 @@ impl Bdos {
     /// The answer to a call. Any answer but a reply leaves everything as before, and so does want of memory, so that the call can be
     /// answered anew. Function 0 ends a program and is not asked; it is answered `NoDrive`.
     pub fn answer(&mut self, alloc: Global, request: &Request) -> Result<Answer, AllocError>
-        requires { IsLawful request.now }
+        requires { IsLawfulRequest request.now }
         ensures answer { IfOk result (λ a. ◌≡◌ {A = Answered} (record { answer = a; left = self.new }) (small_answer self.old request.now)) }
         ensures fits { IfOk result (λ a. FitsRequest request.now a) }
         ensures changes { IfOk result (λ a. ChangesByReply a self.old self.new) }
@@ -76,7 +76,7 @@ impl Bdos {
 
     // A call that names a file by an FCB: drives 0 and 1 are the disk's, and there is no other.
     fn of_file(&mut self, alloc: Global, request: &Request) -> Result<Answer, AllocError>
-        requires lawful { IsLawful request.now }
+        requires lawful { IsLawfulRequest request.now }
         requires takes { takes_fcb request.now.shape.function ≡ true }
         ensures answer { IfOk result (λ a. ◌≡◌ {A = Answered} (record { answer = a; left = self.new }) (fcb_answer self.old request.now)) }
         ensures fits { IfOk result (λ a. FitsRequest request.now a) }
@@ -91,7 +91,7 @@ impl Bdos {
 
     // The reply to a call that names a file on the disk.
     fn file_reply(&mut self, alloc: Global, request: &Request) -> Result<Reply, AllocError>
-        requires lawful { IsLawful request.now }
+        requires lawful { IsLawfulRequest request.now }
         requires takes { takes_fcb request.now.shape.function ≡ true }
         ensures answer { IfOk result (λ y. replying self.new y ≡ file_answer self.old request.now) }
         ensures fits { IfOk result (λ y. fits request.now y ≡ true) }
@@ -118,7 +118,7 @@ impl Bdos {
 
     // Function 18, search for next.
     fn search_on(&mut self, alloc: Global, request: &Request) -> Result<Answer, AllocError>
-        requires lawful { IsLawful request.now }
+        requires lawful { IsLawfulRequest request.now }
         requires search { request.now.shape.function ≡ 18 }
         ensures answer { IfOk result (λ a. ◌≡◌ {A = Answered} (record { answer = a; left = self.new }) (with_search self.old (search_next self.old.disk self.old.search request.now))) }
         ensures fits { IfOk result (λ a. FitsRequest request.now a) }

@@ -1,8 +1,8 @@
 // The console and its answers (CP/M 2.2 Operating System Manual, section 5.3, "BDOS functions").
 ghost use Rattle.std.specs.Prelude.{◌≡◌, ◌≢◌, ◌+◌, ◌<◌, [], ◌∷◌, length, IfOk, OnErr, MatchOption};
-ghost use Rattle.dialogue.specs.Shape.{address_of};
-ghost use Rattle.dialogue.specs.Lawful.{first_byte, IsLawful};
-ghost use Rattle.bdos_small.specs.Calls.{writing};
+ghost use Rattle.dialogue.specs.Shape.{argument_address};
+ghost use Rattle.dialogue.specs.Lawful.{first_byte, IsLawfulRequest};
+ghost use Rattle.bdos_small.specs.Calls.{reply_writing};
 ghost use Rattle.bdos_small.specs.Console.{disk_selected};
 
 use crate::line::{Line, read_line};
@@ -43,7 +43,7 @@ impl Model for Console {
 }
 
 impl Console {
-    ghost use Rattle.bdos_small.specs.Console.{Answered, console_answer, read_byte, read_direct, direct_console, read_console_line, status_of, FitsRequest, IsByte, IsDirect, TakesByReply};
+    ghost use Rattle.bdos_small.specs.Console.{ConsoleAnswered, console_answer, read_byte, read_direct, direct_console, read_console_line, console_status, FitsRequest, IsByte, IsDirect, TakesInputByReply};
 
     /// The console with this input.
     pub fn new(input: Vec<u8>) -> Console
@@ -56,10 +56,10 @@ impl Console {
     /// anew; only a line wants memory. Function 0 ends a program and is not asked; it is answered `NoDrive`, as the functions of a
     /// disk are.
     pub fn answer(&mut self, alloc: Global, request: &Request) -> Result<Answer, AllocError>
-        requires { IsLawful request.now }
-        ensures answer { IfOk result (λ a. ◌≡◌ {A = Answered} (record { answer = a; left = self.new }) (console_answer self.old request.now)) }
+        requires { IsLawfulRequest request.now }
+        ensures answer { IfOk result (λ a. ◌≡◌ {A = ConsoleAnswered} (record { answer = a; left = self.new }) (console_answer self.old request.now)) }
         ensures fits { IfOk result (λ a. FitsRequest request.now a) }
-        ensures takes { IfOk result (λ a. TakesByReply a self.old self.new) }
+        ensures takes { IfOk result (λ a. TakesInputByReply a self.old self.new) }
         ensures memory { OnErr result (self.new ≡ self.old) }
         ensures wanted { OnErr result ((request.now.shape.function ≡ 10) × (self.old ≢ [])) }
     {
@@ -94,7 +94,7 @@ impl Console {
     // Function 1: the next byte.
     fn read_byte(&mut self, alloc: Global) -> Answer
         ensures byte { IsByte result }
-        ensures answer { ◌≡◌ {A = Answered} (record { answer = result; left = self.new }) (read_byte self.old) }
+        ensures answer { ◌≡◌ {A = ConsoleAnswered} (record { answer = result; left = self.new }) (read_byte self.old) }
     {
         match self.take_byte() {
             None => Answer::InputEnded,
@@ -105,7 +105,7 @@ impl Console {
     // Function 6: input where the argument asks for it, else output.
     fn direct_console(&mut self, alloc: Global, arg: ArgWord) -> Answer
         ensures direct { IsDirect arg result }
-        ensures answer { ◌≡◌ {A = Answered} (record { answer = result; left = self.new }) (direct_console arg self.old) }
+        ensures answer { ◌≡◌ {A = ConsoleAnswered} (record { answer = result; left = self.new }) (direct_console arg self.old) }
     {
         match arg {
             ArgWord::Byte(DIRECT_INPUT) => self.read_direct(alloc),
@@ -116,7 +116,7 @@ impl Console {
     // Direct input: the next byte, or 0 where none is left.
     fn read_direct(&mut self, alloc: Global) -> Answer
         ensures byte { IsDirect (ArgWord.Byte 0xFF) result }
-        ensures answer { ◌≡◌ {A = Answered} (record { answer = result; left = self.new }) (read_direct self.old) }
+        ensures answer { ◌≡◌ {A = ConsoleAnswered} (record { answer = result; left = self.new }) (read_direct self.old) }
     {
         match self.take_byte() {
             None => told(alloc, 0),
@@ -126,16 +126,16 @@ impl Console {
 
     // Function 11: whether a byte waits.
     fn status(&self) -> u16
-        ensures { result ≡ status_of self.now }
+        ensures { result ≡ console_status self.now }
     {
         if self.left().is_empty() { 0 } else { 0xFF }
     }
 
     // Function 10: a line, written where the range begins that the call may write.
     fn read_line(&mut self, alloc: Global, request: &Request) -> Result<Answer, AllocError>
-        requires lawful { IsLawful request.now }
+        requires lawful { IsLawfulRequest request.now }
         requires line { request.now.shape.function ≡ 10 }
-        ensures answer { IfOk result (λ a. ◌≡◌ {A = Answered} (record { answer = a; left = self.new }) (read_console_line (address_of request.now.shape.arg + 1) (first_byte request.now.blocks) self.old)) }
+        ensures answer { IfOk result (λ a. ◌≡◌ {A = ConsoleAnswered} (record { answer = a; left = self.new }) (read_console_line (argument_address request.now.shape.arg + 1) (first_byte request.now.blocks) self.old)) }
         ensures fits { IfOk result (λ a. FitsRequest request.now a) }
         ensures memory { OnErr result (self.new ≡ self.old) }
         ensures wanted { OnErr result (self.old ≢ []) }
@@ -180,7 +180,7 @@ fn room_of(request: &Request) -> u8
 // The reply that writes a line where the range begins that the call may write, its length first.
 fn written(alloc: Global, request: &Request, line: &[u8]) -> Result<Reply, AllocError>
     requires { length line.now < 256 }
-    ensures { IfOk result (λ y. y ≡ writing request.now 0 (length line.now ∷ line.now)) }
+    ensures { IfOk result (λ y. y ≡ reply_writing request.now 0 (length line.now ∷ line.now)) }
 {
     let mut bytes = Vec::new(alloc);
     bytes.push(line.len() as u8)?;

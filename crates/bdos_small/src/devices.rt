@@ -1,6 +1,6 @@
 // The answers to the events of a program.
 ghost use Rattle.std.specs.Prelude.{◌≡◌, ℕ, List, IfOk, OnErr, Some};
-ghost use Rattle.dialogue.specs.Lawful.{IsLawful, IsLawfulEvent};
+ghost use Rattle.dialogue.specs.Lawful.{IsLawfulRequest, IsLawfulEvent};
 ghost use Rattle.dialogue.specs.declared.request.Event.TheVariants as Event;
 ghost use Rattle.dialogue.specs.declared.request.Request.{Request};
 ghost use Rattle.bdos_small.specs.Console.{FitsRequest};
@@ -81,7 +81,7 @@ impl Devices {
 
     // A call of the system.
     fn call(&mut self, alloc: Global, request: &Request) -> Result<EventAnswer, AllocError>
-        requires { IsLawful request.now }
+        requires { IsLawfulRequest request.now }
         ensures answer { IfOk result (λ a. event_answer self.old (Event.Call request.now) ≡ Some (record { answer = a; left = self.new })) }
         ensures fits { IfOk result (λ a. FitsEvent (Event.Call request.now) a) }
         ensures takes { IfOk result (λ a. TakesByReply a self.old self.new) }

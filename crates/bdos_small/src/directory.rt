@@ -1,7 +1,7 @@
 // The functions of the directory (CP/M 2.2 Operating System Manual, section 5.3, "BDOS Functions").
 ghost use Rattle.std.specs.Prelude.{◌≡◌, ◌≤◌, length, IfOk, OnErr, OnSome};
 ghost use Rattle.bdos_disk.specs.Disks.{IsDisk};
-ghost use Rattle.bdos_small.specs.Calls.{fcb_of, block_at};
+ghost use Rattle.bdos_small.specs.Calls.{fcb_of, block_read};
 ghost use Rattle.std.specs.Option.{option_copied};
 ghost use Rattle.bdos_small.specs.Files.{Searched, Changed, has_extent, opened, open_file, close_file, gives, search_first, search_next, delete_file, is_free, make_file, rename_file};
 
@@ -159,7 +159,7 @@ fn is_free(disk: &Disk, name: &Name) -> bool
 /// Function 23, rename file. After want of memory the disk is as before.
 pub fn rename_file(alloc: Global, disk: &mut Disk, request: &Request) -> Result<Reply, AllocError>
     requires fcb { 12 ≤ length (fcb_of request.now) }
-    requires other { 12 ≤ length (block_at 1 request.now) }
+    requires other { 12 ≤ length (block_read 1 request.now) }
     ensures answer { IfOk result (λ y. ◌≡◌ {A = Changed} (record { reply = y; disk = disk.new }) (rename_file disk.old request.now)) }
     ensures memory { OnErr result (disk.new ≡ disk.old) }
 {

@@ -2,7 +2,7 @@
 ghost use Rattle.std.specs.Prelude.{◌≡◌, ◌+◌, ◌≤◌, ◌<◌, length, slice_index, slice_get, IfOk, OnErr};
 ghost use Rattle.std.specs.Option.{option_copied};
 ghost use Rattle.bdos_disk.specs.Disks.{IsDisk};
-ghost use Rattle.bdos_small.specs.Calls.{fcb_of, block_at};
+ghost use Rattle.bdos_small.specs.Calls.{fcb_of, block_read};
 ghost use Rattle.bdos_small.specs.Files.{Changed, record_read, file_read, read_at, read_sequential, read_random, write_at, write_sequential, write_random, file_size, set_random_record};
 
 use crate::fcb::{byte_at, fields_at, position_in, position_of, random_bytes, random_position};
@@ -33,7 +33,7 @@ pub fn read_sequential(alloc: Global, disk: &Disk, request: &Request) -> Result<
 pub fn read_random(alloc: Global, disk: &Disk, request: &Request) -> Result<Reply, AllocError>
     requires { 12 ≤ length (fcb_of request.now) }
     ensures answer { IfOk result (λ y. y ≡ read_random disk.now request.now) }
-    ensures disk { slice_index (block_at 1 request.now) 2 ≡ 0 → IsDisk disk.now }
+    ensures disk { slice_index (block_read 1 request.now) 2 ≡ 0 → IsDisk disk.now }
 {
     let random = block_at(request, 1);
     if byte_at(random, 2) != 0 {
@@ -110,7 +110,7 @@ pub fn write_sequential(
     request: &Request,
 ) -> Result<Reply, AllocError>
     requires fcb { 12 ≤ length (fcb_of request.now) }
-    requires whole { length (block_at 1 request.now) ≡ 128 }
+    requires whole { length (block_read 1 request.now) ≡ 128 }
     ensures answer { IfOk result (λ y. ◌≡◌ {A = Changed} (record { reply = y; disk = disk.new }) (write_sequential disk.old request.now)) }
     ensures memory { OnErr result (disk.new ≡ disk.old) }
 {
@@ -128,7 +128,7 @@ pub fn write_sequential(
 /// Function 34, write random. After want of memory the disk is as before.
 pub fn write_random(alloc: Global, disk: &mut Disk, request: &Request) -> Result<Reply, AllocError>
     requires fcb { 12 ≤ length (fcb_of request.now) }
-    requires whole { length (block_at 2 request.now) ≡ 128 }
+    requires whole { length (block_read 2 request.now) ≡ 128 }
     ensures answer { IfOk result (λ y. ◌≡◌ {A = Changed} (record { reply = y; disk = disk.new }) (write_random disk.old request.now)) }
     ensures memory { OnErr result (disk.new ≡ disk.old) }
 {

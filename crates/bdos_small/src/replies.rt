@@ -1,14 +1,14 @@
 // What a call brings, and replies that write.
 ghost use Rattle.std.specs.Prelude.{◌≡◌, IfOk, [], ◌∷◌};
 ghost use Rattle.bdos_small.specs.Console.{place_in};
-ghost use Rattle.bdos_small.specs.Calls.{block_at, first_place, second_place, telling, writing, writing_both};
+ghost use Rattle.bdos_small.specs.Calls.{block_read, first_place, second_place, telling, reply_writing, writing_both};
 
 use dialogue::{Block, Blocks, Bytes, Range, Reply, Request};
 use std::alloc::{AllocError, Global};
 
 /// The bytes of the k-th block that a call reads.
 pub fn block_at(request: &Request, k: usize) -> &[u8]
-    ensures { result.now ≡ block_at k request.now }
+    ensures { result.now ≡ block_read k request.now }
 {
     match request.blocks.as_slice().get(k) {
         None => &[],
@@ -28,7 +28,7 @@ pub fn telling(alloc: Global, answer: u16) -> Reply
 
 /// A reply that answers 0 and writes the first range.
 pub fn writing(alloc: Global, request: &Request, bytes: &[u8]) -> Result<Reply, AllocError>
-    ensures { IfOk result (λ y. y ≡ writing request.now 0 bytes.now) }
+    ensures { IfOk result (λ y. y ≡ reply_writing request.now 0 bytes.now) }
 {
     let [first, _] = request.shape.writes;
     let mut writes = Vec::new(alloc);

@@ -1,15 +1,15 @@
 -- What is found of two outcomes is what is found of those that they stand for.
 use Rattle.std.proofs.Common.{◌≡◌, ◌∙◌, ℕ, Result, Ok, Err, Option, Some, None, is_some, true, ap, refl, arith}
-use Rattle.asm80_program.specs.declared.program.Placed.{Placed}
-use Rattle.sym_blocks.specs.Block80.{IsBlock}
+use Rattle.asm80_program_types.specs.declared.program.Placed.{Placed}
+use Rattle.sym_block_def.specs.Block80.{MayRun}
 use Rattle.xlt_pool.specs.Contents.{Contents}
-use Rattle.sym_blocks.specs.declared.reason.Reason.{Reason}
-use Rattle.asm80_program.specs.Program.{Program, placed_in, is_start}
-use Rattle.sym_blocks.specs.Outcome.{Goto, ByTerms, Call, Sys, SysReturn, Boot, Leave, In, Out, Exit, One, Two, Outcome}
-use Rattle.sym_blocks.specs.BlockMatch.{Keeps, kept_by_exit, lost_by, outcome_reason, walked_reason}
-use Rattle.sym_run.specs.Outcomes.{OutcomeIds, OutcomeStands, Comes, WorkState}
+use Rattle.sym_block_def.specs.declared.reason.Reason.{Reason}
+use Rattle.asm80_program_types.specs.Program.{Program, placed_in, is_start}
+use Rattle.sym_block_def.specs.Outcome.{Goto, ByTerms, Call, Sys, SysReturn, Boot, Leave, In, Out, Exit, One, Two, Outcome}
+use Rattle.block_check_def.specs.BlockMatch.{Keeps, kept_by_exit, lost_by, outcome_reason, walked_reason}
+use Rattle.sym_run.specs.Outcomes.{OutcomeIds, OutcomeStands, WalkComesTo, WorkState}
 use Rattle.block_check.specs.Kept.{kept_behind, lost_of}
-use Rattle.block_check.specs.Comparing.{outcome_of, OutcomeIsGiven, AreReady, first_of, second_of, reason_by, verdict_of, AfterShown}
+use Rattle.block_check.specs.Comparing.{outcome_of, OutcomeIsGiven, AreReady, first_outcome, second_of, reason_by, verdict_of, AfterShown}
 use Rattle.block_check.specs.declared.block.Verdict.{Verdict}
 use Rattle.block_check.specs.declared.block.Verdict.TheVariants.{Shown, NotShown}
 
@@ -20,7 +20,7 @@ stands_is : (pool : Contents) (ids : OutcomeIds) (x : Outcome) → OutcomeStands
 stands_is pool ids x h = λ i. record { actions = h.actions i; held = h.held i; sp = h.sp i; exit = h.exit.is i; direct = h.direct i }
 
 -- both outcomes are given
-pub are_ready : (w : WorkState) (x : Outcome) (walked : Result Outcome Reason) → OutcomeStands w.terms w.first x → Comes w.terms w.second walked (Ok tt) → AreReady w
+pub are_ready : (w : WorkState) (x : Outcome) (walked : Result Outcome Reason) → OutcomeStands w.terms w.first x → WalkComesTo w.terms w.second walked (Ok tt) → AreReady w
 are_ready w x (Ok y) h g = record { first = stands_given w.terms w.first x h; second = stands_given w.terms w.second y g }
 are_ready w x (Err r) h g = absurd g
 
@@ -41,9 +41,9 @@ reason_same : (k : Keeps) (x y : Outcome) → reason_by (kept_by_exit k x.exit) 
 reason_same k x y = ap (λ lost. reason_by (kept_by_exit k x.exit) lost x y) (lost_same k x.exit)
 
 -- the reason that is found is the block's
-pub found : (w : WorkState) (k : Keeps) (x : Outcome) (walked : Result Outcome Reason) → OutcomeStands w.terms w.first x → Comes w.terms w.second walked (Ok tt) → reason_by (kept_by_exit k (first_of w).exit) (lost_of (kept_behind k (first_of w).exit)) (first_of w) (second_of w) ≡ walked_reason k x walked
+pub found : (w : WorkState) (k : Keeps) (x : Outcome) (walked : Result Outcome Reason) → OutcomeStands w.terms w.first x → WalkComesTo w.terms w.second walked (Ok tt) → reason_by (kept_by_exit k (first_outcome w).exit) (lost_of (kept_behind k (first_outcome w).exit)) (first_outcome w) (second_of w) ≡ walked_reason k x walked
 found w k x (Ok y) h g =
-    reason_same k (first_of w) (second_of w)
+    reason_same k (first_outcome w) (second_of w)
     ∙ (ap (λ a. outcome_reason k a (second_of w)) (stands_is w.terms w.first x h)
     ∙ ap (λ b. outcome_reason k x b) (stands_is w.terms w.second y g))
 found w k x (Err r) h g = absurd g
@@ -53,15 +53,15 @@ after_shown Shown claim x = x
 after_shown (NotShown r) claim x = tt
 
 -- a walk that came to a reason
-pub reason_found : (pool : Contents) (ids : OutcomeIds) (k : Keeps) (x : Outcome) (walked : Result Outcome Reason) (r : Reason) → Comes pool ids walked (Err r) → NotShown r ≡ verdict_of (walked_reason k x walked)
+pub reason_found : (pool : Contents) (ids : OutcomeIds) (k : Keeps) (x : Outcome) (walked : Result Outcome Reason) (r : Reason) → WalkComesTo pool ids walked (Err r) → NotShown r ≡ verdict_of (walked_reason k x walked)
 reason_found pool ids k x (Ok y) r h = absurd h
 reason_found pool ids k x (Err q) r h = ap NotShown h
 
 -- one instruction is a block
-pub one_is_block : (p : Program) (at : ℕ) → is_start p at ≡ true → IsBlock p at 1
+pub one_is_block : (p : Program) (at : ℕ) → is_start p at ≡ true → MayRun p at 1
 one_is_block p at h = one_by (placed_in p.instrs at) refl h
   where
-    one_by : (found : Option Placed) → placed_in p.instrs at ≡ found → is_some found ≡ true → IsBlock p at 1
+    one_by : (found : Option Placed) → placed_in p.instrs at ≡ found → is_some found ≡ true → MayRun p at 1
     one_by None e h = absurd (cc)
     one_by (Some x) e h = record {
       some = omega arith;

@@ -2,14 +2,14 @@
 use Rattle.std.proofs.Common.{◌≡◌, ◌∙◌, ℕ, Option, Some, None, refl, sym}
 use Rattle.std.specs.Prelude.{is_some, cond}
 use Rattle.cells.specs.Parts.{Parts, nothing}
-use Rattle.asm80_program.specs.Program.{Program}
+use Rattle.asm80_program_types.specs.Program.{Program}
 use Rattle.flow.proofs.OneNeeds.{needs_once}
 use Rattle.flow.specs.declared.node.Node.TheVariants.{Start}
 use Rattle.flow.specs.Blocks.{block_at, IsLeader, BlocksCut}
 use Rattle.flow.specs.Solving.{Needs, AreAllNeeds}
-use Rattle.sym_blocks.specs.Block80.{IsBlock}
-use Rattle.sym_runs.specs.Needed.{needed_by}
-use Rattle.sym_runs.proofs.Blocks.{may_run}
+use Rattle.sym_block_def.specs.Block80.{MayRun}
+use Rattle.simulation_def.specs.Needed.{needed_by}
+use Rattle.simulation_def.proofs.Blocks.{may_run}
 use Rattle.block_check.specs.Kept.{AreKept, KeepsNeeds}
 
 pub kept_once : (p : Program) (a : ℕ) (o : Option ℕ) (x y : Parts) → AreKept p a o x → AreKept p a o y → x ≡ y
@@ -17,7 +17,7 @@ kept_once p a None x y f g = f ∙ sym g
 kept_once p a (Some count) x y f g = needs_once p (Start a) x y f g
 
 -- a leader's block
-pub leader_block : (p : Program) (a : ℕ) → BlocksCut p → IsLeader p a → (n : ℕ) × (block_at p a ≡ Some n) × IsBlock p a n
+pub leader_block : (p : Program) (a : ℕ) → BlocksCut p → IsLeader p a → (n : ℕ) × (block_at p a ≡ Some n) × MayRun p a n
 leader_block p a cut h = let b = cut.has_block a h in (b.0, cut.found a b.0 b.1, may_run p a b.0 cut b.1)
 
 -- what is needed at blocks is kept by needs

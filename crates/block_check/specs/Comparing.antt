@@ -5,14 +5,14 @@ use Rattle.cells.specs.declared.Part.{Part}
 use Rattle.cells.specs.Parts.{Parts, has, all_parts}
 use Rattle.xlt_pool.specs.Contents.{Contents}
 use Rattle.sym_terms.specs.Trees.{tree_in, IsGiven}
-use Rattle.sym_blocks.specs.declared.reason.Reason.{Reason}
-use Rattle.sym_blocks.specs.declared.reason.Reason.TheVariants.{Actions, Exits}
-use Rattle.sym_blocks.specs.Outcome.{Outcome, part_of}
-use Rattle.sym_blocks.specs.Agree.{agrees, actions_agree, exit_agrees}
-use Rattle.sym_blocks.specs.BlockMatch.{kept_reason}
+use Rattle.sym_block_def.specs.declared.reason.Reason.{Reason}
+use Rattle.sym_block_def.specs.declared.reason.Reason.TheVariants.{Actions, Exits}
+use Rattle.sym_block_def.specs.Outcome.{Outcome, term_in}
+use Rattle.block_check_def.specs.Agree.{agrees, actions_agree, exit_agrees}
+use Rattle.block_check_def.specs.BlockMatch.{kept_reason}
 use Rattle.sym_micro.specs.Stands.{trees_of_held, trees_of_actions, HeldIsGiven, ActionsAreGiven}
 use Rattle.sym_micro.specs.Exits.{tree_of_exit, ExitIsGiven}
-use Rattle.sym_run.specs.Outcomes.{OutcomeIds, OutcomeStands, Comes}
+use Rattle.sym_run.specs.Outcomes.{OutcomeIds, OutcomeStands, WalkComesTo}
 pub use Rattle.sym_run.specs.Outcomes.{WorkState}
 use Rattle.block_check.specs.declared.block.Verdict.{Verdict}
 use Rattle.block_check.specs.declared.block.Verdict.TheVariants.{Shown, NotShown}
@@ -38,8 +38,8 @@ pub record AreReady (w : WorkState) : Type 0 where
   pub first : OutcomeIsGiven w.terms w.first
   pub second : OutcomeIsGiven w.terms w.second
 
-abbrev pub first_of : WorkState → Outcome
-first_of w = outcome_of w.terms w.first
+abbrev pub first_outcome : WorkState → Outcome
+first_outcome w = outcome_of w.terms w.first
 
 abbrev pub second_of : WorkState → Outcome
 second_of w = outcome_of w.terms w.second
@@ -47,7 +47,7 @@ second_of w = outcome_of w.terms w.second
 -- a part that is lost, or is kept and does not agree
 abbrev pub is_bad_by : Parts → Parts → Outcome → Outcome → Part → Bool
 is_bad_by kept lost x y q =
-    (y.direct && has lost q) || (has kept q && not (agrees (part_of x.held q) (part_of y.held q)))
+    (y.direct && has lost q) || (has kept q && not (agrees (term_in x.held q) (term_in y.held q)))
 
 -- the first reason, of two outcomes, the parts that are kept and those that a direct call loses
 abbrev pub reason_by : Parts → Parts → Outcome → Outcome → Option Reason
@@ -64,7 +64,7 @@ verdict_of (Some r) = NotShown r
 -- after Shown the outcomes of the work are those of the block and of the walk through the text
 pub record HoldsOutcomes (w : WorkState) (block : Outcome) (walked : Result Outcome Reason) : Type 0 where
   pub first : OutcomeStands w.terms w.first block
-  pub second : Comes w.terms w.second walked (Ok tt)
+  pub second : WalkComesTo w.terms w.second walked (Ok tt)
 
 abbrev pub AfterShown : Verdict → Type 0 → Type 0
 AfterShown Shown claim = claim

@@ -1,10 +1,10 @@
 -- The parts that are kept, of the values that say them.
 use Rattle.std.specs.Prelude.{◌≡◌, ℕ, Option, Some, None, IsTrue}
 use Rattle.cells.specs.Parts.{Parts, nothing}
-use Rattle.sym_blocks.specs.Outcome.{Exit, One, Sys}
-use Rattle.sym_blocks.specs.BlockMatch.{Keeps, kept_at}
-use Rattle.sym_runs.specs.Ones.{all_kept}
-use Rattle.asm80_program.specs.Program.{Program}
+use Rattle.sym_block_def.specs.Outcome.{Exit, One, Sys}
+use Rattle.block_check_def.specs.BlockMatch.{Keeps, kept_at}
+use Rattle.simulation_def.specs.Ones.{all_kept}
+use Rattle.asm80_program_types.specs.Program.{Program}
 use Rattle.flow.specs.declared.node.Node.TheVariants.{Start, Return}
 use Rattle.flow.specs.Blocks.{block_at}
 use Rattle.flow.specs.Solving.{AreNeeds}

@@ -2,7 +2,7 @@
 
 ghost use Rattle.std.specs.Prelude.{◌≡◌, ◌&&◌};
 ghost use Rattle.sym_terms.specs.Trees.{tree_in, IsGiven};
-ghost use Rattle.sym_blocks.specs.Agree.{agrees, action_agrees, actions_agree};
+ghost use Rattle.block_check_def.specs.Agree.{agrees, action_agrees, actions_agree};
 ghost use Rattle.sym_micro.specs.Stands.{tree_of_action, trees_of_actions, ActionIsGiven, ActionsAreGiven};
 
 use sym_run::{Action, Work};

@@ -2,7 +2,7 @@
 
 ghost use Rattle.std.specs.Prelude.{◌≡◌};
 ghost use Rattle.cells.specs.Parts.{has, union};
-ghost use Rattle.sym_blocks.specs.BlockMatch.{asked};
+ghost use Rattle.block_check_def.specs.BlockMatch.{parts_asked};
 ghost use Rattle.block_check.specs.Kept.{wanted_parts, lost_of};
 
 use cells::{Keep, Part};
@@ -26,7 +26,7 @@ pub fn all_of(keep: Keep) -> Wanted
 
 /// C, D and E, by which the system is asked.
 pub fn of_system() -> Wanted
-    ensures { wanted_parts result ≡ asked }
+    ensures { wanted_parts result ≡ parts_asked }
 {
     let keep = Keep::none().with(Part::C).with(Part::D).with(Part::E);
     all_of(keep)

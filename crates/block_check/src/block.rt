@@ -1,20 +1,20 @@
 // Whether a block matches.
 
 ghost use Rattle.std.specs.Prelude.{◌≡◌, true, ℕ, Some, IsTrue};
-ghost use Rattle.asm80_program.specs.Program.{is_start};
+ghost use Rattle.asm80_program_types.specs.Program.{is_start};
 ghost use Rattle.flow.specs.Blocks.{IsLeader, block_at};
 ghost use Rattle.flow.specs.Solving.{Needs, AreAllNeeds};
-ghost use Rattle.sym_runs.specs.Needed.{needed_by};
-ghost use Rattle.sym_runs.specs.Ones.{all_kept};
-ghost use Rattle.sym_blocks.specs.Block80.{IsBlock, block80};
-ghost use Rattle.sym_blocks.specs.Walk86.{walk86};
-ghost use Rattle.sym_blocks.specs.BlockMatch.{Keeps, block_reason};
+ghost use Rattle.simulation_def.specs.Needed.{needed_by};
+ghost use Rattle.simulation_def.specs.Ones.{all_kept};
+ghost use Rattle.sym_block_def.specs.Block80.{MayRun, block80};
+ghost use Rattle.sym_block_def.specs.Walk86.{walk86};
+ghost use Rattle.block_check_def.specs.BlockMatch.{Keeps, block_reason};
 ghost use Rattle.block_check.specs.Kept.{KeepsAre, AreFound};
 ghost use Rattle.block_check.specs.Comparing.{HoldsOutcomes, AfterShown, verdict_of};
 
 use crate::kept::{Kept, kept_behind, kept_by_exit, kept_from};
 use crate::outcomes::reason_of;
-use asm80_program::Program80;
+use asm80_program_types::Program80;
 use flow::{Graph, blocks_cut_the_program};
 use sym_run::{Index86, Reason, Work};
 
@@ -45,7 +45,7 @@ fn check_kept(
     leader: u16,
     count: u32,
 ) -> Verdict
-    requires block { IsBlock program.now leader count }
+    requires block { MayRun program.now leader count }
     requires found { AreFound kept.now }
     ensures verdict { (k : Keeps) → KeepsAre kept.now k → result ≡ verdict_of (block_reason program.now text.now k leader count) }
     ensures outcomes { (k : Keeps) → KeepsAre kept.now k → AfterShown result (HoldsOutcomes work.new (block80 program.now leader count) (walk86 program.now text.now (k.at leader) leader count)) }

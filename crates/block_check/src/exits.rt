@@ -3,7 +3,7 @@
 ghost use Rattle.std.specs.Prelude.{◌≡◌, ◌&&◌};
 ghost use Rattle.sym_terms.specs.Term.{same_bool};
 ghost use Rattle.sym_terms.specs.Trees.{tree_in, IsGiven};
-ghost use Rattle.sym_blocks.specs.Agree.{agrees, way_agrees, ways_agree, exit_agrees};
+ghost use Rattle.block_check_def.specs.Agree.{agrees, way_agrees, ways_agree, exit_agrees};
 ghost use Rattle.sym_micro.specs.Exits.{tree_of_way, tree_of_exit, WayIsGiven, ExitIsGiven};
 
 use sym_run::{Exit, Way, Work};

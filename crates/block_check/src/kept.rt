@@ -5,12 +5,12 @@ ghost use Rattle.flow.specs.declared.node.Node.TheVariants.{Start};
 ghost use Rattle.flow.specs.Blocks.{block_at};
 ghost use Rattle.flow.specs.Solving.{AreNeeds};
 ghost use Rattle.xlt_pool.specs.Contents.{Contents};
-ghost use Rattle.sym_blocks.specs.BlockMatch.{Keeps, kept_at, kept_by, kept_by_exit};
+ghost use Rattle.block_check_def.specs.BlockMatch.{Keeps, kept_at, kept_after_way, kept_by_exit};
 ghost use Rattle.sym_micro.specs.Exits.{tree_of_way, tree_of_exit};
 ghost use Rattle.block_check.specs.Kept.{wanted_parts, KeepsAre, AreFound, AreKept, kept_behind};
 
 use crate::asked::{Wanted, all_of, both, of_system};
-use asm80_program::Program80;
+use asm80_program_types::Program80;
 use cells::{Keep, Place};
 use flow::{Graph, needs_are_closed};
 use sym_run::{Exit, Way};
@@ -87,7 +87,7 @@ fn kept_at(kept: &Kept<'_>, place: Place) -> Keep
 // The parts that a way keeps.
 fn kept_by(kept: &Kept<'_>, way: Way) -> Wanted
     requires { AreFound kept.now }
-    ensures { (pool : Contents) (k : Keeps) → KeepsAre kept.now k → wanted_parts result ≡ kept_by k (tree_of_way pool way) }
+    ensures { (pool : Contents) (k : Keeps) → KeepsAre kept.now k → wanted_parts result ≡ kept_after_way k (tree_of_way pool way) }
 {
     match way {
         Way::Goto(place) | Way::Call(place, _) => all_of(kept_at(kept, place)),

@@ -2,13 +2,13 @@
 
 ghost use Rattle.std.specs.Prelude.{◌≡◌, ◌||◌};
 ghost use Rattle.std.specs.List.{find};
-ghost use Rattle.sym_blocks.specs.Agree.{agrees};
-ghost use Rattle.sym_blocks.specs.Outcome.{part_of};
-ghost use Rattle.sym_blocks.specs.BlockMatch.{is_last, is_end, sp_agrees, kept_reason};
+ghost use Rattle.block_check_def.specs.Agree.{agrees};
+ghost use Rattle.sym_block_def.specs.Outcome.{term_in};
+ghost use Rattle.block_check_def.specs.BlockMatch.{is_last, is_boot_alone, sp_agrees, kept_reason};
 ghost use Rattle.sym_micro.specs.Exits.{tree_of_way, tree_of_exit};
 ghost use Rattle.xlt_pool.specs.Contents.{Contents};
 ghost use Rattle.block_check.specs.Kept.{wanted_parts, lost_of};
-ghost use Rattle.block_check.specs.Comparing.{AreReady, first_of, second_of, is_bad_by, reason_by};
+ghost use Rattle.block_check.specs.Comparing.{AreReady, first_outcome, second_of, is_bad_by, reason_by};
 
 use crate::actions::actions_agree;
 use crate::asked::{Wanted, loses, wants};
@@ -35,7 +35,7 @@ const PARTS: [Part; 12] = [
 // Whether a part agrees with its partner.
 fn part_agrees(work: &Work, part: Part) -> bool
     requires { AreReady work.now }
-    ensures { result ≡ agrees (part_of (first_of work.now).held part) (part_of (second_of work.now).held part) }
+    ensures { result ≡ agrees (term_in (first_outcome work.now).held part) (term_in (second_of work.now).held part) }
 {
     let one = work.first().part(part);
     let other = work.second().part(part);
@@ -45,7 +45,7 @@ fn part_agrees(work: &Work, part: Part) -> bool
 // Whether a part is lost, or is kept and does not agree.
 fn is_bad(work: &Work, kept: &Wanted, back: Keep, part: Part) -> bool
     requires { AreReady work.now }
-    ensures { result ≡ is_bad_by (wanted_parts kept.now) (lost_of back) (first_of work.now) (second_of work.now) part }
+    ensures { result ≡ is_bad_by (wanted_parts kept.now) (lost_of back) (first_outcome work.now) (second_of work.now) part }
 {
     let is_lost = work.second().direct() && loses(back, part);
     let agrees = part_agrees(work, part);
@@ -55,7 +55,7 @@ fn is_bad(work: &Work, kept: &Wanted, back: Keep, part: Part) -> bool
 // The first of some parts that is bad.
 fn first_bad_of(work: &Work, kept: &Wanted, back: Keep, parts: &[Part]) -> Option<Part>
     requires { AreReady work.now }
-    ensures { result ≡ find (is_bad_by (wanted_parts kept.now) (lost_of back) (first_of work.now) (second_of work.now)) parts.now }
+    ensures { result ≡ find (is_bad_by (wanted_parts kept.now) (lost_of back) (first_outcome work.now) (second_of work.now)) parts.now }
 {
     let mut rest = parts;
     while let Some((part, others)) = rest.split_first() {
@@ -79,7 +79,7 @@ fn is_last(way: Way) -> bool
 
 // Whether it does so on every way.
 fn is_end(exit: Exit) -> bool
-    ensures { (pool : Contents) → result ≡ is_end (tree_of_exit pool exit) }
+    ensures { (pool : Contents) → result ≡ is_boot_alone (tree_of_exit pool exit) }
 {
     match exit {
         Exit::One(way) => is_last(way),
@@ -90,7 +90,7 @@ fn is_end(exit: Exit) -> bool
 // Whether SP agrees, where it is looked at.
 fn sp_agrees(work: &Work) -> bool
     requires { AreReady work.now }
-    ensures { result ≡ sp_agrees (first_of work.now) (second_of work.now) }
+    ensures { result ≡ sp_agrees (first_outcome work.now) (second_of work.now) }
 {
     let first = work.first();
     let agrees = work.agree(first.sp(), work.second().sp());
@@ -100,7 +100,7 @@ fn sp_agrees(work: &Work) -> bool
 // What is found behind the actions and the exits: a bad part, or SP.
 fn kept_reason(work: &Work, bad: Option<Part>) -> Option<Reason>
     requires { AreReady work.now }
-    ensures { result ≡ kept_reason (first_of work.now) (second_of work.now) bad }
+    ensures { result ≡ kept_reason (first_outcome work.now) (second_of work.now) bad }
 {
     match bad {
         Some(part) => Some(Reason::Kept(part)),
@@ -113,7 +113,7 @@ fn kept_reason(work: &Work, bad: Option<Part>) -> Option<Reason>
 /// where others are kept.
 pub fn reason_of(work: &Work, kept: &Wanted, back: Keep) -> Option<Reason>
     requires { AreReady work.now }
-    ensures { result ≡ reason_by (wanted_parts kept.now) (lost_of back) (first_of work.now) (second_of work.now) }
+    ensures { result ≡ reason_by (wanted_parts kept.now) (lost_of back) (first_outcome work.now) (second_of work.now) }
 {
     let first = work.first();
     let second = work.second();

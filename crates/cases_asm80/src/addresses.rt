@@ -1,8 +1,8 @@
 // The first walk as text.
 use crate::source::statements_of;
-use asm80_source::Meaning;
-use asm80_tokens::{ReadFault, Stmt80};
-use asm80_walk::{Taken, Walked, walk};
+use asm80_first_walk::{Taken, Walked, walk};
+use asm80_source_def::Meaning;
+use asm80_statement_types::{ReadFault, Stmt80};
 use std::alloc::{AllocError, Global};
 
 // What the label of a statement stands for at the end.

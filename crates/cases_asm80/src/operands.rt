@@ -2,15 +2,15 @@
 use crate::codes::{push_cell, push_code};
 use crate::columns::push_columns;
 use crate::source::statements_of;
+use asm80_first_walk::{operation_of, walk};
 use asm80_names::{
     Names, Scope, has_place_inside, is_no_value, meaning_of, operand_divides_by_zero,
     operand_has_unknown, operand_number, operand_place,
 };
 use asm80_operands::{Form, Setting, form_of};
-use asm80_source::{Meaning, NameKind};
-use asm80_tokens::{Arg, ReadFault, Stmt80};
-use asm80_walk::{operation_of, walk};
-use base::AddressSet;
+use asm80_source_def::{Meaning, NameKind};
+use asm80_statement_types::{Arg, ReadFault, Stmt80};
+use base_types::AddressSet;
 use cells::Cell;
 use std::alloc::{AllocError, Global};
 

@@ -1,6 +1,6 @@
 // Statements as text.
 use crate::source::statements_of;
-use asm80_tokens::{Arg, Expr, Name80, ReadFault, Stmt80, Two};
+use asm80_statement_types::{Arg, Expr, Name80, ReadFault, Stmt80, Two};
 use std::alloc::{AllocError, Global};
 
 fn sign(op: Two) -> &'static str {

@@ -1,13 +1,13 @@
 // What a case is read as.
 ghost use Rattle.std.specs.Prelude.{◌≡◌};
-ghost use Rattle.asm80_program.specs.Program.{is_top};
+ghost use Rattle.asm80_program_types.specs.Program.{is_top};
 
 use crate::addresses::addresses_text;
 use crate::operands::{Asked, operands_text};
 use crate::program::program_text;
 use crate::source::bytes_of;
 use crate::statements::statements_text;
-use asm80_tokens::ReadFault;
+use asm80_statement_types::ReadFault;
 use std::alloc::{AllocError, Global};
 
 /// What a case is read as.

@@ -1,7 +1,7 @@
 // What a case is answered.
 ghost use Rattle.std.specs.Prelude.{◌≡◌, ◌<◌, ◌^◌, length, true, IfOk};
-ghost use Rattle.asm86_lines.specs.Image.{statements};
-ghost use Rattle.asm86_lines.specs.Order.{at_start, in_order};
+ghost use Rattle.asm86_line_types.specs.Image.{statements};
+ghost use Rattle.asm86_line_types.specs.Order.{at_start, in_order};
 
 use crate::cases::bytes_of;
 use crate::shown::{image_text, lines_text, statements_text};

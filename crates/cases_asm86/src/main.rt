@@ -1,4 +1,6 @@
-// Answers each case of the standard input: what a line, a text or the image of a text of ASM-86 comes to.
+// Tests of ASM-86 texts, a case a line: what a line, a text, a text in pieces of each size, or the image of a text comes to, and each
+// refusal. Expected answers, in the file `stdout`, are from the manuals; the bytes of each form of instruction are those that NASM writes,
+// and for other encodings of the same instruction those of the manual's table, which NASM's disassembler reads so.
 #![tactic(auto)]
 
 mod answers;

@@ -1,13 +1,17 @@
-// The program over files in memory, a case a line: `WORDS | P | I | N`. The words stand behind the program's name, `;` parts those
-// of several calls. The files P and I have these lines, which ` \ ` parts, and `N * LINE` is as many lines, in which `%` stands for
-// the number of each; the file OUT holds `before`. The call of the host with the number N fails. A line without a bar is a source of
-// the 8080 from 100H on, which runs.
-//
-// The answer is the status of each call, what is said, where ` / ` parts the lines, and behind an arrow, if OUT no longer holds
-// `before`, what it holds, of a long text its length. An empty line and one that begins with `#` are repeated.
-//
-// A line that begins with `xlt` is words alone, whose answer is the command that they are, or `none`.
+// Tests of the program over files in memory, a case a line: the words of the command line; each command, each status with its line, each
+// call of the host that fails, and the order of work; `translate` over the instructions of each kind, a file copier and the largest code,
+// with the runs of both sides; both machines side by side, also where the 8080 leaves the profile or is stopped; single steps of the tagged
+// 8080, each rule and each two of them that one instruction can break; made sources. Expected answers, in the file `stdout`, are by the
+// manuals and docs/COMMANDS.md.
 #![tactic(auto)]
+
+// A case is `WORDS | P | I | N`. The words stand after the program's name, `;` parts those of several calls. The files P and I have these
+// lines, which ` \ ` parts, and `N * LINE` is as many lines, in which `%` stands for the number of each; the file OUT holds `before`. The
+// call of the host with the number N fails. A line without a bar is a source of the 8080 from 100H on, which runs.
+//
+// The answer is the status of each call, what is said, where ` / ` parts the lines, and after an arrow, if OUT no longer holds `before`,
+// what it holds, of a long text its length. An empty line and one that begins with `#` are repeated. A line that begins with `xlt` is words
+// alone, whose answer is the command that they are, or `none`.
 
 mod words;
 

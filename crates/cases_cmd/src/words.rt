@@ -1,6 +1,6 @@
 // What the words of a command line are read as: blanks part the words behind `xlt`, `""` is a word without a letter, and `~` and `^`
 // are a blank and a tab in a word.
-use cmd_words::{Command, RunOptions, read_words};
+use cmd_arguments::{Command, RunOptions, read_words};
 use std::alloc::{AllocError, Global};
 
 fn word_of(alloc: Global, text: &str) -> Result<String, AllocError> {

@@ -1,6 +1,6 @@
 // What a case asks for, and its answer.
 ghost use Rattle.std.specs.Prelude.{◌≡◌, ◌≢◌};
-ghost use Rattle.dialogue.specs.Lawful.{IsLawful};
+ghost use Rattle.dialogue.specs.Lawful.{IsLawfulRequest};
 
 use crate::memory::{Memory, request};
 use crate::shown::{bytes_text, disk_text, reply_text};

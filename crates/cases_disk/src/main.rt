@@ -1,4 +1,6 @@
-// Answers each case of the standard input: calls of a small BDOS one after another, over a memory of 64K, disk files, and start pages.
+// Tests of the small BDOS, a case a line: names, disk files and where they are refused, the functions at their edges and those of the
+// console, one call after another over a memory of 64K, start pages, and disks of 64 files that are written and read. Expected answers, in
+// the file `stdout`, are by the CP/M 2.2 Operating System Manual and this project's own tables.
 #![tactic(auto)]
 
 mod cases;

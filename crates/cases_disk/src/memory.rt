@@ -1,6 +1,6 @@
 // The memory of a program, and the requests of its calls.
 ghost use Rattle.std.specs.Prelude.{◌≡◌, IfOk, IfSome};
-ghost use Rattle.dialogue.specs.Lawful.{IsLawful};
+ghost use Rattle.dialogue.specs.Lawful.{IsLawfulRequest};
 
 use dialogue::{Block, Request, View, request_of, shape_of};
 use std::alloc::{AllocError, Global};
@@ -57,7 +57,7 @@ pub fn request(
     e: u8,
     dma: u16,
 ) -> Result<Option<Request>, AllocError>
-    ensures { IfOk result (λ r. IfSome r (λ q. IsLawful q)) }
+    ensures { IfOk result (λ r. IfSome r (λ q. IsLawfulRequest q)) }
 {
     match shape_of(Some(function), Some(d), Some(e), dma, memory) {
         Ok(shape) => Ok(Some(request_of(alloc, shape, memory)?)),

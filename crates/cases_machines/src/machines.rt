@@ -2,11 +2,11 @@
 use crate::events::event_text;
 use crate::states;
 use crate::tagged::{Held, push_changes};
-use asm80_program::Program80;
+use asm80_program_types::Program80;
 use cells::{Place, Rule};
 use cpu80::{Cpu80, Plain80, Step80, StepPlain};
 use cpu86::{Cpu86, Step86};
-use cpu86_effects::processor::Processor;
+use cpu86_step::processor::Processor;
 use dialogue::{Event, Reply};
 use std::alloc::{AllocError, Global};
 
@@ -53,13 +53,13 @@ pub trait Machine {
 
 /// The tagged 8080, and what it held before.
 #[derive(Drop)]
-pub struct Tagged80<'a> {
+pub struct Running80<'a> {
     pub cpu: Cpu80,
     pub program: &'a Program80,
     pub before: Held,
 }
 
-impl<'a> Machine for Tagged80<'a> {
+impl<'a> Machine for Running80<'a> {
     ghost use Rattle.cpu80_tagged.specs.Machine.{IsMachineOf};
 
     ghost runs = { λ m. IsMachineOf m.program.now m.cpu };
@@ -100,7 +100,7 @@ fn number_of(rule: Rule) -> u16 {
     (rule as u16).saturating_add(1)
 }
 
-/// The 8080 over plain bytes.
+/// The untagged 8080.
 #[derive(Drop)]
 pub struct Bytes80<'a> {
     pub cpu: Plain80,
@@ -179,7 +179,7 @@ impl Machine for Bytes86 {
 /// Both machines of the 8080 side by side.
 #[derive(Drop)]
 pub struct Both80<'a> {
-    pub tagged: Tagged80<'a>,
+    pub tagged: Running80<'a>,
     pub bytes: Bytes80<'a>,
 }
 

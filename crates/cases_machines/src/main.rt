@@ -1,4 +1,8 @@
-// Answers each case of the standard input: what an instruction of the 8086 changes, and what the machines answer, step by step.
+// Tests of the machines, a case a line: single instructions of the 8086 by their bytes, with all that each leaves alone; the calls of its
+// system, at each SP where the bytes below it wrap, and their replies; decimal adjustment of each byte with each AC and CY; the tagged
+// 8080, the untagged 8080 and the 8086 step by step: what each step answers, which replies are taken and what they leave, what IN and OUT
+// and their replies change of all that a machine holds; the stops of plain bytes, what choices give, and both machines of the 8080 side by
+// side on whole programs. Expected answers, in the file `stdout`, are by the Intel 8080 and 8086 manuals and the CP/M manuals.
 #![tactic(auto)]
 
 mod decimals;

@@ -1,15 +1,15 @@
 // Machines with the programs of cases.
 ghost use Rattle.std.specs.Prelude.{◌≡◌, length, IfOk};
 
-use crate::machines::{Both80, Bytes80, Bytes86, Tagged80};
+use crate::machines::{Both80, Bytes80, Bytes86, Running80};
 use crate::scripts::script;
 use crate::states;
 use crate::tagged::Held;
 use crate::words::number_of;
-use asm80_program::Program80;
+use asm80_program_types::Program80;
 use asm80_text::Lines;
 use asm80_values::assemble;
-use asm86_image::{Image86, image};
+use asm86::{Image86, image};
 use asm86_text::Text86;
 use cpu80::{Cpu80, Plain80};
 use cpu86::{Cpu86, Start86};
@@ -87,7 +87,7 @@ fn tagged80(
 ) -> Result<Option<String>, AllocError> {
     let cpu = Cpu80::new(alloc, program, page)?;
     let before = Held::of(alloc, &cpu.held())?;
-    let mut machine = Tagged80 {
+    let mut machine = Running80 {
         cpu,
         program,
         before,
@@ -114,7 +114,7 @@ fn both80(
 ) -> Result<Option<String>, AllocError> {
     let cpu = Cpu80::new(alloc, program, page)?;
     let before = Held::of(alloc, &cpu.held())?;
-    let tagged = Tagged80 {
+    let tagged = Running80 {
         cpu,
         program,
         before,

@@ -1,10 +1,10 @@
 -- What a block needs, and what its runs give.
-use Rattle.std.specs.Prelude.{◌≡◌, ℕ, length, Option, Some, None, Result, Ok, Err}
-use Rattle.asm80_program.specs.Program.{Program}
+use Rattle.std.specs.Prelude.{◌≡◌, ℕ, length, Option, Some, Result, Ok}
+use Rattle.asm80_program_types.specs.Program.{Program}
 use Rattle.xlt_pool.specs.Contents.{Contents}
 use Rattle.sym_terms.specs.Trees.{IsGiven}
-use Rattle.sym_blocks.specs.declared.reason.Reason.{Reason}
-use Rattle.sym_blocks.specs.Block80.{instrs_from, OnlyLastEnds}
+use Rattle.sym_block_def.specs.declared.reason.Reason.{Reason}
+use Rattle.sym_block_def.specs.Block80.{instrs_from, OnlyLastEnds}
 use Rattle.sym_micro.specs.Stands.{HeldIsGiven, ActionsAreGiven}
 use Rattle.sym_micro.specs.Exits.{ExitIsGiven}
 use Rattle.sym_run.specs.Outcomes.{OutcomeIds, WorkState}

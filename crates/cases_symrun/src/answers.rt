@@ -9,7 +9,7 @@ use crate::shown::{exit_text, reason_text};
 use crate::sources::{is_top, plain_index, program_below, program_of, text_index};
 use crate::texts::{lean_lines, whole_text};
 use anyhow::bail;
-use asm80_program::Program80;
+use asm80_program_types::Program80;
 use cells::{Keep, Part};
 use std::alloc::{AllocError, Global};
 use sym_run::{Index86, Work};

@@ -1,10 +1,10 @@
 // Whether there is a block.
 
 ghost use Rattle.std.specs.Prelude.{◌≡◌, true};
-ghost use Rattle.sym_blocks.specs.Block80.{IsBlock};
+ghost use Rattle.sym_block_def.specs.Block80.{MayRun};
 ghost use Rattle.cases_symrun.specs.Given.{Follow};
 
-use asm80_program::Program80;
+use asm80_program_types::Program80;
 use i80::{ends, length};
 
 // Whether so many instructions stand one after the other from an address on, of which only the last may end a block.
@@ -22,7 +22,7 @@ fn follow(program: &Program80, at: u16, left: u32) -> bool
 
 /// Whether a block of so many instructions begins there.
 pub fn is_block(program: &Program80, first: u16, count: u32) -> bool
-    ensures { result ≡ true → IsBlock program.now first count }
+    ensures { result ≡ true → MayRun program.now first count }
 {
     0 < count && count <= 16 && follow(program, first, count)
 }

@@ -1,11 +1,11 @@
 // The bytes of an instruction's template.
 ghost use Rattle.std.specs.Prelude.{◌≡◌, ◌<◌, ◌^◌, length, true, IfOk};
-ghost use Rattle.asm86_lines.specs.Image.{statements};
-ghost use Rattle.asm86_lines.specs.Order.{at_start, in_order};
+ghost use Rattle.asm86_line_types.specs.Image.{statements};
+ghost use Rattle.asm86_line_types.specs.Order.{at_start, in_order};
 
 use crate::sources::program_of;
 use anyhow::bail;
-use asm80_program::Program80;
+use asm80_program_types::Program80;
 use asm86::{Image86, Label, Line86, Stmt86, Text86, image, write_line};
 use std::alloc::Global;
 use templates::{plain_text, template};

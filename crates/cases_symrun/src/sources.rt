@@ -1,10 +1,10 @@
 // Programs and texts of cases.
 ghost use Rattle.std.specs.Prelude.{◌≡◌, true};
-ghost use Rattle.asm80_program.specs.Program.{is_top};
+ghost use Rattle.asm80_program_types.specs.Program.{is_top};
 
-use asm80_program::Program80;
+use asm80_program_types::Program80;
+use asm80_statement_types::{ReadFault, Stmt80};
 use asm80_text::Lines;
-use asm80_tokens::{ReadFault, Stmt80};
 use asm80_values::assemble;
 use asm86::{Line86, Text86, TextFault};
 use std::alloc::{AllocError, Global};

@@ -1,4 +1,9 @@
-// The values of the tagged 8080: what a register or a memory cell is known to hold.
+// The values that both sides speak of: what a register or a memory cell of the tagged 8080 is known to hold (abstract values), the five
+// flags, conditions, places of a program, and sets of the twelve parts of the state (seven registers and five flags).
+//
+// Proved: the sets `Keep` act as sets (`none`, `all`, `with`, `has`, `join`, equality). `Flags::of_byte` takes S, Z, AC, P and CY from bits
+// 7, 6, 4, 2 and 0 of a byte and looks at no other bit. `Flags::holds` answers whether a condition holds, and None exactly where its flag
+// is unknown. `Place::is_same` answers whether two places are the same.
 #![tactic(auto)]
 
 ghost use Rattle.std.proofs.Common.{rules};

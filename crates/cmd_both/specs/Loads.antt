@@ -2,18 +2,19 @@
 -- the program's lean text.
 use Rattle.std.specs.Prelude.{ℕ, List}
 use Rattle.i86.specs.Decode.{HasReader}
-use Rattle.asm80_program.specs.Program.{Program}
-use Rattle.asm86_lines.specs.declared.line.Line86.{Line86}
-use Rattle.asm86_lines.specs.Image.{Image, IsImage}
-use Rattle.host.specs.Host.{HostState, SameFaults, OnlyReads}
+use Rattle.asm80_program_types.specs.Program.{Program}
+use Rattle.asm86_line_types.specs.declared.line.Line86.{Line86}
+use Rattle.asm86_line_types.specs.Image.{Image, IsImage}
+use Rattle.host.specs.Host.{HostState, SameFaults}
 use Rattle.bdos_small.specs.Supply.{Supply}
-use Rattle.cmd_words.specs.Words.{Run80, Both}
-use Rattle.cmd_inputs.specs.declared.stop.Stop.{Stop}
-use Rattle.cmd_inputs.specs.declared.stop.Stop.TheVariants.{OutOfMemory, CodeTooLarge}
-use Rattle.cmd_run80.specs.Runs80 as tagged
-use Rattle.xlt_translation.specs.Names.{Same}
-use Rattle.xlt_translation.specs.declared.translation.Mode.TheVariants.{Lean}
-use Rattle.xlt_translation.specs.Translation.{IsText, CodeFits, IsTooLarge}
+use Rattle.cmd_arguments.specs.Words.{Run80, Both}
+use Rattle.cmd_common.specs.declared.stop.Stop.{Stop}
+use Rattle.cmd_common.specs.declared.stop.Stop.TheVariants.{OutOfMemory, CodeTooLarge}
+use Rattle.cmd_runs.specs.Kinds.{IsToRun, NothingToRun}
+use Rattle.cmd_run80.specs.Runs80.{kind80}
+use Rattle.templates_same_law.specs.Names.{Same}
+use Rattle.templates.specs.declared.translation.Mode.TheVariants.{Lean}
+use Rattle.templates.specs.Translation.{IsText, CodeFits, IsTooLarge}
 
 -- what `both` does on the 8080 is what `run80` does by these words
 abbrev pub source_of : Both → Run80
@@ -34,19 +35,14 @@ pub data LeanStops (p : Program) : Stop → Type 0 where
   no_room : LeanStops p OutOfMemory
 
 module _ (c : Both) (old : HostState) where
-  pub record Loads (program : Program) (image : Image) (supply : Supply) : Type 0 where
-    pub source : tagged.Loads (source_of c) old program supply
+  -- the program of the source and what the devices have, and the image
+  pub record AreToRun (program : Program) (image : Image) (supply : Supply) : Type 0 where
+    pub source : IsToRun (kind80 (source_of c)) old program supply
     pub lean : HasLean program image
 
-  -- the same, and no call of the host failed up to this state
-  pub record HasLoaded (program : Program) (image : Image) (supply : Supply) (new : HostState) : Type 0 where
-    pub loads : Loads program image supply
-    pub reads : OnlyReads old new
-    pub counted : SameFaults old new
-
-  -- why there is nothing to run: as in `run80`; or the code of the lean text is too large, which is told behind the disk; or memory
+  -- why there is nothing to run: as in `run80`; or the code of the lean text is too large, which is told after the disk; or memory
   -- ran out
-  pub data LoadStops (new : HostState) : Stop → Type 0 where
-    unloaded : {stop : Stop} → tagged.LoadStops (source_of c) old new stop → LoadStops new stop
-    no_image : {stop : Stop} (program : Program) (supply : Supply) → tagged.Loads (source_of c) old program supply → SameFaults old new → LeanStops program stop → LoadStops new stop
-    no_memory : LoadStops new OutOfMemory
+  pub data NeitherToRun (new : HostState) : Stop → Type 0 where
+    unloaded : {stop : Stop} → NothingToRun (kind80 (source_of c)) old new stop → NeitherToRun new stop
+    no_image : {stop : Stop} (program : Program) (supply : Supply) → IsToRun (kind80 (source_of c)) old program supply → SameFaults old new → LeanStops program stop → NeitherToRun new stop
+    no_memory : NeitherToRun new OutOfMemory

@@ -1,17 +1,18 @@
 // The image of a program's lean text.
 ghost use Rattle.std.specs.Prelude.{◌≡◌, ◌^◌, ◌<◌, IfOk, IfErr, length, vec_len};
-ghost use Rattle.asm80_program.specs.Program.{Program, IsProgram};
-ghost use Rattle.asm86_lines.specs.Image.{Assembles, IsImage};
-ghost use Rattle.xlt_translation.specs.declared.translation.Mode.TheVariants.{Lean};
-ghost use Rattle.xlt_translation.specs.Translation.{IsText, CodeFits, HasNoText};
+ghost use Rattle.asm80_program_types.specs.Program.{Program, IsProgram};
+ghost use Rattle.asm86_line_types.specs.Image.{Assembles, IsImage};
+ghost use Rattle.templates.specs.declared.translation.Mode.TheVariants.{Lean};
+ghost use Rattle.templates.specs.Translation.{IsText, CodeFits, HasNoText};
 ghost use Rattle.cmd_both.specs.Loads.{HasLean, LeanStops};
 
-use asm80_program::Program80;
-use asm86_image::{Image86, image};
-use asm86_lines::Line86;
-use cmd_inputs::Stop;
+use asm80_program_types::Program80;
+use asm86::{Image86, image};
+use asm86_line_types::Line86;
+use cmd_common::Stop;
 use std::alloc::{AllocError, Global};
-use xlt_translation::{CoreFault, Mode, own_texts_are_same, translate};
+use templates::{CoreFault, Mode, translate};
+use templates_same_law::own_texts_are_same;
 
 /// The image of a program's lean text, or that its code is too large. A program's own text assembles where its code fits.
 pub fn lean_image<'a>(alloc: Global, program: &Program80) -> Result<Image86, Stop<'a>>

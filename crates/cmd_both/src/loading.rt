@@ -1,21 +1,21 @@
 // What there is before the runs.
 ghost use Rattle.std.specs.Prelude.{◌≡◌, true, IfOk, IfErr, OnOk, length};
 ghost use Rattle.host.specs.Host.{SameFaults, OnlyReads};
-ghost use Rattle.asm80_program.specs.Program.{IsProgram, is_top};
-ghost use Rattle.cmd_words.specs.ReadCommands.{both_read};
-ghost use Rattle.cmd_run80.specs.Ends.{Halts};
-ghost use Rattle.cmd_run80.specs.Supplies.{fill_by};
-ghost use Rattle.cmd_run80.specs.Supplies.{given_of, HasDisk, DiskStops};
-ghost use Rattle.cmd_both.specs.Loads.{HasLean, LeanStops, Loads, LoadStops};
+ghost use Rattle.asm80_program_types.specs.Program.{IsProgram, is_top};
+ghost use Rattle.cmd_arguments.specs.ReadCommands.{both_read};
+ghost use Rattle.cmd_runs.specs.Ends.{Halts};
+ghost use Rattle.cmd_runs.specs.Supplies.{given_of, fill_by, HasDisk, DiskStops};
+ghost use Rattle.cmd_both.specs.Loads.{HasLean, LeanStops, AreToRun, NeitherToRun};
 
 use crate::lean::lean_image;
-use asm80_program::Program80;
-use asm86_image::Image86;
+use asm80_program_types::Program80;
+use asm86::Image86;
 use bdos_disk::disks_read_back;
 use bdos_small::Devices;
-use cmd_inputs::Stop;
-use cmd_run80::{Halt, Named, Supplies, devices_of, fill_of, read_program};
-use cmd_words::Both;
+use cmd_arguments::Both;
+use cmd_common::Stop;
+use cmd_run80::{Named, read_program};
+use cmd_runs::{Halt, Supplies, devices_of, fill_of};
 use host::Host;
 use std::alloc::{AllocError, Global};
 
@@ -38,12 +38,12 @@ pub fn load<'a, H: Host>(
 ) -> Result<Loaded, Halt<'a>>
     requires { is_top command.now.top ≡ true }
     ensures only { OnlyReads (H.state host.old) (H.state host.new) }
-    ensures loaded { IfOk result (λ l. Loads (both_read command.now) (H.state host.old) l.program l.image l.devices) }
+    ensures loaded { IfOk result (λ l. AreToRun (both_read command.now) (H.state host.old) l.program l.image l.devices) }
     ensures second { IfOk result (λ l. l.second ≡ l.devices) }
     ensures fill { IfOk result (λ l. l.fill.items ≡ fill_by command.now.choice) }
     ensures fill_len { IfOk result (λ l. length l.fill.items ≡ 0x10000) }
     ensures counted { OnOk result (SameFaults (H.state host.old) (H.state host.new)) }
-    ensures stopped { IfErr result (Halts (LoadStops (both_read command.now) (H.state host.old) (H.state host.new))) }
+    ensures stopped { IfErr result (Halts (NeitherToRun (both_read command.now) (H.state host.old) (H.state host.new))) }
 {
     let named = read_program(alloc, host, command.source, command.top, &command.run)?;
     let Named { program, supplies } = named;

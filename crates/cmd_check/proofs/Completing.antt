@@ -2,34 +2,36 @@
 use Rattle.std.proofs.Common.{◌≡◌, ◌∙◌, ℕ, ◌⊎◌, inl, inr, ⊎_elim, List, refl, sym, ap, subst}
 use Rattle.std.specs.Prelude.{Result, Ok, Err}
 use Rattle.host.specs.Host.{HostState}
-use Rattle.asm86_lines.specs.declared.line.Line86.{Line86}
-use Rattle.asm86_lines.specs.declared.line.TextRule.{TextRule}
-use Rattle.asm86_lines.specs.Image.{Assembles, image_of}
+use Rattle.asm86_line_types.specs.declared.line.Line86.{Line86}
+use Rattle.asm86_line_types.specs.declared.line.TextRule.{TextRule}
+use Rattle.asm86_line_types.specs.Image.{Assembles, image_of}
 use Rattle.asm86_text.specs.Stream.{TextGives}
 use Rattle.asm86_text.proofs.Outcomes.{same_lines, same_fault, no_lines}
-use Rattle.asm86_image.specs.declared.fault.ImageFault.{ImageFault}
-use Rattle.asm86_image.specs.declared.fault.ImageFault.TheVariants.{Line}
-use Rattle.asm86_image.specs.Refusals.{ImageRefused, OneRefusal, NotBoth}
-use Rattle.asm80_program.specs.Program.{Program}
-use Rattle.asm80_source.specs.Source.{IsSource, SourceRule, IsNoSource, OfLine, OfProgram}
+use Rattle.asm86.specs.declared.fault.ImageFault.{ImageFault}
+use Rattle.asm86.specs.declared.fault.ImageFault.TheVariants.{Line}
+use Rattle.asm86.specs.Refusals.{ImageRefused, OneRefusal, NotBoth}
+use Rattle.asm80_program_types.specs.Program.{Program}
+use Rattle.asm80_text.specs.Intel.{intel_reading}
+use Rattle.asm80_source_def.specs.Source.{IsSource, SourceRule, IsNoSource, OfLine, OfProgram}
 use Rattle.xlt_core.specs.Names.{Finding, Shown, NotShown as NotFound, IsFinding, OneFinding}
-use Rattle.cmd_words.specs.Words.{Check}
-use Rattle.cmd_inputs.specs.declared.stop.Stop.{Stop}
-use Rattle.cmd_inputs.specs.declared.stop.Stop.TheVariants.{OutOfMemory, NotShown}
-use Rattle.cmd_inputs.specs.Lines.{status_of}
-use Rattle.cmd_inputs.specs.Said.{IsDone, whole, failed, no_memory, Closes}
-use Rattle.cmd_inputs.specs.Files.{NoneFailed, IsTold, input_limit, text_limit}
-use Rattle.cmd_inputs.specs.Sources.{of_line, of_program, stop_of_rule}
-use Rattle.cmd_inputs.specs.Texts.{IsNoImage, unread, refused as image_refused, stop_of_image}
-use Rattle.cmd_inputs.proofs.Told.{told_whole, read_stops, not_unsaid, closes_reads, closes_status, memory_status}
-use Rattle.cmd_check.specs.Checks.{Reads, Loads, Shows, not_shown, no_memory as memory_wanting, Stops, no_source, no_text, refused as source_refused, no_image as image_wanting, unlike, out_of_memory, Gives, shown, stopped}
-use Rattle.cmd_check.specs.Completes.{came_of, Comes, refused, no_image, found, status_by, IsOnly, Completes}
+use Rattle.cmd_arguments.specs.Words.{Check}
+use Rattle.cmd_common.specs.declared.stop.Stop.{Stop}
+use Rattle.cmd_common.specs.declared.stop.Stop.TheVariants.{OutOfMemory, NotShown}
+use Rattle.cmd_common.specs.Lines.{status_of}
+use Rattle.cmd_common.specs.Said.{IsDone, whole, failed, no_memory, Closes}
+use Rattle.cmd_common.specs.Files.{NoneFailed, FileIsTold, input_limit, text_limit}
+use Rattle.cmd_common.specs.Sources.{of_line, of_program, stop_of_rule}
+use Rattle.cmd_common.specs.Texts.{stop_of_image}
+use Rattle.asm86.specs.Images.{IsNoImage, unread, refused as image_refused}
+use Rattle.cmd_common.proofs.Told.{told_whole, read_stops, not_unsaid, closes_reads, closes_status, memory_status}
+use Rattle.cmd_check.specs.Checks.{Reads, Loads, Shows, not_shown, no_memory as memory_wanting, Stops, no_source, no_text, refused as source_refused, no_image as image_wanting, unlike, out_of_memory, CheckGives, shown, stopped}
+use Rattle.cmd_check.specs.Completes.{found_count, CheckComesTo, refused, no_image, found, status_of_check, IsOnlyFinding, CheckCompletes}
 
 -- what is known of sources and texts
 pub record Laws : Type 0 where
-  pub program : (bytes : List ℕ) (top : ℕ) (p q : Program) → IsSource bytes top p → IsSource bytes top q → p ≡ q
-  pub refusal : (bytes : List ℕ) (top m n : ℕ) (r s : SourceRule) → IsNoSource bytes top m r → IsNoSource bytes top n s → (m ≡ n) × (r ≡ s)
-  pub apart : (bytes : List ℕ) (top n : ℕ) (p : Program) (r : SourceRule) → IsSource bytes top p → IsNoSource bytes top n r → ⊥
+  pub program : (bytes : List ℕ) (top : ℕ) (p q : Program) → IsSource intel_reading bytes top p → IsSource intel_reading bytes top q → p ≡ q
+  pub refusal : (bytes : List ℕ) (top m n : ℕ) (r s : SourceRule) → IsNoSource intel_reading bytes top m r → IsNoSource intel_reading bytes top n s → (m ≡ n) × (r ≡ s)
+  pub apart : (bytes : List ℕ) (top n : ℕ) (p : Program) (r : SourceRule) → IsSource intel_reading bytes top p → IsNoSource intel_reading bytes top n r → ⊥
   pub reading : (text : List ℕ) (a b : Result (List Line86) (ℕ × TextRule)) → TextGives text a → TextGives text b → a ≡ b
   pub refuses : OneRefusal
   pub not_both : NotBoth
@@ -37,7 +39,7 @@ pub record Laws : Type 0 where
 
 module _ (law : Laws) (c : Check) where
   -- a text that has an image has no fault
-  has_none : (text : List ℕ) (lines : List Line86) (fault : ImageFault) → TextGives text (Ok lines) → Assembles lines → IsNoImage text fault → ⊥
+  pub has_none : (text : List ℕ) (lines : List Line86) (fault : ImageFault) → TextGives text (Ok lines) → Assembles lines → IsNoImage text fault → ⊥
   has_none text lines _ gives stands (unread {line = n} {rule = r} y) = no_lines lines (n, r) (law.reading text (Ok lines) (Err (n, r)) gives y)
   has_none text lines fault gives stands (image_refused others y r) =
       law.not_both lines (image_of lines) fault (record { assembles = stands; is = refl })
@@ -52,29 +54,29 @@ module _ (law : Laws) (c : Check) where
       law.refuses others a b (subst (λ l. ImageRefused l a) (same_lines lines others (law.reading text (Ok lines) (Ok others) x y)) r) s
 
   -- each outcome is the only one
-  after_refusal : (source text : List ℕ) (line : ℕ) (rule : SourceRule) → IsNoSource source c.top line rule → (r : Result ℕ Stop) → Comes c source text r → r ≡ Err (stop_of_rule line rule)
+  after_refusal : (source text : List ℕ) (line : ℕ) (rule : SourceRule) → IsNoSource intel_reading source c.top line rule → (r : Result ℕ Stop) → CheckComesTo c source text r → r ≡ Err (stop_of_rule line rule)
   after_refusal source text line rule none r (refused n s other e) =
       let same = law.refusal source c.top n line s rule other none in
       e ∙ (ap (λ k. Err (stop_of_rule k s)) same.0 ∙ ap (λ k. Err (stop_of_rule line k)) same.1)
   after_refusal source text line rule none r (no_image p fault is n e) = absurd (law.apart source c.top line p rule is none)
   after_refusal source text line rule none r (found p lines f is gives stands h e) = absurd (law.apart source c.top line p rule is none)
 
-  after_fault : (source text : List ℕ) (p : Program) (fault : ImageFault) → IsSource source c.top p → IsNoImage text fault → (r : Result ℕ Stop) → Comes c source text r → r ≡ Err (stop_of_image fault)
+  after_fault : (source text : List ℕ) (p : Program) (fault : ImageFault) → IsSource intel_reading source c.top p → IsNoImage text fault → (r : Result ℕ Stop) → CheckComesTo c source text r → r ≡ Err (stop_of_image fault)
   after_fault source text p fault is none r (refused n s other e) = absurd (law.apart source c.top n p s is other)
   after_fault source text p fault is none r (no_image q other also n e) = e ∙ ap (λ k. Err (stop_of_image k)) (one_fault text other fault n none)
   after_fault source text p fault is none r (found q lines f also gives stands h e) = absurd (has_none text lines fault gives stands none)
 
-  after_finding : (source text : List ℕ) (p : Program) (lines : List Line86) (f : Finding) → IsSource source c.top p → TextGives text (Ok lines) → Assembles lines → IsFinding p lines f → (r : Result ℕ Stop) → Comes c source text r → r ≡ came_of f
+  after_finding : (source text : List ℕ) (p : Program) (lines : List Line86) (f : Finding) → IsSource intel_reading source c.top p → TextGives text (Ok lines) → Assembles lines → IsFinding p lines f → (r : Result ℕ Stop) → CheckComesTo c source text r → r ≡ found_count f
   after_finding source text p lines f is gives stands h r (refused n s other e) = absurd (law.apart source c.top n p s is other)
   after_finding source text p lines f is gives stands h r (no_image q fault also n e) = absurd (has_none text lines fault gives stands n)
   after_finding source text p lines f is gives stands h r (found q others g also give stand k e) =
       let one = law.program source c.top q p also is in
       let same = same_lines others lines (law.reading text (Ok others) (Ok lines) give gives) in
-      e ∙ ap came_of (law.finding p lines g f (subst (λ l. IsFinding p l g) same (subst (λ (z : Program). IsFinding z others g) one k)) h)
+      e ∙ ap found_count (law.finding p lines g f (subst (λ l. IsFinding p l g) same (subst (λ (z : Program). IsFinding z others g) one k)) h)
 
-  module _ (old new : HostState) (none : NoneFailed old new) (source text : List ℕ) (first : IsTold old c.source input_limit source) (second : IsTold old c.text text_limit text) (status : ℕ) where
+  module _ (old new : HostState) (none : NoneFailed old new) (source text : List ℕ) (first : FileIsTold old c.source input_limit source) (second : FileIsTold old c.text text_limit text) (status : ℕ) where
     abbrev Answer : Type 0
-    Answer = (status ≡ 5) ⊎ ((r : Result ℕ Stop) × IsOnly c source text r × (status ≡ status_by r))
+    Answer = (status ≡ 5) ⊎ ((r : Result ℕ Stop) × IsOnlyFinding c source text r × (status ≡ status_of_check r))
 
     source_is : (mid : HostState) (s t : List ℕ) → Reads c old mid s t → s ≡ source
     source_is mid s t r = told_whole old c.source input_limit source s first r.source_file
@@ -82,18 +84,18 @@ module _ (law : Laws) (c : Check) where
     text_is : (mid : HostState) (s t : List ℕ) → Reads c old mid s t → t ≡ text
     text_is mid s t r = told_whole old c.text text_limit text t second r.text_file
 
-    by_finding : (mid : HostState) (p : Program) (lines : List Line86) (l : Loads c old mid p lines) (f : Finding) → IsFinding p lines f → status ≡ status_by (came_of f) → Answer
+    by_finding : (mid : HostState) (p : Program) (lines : List Line86) (l : Loads c old mid p lines) (f : Finding) → IsFinding p lines f → status ≡ status_of_check (found_count f) → Answer
     by_finding mid p lines l f h e =
-        let is = subst (λ b. IsSource b c.top p) (source_is mid l.source l.text l.reads) l.is_source in
+        let is = subst (λ b. IsSource intel_reading b c.top p) (source_is mid l.source l.text l.reads) l.is_source in
         let gives = subst (λ b. TextGives b (Ok lines)) (text_is mid l.source l.text l.reads) l.gives in
-        inr (came_of f, record { comes = found p lines f is gives l.stands.assembles h refl; only = after_finding source text p lines f is gives l.stands.assembles h }, e)
+        inr (found_count f, record { comes = found p lines f is gives l.stands.made.assembles h refl; only = after_finding source text p lines f is gives l.stands.made.assembles h }, e)
 
-    stopping : (stop : Stop) (is : IsOnly c source text (Err stop)) → (status ≡ 5) ⊎ (status ≡ status_of stop) → Answer
+    stopping : (stop : Stop) (is : IsOnlyFinding c source text (Err stop)) → (status ≡ 5) ⊎ (status ≡ status_of stop) → Answer
     stopping stop is s = ⊎_elim (λ e. inl e) (λ e. inr (Err stop, is, e)) s
 
-    by_refusal : (mid : HostState) (s t : List ℕ) → Reads c old mid s t → (line : ℕ) (rule : SourceRule) → IsNoSource s c.top line rule → (status ≡ 5) ⊎ (status ≡ status_of (stop_of_rule line rule)) → Answer
+    by_refusal : (mid : HostState) (s t : List ℕ) → Reads c old mid s t → (line : ℕ) (rule : SourceRule) → IsNoSource intel_reading s c.top line rule → (status ≡ 5) ⊎ (status ≡ status_of (stop_of_rule line rule)) → Answer
     by_refusal mid s t r line rule wrong e =
-        let here = subst (λ b. IsNoSource b c.top line rule) (source_is mid s t r) wrong in
+        let here = subst (λ b. IsNoSource intel_reading b c.top line rule) (source_is mid s t r) wrong in
         stopping (stop_of_rule line rule) (record { comes = refused line rule here refl; only = after_refusal source text line rule here }) e
 
     by_stop : (mid : HostState) (stop : Stop) → Stops c old mid stop → Closes stop mid new status → Answer
@@ -104,7 +106,7 @@ module _ (law : Laws) (c : Check) where
     by_stop mid _ (source_refused s t r (of_line {line = line} {rule = rule} wrong)) closes = by_refusal mid s t r line (OfLine rule) wrong (closes_status (stop_of_rule line (OfLine rule)) mid new status closes)
     by_stop mid _ (source_refused s t r (of_program {line = line} {rule = rule} wrong)) closes = by_refusal mid s t r line (OfProgram rule) wrong (closes_status (stop_of_rule line (OfProgram rule)) mid new status closes)
     by_stop mid stop (image_wanting s t p fault r is wrong e) closes =
-        let source_here = subst (λ b. IsSource b c.top p) (source_is mid s t r) is in
+        let source_here = subst (λ b. IsSource intel_reading b c.top p) (source_is mid s t r) is in
         let here = subst (λ b. IsNoImage b fault) (text_is mid s t r) wrong in
         stopping (stop_of_image fault) (record { comes = no_image p fault source_here here refl; only = after_fault source text p fault source_here here })
         (subst (λ k. (status ≡ 5) ⊎ (status ≡ status_of k)) e (closes_status stop mid new status closes))
@@ -115,12 +117,12 @@ module _ (law : Laws) (c : Check) where
 
     done : (mid : HostState) (line : List ℕ) → Shows c old mid line → (n : ℕ) → n ≡ status → IsDone line mid new n → Answer
     done mid line h _ e (whole only s same) = by_finding mid h.program h.lines h.loads (Shown h.blocks) h.shown.finding (sym e)
-    done mid line h _ e (failed s) = absurd (not_unsaid old mid new none h.loads.reads.counted s.failed)
+    done mid line h _ e (failed s) = absurd (not_unsaid old mid new none h.loads.reads.counted s.cause)
     done mid line h _ e (no_memory s) = inl (sym e)
 
-    by_gift : Gives c old new status → Answer
+    by_gift : CheckGives c old new status → Answer
     by_gift (shown mid line h d) = done mid line h status refl d
     by_gift (stopped mid stop s closes) = by_stop mid stop s closes
 
-  pub completes : (old new : HostState) (status : ℕ) → Gives c old new status → Completes c old new status
+  pub completes : (old new : HostState) (status : ℕ) → CheckGives c old new status → CheckCompletes c old new status
   completes old new status gives none source text first second = by_gift old new none source text first second status gives

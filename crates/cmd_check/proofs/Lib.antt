@@ -1,2 +1,3 @@
 mod Loading
 mod Completing
+mod OwnTexts

@@ -2,27 +2,29 @@
 use Rattle.std.proofs.Common.{◌∙◌, ℕ, ◌<◌, inl, inr, ⊎_elim, List, length, refl, sym, ap, subst, arith}
 use Rattle.std.specs.Prelude.{Ok}
 use Rattle.host.specs.Host.{HostState, IsFile, HasRisen, OnlyReads, SameFaults}
-use Rattle.host.proofs.HostLemmas.{OnlyReads-trans}
-use Rattle.cmd_files.specs.Transfer.{IsLonger}
-use Rattle.asm86_lines.specs.declared.line.Line86.{Line86}
+use Rattle.host.proofs.HostLemmas.{OnlyReads-trans, SameFaults-trans}
+use Rattle.host_files.specs.Transfer.{IsLonger}
+use Rattle.asm86_line_types.specs.declared.line.Line86.{Line86}
 use Rattle.asm86_text.specs.Stream.{TextGives}
-use Rattle.asm86_image.specs.declared.fault.ImageFault.TheVariants.{Line}
-use Rattle.asm80_program.specs.Program.{Program}
-use Rattle.asm80_source.specs.Source.{IsSource}
-use Rattle.cmd_words.specs.Words.{Check}
-use Rattle.cmd_inputs.specs.declared.stop.Stop.{Stop}
-use Rattle.cmd_inputs.specs.Lines.{shown_line}
-use Rattle.cmd_inputs.specs.Files.{IsWhole, ReadStops, failed, too_long, no_memory, input_limit, text_limit}
-use Rattle.cmd_inputs.specs.Texts.{unread, refused as image_refused, stop_of_image, LinesStop, breaks}
-use Rattle.cmd_check.specs.Checks.{ImageStops, Reads, Stops, no_source, no_text, refused, no_image, unlike, out_of_memory}
+use Rattle.asm86.specs.declared.fault.ImageFault.TheVariants.{Line}
+use Rattle.asm80_program_types.specs.Program.{Program}
+use Rattle.asm80_text.specs.Intel.{intel_reading}
+use Rattle.asm80_source_def.specs.Source.{IsSource}
+use Rattle.cmd_arguments.specs.Words.{Check}
+use Rattle.cmd_common.specs.declared.stop.Stop.{Stop}
+use Rattle.cmd_common.specs.Lines.{shown_line}
+use Rattle.cmd_common.specs.Files.{IsWholeFile, ReadStops, failed, too_long, no_memory, input_limit, text_limit}
+use Rattle.cmd_common.specs.Texts.{ImageStops, stop_of_image, LinesStop, breaks}
+use Rattle.asm86.specs.Images.{unread, refused as image_refused}
+use Rattle.cmd_check.specs.Checks.{Reads, Stops, no_source, no_text, refused, no_image, unlike, out_of_memory}
 
 module _ (old mid new : HostState) (first : OnlyReads old mid) (counted : SameFaults old mid) where
   -- what is told of a file behind a first read is told before it
-  pub whole_before : (name : List ℕ) (limit : ℕ) (bytes : List ℕ) → IsWhole mid name limit bytes → IsWhole old name limit bytes
+  pub whole_before : (name : List ℕ) (limit : ℕ) (bytes : List ℕ) → IsWholeFile mid name limit bytes → IsWholeFile old name limit bytes
   whole_before name limit bytes w = (subst (λ f. IsFile f bytes) (first.files name) w.0, w.1)
 
   pub faults_before : SameFaults mid new → SameFaults old new
-  faults_before s = record { reads = s.reads ∙ counted.reads; writes = s.writes ∙ counted.writes }
+  faults_before s = SameFaults-trans counted s
 
   pub reads_before : OnlyReads mid new → OnlyReads old new
   reads_before s = OnlyReads-trans first s
@@ -34,11 +36,11 @@ module _ (old mid new : HostState) (first : OnlyReads old mid) (counted : SameFa
 
 module _ (c : Check) (old new : HostState) (source text : List ℕ) (reads : Reads c old new source text) where
   -- a text of which a line breaks a rule
-  pub lines_stop : (p : Program) → IsSource source c.top p → (stop : Stop) → LinesStop text stop → Stops c old new stop
+  pub lines_stop : (p : Program) → IsSource intel_reading source c.top p → (stop : Stop) → LinesStop text stop → Stops c old new stop
   lines_stop p is _ (breaks {line = line} {rule = rule} h) = no_image source text p (Line line rule) reads is (unread h) refl
 
   -- a text whose lines have no image
-  pub image_stop : (p : Program) → IsSource source c.top p → (lines : List Line86) → TextGives text (Ok lines) → (stop : Stop) → ImageStops lines stop → Stops c old new stop
+  pub image_stop : (p : Program) → IsSource intel_reading source c.top p → (lines : List Line86) → TextGives text (Ok lines) → (stop : Stop) → ImageStops lines stop → Stops c old new stop
   image_stop p is lines gives stop h =
       ⊎_elim
       (λ m. subst (Stops c old new) (sym (h.is ∙ ap stop_of_image m)) (out_of_memory reads.only))
@@ -62,7 +64,7 @@ line_some blocks = omega arith
 
 -- ---- both files
 
-pub both_read : (c : Check) (old mid new : HostState) (source text : List ℕ) → OnlyReads old mid → SameFaults old mid → IsWhole old c.source input_limit source → OnlyReads mid new → SameFaults mid new → IsWhole mid c.text text_limit text → Reads c old new source text
+pub both_read : (c : Check) (old mid new : HostState) (source text : List ℕ) → OnlyReads old mid → SameFaults old mid → IsWholeFile old c.source input_limit source → OnlyReads mid new → SameFaults mid new → IsWholeFile mid c.text text_limit text → Reads c old new source text
 both_read c old mid new source text first counted file then same other = record {
   source_file = file;
   text_file = whole_before old mid new first counted c.text text_limit text other;

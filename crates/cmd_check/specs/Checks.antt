@@ -1,36 +1,24 @@
 -- What `check` gives, by its status: the causes, what is said, and after status 0 the headline.
-use Rattle.std.specs.Prelude.{◌≡◌, ℕ, ◌⊎◌, List, Ok}
-use Rattle.i86.specs.Decode.{HasReader}
+use Rattle.std.specs.Prelude.{◌≡◌, ℕ, List, Ok}
 use Rattle.host.specs.Host.{HostState, SameFaults, OnlyReads}
-use Rattle.asm86_lines.specs.declared.line.Line86.{Line86}
-use Rattle.asm86_lines.specs.Image.{Assembles, image_of}
+use Rattle.asm86_line_types.specs.declared.line.Line86.{Line86}
+use Rattle.asm86_line_types.specs.Image.{image_of}
 use Rattle.asm86_text.specs.Stream.{TextGives}
-use Rattle.asm86_image.specs.declared.fault.ImageFault.{ImageFault}
-use Rattle.asm86_image.specs.declared.fault.ImageFault.TheVariants.{Memory}
-use Rattle.asm86_image.specs.Refusals.{ImageRefused}
-use Rattle.asm80_program.specs.Program.{Program}
-use Rattle.asm80_source.specs.Source.{IsSource}
-use Rattle.sym_blocks.specs.declared.reason.Reason.{Reason}
+use Rattle.asm86.specs.declared.fault.ImageFault.{ImageFault}
+use Rattle.asm80_program_types.specs.Program.{Program}
+use Rattle.asm80_text.specs.Intel.{intel_reading}
+use Rattle.asm80_source_def.specs.Source.{IsSource}
+use Rattle.sym_block_def.specs.declared.reason.Reason.{Reason}
 use Rattle.xlt_core.specs.Names.{Same, Shown as IsFoundShown, NotShown as IsFoundNot, IsFinding}
-use Rattle.cmd_words.specs.Words.{Check}
-use Rattle.cmd_inputs.specs.declared.stop.Stop.{Stop}
-use Rattle.cmd_inputs.specs.declared.stop.Stop.TheVariants.{OutOfMemory, NotShown}
-use Rattle.cmd_inputs.specs.Lines.{shown_line}
-use Rattle.cmd_inputs.specs.Said.{IsDone, Closes}
-use Rattle.cmd_inputs.specs.Files.{IsWhole, ReadStops, input_limit, text_limit}
-use Rattle.cmd_inputs.specs.Sources.{SourceStops}
-use Rattle.cmd_inputs.specs.Texts.{IsNoImage, stop_of_image}
-
--- lines have an image, whose code has one reader
-pub record HasOneImage (lines : List Line86) : Type 0 where
-  pub assembles : Assembles lines
-  pub reader : HasReader (image_of lines).code
-
--- why lines have none, or memory ran out
-pub record ImageStops (lines : List Line86) (stop : Stop) : Type 0 where
-  pub fault : ImageFault
-  pub refused : (fault ≡ Memory) ⊎ ImageRefused lines fault
-  pub is : stop ≡ stop_of_image fault
+use Rattle.cmd_arguments.specs.Words.{Check}
+use Rattle.cmd_common.specs.declared.stop.Stop.{Stop}
+use Rattle.cmd_common.specs.declared.stop.Stop.TheVariants.{OutOfMemory, NotShown}
+use Rattle.cmd_common.specs.Lines.{shown_line}
+use Rattle.cmd_common.specs.Said.{IsDone, Closes}
+use Rattle.cmd_common.specs.Files.{IsWholeFile, ReadStops, input_limit, text_limit}
+use Rattle.cmd_common.specs.Sources.{SourceStops}
+use Rattle.cmd_common.specs.Texts.{HasOneImage, stop_of_image}
+use Rattle.asm86.specs.Images.{IsNoImage}
 
 -- so many blocks are shown: the lines mean the same as the program
 pub record IsShown (p : Program) (lines : List Line86) (blocks : ℕ) : Type 0 where
@@ -45,8 +33,8 @@ pub data FindStops (p : Program) (lines : List Line86) : Stop → Type 0 where
 module _ (c : Check) (old : HostState) where
   -- both files, and that nothing else was done and no call failed
   pub record Reads (new : HostState) (source text : List ℕ) : Type 0 where
-    pub source_file : IsWhole old c.source input_limit source
-    pub text_file : IsWhole old c.text text_limit text
+    pub source_file : IsWholeFile old c.source input_limit source
+    pub text_file : IsWholeFile old c.text text_limit text
     pub only : OnlyReads old new
     pub counted : SameFaults old new
 
@@ -55,9 +43,9 @@ module _ (c : Check) (old : HostState) where
     pub source : List ℕ
     pub text : List ℕ
     pub reads : Reads new source text
-    pub is_source : IsSource source c.top p
+    pub is_source : IsSource intel_reading source c.top p
     pub gives : TextGives text (Ok lines)
-    pub stands : HasOneImage lines
+    pub stands : HasOneImage lines (image_of lines)
 
   -- the text is shown, and this is its line
   pub record Shows (new : HostState) (line : List ℕ) : Type 0 where
@@ -71,13 +59,13 @@ module _ (c : Check) (old : HostState) where
   -- why it is not: a file was not read; the source is refused; the text is, or has no image; a block is not shown; or memory ran out
   pub data Stops (new : HostState) : Stop → Type 0 where
     no_source : {stop : Stop} → OnlyReads old new → ReadStops c.source input_limit old new stop → Stops new stop
-    no_text : {stop : Stop} (source : List ℕ) → IsWhole old c.source input_limit source → OnlyReads old new → ReadStops c.text text_limit old new stop → Stops new stop
-    refused : {stop : Stop} (source text : List ℕ) → Reads new source text → SourceStops source c.top stop → Stops new stop
-    no_image : {stop : Stop} (source text : List ℕ) (p : Program) (fault : ImageFault) → Reads new source text → IsSource source c.top p → IsNoImage text fault → stop ≡ stop_of_image fault → Stops new stop
+    no_text : {stop : Stop} (source : List ℕ) → IsWholeFile old c.source input_limit source → OnlyReads old new → ReadStops c.text text_limit old new stop → Stops new stop
+    refused : {stop : Stop} (source text : List ℕ) → Reads new source text → SourceStops intel_reading source c.top stop → Stops new stop
+    no_image : {stop : Stop} (source text : List ℕ) (p : Program) (fault : ImageFault) → Reads new source text → IsSource intel_reading source c.top p → IsNoImage text fault → stop ≡ stop_of_image fault → Stops new stop
     unlike : {stop : Stop} (p : Program) (lines : List Line86) → Loads new p lines → FindStops p lines stop → Stops new stop
     out_of_memory : OnlyReads old new → Stops new OutOfMemory
 
   -- what the command gives: the line is said, or its first bytes up to a fault, and then nothing more is; or the line of the stop
-  pub data Gives (new : HostState) : ℕ → Type 0 where
-    shown : {status : ℕ} (mid : HostState) (line : List ℕ) → Shows mid line → IsDone line mid new status → Gives new status
-    stopped : {status : ℕ} (mid : HostState) (stop : Stop) → Stops mid stop → Closes stop mid new status → Gives new status
+  pub data CheckGives (new : HostState) : ℕ → Type 0 where
+    shown : {status : ℕ} (mid : HostState) (line : List ℕ) → Shows mid line → IsDone line mid new status → CheckGives new status
+    stopped : {status : ℕ} (mid : HostState) (stop : Stop) → Stops mid stop → Closes stop mid new status → CheckGives new status

@@ -2,41 +2,46 @@
 ghost use Rattle.std.specs.Prelude.{◌≡◌, true, IfOk, IfErr};
 ghost use Rattle.std.specs.String.{string_bytes};
 ghost use Rattle.host.specs.Host.{SameFiles};
-ghost use Rattle.asm80_program.specs.Program.{is_top};
-ghost use Rattle.cmd_words.specs.ReadCommands.{check_read};
-ghost use Rattle.cmd_check.specs.Checks.{Shows, Stops, Gives};
-ghost use Rattle.cmd_check.specs.Completes.{Completes};
+ghost use Rattle.asm80_program_types.specs.Program.{is_top};
+ghost use Rattle.cmd_arguments.specs.ReadCommands.{check_read};
+ghost use Rattle.cmd_check.specs.Checks.{Shows, Stops, CheckGives};
+ghost use Rattle.cmd_check.specs.Completes.{CheckCompletes};
+ghost use Rattle.cmd_check.specs.OwnTexts.{ShowsOwnText};
 
 use crate::finding::find;
 use crate::inputs::load;
+use asm80_text::Lines;
 use asm80_values::source_has_one_outcome;
-use asm86_image::images_exclude_refusals;
+use asm86::images_exclude_refusals;
 use asm86_text::text_has_one_reading;
-use cmd_inputs::{Stop, say_done, say_stop, shown_line};
-use cmd_words::Check;
+use cmd_arguments::Check;
+use cmd_common::{Stop, say_done, say_stop, shown_line};
 use host::Host;
 use std::alloc::Global;
-use xlt_core::findings_are_one;
+use xlt_core::{findings_are_one, own_texts_are_same, own_texts_are_shown};
 
 /// Checks the text of a command beside its source, says what is found, and answers the status. The command's top is one that a
 /// program area may have.
 pub fn check<H: Host>(alloc: Global, host: &mut H, command: &Check<'_>) -> u8
     requires { is_top command.now.top ≡ true }
-    ensures gives { Gives (check_read command.now) (H.state host.old) (H.state host.new) result }
+    ensures gives { CheckGives (check_read command.now) (H.state host.old) (H.state host.new) result }
     ensures files { SameFiles (H.state host.old) (H.state host.new) }
-    ensures completes { Completes (check_read command.now) (H.state host.old) (H.state host.new) result }
+    ensures completes { CheckCompletes (check_read command.now) (H.state host.old) (H.state host.new) result }
+    ensures own { ShowsOwnText (check_read command.now) (H.state host.old) (H.state host.new) result }
 {
-    source_has_one_outcome();
+    source_has_one_outcome::<Lines>();
     text_has_one_reading();
     images_exclude_refusals();
     findings_are_one();
+    own_texts_are_same();
+    own_texts_are_shown();
     carry_out(alloc, host, command)
 }
 
 // The work, and what is said.
 fn carry_out<H: Host>(alloc: Global, host: &mut H, command: &Check<'_>) -> u8
     requires { is_top command.now.top ≡ true }
-    ensures gives { Gives (check_read command.now) (H.state host.old) (H.state host.new) result }
+    ensures gives { CheckGives (check_read command.now) (H.state host.old) (H.state host.new) result }
     ensures files { SameFiles (H.state host.old) (H.state host.new) }
 {
     match work(alloc, host, command) {
@@ -52,6 +57,6 @@ fn work<'a, H: Host>(alloc: Global, host: &mut H, command: &Check<'a>) -> Result
     ensures stopped { IfErr result (Stops (check_read command.now) (H.state host.old) (H.state host.new)) }
 {
     let loaded = load(alloc, host, command)?;
-    let count = find(alloc, &loaded.program, loaded.lines.as_slice())?;
+    let count = find(alloc, &loaded.program, &loaded.text)?;
     Ok(shown_line(alloc, count)?)
 }

@@ -1,22 +1,21 @@
-// What is found of a program and lines.
+// What is found of a program and a text.
 ghost use Rattle.std.specs.Prelude.{◌<◌, ◌^◌, length, IfOk, IfErr};
-ghost use Rattle.asm86_lines.specs.Image.{Assembles};
+ghost use Rattle.asm86_line_types.specs.Image.{IsImage};
 ghost use Rattle.cmd_check.specs.Checks.{IsShown, FindStops};
 
-use asm80_program::Program80;
-use asm86_lines::Line86;
-use cmd_inputs::Stop;
+use asm80_program_types::Program80;
+use cmd_common::{LoadedText, Stop};
 use std::alloc::Global;
-use xlt_core::{Finding, validate};
+use xlt_core::{Finding, validate_loaded};
 
 /// How many blocks are shown.
-pub fn find<'a>(alloc: Global, program: &Program80, lines: &[Line86]) -> Result<u32, Stop<'a>>
-    requires assembles { Assembles lines.now }
-    requires few { length lines.now < 2 ^ 28 }
-    ensures shown { IfOk result (IsShown program.now lines.now) }
-    ensures stopped { IfErr result (FindStops program.now lines.now) }
+pub fn find<'a>(alloc: Global, program: &Program80, text: &LoadedText) -> Result<u32, Stop<'a>>
+    requires image { IsImage text.now.lines.items text.now.image }
+    requires few { length text.now.lines.items < 2 ^ 28 }
+    ensures shown { IfOk result (IsShown program.now text.now.lines.items) }
+    ensures stopped { IfErr result (FindStops program.now text.now.lines.items) }
 {
-    let finding = validate(alloc, program, lines)?;
+    let finding = validate_loaded(alloc, program, text.lines.as_slice(), &text.image)?;
     match finding {
         Finding::Shown(blocks) => Ok(blocks),
         Finding::NotShown(at, reason) => Err(Stop::NotShown(at, reason)),

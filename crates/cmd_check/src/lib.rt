@@ -1,4 +1,10 @@
-// The work of the command that looks at a text beside its source: both files, what is found of them, and what is said.
+// The command `check` (translation validation): reads a source and a text, and says whether the text does what the source does.
+//
+// Proved: clause `gives` of `check` (`CheckGives`) has each status with its cause; after 0 program and image are `Same`, and the image's
+// code is read in one way. No file changes (`files`). Clause `completes` (`CheckCompletes`): where no call of the host fails and both files
+// are told and within their limits, the status is that of the one thing that their bytes come to, want of memory aside: the source's
+// refusal, else the text's or its image's, else what is found of both. Clause `own` (`ShowsOwnText`): of a source and what `translate`
+// writes for it and the same top, in either mode, it is 0 there.
 #![tactic(auto)]
 
 mod checking;

@@ -1,7 +1,1 @@
-pub mod Ends
-pub mod Supplies
-pub mod Keeping
-pub mod Lasts
 pub mod Runs80
-pub mod Outcomes
-pub mod Completes80

@@ -1,29 +1,31 @@
 // The work of `run80`: a source's program runs on the tagged 8080 over devices.
 ghost use Rattle.std.specs.Prelude.{◌≡◌, ℕ, true, IfOk, IfErr, OnOk};
-ghost use Rattle.host.specs.Host.{HostState, SameFaults, OnlyReads};
-ghost use Rattle.asm80_program.specs.Program.{is_top};
-ghost use Rattle.cmd_words.specs.ReadCommands.{run_options_read, run80_read};
-ghost use Rattle.bdos_talk.specs.declared.running.RunEnd.TheVariants.{Stopped};
-ghost use Rattle.cmd_run80.specs.Ends.{Halts};
-ghost use Rattle.cmd_run80.specs.Keeping.{DiskAlone};
-ghost use Rattle.cmd_run80.specs.Lasts.{IsMade, came_of};
-ghost use Rattle.cmd_run80.specs.Completes80.{Completes};
-ghost use Rattle.cmd_run80.specs.Supplies.{given_of};
-ghost use Rattle.cmd_run80.specs.Runs80.{words_of, IsLineAt, IsLineOf, Names, Loads, HasLoaded, LoadStops, HasCome, IsHalted, Gives};
+ghost use Rattle.host.specs.Host.{SameFaults, OnlyReads};
+ghost use Rattle.asm80_program_types.specs.Program.{is_top};
+ghost use Rattle.cmd_arguments.specs.ReadCommands.{run_options_read, run80_read};
+ghost use Rattle.emulator_loop.specs.declared.running.RunEnd.TheVariants.{Stopped};
+ghost use Rattle.cmd_runs.specs.Ends.{Halts};
+ghost use Rattle.cmd_runs.specs.Keeping.{DiskAlone};
+ghost use Rattle.cmd_runs.specs.Lasts.{IsLastMade};
+ghost use Rattle.cmd_runs.specs.Supplies.{given_of};
+ghost use Rattle.cmd_runs.specs.Kinds.{IsNamed, IsToRun, NothingToRun};
+ghost use Rattle.cmd_runs.specs.Works.{WorkHasLast, WorkHalts, HasLastFrom, HaltsFrom, WorkGives};
+ghost use Rattle.cmd_runs.specs.Outcomes.{RunCompletes};
+ghost use Rattle.cmd_run80.specs.Runs80.{words_of, kind80, work80, IsLineAt, IsLineOf};
 
-use crate::ends::steps_of;
-use crate::halt::{Halt, unsaid_status};
-use crate::keeping::{keep_disk, kept_name};
-use crate::last::{Last, last_of, say_ending};
-use crate::supplies::{Supplies, devices_of, read_supplies};
-use asm80_program::Program80;
+use asm80_program_types::Program80;
+use asm80_text::Lines;
 use asm80_values::source_has_one_outcome;
 use bdos_disk::disks_read_back;
-use bdos_emulation::{RunEnd, Why, run_80};
 use bdos_small::Devices;
 use cells::Place;
-use cmd_inputs::{read_source, say_stop};
-use cmd_words::{Run80, RunOptions};
+use cmd_arguments::{Run80, RunOptions};
+use cmd_common::read_source;
+use cmd_runs::{
+    Halt, Last, Supplies, came_to, close_work, devices_of, kept_disk_name, leave_runs,
+    read_supplies, run_program,
+};
+use emulators::{RunEnd, Why};
 use host::Host;
 use std::alloc::Global;
 
@@ -45,34 +47,22 @@ struct Loaded {
 /// status. The top of the program area is a multiple of 100H from 1000H to 0FF00H.
 pub fn run80<H: Host>(alloc: Global, host: &mut H, command: &Run80<'_>) -> u8
     requires { is_top command.now.top ≡ true }
-    ensures gives { Gives (run80_read command.now) (H.state host.old) (H.state host.new) result }
+    ensures gives { WorkGives (work80 (run80_read command.now)) (H.state host.old) (H.state host.new) result }
     ensures files { DiskAlone (run80_read command.now).run.out_disk (H.state host.old) (H.state host.new) }
-    ensures completes { Completes (run80_read command.now) (H.state host.old) (H.state host.new) result }
+    ensures completes { RunCompletes (kind80 (run80_read command.now)) (H.state host.old) (H.state host.new) result }
 {
-    source_has_one_outcome();
+    source_has_one_outcome::<Lines>();
     disks_read_back();
-    carry_out(alloc, host, command)
-}
-
-// The work, and what is said last.
-fn carry_out<H: Host>(alloc: Global, host: &mut H, command: &Run80<'_>) -> u8
-    requires { is_top command.now.top ≡ true }
-    ensures gives { Gives (run80_read command.now) (H.state host.old) (H.state host.new) result }
-    ensures files { DiskAlone (run80_read command.now).run.out_disk (H.state host.old) (H.state host.new) }
-{
-    match work(alloc, host, command) {
-        Ok(last) => say_ending(host, last),
-        Err(Halt::By(stop)) => say_stop(alloc, host, stop),
-        Err(Halt::Unsaid(fault)) => unsaid_status(fault),
-    }
+    let worked = work(alloc, host, command);
+    close_work(alloc, host, worked)
 }
 
 // The work up to the last line, whose memory is taken before the disk is written.
 fn work<'a, H: Host>(alloc: Global, host: &mut H, command: &Run80<'a>) -> Result<Last<'a>, Halt<'a>>
     requires { is_top command.now.top ≡ true }
-    ensures made { IfOk result IsMade }
-    ensures came { IfOk result (λ last. HasCome (run80_read command.now) (H.state host.old) (H.state host.new) (came_of last)) }
-    ensures halted { IfErr result (IsHalted (run80_read command.now) (H.state host.old) (H.state host.new)) }
+    ensures made { IfOk result IsLastMade }
+    ensures came { IfOk result (WorkHasLast (work80 (run80_read command.now)) (H.state host.old) (H.state host.new)) }
+    ensures halted { IfErr result (WorkHalts (work80 (run80_read command.now)) (H.state host.old) (H.state host.new)) }
 {
     let mut loaded = load(alloc, host, command)?;
     run_loaded(alloc, host, command, &mut loaded)
@@ -85,29 +75,24 @@ fn run_loaded<'a, H: Host>(
     command: &Run80<'a>,
     loaded: &mut Loaded,
 ) -> Result<Last<'a>, Halt<'a>>
-    ensures made { IfOk result IsMade }
-    ensures came { IfOk result (λ last. (begin : HostState) → HasLoaded (run80_read command.now) begin loaded.old.program loaded.old.devices (H.state host.old) → HasCome (run80_read command.now) begin (H.state host.new) (came_of last)) }
-    ensures halted { IfErr result (λ halt. (begin : HostState) → HasLoaded (run80_read command.now) begin loaded.old.program loaded.old.devices (H.state host.old) → IsHalted (run80_read command.now) begin (H.state host.new) halt) }
+    ensures made { IfOk result IsLastMade }
+    ensures came { IfOk result (HasLastFrom (work80 (run80_read command.now)) (λ begin. IsToRun (kind80 (run80_read command.now)) begin loaded.old.program loaded.old.devices) (H.state host.old) (H.state host.new)) }
+    ensures halted { IfErr result (HaltsFrom (work80 (run80_read command.now)) (λ begin. IsToRun (kind80 (run80_read command.now)) begin loaded.old.program loaded.old.devices) (H.state host.old) (H.state host.new)) }
 {
     let limit = u64::from(command.run.steps);
-    let ran = run_80(
+    let ran = run_program(
         alloc,
+        host,
         &loaded.program,
         &command.run.page,
         &mut loaded.devices,
         limit,
-        host,
         b"",
     )?;
     let line = line_of(&loaded.program, ran.end);
-    let last = last_of(alloc, steps_of(ran, command.run.steps, line))?;
-    keep_disk(
-        alloc,
-        host,
-        kept_name(command.run.out_disk, ran.end),
-        loaded.devices.disk(),
-    )?;
-    Ok(last)
+    let came = came_to(ran, command.run.steps, line);
+    let name = kept_disk_name(command.run.out_disk, ran.end);
+    leave_runs(alloc, host, came, None, name, loaded.devices.disk())
 }
 
 // Reads the files, the source one as its program, and makes the devices. That the source or the disk is refused is told once all of
@@ -115,9 +100,9 @@ fn run_loaded<'a, H: Host>(
 fn load<'a, H: Host>(alloc: Global, host: &mut H, command: &Run80<'a>) -> Result<Loaded, Halt<'a>>
     requires { is_top command.now.top ≡ true }
     ensures only { OnlyReads (H.state host.old) (H.state host.new) }
-    ensures loaded { IfOk result (λ l. Loads (run80_read command.now) (H.state host.old) l.program l.devices) }
+    ensures loaded { IfOk result (λ l. IsToRun (kind80 (run80_read command.now)) (H.state host.old) l.program l.devices) }
     ensures counted { OnOk result (SameFaults (H.state host.old) (H.state host.new)) }
-    ensures stopped { IfErr result (Halts (LoadStops (run80_read command.now) (H.state host.old) (H.state host.new))) }
+    ensures stopped { IfErr result (Halts (NothingToRun (kind80 (run80_read command.now)) (H.state host.old) (H.state host.new))) }
 {
     let named = read_program(alloc, host, command.source, command.top, &command.run)?;
     let Named { program, supplies } = named;
@@ -136,9 +121,9 @@ pub fn read_program<'a, H: Host>(
 ) -> Result<Named, Halt<'a>>
     requires { is_top top ≡ true }
     ensures only { OnlyReads (H.state host.old) (H.state host.new) }
-    ensures named { IfOk result (λ n. Names (words_of name.now top (run_options_read run.now)) (H.state host.old) n.program (given_of n.supplies.input.items n.supplies.disk.items n.supplies.ports.items)) }
+    ensures named { IfOk result (λ n. IsNamed (kind80 (words_of name.now top (run_options_read run.now))) (H.state host.old) n.program (given_of n.supplies.input.items n.supplies.disk.items n.supplies.ports.items)) }
     ensures counted { OnOk result (SameFaults (H.state host.old) (H.state host.new)) }
-    ensures stopped { IfErr result (Halts (LoadStops (words_of name.now top (run_options_read run.now)) (H.state host.old) (H.state host.new))) }
+    ensures stopped { IfErr result (Halts (NothingToRun (kind80 (words_of name.now top (run_options_read run.now))) (H.state host.old) (H.state host.new))) }
 {
     let source = read_source(alloc, host, name, top)?;
     let supplies = read_supplies(alloc, host, run)?;

@@ -1,3 +1,2 @@
 mod Loading
-mod Working
-mod Completing86
+mod Laws86

@@ -1,2 +1,1 @@
 pub mod Runs86
-pub mod Completes86

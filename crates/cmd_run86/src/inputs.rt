@@ -1,25 +1,23 @@
 // What there is before the run.
-ghost use Rattle.std.specs.Prelude.{◌≡◌, ◌⊎◌, ◌^◌, ◌<◌, true, IfOk, IfErr, MatchResult, OnOk, length};
-ghost use Rattle.i86.specs.Decode.{HasReader};
+ghost use Rattle.std.specs.Prelude.{◌≡◌, ◌⊎◌, ◌^◌, ◌<◌, true, IfOk, IfErr, OnOk, length};
 ghost use Rattle.host.specs.Host.{SameFaults, OnlyReads};
-ghost use Rattle.asm86_lines.specs.Order.{at_start, in_order};
-ghost use Rattle.asm86_lines.specs.Image.{IsImage, statements};
-ghost use Rattle.asm86_image.specs.declared.fault.ImageFault.TheVariants.{Memory};
-ghost use Rattle.asm86_image.specs.Refusals.{ImageRefused};
-ghost use Rattle.cmd_words.specs.ReadCommands.{run86_read};
-ghost use Rattle.cmd_inputs.specs.declared.stop.Stop.TheVariants.{OutOfMemory};
-ghost use Rattle.cmd_run80.specs.Ends.{Halts};
-ghost use Rattle.cmd_run80.specs.Supplies.{given_of, fill_by, HasDisk, DiskStops};
-ghost use Rattle.cmd_run86.specs.Runs86.{Loads, LoadStops};
+ghost use Rattle.asm86_line_types.specs.Order.{at_start, in_order};
+ghost use Rattle.asm86_line_types.specs.Image.{statements};
+ghost use Rattle.cmd_arguments.specs.ReadCommands.{run86_read};
+ghost use Rattle.cmd_common.specs.declared.stop.Stop.TheVariants.{OutOfMemory};
+ghost use Rattle.cmd_common.specs.Texts.{HasOneImage, ImageStops};
+ghost use Rattle.cmd_runs.specs.Ends.{Halts};
+ghost use Rattle.cmd_runs.specs.Supplies.{given_of, fill_by, HasDisk, DiskStops};
+ghost use Rattle.cmd_runs.specs.Kinds.{IsToRun, NothingToRun};
+ghost use Rattle.cmd_run86.specs.Runs86.{kind86};
 
-use asm86_image::{Image86, ImageFault, image};
-use asm86_lines::Line86;
+use asm86::Image86;
+use asm86_line_types::Line86;
 use bdos_small::Devices;
-use cmd_inputs::{Stop, read_text};
-use cmd_run80::{Halt, Supplies, devices_of, fill_of, read_supplies};
-use cmd_words::Run86;
+use cmd_arguments::Run86;
+use cmd_common::{LoadedText, Stop, read_text};
+use cmd_runs::{Halt, Supplies, devices_of, fill_of, read_supplies};
 use host::Host;
-use i86::decode_at;
 use std::alloc::Global;
 
 /// The image, the bytes that fill the memory, and the devices.
@@ -38,11 +36,11 @@ pub fn load<'a, H: Host>(
     command: &Run86<'a>,
 ) -> Result<Loaded, Halt<'a>>
     ensures only { OnlyReads (H.state host.old) (H.state host.new) }
-    ensures loaded { IfOk result (λ l. Loads (run86_read command.now) (H.state host.old) l.image l.devices) }
+    ensures loaded { IfOk result (λ l. IsToRun (kind86 (run86_read command.now)) (H.state host.old) l.image l.devices) }
     ensures fill { IfOk result (λ l. l.fill.items ≡ fill_by command.now.choice) }
     ensures fill_len { IfOk result (λ l. length l.fill.items ≡ 0x10000) }
     ensures counted { OnOk result (SameFaults (H.state host.old) (H.state host.new)) }
-    ensures stopped { IfErr result (Halts (LoadStops (run86_read command.now) (H.state host.old) (H.state host.new))) }
+    ensures stopped { IfErr result (Halts (NothingToRun (kind86 (run86_read command.now)) (H.state host.old) (H.state host.new))) }
 {
     let text = read_text(alloc, host, command.text)?;
     let supplies = read_supplies(alloc, host, &command.run)?;
@@ -56,16 +54,15 @@ pub fn load<'a, H: Host>(
     })
 }
 
-// The image of a text's lines, whose code has one reader.
-fn read_image(alloc: Global, lines: Vec<Line86>) -> Result<Image86, ImageFault>
+// The image of a text's lines, which are let go.
+fn read_image<'a>(alloc: Global, lines: Vec<Line86>) -> Result<Image86, Stop<'a>>
     requires order { in_order at_start (statements lines.items) ≡ true }
     requires few { length lines.items < 2 ^ 28 }
-    ensures answer { MatchResult result (IsImage lines.items) (λ fault. (fault ≡ Memory) ⊎ ImageRefused lines.items fault) }
-    ensures reader { IfOk result (λ image. HasReader image.code) }
+    ensures image { IfOk result (HasOneImage lines.items) }
+    ensures stopped { IfErr result (ImageStops lines.items) }
 {
-    let image = image(alloc, lines.as_slice())?;
-    // for its contract alone: the code has one reader
-    let _ = decode_at(image.code(), 0);
+    let text = LoadedText::of(alloc, lines)?;
+    let LoadedText { image, .. } = text;
     Ok(image)
 }
 

@@ -18,14 +18,14 @@ use Rattle.dialogue.specs.Shape.{shape_of}
 use Rattle.dialogue.specs.Table.{row_of}
 use Rattle.dialogue.specs.Tried.{try_then}
 use Rattle.dialogue.specs.Run.{Answer, Ran, Asks, Ends, Stops}
-use Rattle.asm80_program.specs.Program.{Program, instr_at, is_start}
-use Rattle.cpu80_steps.specs.State.{State80, num_of, wrap}
-use Rattle.cpu80_steps.specs.Memory.{Halves, read_word}
-use Rattle.cpu80_steps.specs.Effect.{effect, push}
+use Rattle.asm80_program_types.specs.Program.{Program, instr_at, is_start}
+use Rattle.cpu80_tagged_def.specs.State.{State80, num_of, wrap}
+use Rattle.cpu80_tagged_def.specs.Memory.{Halves, read_word}
+use Rattle.cpu80_tagged_def.specs.Effect.{effect, push}
 use Rattle.cells.specs.Conditions.{holds}
 use Rattle.cells.specs.Places.{same_place}
-use Rattle.cpu80_steps.specs.Call.{Return, ask, ask_after, call_by, is_just_below, seen_by, place_if, is_place, place_in, popped_return, return_after}
-use Rattle.cpu80_steps.specs.Step.{go_to, go_on, leave_to, go_by, go_back, jump, enter, call, where_holds, ask_event, ask_port, sent, act, act_at, step_at, step80, return_of, return_at}
+use Rattle.cpu80_tagged_def.specs.Call.{Return, ask, ask_after, call_by, is_just_below, seen_by_tagged, place_if, is_place, place_in, popped_return, return_after}
+use Rattle.cpu80_tagged_def.specs.Step.{go_to, go_on, leave_to, go_by, go_back, jump, enter, call, where_holds, ask_event, ask_port, sent, act, act_at, step_at, step80, return_of, return_at}
 
 -- where the answer ran on, an instruction comes next, or the end
 abbrev pub GoesOn : Program → Answer State80 Rule → Type 0
@@ -110,9 +110,9 @@ asks_after : (p : Program) (s : State80) (f : ℕ) (back : Result Return Rule) �
 asks_after p s f (Err r) = tt
 asks_after p s f (Ok back) = by_below (is_just_below s.sp 6 || is_just_below s.sp 7)
   where
-    by_below : (b : Bool) → GoesOn p (cond b (Stops P12) (ask p s back.is_popped (shape_of (Some f) (num_of s.regs.d) (num_of s.regs.e) s.dma (seen_by p s back.is_popped))))
+    by_below : (b : Bool) → GoesOn p (cond b (Stops P12) (ask p s back.is_popped (shape_of (Some f) (num_of s.regs.d) (num_of s.regs.e) s.dma (seen_by_tagged p s back.is_popped))))
     by_below true = tt
-    by_below false = asks_by p s back.is_popped (shape_of (Some f) (num_of s.regs.d) (num_of s.regs.e) s.dma (seen_by p s back.is_popped))
+    by_below false = asks_by p s back.is_popped (shape_of (Some f) (num_of s.regs.d) (num_of s.regs.e) s.dma (seen_by_tagged p s back.is_popped))
 
 calls_by : (p : Program) (s : State80) (back : Result Return Rule) (f : Option ℕ) → GoesOn p (call_by p s back f)
 calls_by p s back None = tt

@@ -4,10 +4,10 @@ use Rattle.std.proofs.lemmas.Bool.Decides.{nat_tests}
 use Rattle.std.proofs.lemmas.List.{get_or_append_left, get_or_push}
 use Rattle.cells.specs.declared.Cell.{Cell}
 use Rattle.cells.specs.declared.Cell.TheVariants.{Junk}
-use Rattle.asm80_program.specs.Program.{Program, IsProgram, cell_at}
-use Rattle.asm80_program.proofs.CellSearch.{no_cell}
-use Rattle.cpu80_steps.specs.Memory.{is_closed}
-use Rattle.cpu80_steps.specs.Start.{start_cell80, cell_or_junk}
+use Rattle.asm80_program_types.specs.Program.{Program, IsProgram, cell_at}
+use Rattle.asm80_program_types.proofs.CellSearch.{no_cell}
+use Rattle.cpu80_tagged_def.specs.Memory.{is_closed}
+use Rattle.cpu80_tagged_def.specs.Start.{start_cell80, cell_or_junk}
 
 pub closed_past : (p : Program) (a : ℕ) → p.top ≤ a → is_closed p a ≡ true
 closed_past p a h = grind (arith, nat_tests)

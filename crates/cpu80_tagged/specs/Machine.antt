@@ -9,33 +9,33 @@ use Rattle.dialogue.specs.Shape.{request_of}
 use Rattle.dialogue.specs.Fits.{fits_event}
 use Rattle.dialogue.specs.Lawful.{IsLawfulEvent}
 use Rattle.dialogue.specs.Run.{Answer, Ran, Asks, Ends, Stops}
-use Rattle.asm80_program.specs.Program.{Program}
-use Rattle.cpu80_steps.specs.State.{State80, num_of}
-use Rattle.cpu80_steps.specs.Call.{is_place, seen_by}
-use Rattle.cpu80_steps.specs.Step.{step80, return_at, replied80}
-use Rattle.cpu80_effects.specs.declared.turn.Question.{Question}
-use Rattle.cpu80_effects.specs.declared.turn.Question.TheVariants.{System, In, Out}
-use Rattle.cpu80_effects.specs.declared.turn.Return.{Return}
-use Rattle.cpu80_effects.specs.Area.{HasClosed}
-use Rattle.cpu80_effects.specs.Turn.{return_of, shape_at}
+use Rattle.asm80_program_types.specs.Program.{Program}
+use Rattle.cpu80_tagged_def.specs.State.{State80, num_of}
+use Rattle.cpu80_tagged_def.specs.Call.{is_place, seen_by_tagged}
+use Rattle.cpu80_tagged_def.specs.Step.{step80, return_at, replied80}
+use Rattle.cpu80_tagged_step.specs.declared.turn.Question.{Question}
+use Rattle.cpu80_tagged_step.specs.declared.turn.Question.TheVariants.{System, In, Out}
+use Rattle.cpu80_tagged_step.specs.declared.turn.Return.{Return}
+use Rattle.cpu80_tagged_step.specs.Area.{HasClosed}
+use Rattle.cpu80_tagged_step.specs.Turn.{return_of_turn, shape_at}
 use Rattle.cpu80_tagged.specs.declared.processor.Cpu80.{Cpu80}
 use Rattle.cpu80_tagged.specs.declared.processor.Phase.{Phase}
 use Rattle.cpu80_tagged.specs.declared.processor.Phase.TheVariants.{Running, Asking, Ended}
 use Rattle.cpu80_tagged.specs.declared.processor.Step80.{Step80}
 use Rattle.cpu80_tagged.specs.declared.processor.Step80.TheVariants.{Ran as DidRun, Asked as DidAsk, Ended as DidEnd, Left}
-use Rattle.cpu80_tagged.specs.State.{state_of, asks}
+use Rattle.cpu80_tagged.specs.State.{tagged_state, asks}
 
 -- the machine waits for the reply to the call of the system that its step asks, and keeps where the call returns
 pub record IsCalling (p : Program) (s : State80) (kept : Return) : Type 0 where
-  pub back : return_at p s s.place ≡ Ok (return_of kept)
+  pub back : return_at p s s.place ≡ Ok (return_of_turn kept)
   pub shape : Shape
   pub given : shape_at p s kept.is_popped ≡ Ok shape
-  pub asked : step80 p s ≡ Asks (Call (request_of shape (seen_by p s kept.is_popped))) s
+  pub asked : step80 p s ≡ Asks (Call (request_of shape (seen_by_tagged p s kept.is_popped))) s
   pub no_reset : num_of s.regs.c ≢ Some 0
 
 -- it waits for the reply to the port that its step asks, and keeps where it goes on
 pub record IsAtPort (p : Program) (s : State80) (kept : Return) (e : Event) : Type 0 where
-  pub back : return_at p s s.place ≡ Ok (return_of kept)
+  pub back : return_at p s s.place ≡ Ok (return_of_turn kept)
   pub asked : step80 p s ≡ Asks e s
 
 abbrev pub WaitsBy : Program → State80 → Return → Question → Type 0
@@ -52,14 +52,14 @@ IsPhase p s Ended = step80 p s ≡ Ends
 pub record IsMachineOf (p : Program) (c : Cpu80) : Type 0 where
   pub closed : HasClosed p c.closed.items
   pub place : is_place p c.place ≡ true
-  pub phase : IsPhase p (state_of c) c.phase
+  pub phase : IsPhase p (tagged_state c) c.phase
 
 -- a step answers what the definition answers; only where it ran does the state change
-abbrev pub IsStep : Answer State80 Rule → Step80 → State80 → State80 → Type 0
-IsStep (Ran t) r before after = (r ≡ DidRun) × (after ≡ t)
-IsStep (Asks e t) r before after = (r ≡ DidAsk) × (after ≡ before)
-IsStep Ends r before after = (r ≡ DidEnd) × (after ≡ before)
-IsStep (Stops x) r before after = (r ≡ Left x) × (after ≡ before)
+abbrev pub IsTaggedStep : Answer State80 Rule → Step80 → State80 → State80 → Type 0
+IsTaggedStep (Ran t) r before after = (r ≡ DidRun) × (after ≡ t)
+IsTaggedStep (Asks e t) r before after = (r ≡ DidAsk) × (after ≡ before)
+IsTaggedStep Ends r before after = (r ≡ DidEnd) × (after ≡ before)
+IsTaggedStep (Stops x) r before after = (r ≡ Left x) × (after ≡ before)
 
 -- it asks after the step exactly where the step answers so
 abbrev pub has_asked : Step80 → Bool
@@ -81,14 +81,14 @@ pub record IsAskedBy (p : Program) (s : State80) (e : Event) : Type 0 where
   pub lawful : IsLawfulEvent e
   pub no_reset : IsNoReset e
 
-abbrev pub IsAsked : Program → Cpu80 → Option Event → Type 0
-IsAsked p c None = asks c ≡ false
-IsAsked p c (Some e) = (asks c ≡ true) × IsAskedBy p (state_of c) e
+abbrev pub IsEventAsked : Program → Cpu80 → Option Event → Type 0
+IsEventAsked p c None = asks c ≡ false
+IsEventAsked p c (Some e) = (asks c ≡ true) × IsAskedBy p (tagged_state c) e
 
 -- a reply is taken exactly where the machine asks and the reply fits what it asks; else the machine is as before
-abbrev pub IsReply : Program → Cpu80 → Reply → Bool → Cpu80 → Type 0
-IsReply p c y true after =
+abbrev pub IsReplyTo : Program → Cpu80 → Reply → Bool → Cpu80 → Type 0
+IsReplyTo p c y true after =
     (asks c ≡ true) × (asks after ≡ false) × IsMachineOf p after
-    × ((e : Event) → step80 p (state_of c) ≡ Asks e (state_of c) → (fits_event e y ≡ true) × (state_of after ≡ replied80 p (state_of c) e y))
-IsReply p c y false after =
-    (after ≡ c) × (asks c ≡ true → (e : Event) → step80 p (state_of c) ≡ Asks e (state_of c) → fits_event e y ≡ false)
+    × ((e : Event) → step80 p (tagged_state c) ≡ Asks e (tagged_state c) → (fits_event e y ≡ true) × (tagged_state after ≡ replied80 p (tagged_state c) e y))
+IsReplyTo p c y false after =
+    (after ≡ c) × (asks c ≡ true → (e : Event) → step80 p (tagged_state c) ≡ Asks e (tagged_state c) → fits_event e y ≡ false)

@@ -6,25 +6,25 @@ use Rattle.cells.specs.Conditions.{unknown_flags}
 use Rattle.dialogue.specs.declared.blocks.Block.{Block}
 use Rattle.dialogue.specs.declared.request.Request.{Request}
 use Rattle.dialogue.specs.declared.request.Reply.{Reply}
-use Rattle.dialogue.specs.Fits.{answer_of, dma_after}
-use Rattle.cpu80_steps.specs.State.{State80, wrap}
-use Rattle.cpu80_steps.specs.Call.{put_blocks, answered}
-use Rattle.cpu80_effects.specs.declared.turn.Return.{Return}
+use Rattle.dialogue.specs.Fits.{answer_kind_of, dma_after}
+use Rattle.cpu80_tagged_def.specs.State.{State80, wrap}
+use Rattle.cpu80_tagged_def.specs.Call.{put_blocks, answered}
+use Rattle.cpu80_tagged_step.specs.declared.turn.Return.{Return}
 
 -- of the k cells below SP nothing is known, but for those that are closed
-abbrev pub spoiled : ℕ → (ℕ → Bool) → ℕ → (ℕ → Cell) → ℕ → Cell
-spoiled k closed sp m a = cond (nat_lt (wrap (sp + (0xFFFF - a))) k && not (closed a)) Junk (m a)
+abbrev pub spoiled_cells : ℕ → (ℕ → Bool) → ℕ → (ℕ → Cell) → ℕ → Cell
+spoiled_cells k closed sp m a = cond (nat_lt (wrap (sp + (0xFFFF - a))) k && not (closed a)) Junk (m a)
 
 -- a block ends within memory
 abbrev pub Fits : Block → Type 0
 Fits b = b.at + length b.bytes ≤ 0x10000
 
-abbrev pub taken : (ℕ → Bool) → State80 → Return → Request → Reply → State80
-taken closed s back q y = record {
-  regs = answered (answer_of q) y.answer;
+abbrev pub after_taken_reply : (ℕ → Bool) → State80 → Return → Request → Reply → State80
+after_taken_reply closed s back q y = record {
+  regs = answered (answer_kind_of q) y.answer;
   flags = unknown_flags;
   sp = back.sp;
-  mem = spoiled 8 closed s.sp (put_blocks s.mem y.writes);
+  mem = spoiled_cells 8 closed s.sp (put_blocks s.mem y.writes);
   place = back.place;
   dma = dma_after q s.dma;
 }

@@ -3,16 +3,16 @@ use Rattle.std.specs.Prelude.{Bool, true, false, Result}
 use Rattle.cells.specs.declared.Rule.{Rule}
 use Rattle.dialogue.specs.declared.request.Shape.{Shape}
 use Rattle.dialogue.specs.Shape.{Seen, shape_of}
-use Rattle.cpu80_steps.specs.State.{State80, num_of}
-use Rattle.cpu80_effects.specs.Draft.{regs_of, memory_of}
-use Rattle.cpu80_effects.specs.Sight.{seen_over, closed_in}
+use Rattle.cpu80_tagged_def.specs.State.{State80, num_of}
+use Rattle.cpu80_tagged_step.specs.Draft.{regs_of_draft, memory_of}
+use Rattle.cpu80_tagged_step.specs.Sight.{seen_over, closed_in}
 use Rattle.cpu80_tagged.specs.declared.processor.Cpu80.{Cpu80}
 use Rattle.cpu80_tagged.specs.declared.processor.Phase.{Phase}
 use Rattle.cpu80_tagged.specs.declared.processor.Phase.TheVariants.{Running, Asking, Ended}
 
-abbrev pub state_of : Cpu80 → State80
-state_of c = record {
-  regs = regs_of c.registers;
+abbrev pub tagged_state : Cpu80 → State80
+tagged_state c = record {
+  regs = regs_of_draft c.registers;
   flags = c.flags;
   sp = c.sp;
   mem = memory_of c.memory.items;
@@ -33,6 +33,6 @@ asks c = waits c.phase
 abbrev pub seen_of : Cpu80 → Bool → Seen
 seen_of c is_popped = seen_over (closed_in c.closed.items) (memory_of c.memory.items) c.sp is_popped
 
-abbrev pub shape_in : Cpu80 → Bool → Result Shape Rule
-shape_in c is_popped =
+abbrev pub tagged_shape : Cpu80 → Bool → Result Shape Rule
+tagged_shape c is_popped =
     shape_of (num_of c.registers.c) (num_of c.registers.d) (num_of c.registers.e) c.dma (seen_of c is_popped)

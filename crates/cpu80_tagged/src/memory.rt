@@ -1,14 +1,14 @@
 // Writes to the 64K of cells.
 ghost use Rattle.std.specs.Prelude.{◌≡◌, ◌+◌, ◌≤◌, length, IsTrue, All};
-ghost use Rattle.cpu80_steps.specs.Memory.{put};
-ghost use Rattle.cpu80_steps.specs.Call.{put_bytes, put_blocks};
-ghost use Rattle.cpu80_effects.specs.Draft.{memory_of, written};
-ghost use Rattle.cpu80_effects.specs.Sight.{closed_in};
-ghost use Rattle.cpu80_effects.specs.Write.{write_fits};
-ghost use Rattle.cpu80_tagged.specs.Reply.{Fits, spoiled};
+ghost use Rattle.cpu80_tagged_def.specs.Memory.{put};
+ghost use Rattle.cpu80_tagged_def.specs.Call.{put_bytes, put_blocks};
+ghost use Rattle.cpu80_tagged_step.specs.Draft.{memory_of, memory_written};
+ghost use Rattle.cpu80_tagged_step.specs.Sight.{closed_in};
+ghost use Rattle.cpu80_tagged_step.specs.Write.{write_fits};
+ghost use Rattle.cpu80_tagged.specs.Reply.{Fits, spoiled_cells};
 
 use cells::Cell;
-use cpu80_effects::draft::Write;
+use cpu80_tagged_step::draft::Write;
 use dialogue::Block;
 
 // A cell becomes another.
@@ -23,7 +23,7 @@ fn put(memory: &mut [Cell], at: u16, cell: Cell)
 pub fn make(memory: &mut [Cell], write: Write)
     requires full { length memory.old ≡ 65536 }
     requires fits { IsTrue (write_fits write) }
-    ensures { memory_of memory.new ≡ written write (memory_of memory.old) }
+    ensures { memory_of memory.new ≡ memory_written write (memory_of memory.old) }
 {
     match write {
         Write::Nothing => {}
@@ -61,7 +61,7 @@ pub fn put_blocks(memory: &mut [Cell], blocks: &[Block])
 pub fn spoil(memory: &mut [Cell], closed: &[bool], sp: u16)
     requires full { length memory.old ≡ 65536 }
     requires all { length closed.now ≡ 65536 }
-    ensures { memory_of memory.new ≡ spoiled 8 (closed_in closed.now) sp (memory_of memory.old) }
+    ensures { memory_of memory.new ≡ spoiled_cells 8 (closed_in closed.now) sp (memory_of memory.old) }
 {
     for k in 0..8 {
         let at = sp.wrapping_sub(k + 1);

@@ -3,14 +3,14 @@ ghost use Rattle.std.specs.Prelude.{◌≡◌, length};
 
 use crate::memory::{make, put_blocks, spoil};
 use crate::replies::answered;
-use asm80_program::Program80;
+use asm80_program_types::Program80;
 use cells::{Cell, Flags, Place, Rule};
-use cpu80_effects::area::Area;
-use cpu80_effects::draft::{Draft, Write};
-use cpu80_effects::numbers::number_in;
-use cpu80_effects::registers::Registers;
-use cpu80_effects::sight::Sight;
-use cpu80_effects::turn::{Question, Return, Turn};
+use cpu80_tagged_step::area::Area;
+use cpu80_tagged_step::draft::{Draft, Write};
+use cpu80_tagged_step::numbers::number_in;
+use cpu80_tagged_step::registers::Registers;
+use cpu80_tagged_step::sight::Sight;
+use cpu80_tagged_step::turn::{Question, Return, Turn};
 use dialogue::{
     Blocks, Event, Reply, Request, Shape, answer_of, dma_after, fits, fits_event, request_of,
     shape_of,
@@ -54,18 +54,18 @@ pub struct Cpu80 {
 impl Cpu80 {
     ghost use Rattle.std.specs.Prelude.{IfOk, true, false, All};
     ghost use Rattle.dialogue.specs.Fits.{fits};
-    ghost use Rattle.dialogue.specs.Shape.{seen_by};
-    ghost use Rattle.asm80_program.specs.Program.{Program};
-    ghost use Rattle.cpu80_steps.specs.Step.{step80};
-    ghost use Rattle.cpu80_effects.specs.Draft.{memory_of, IsFresh, state_of as draft_state};
-    ghost use Rattle.cpu80_effects.specs.Sight.{byte_over, writable_over, closed_in};
-    ghost use Rattle.cpu80_tagged.specs.State.{state_of, asks, seen_of, shape_in};
-    ghost use Rattle.cpu80_tagged.specs.Reply.{Fits, taken};
-    ghost use Rattle.cpu80_tagged.specs.Machine.{IsMachineOf, IsStep, has_asked, IsAsked, IsReply};
+    ghost use Rattle.dialogue.specs.Shape.{seen_by_view};
+    ghost use Rattle.asm80_program_types.specs.Program.{Program};
+    ghost use Rattle.cpu80_tagged_def.specs.Step.{step80};
+    ghost use Rattle.cpu80_tagged_step.specs.Draft.{memory_of, IsFresh, state_of_draft as draft_state};
+    ghost use Rattle.cpu80_tagged_step.specs.Sight.{byte_over, writable_over, closed_in};
+    ghost use Rattle.cpu80_tagged.specs.State.{tagged_state, asks, seen_of, tagged_shape};
+    ghost use Rattle.cpu80_tagged.specs.Reply.{Fits, after_taken_reply};
+    ghost use Rattle.cpu80_tagged.specs.Machine.{IsMachineOf, IsTaggedStep, has_asked, IsEventAsked, IsReplyTo};
 
     /// The place of the instruction that comes next, that asks, or that ended the program.
     pub fn place(&self) -> Place
-        ensures { result ≡ (state_of self.now).place }
+        ensures { result ≡ (tagged_state self.now).place }
     {
         self.place
     }
@@ -73,7 +73,7 @@ impl Cpu80 {
     /// What the machine holds, also while it asks: registers, flags, SP, cells, the place that comes next and the DMA address.
     /// Nothing is still to be written.
     pub fn held(&self) -> Draft<'_>
-        ensures state { draft_state result ≡ state_of self.now }
+        ensures state { draft_state result ≡ tagged_state self.now }
         ensures fresh { IsFresh result }
     {
         Draft {
@@ -91,7 +91,7 @@ impl Cpu80 {
     /// again.
     pub fn step(&mut self, program: &Program80) -> Step80
         requires { IsMachineOf program.now self.old }
-        ensures step { IsStep (step80 program.now (state_of self.old)) result (state_of self.old) (state_of self.new) }
+        ensures step { IsTaggedStep (step80 program.now (tagged_state self.old)) result (tagged_state self.old) (tagged_state self.new) }
         ensures asked { asks self.new ≡ has_asked result }
         ensures machine { IsMachineOf program.now self.new }
     {
@@ -106,7 +106,7 @@ impl Cpu80 {
     fn run(&mut self, program: &Program80) -> Step80
         requires machine { IsMachineOf program.now self.old }
         requires runs { self.old.phase ≡ Phase.Running }
-        ensures step { IsStep (step80 program.now (state_of self.old)) result (state_of self.old) (state_of self.new) }
+        ensures step { IsTaggedStep (step80 program.now (tagged_state self.old)) result (tagged_state self.old) (tagged_state self.new) }
         ensures asked { asks self.new ≡ has_asked result }
         ensures machine { IsMachineOf program.now self.new }
     {
@@ -159,7 +159,7 @@ impl Cpu80 {
 
     // What a call sees of memory.
     fn sight(&self, is_popped: bool) -> Sight<'_>
-        ensures { seen_by (byte_over (closed_in result.closed.now) (memory_of result.memory.now) result.sp) (writable_over (closed_in result.closed.now) result.sp result.is_popped) ≡ seen_of self.now is_popped }
+        ensures { seen_by_view (byte_over (closed_in result.closed.now) (memory_of result.memory.now) result.sp) (writable_over (closed_in result.closed.now) result.sp result.is_popped) ≡ seen_of self.now is_popped }
     {
         Sight {
             memory: self.memory.as_slice(),
@@ -171,7 +171,7 @@ impl Cpu80 {
 
     // The shape of the call that the registers make.
     fn shape(&self, is_popped: bool) -> Result<Shape, Rule>
-        ensures { result ≡ shape_in self.now is_popped }
+        ensures { result ≡ tagged_shape self.now is_popped }
     {
         shape_of(
             number_in(self.registers.c),
@@ -185,7 +185,7 @@ impl Cpu80 {
     /// What it asks, a call with the memory that it reads: none exactly where it does not ask.
     pub fn asked(&self, alloc: Global) -> Result<Option<Event>, AllocError>
         ensures idle { asks self.now ≡ false → result ≡ Ok None }
-        ensures asked { (p : Program) → IsMachineOf p self.now → IfOk result (IsAsked p self.now) }
+        ensures asked { (p : Program) → IsMachineOf p self.now → IfOk result (IsEventAsked p self.now) }
     {
         let Phase::Asking(question, back) = self.phase else {
             return Ok(None);
@@ -200,7 +200,7 @@ impl Cpu80 {
     // The call that it asks.
     fn asked_call(&self, alloc: Global, back: Return) -> Result<Option<Event>, AllocError>
         requires { self.now.phase ≡ Phase.Asking Question.System back }
-        ensures { (p : Program) → IsMachineOf p self.now → IfOk result (IsAsked p self.now) }
+        ensures { (p : Program) → IsMachineOf p self.now → IfOk result (IsEventAsked p self.now) }
     {
         match self.shape(back.is_popped) {
             Ok(shape) => {
@@ -213,7 +213,7 @@ impl Cpu80 {
 
     /// Takes a reply to what it asks, and runs on: false exactly where it does not ask or the reply does not fit.
     pub fn reply(&mut self, reply: &Reply) -> bool
-        ensures { (p : Program) → IsMachineOf p self.old → IsReply p self.old reply.now result self.new }
+        ensures { (p : Program) → IsMachineOf p self.old → IsReplyTo p self.old reply.now result self.new }
     {
         let Phase::Asking(question, back) = self.phase else {
             return false;
@@ -228,7 +228,7 @@ impl Cpu80 {
     // The reply to a call of the system.
     fn reply_to_call(&mut self, back: Return, reply: &Reply) -> bool
         requires { self.old.phase ≡ Phase.Asking Question.System back }
-        ensures { (p : Program) → IsMachineOf p self.old → IsReply p self.old reply.now result self.new }
+        ensures { (p : Program) → IsMachineOf p self.old → IsReplyTo p self.old reply.now result self.new }
     {
         let Ok(shape) = self.shape(back.is_popped) else {
             return false;
@@ -248,7 +248,7 @@ impl Cpu80 {
     // The reply to an IN: its byte is put into A.
     fn reply_to_in(&mut self, back: Return, port: u8, reply: &Reply) -> bool
         requires { self.old.phase ≡ Phase.Asking (Question.In port) back }
-        ensures { (p : Program) → IsMachineOf p self.old → IsReply p self.old reply.now result self.new }
+        ensures { (p : Program) → IsMachineOf p self.old → IsReplyTo p self.old reply.now result self.new }
     {
         if !fits_event(&Event::In(port), reply) {
             return false;
@@ -262,7 +262,7 @@ impl Cpu80 {
     // The reply to an OUT.
     fn reply_to_out(&mut self, back: Return, port: u8, byte: u8, reply: &Reply) -> bool
         requires { self.old.phase ≡ Phase.Asking (Question.Out port byte) back }
-        ensures { (p : Program) → IsMachineOf p self.old → IsReply p self.old reply.now result self.new }
+        ensures { (p : Program) → IsMachineOf p self.old → IsReplyTo p self.old reply.now result self.new }
     {
         if !fits_event(&Event::Out(port, byte), reply) {
             return false;
@@ -276,7 +276,7 @@ impl Cpu80 {
     fn take(&mut self, back: Return, request: &Request, reply: &Reply)
         requires fit { fits request.now reply.now ≡ true }
         requires within { All Fits reply.now.writes }
-        ensures state { state_of self.new ≡ taken (closed_in self.old.closed.items) (state_of self.old) back request.now reply.now }
+        ensures state { tagged_state self.new ≡ after_taken_reply (closed_in self.old.closed.items) (tagged_state self.old) back request.now reply.now }
         ensures closed { self.new.closed.items ≡ self.old.closed.items }
         ensures phase { self.new.phase ≡ Phase.Running }
     {

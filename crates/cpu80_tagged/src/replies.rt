@@ -1,17 +1,17 @@
 // What a reply leaves in the registers.
 ghost use Rattle.std.specs.Prelude.{◌≡◌, IsTrue};
 ghost use Rattle.dialogue.specs.Fits.{answer_fits};
-ghost use Rattle.cpu80_steps.specs.Call.{answered};
-ghost use Rattle.cpu80_steps.specs.State.{junk_regs};
-ghost use Rattle.cpu80_effects.specs.Draft.{regs_of};
+ghost use Rattle.cpu80_tagged_def.specs.Call.{answered};
+ghost use Rattle.cpu80_tagged_def.specs.State.{junk_regs};
+ghost use Rattle.cpu80_tagged_step.specs.Draft.{regs_of_draft};
 
 use cells::Cell;
-use cpu80_effects::registers::Registers;
+use cpu80_tagged_step::registers::Registers;
 use dialogue::AnswerKind;
 
 /// Registers of which nothing is known.
 pub fn junk() -> Registers
-    ensures { regs_of result ≡ junk_regs }
+    ensures { regs_of_draft result ≡ junk_regs }
 {
     Registers {
         a: Cell::Junk,
@@ -28,7 +28,7 @@ pub fn junk() -> Registers
 /// known of the others.
 pub fn answered(kind: AnswerKind, answer: u16) -> Registers
     requires { IsTrue (answer_fits kind answer) }
-    ensures { regs_of result ≡ answered kind answer }
+    ensures { regs_of_draft result ≡ answered kind answer }
 {
     let mut registers = junk();
     match kind {

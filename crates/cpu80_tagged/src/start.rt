@@ -1,14 +1,14 @@
 // The start of a program.
 ghost use Rattle.std.specs.Prelude.{◌≡◌, ◌<◌, ◌≤◌, length, IfOk};
-ghost use Rattle.asm80_program.specs.Program.{IsProgram};
-ghost use Rattle.cpu80_steps.specs.Memory.{is_closed};
-ghost use Rattle.cpu80_steps.specs.Start.{start_cell80};
-ghost use Rattle.cpu80_effects.specs.Area.{HasClosed};
-ghost use Rattle.cpu80_effects.specs.Draft.{memory_of};
+ghost use Rattle.asm80_program_types.specs.Program.{IsProgram};
+ghost use Rattle.cpu80_tagged_def.specs.Memory.{is_closed};
+ghost use Rattle.cpu80_tagged_def.specs.Start.{start_cell80};
+ghost use Rattle.cpu80_tagged_step.specs.Area.{HasClosed};
+ghost use Rattle.cpu80_tagged_step.specs.Draft.{memory_of};
 
 use crate::processor::{Cpu80, Phase};
 use crate::replies::junk;
-use asm80_program::Program80;
+use asm80_program_types::Program80;
 use cells::{Cell, Flags, Place};
 use dialogue::Page;
 use std::alloc::{AllocError, Global};
@@ -77,13 +77,13 @@ fn start_memory(alloc: Global, program: &Program80, page: &[u8]) -> Result<Vec<C
 
 impl Cpu80 {
     ghost use Rattle.std.specs.Prelude.{false};
-    ghost use Rattle.cpu80_steps.specs.Start.{start80};
-    ghost use Rattle.cpu80_tagged.specs.State.{state_of, asks};
+    ghost use Rattle.cpu80_tagged_def.specs.Start.{start80};
+    ghost use Rattle.cpu80_tagged.specs.State.{tagged_state, asks};
     ghost use Rattle.cpu80_tagged.specs.Machine.{IsMachineOf};
 
     /// The machine as a program begins: at 100H, with SP at the return to the end, and with a start page.
     pub fn new(alloc: Global, program: &Program80, page: &Page) -> Result<Cpu80, AllocError>
-        ensures start { IfOk result (λ c. state_of c ≡ start80 program.now page.now) }
+        ensures start { IfOk result (λ c. tagged_state c ≡ start80 program.now page.now) }
         ensures asked { IfOk result (λ c. asks c ≡ false) }
         ensures machine { IfOk result (λ c. IsMachineOf program.now c) }
     {

@@ -8,13 +8,13 @@ use Rattle.dialogue.specs.declared.request.Event.{Event}
 use Rattle.dialogue.specs.declared.request.Event.TheVariants.{Call, In, Out, End}
 use Rattle.dialogue.specs.Run.{Answer, Ran, Asks, Ends, Stops, Status, Going, Waiting, Over, Stopped, Run, choice_at, turn, turns, settle, take_reply, start_run}
 use Rattle.dialogue.proofs.Turns.{turns_add}
-use Rattle.cpu86_steps.specs.State.{State86}
-use Rattle.cpu86_steps.specs.Call.{Stop, NoInstruction, StackSegment, OddCall, replied86}
-use Rattle.cpu86_steps.specs.Step.{step86, machine86}
-use Rattle.cpu86_steps.specs.Start.{start86}
+use Rattle.cpu86_def.specs.State.{State86}
+use Rattle.cpu86_def.specs.Call.{Stop, NoInstruction, StackSegment, OddCall, replied86}
+use Rattle.cpu86_def.specs.Step.{step86, machine86}
+use Rattle.cpu86_def.specs.Start.{start86}
 use Rattle.cpu86.specs.declared.cpu.Step86.{Step86}
 use Rattle.cpu86.specs.Standing.{Standing}
-use Rattle.cpu86.specs.Calls.{stop_of, stepped_by, replied_by, IsTold}
+use Rattle.cpu86.specs.Calls.{stop_of, stepped_by, replied_by, IsStepTold}
 use Rattle.cpu86.specs.Histories.{Calls, started, ran, asked, took, ended, stopped, asked_again, ended_again, stopped_again, refused, IsRunAt, CallsGiveRuns}
 use Rattle.cpu86.proofs.Steps.{told}
 use Rattle.cpu86.proofs.Replies.{taken}
@@ -23,7 +23,7 @@ use Rattle.cpu86.proofs.Replies.{taken}
 abbrev pub at_run : State86 → Status Stop → List Event → List Reply → ℕ → Run State86 Stop
 at_run s status d ys u = record { state = s; status = status; dialogue = d; replies = ys; used = u }
 
-stop_told : (a : Answer State86 Stop) (why : Stop) (s : State86) (y : Standing) → IsTold a (stop_of why) s y → (a ≡ Stops why) × (y ≡ record { state = s; said = None })
+stop_told : (a : Answer State86 Stop) (why : Stop) (s : State86) (y : Standing) → IsStepTold a (stop_of why) s y → (a ≡ Stops why) × (y ≡ record { state = s; said = None })
 stop_told a (NoInstruction ip) s y h = h
 stop_told a (StackSegment ip) s y h = h
 stop_told a (OddCall function) s y h = h
@@ -46,7 +46,7 @@ module _ (fetch : ℕ → Option Instr86) (cs : List ℕ) (s0 : State86) where
       ∙ ap (turn (machine86 fetch) cs) e ∙ ap (settle (machine86 fetch) cs (at_run s Going d rest u)) f
 
   -- a step where nothing is open
-  idle_step : (x y : Standing) (answer : Step86) (choice : ℕ) → x.said ≡ None → (answer, y) ≡ stepped_by fetch x.state choice x.said → IsTold (step86 fetch x.state choice) answer x.state y
+  idle_step : (x y : Standing) (answer : Step86) (choice : ℕ) → x.said ≡ None → (answer, y) ≡ stepped_by fetch x.state choice x.said → IsStepTold (step86 fetch x.state choice) answer x.state y
   idle_step x y answer choice h g = told (step86 fetch x.state choice) answer x.state y (g ∙ ap (stepped_by fetch x.state choice) h)
 
   open_step : (s : State86) (y : Standing) (e : Event) (answer : Step86) (choice : ℕ) → (answer, y) ≡ stepped_by fetch s choice (Some e) → y ≡ record { state = s; said = Some e }

@@ -9,8 +9,8 @@ use Rattle.dialogue.specs.Table.{Row, row_of}
 use Rattle.dialogue.specs.Shape.{request_of}
 use Rattle.dialogue.specs.Fits.{fits_row, fits, fits_event}
 use Rattle.dialogue.specs.ByteMemory.{seen_by}
-use Rattle.cpu86_steps.specs.State.{State86}
-use Rattle.cpu86_steps.specs.Call.{replied86}
+use Rattle.cpu86_def.specs.State.{State86}
+use Rattle.cpu86_def.specs.Call.{replied86}
 use Rattle.cpu86.specs.declared.cpu.Pending.{Pending}
 use Rattle.cpu86.specs.declared.cpu.Pending.TheVariants.{Answer, Byte}
 use Rattle.cpu86.specs.Standing.{Standing, said_by}

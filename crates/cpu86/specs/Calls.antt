@@ -6,9 +6,9 @@ use Rattle.dialogue.specs.declared.request.Event.TheVariants.{Call, In, Out, End
 use Rattle.dialogue.specs.declared.request.Reply.{Reply}
 use Rattle.dialogue.specs.Fits.{fits_event, waits_in}
 use Rattle.dialogue.specs.Run.{Answer, Ran, Asks, Ends, Stops}
-use Rattle.cpu86_steps.specs.State.{State86}
-use Rattle.cpu86_steps.specs.Call.{Stop, NoInstruction, StackSegment, OddCall, replied86}
-use Rattle.cpu86_steps.specs.Step.{step86}
+use Rattle.cpu86_def.specs.State.{State86}
+use Rattle.cpu86_def.specs.Call.{Stop, NoInstruction, StackSegment, OddCall, replied86}
+use Rattle.cpu86_def.specs.Step.{step86}
 use Rattle.cpu86.specs.declared.cpu.Step86.{Step86}
 use Rattle.cpu86.specs.declared.cpu.Step86.TheVariants.{Ran as DidRun, Asked, Ended, NoInstruction as HasNone, StackSegment as HasSegment, OddCall as HasOdd}
 use Rattle.cpu86.specs.Standing.{Standing}
@@ -58,13 +58,13 @@ IsOpen (HasOdd function) said = said ≡ None
 
 -- the same by what a step answers, for a machine that has nothing open: what the definition's step is, and how the machine
 -- stands
-abbrev pub IsTold : Answer State86 Stop → Step86 → State86 → Standing → Type 0
-IsTold a DidRun s y = (a ≡ Ran y.state) × (y.said ≡ None)
-IsTold a Asked s y = (e : Event) × ((a ≡ Asks e y.state) × (y.said ≡ Some e))
-IsTold a Ended s y = (a ≡ Ends) × (y ≡ record { state = s; said = Some End })
-IsTold a (HasNone ip) s y = (a ≡ Stops (NoInstruction ip)) × (y ≡ record { state = s; said = None })
-IsTold a (HasSegment ip) s y = (a ≡ Stops (StackSegment ip)) × (y ≡ record { state = s; said = None })
-IsTold a (HasOdd function) s y = (a ≡ Stops (OddCall function)) × (y ≡ record { state = s; said = None })
+abbrev pub IsStepTold : Answer State86 Stop → Step86 → State86 → Standing → Type 0
+IsStepTold a DidRun s y = (a ≡ Ran y.state) × (y.said ≡ None)
+IsStepTold a Asked s y = (e : Event) × ((a ≡ Asks e y.state) × (y.said ≡ Some e))
+IsStepTold a Ended s y = (a ≡ Ends) × (y ≡ record { state = s; said = Some End })
+IsStepTold a (HasNone ip) s y = (a ≡ Stops (NoInstruction ip)) × (y ≡ record { state = s; said = None })
+IsStepTold a (HasSegment ip) s y = (a ≡ Stops (StackSegment ip)) × (y ≡ record { state = s; said = None })
+IsStepTold a (HasOdd function) s y = (a ≡ Stops (OddCall function)) × (y ≡ record { state = s; said = None })
 
 -- the same by what `reply` answers, for a machine that has said `e` last
 abbrev pub IsTaken : Event → Bool → Reply → ℕ → State86 → Standing → Type 0

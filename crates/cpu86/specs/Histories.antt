@@ -4,11 +4,11 @@ use Rattle.i86.specs.declared.Instr86.{Instr86}
 use Rattle.dialogue.specs.declared.request.Reply.{Reply}
 use Rattle.dialogue.specs.declared.request.Event.{Event}
 use Rattle.dialogue.specs.declared.request.Event.TheVariants.{End}
-use Rattle.asm86_lines.specs.Image.{Image}
+use Rattle.asm86_line_types.specs.Image.{Image}
 use Rattle.dialogue.specs.Run.{Status, Going, Waiting, Over, Stopped, Run, choice_at}
-use Rattle.cpu86_steps.specs.State.{State86}
-use Rattle.cpu86_steps.specs.Call.{Stop}
-use Rattle.cpu86_steps.specs.Start.{Start, start86, run86}
+use Rattle.cpu86_def.specs.State.{State86}
+use Rattle.cpu86_def.specs.Call.{Stop}
+use Rattle.cpu86_def.specs.Start.{Start, start86, run86}
 use Rattle.cpu86.specs.declared.cpu.Step86.{Step86}
 use Rattle.cpu86.specs.declared.cpu.Step86.TheVariants.{Ran as DidRun, Asked, Ended}
 use Rattle.cpu86.specs.Standing.{Standing}

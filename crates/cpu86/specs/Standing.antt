@@ -4,8 +4,8 @@ use Rattle.dialogue.specs.declared.request.Event.{Event}
 use Rattle.dialogue.specs.declared.request.Event.TheVariants.{Call, In, Out, End}
 use Rattle.dialogue.specs.Shape.{request_of}
 use Rattle.dialogue.specs.ByteMemory.{seen_by}
-use Rattle.cpu86_steps.specs.State.{State86}
-use Rattle.cpu86_effects.specs.State.{state_of}
+use Rattle.cpu86_def.specs.State.{State86}
+use Rattle.cpu86_step.specs.State.{state_of_86}
 use Rattle.cpu86.specs.declared.cpu.Pending.{Pending}
 use Rattle.cpu86.specs.declared.cpu.Pending.TheVariants.{Nothing, Answer, Byte, Taking, Ending}
 use Rattle.cpu86.specs.declared.cpu.Cpu86.{Cpu86}
@@ -24,7 +24,7 @@ said_by (Taking port byte) mem = Some (Out port byte)
 said_by Ending mem = Some End
 
 abbrev pub standing : Cpu86 → Standing
-standing c = record { state = state_of c.processor; said = said_by c.pending (state_of c.processor).mem }
+standing c = record { state = state_of_86 c.processor; said = said_by c.pending (state_of_86 c.processor).mem }
 
-abbrev pub code_of : Cpu86 → List ℕ
-code_of c = c.code.items
+abbrev pub code_kept : Cpu86 → List ℕ
+code_kept c = c.code.items

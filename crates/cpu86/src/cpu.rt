@@ -1,18 +1,18 @@
 // The machine: code, a processor, and what it has said last.
 ghost use Rattle.std.specs.Prelude.{◌≡◌, ℕ, Option, Some, length};
 ghost use Rattle.dialogue.specs.declared.request.Shape.{Shape};
-ghost use Rattle.cpu86_steps.specs.Step.{uses_stack};
-ghost use Rattle.cpu86_effects.specs.State.{state_of};
-ghost use Rattle.cpu86_effects.specs.System.{IsAsked};
+ghost use Rattle.cpu86_def.specs.Step.{uses_stack};
+ghost use Rattle.cpu86_step.specs.State.{state_of_86};
+ghost use Rattle.cpu86_step.specs.System.{IsShapeAsked};
 ghost use Rattle.cpu86.specs.declared.cpu.Pending.TheVariants.{Answer};
 ghost use Rattle.std.proofs.Props.{props};
 
 use crate::start::Start86;
-use asm86_image::Image86;
-use cpu86_effects::flags::Flags;
-use cpu86_effects::processor::Processor;
-use cpu86_effects::start::start_memory;
-use cpu86_effects::system::Interrupt;
+use asm86::Image86;
+use cpu86_step::flags::Flags;
+use cpu86_step::processor::Processor;
+use cpu86_step::start::start_memory;
+use cpu86_step::system::Interrupt;
 use dialogue::{Blocks, Event, Page, Reply, Request, Shape, fits, fits_event, request_of};
 use i86::{Instr86, Reg8, decode_at};
 use std::alloc::{AllocError, Global};
@@ -47,13 +47,13 @@ enum Pending {
     Ending,
 }
 
-/// The plain 8086 with its code.
+/// The 8086 with its code.
 #[derive(Drop)]
 pub struct Cpu86 {
     processor: Processor,
     code: Vec<u8>,
     pending: Pending,
-    ghost asked: { (shape : Shape) → pending ≡ Answer shape → IsAsked (state_of processor) shape } by { Prim.hlevel props },
+    ghost asked: { (shape : Shape) → pending ≡ Answer shape → IsShapeAsked (state_of_86 processor) shape } by { Prim.hlevel props },
 }
 
 impl Cpu86 {
@@ -61,13 +61,13 @@ impl Cpu86 {
     ghost use Rattle.dialogue.specs.Fits.{waits_in};
     ghost use Rattle.dialogue.specs.Lawful.{IsLawfulEvent};
     ghost use Rattle.i86.specs.declared.Instr86.{Instr86};
-    ghost use Rattle.i86.specs.Code.{Reads};
-    ghost use Rattle.cpu86_steps.specs.Call.{call_system};
-    ghost use Rattle.cpu86_steps.specs.Step.{step86, act_from};
-    ghost use Rattle.cpu86_steps.specs.Start.{start86};
+    ghost use Rattle.i86.specs.Code.{ReadsCode};
+    ghost use Rattle.cpu86_def.specs.Call.{call_system};
+    ghost use Rattle.cpu86_def.specs.Step.{step86, act_from};
+    ghost use Rattle.cpu86_def.specs.Start.{start86};
     ghost use Rattle.cpu86.specs.Starts.{start_of};
-    ghost use Rattle.cpu86.specs.Standing.{standing, code_of};
-    ghost use Rattle.cpu86.specs.Calls.{settled, stepped, replied, IsOpen, IsTold, IsTaken};
+    ghost use Rattle.cpu86.specs.Standing.{standing, code_kept};
+    ghost use Rattle.cpu86.specs.Calls.{settled, stepped, replied, IsOpen, IsStepTold, IsTaken};
 
     /// The machine at the start of an image, of which it keeps a copy of the code. Memory is the fill, which has a byte for each
     /// of the 65,536 addresses, over it the page from 5CH up, and over both the image's data cells. The offset of the next
@@ -82,7 +82,7 @@ impl Cpu86 {
         requires { length fill.now ≡ 0x10000 }
         ensures state { IfOk result (λ c. (standing c).state ≡ start86 image.now page.now fill.now (start_of start)) }
         ensures idle { IfOk result (λ c. (standing c).said ≡ None) }
-        ensures code { IfOk result (λ c. code_of c ≡ image.now.code) }
+        ensures code { IfOk result (λ c. code_kept c ≡ image.now.code) }
     {
         let code = Vec::from_slice(alloc, image.code())?;
         let memory = start_memory(alloc, fill, page.bytes(), image.cells())?;
@@ -110,10 +110,10 @@ impl Cpu86 {
     /// DAA of AL from 0FAH up, or from 9AH to 9FH with AF and without CF, bits 0 to 7 are AL and 8 to 12 SF ZF AF PF CF; at an
     /// INT bits 0 to 47 are the six bytes below SP, the lowest first.
     pub fn step(&mut self, choice: u128) -> Step86
-        ensures step { (fetch : ℕ → Option Instr86) → Reads (code_of self.old) fetch → (result, standing self.new) ≡ stepped fetch (standing self.old) choice }
-        ensures told { (fetch : ℕ → Option Instr86) → Reads (code_of self.old) fetch → (standing self.old).said ≡ None → IsTold (step86 fetch (standing self.old).state choice) result (standing self.old).state (standing self.new) }
+        ensures step { (fetch : ℕ → Option Instr86) → ReadsCode (code_kept self.old) fetch → (result, standing self.new) ≡ stepped fetch (standing self.old) choice }
+        ensures told { (fetch : ℕ → Option Instr86) → ReadsCode (code_kept self.old) fetch → (standing self.old).said ≡ None → IsStepTold (step86 fetch (standing self.old).state choice) result (standing self.old).state (standing self.new) }
         ensures said { IsOpen result (standing self.new).said }
-        ensures code { code_of self.new ≡ code_of self.old }
+        ensures code { code_kept self.new ≡ code_kept self.old }
     {
         match self.pending {
             Pending::Nothing => self.run_one(choice),
@@ -125,9 +125,9 @@ impl Cpu86 {
     // One instruction, where nothing is open.
     fn run_one(&mut self, choice: u128) -> Step86
         requires { self.old.pending ≡ Pending.Nothing }
-        ensures step { (fetch : ℕ → Option Instr86) → Reads (code_of self.old) fetch → (result, standing self.new) ≡ settled (standing self.old).state (step86 fetch (standing self.old).state choice) }
+        ensures step { (fetch : ℕ → Option Instr86) → ReadsCode (code_kept self.old) fetch → (result, standing self.new) ≡ settled (standing self.old).state (step86 fetch (standing self.old).state choice) }
         ensures said { IsOpen result (standing self.new).said }
-        ensures code { code_of self.new ≡ code_of self.old }
+        ensures code { code_kept self.new ≡ code_kept self.old }
     {
         let at = self.processor.ip;
         match decode_at(self.code.as_slice(), at) {
@@ -141,7 +141,7 @@ impl Cpu86 {
         requires { self.old.pending ≡ Pending.Nothing }
         ensures act { (result, standing self.new) ≡ settled (standing self.old).state (act_from (standing self.old).state.ip instr (record ((standing self.old).state) { ip = next }) choice) }
         ensures said { IsOpen result (standing self.new).said }
-        ensures code { code_of self.new ≡ code_of self.old }
+        ensures code { code_kept self.new ≡ code_kept self.old }
     {
         let at = self.processor.ip;
         if self.lacks_stack(instr) {
@@ -179,7 +179,7 @@ impl Cpu86 {
         requires { self.old.pending ≡ Pending.Nothing }
         ensures call { (result, standing self.new) ≡ settled (standing self.old).state (call_system (record ((standing self.old).state) { ip = next }) choice) }
         ensures said { IsOpen result (standing self.new).said }
-        ensures code { code_of self.new ≡ code_of self.old }
+        ensures code { code_kept self.new ≡ code_kept self.old }
     {
         match self.processor.interrupt(next, choice) {
             Interrupt::Ends => {
@@ -219,7 +219,7 @@ impl Cpu86 {
     pub fn reply(&mut self, reply: &Reply, choice: u128) -> bool
         ensures reply { (result, standing self.new) ≡ replied (standing self.old) reply.now choice }
         ensures taken { (e : Event) → (standing self.old).said ≡ Some e → IsTaken e result reply.now choice (standing self.old).state (standing self.new) }
-        ensures code { code_of self.new ≡ code_of self.old }
+        ensures code { code_kept self.new ≡ code_kept self.old }
     {
         match self.pending {
             Pending::Answer(shape) => self.reply_to_call(shape, reply, choice),
@@ -233,7 +233,7 @@ impl Cpu86 {
     fn reply_to_call(&mut self, shape: Shape, reply: &Reply, choice: u128) -> bool
         requires { self.old.pending ≡ Pending.Answer shape }
         ensures reply { (result, standing self.new) ≡ replied (standing self.old) reply.now choice }
-        ensures code { code_of self.new ≡ code_of self.old }
+        ensures code { code_kept self.new ≡ code_kept self.old }
     {
         // a reply is judged by the shape alone
         let request = Request {
@@ -252,7 +252,7 @@ impl Cpu86 {
     fn reply_to_in(&mut self, port: u8, reply: &Reply, choice: u128) -> bool
         requires { self.old.pending ≡ Pending.Byte port }
         ensures reply { (result, standing self.new) ≡ replied (standing self.old) reply.now choice }
-        ensures code { code_of self.new ≡ code_of self.old }
+        ensures code { code_kept self.new ≡ code_kept self.old }
     {
         if !fits_event(&Event::In(port), reply) {
             return false;
@@ -266,7 +266,7 @@ impl Cpu86 {
     fn reply_to_out(&mut self, port: u8, byte: u8, reply: &Reply, choice: u128) -> bool
         requires { self.old.pending ≡ Pending.Taking port byte }
         ensures reply { (result, standing self.new) ≡ replied (standing self.old) reply.now choice }
-        ensures code { code_of self.new ≡ code_of self.old }
+        ensures code { code_kept self.new ≡ code_kept self.old }
     {
         if !fits_event(&Event::Out(port, byte), reply) {
             return false;
@@ -285,7 +285,7 @@ impl Cpu86 {
     /// The processor: registers, segments, flags, SP, the offset of the next instruction, the DMA address and memory, also while
     /// the machine asks.
     pub fn processor(&self) -> &Processor
-        ensures { state_of result.now ≡ (standing self.now).state }
+        ensures { state_of_86 result.now ≡ (standing self.now).state }
     {
         &self.processor
     }

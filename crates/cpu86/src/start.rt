@@ -1,8 +1,8 @@
 // The start of a program.
 ghost use Rattle.std.specs.Prelude.{◌≡◌, ◌/◌, ◌%◌};
-ghost use Rattle.cpu86_effects.specs.State.{regs_of};
+ghost use Rattle.cpu86_step.specs.State.{regs_of_86};
 
-use cpu86_effects::registers::Registers;
+use cpu86_step::registers::Registers;
 
 /// What the registers, segments and flags hold at the start. Bits 0 to 4 of `flags` are SF, ZF, AF, PF and CF; its other bits
 /// are not looked at.
@@ -22,7 +22,7 @@ pub struct Start86 {
 impl Start86 {
     /// The byte registers.
     pub fn registers(self) -> Registers
-        ensures { regs_of result ≡ record { al = self.ax % 256; ah = self.ax / 256; cl = self.cx % 256; ch = self.cx / 256; dl = self.dx % 256; dh = self.dx / 256; bl = self.bx % 256; bh = self.bx / 256 } }
+        ensures { regs_of_86 result ≡ record { al = self.ax % 256; ah = self.ax / 256; cl = self.cx % 256; ch = self.cx / 256; dl = self.dx % 256; dh = self.dx / 256; bl = self.bx % 256; bh = self.bx / 256 } }
     {
         Registers {
             al: low_byte(self.ax),

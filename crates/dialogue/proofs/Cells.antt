@@ -1,7 +1,7 @@
 -- A range's cells, one after another.
 use Rattle.std.proofs.Common.{◌≡◌, refl, sym, ◌∙◌, ap, ℕ, suc, ◌+◌, ◌-◌, ◌<◌, ◌≤◌, Bool, true, false, List, [], ◌∷◌, ◌++◌, arith, append_assoc}
 use Rattle.std.specs.Prelude.{Option, Some, None, unwrap_or, ◌==◌, option_map}
-use Rattle.dialogue.specs.Shape.{Seen, all_cells, bytes_in, text_length, text_length_by}
+use Rattle.dialogue.specs.Shape.{Seen, all_cells, bytes_seen, text_length, text_length_by}
 
 -- a cell more, at any count that is one more
 all_cells-suc : (p : ℕ → Bool) (n m at : ℕ) → n ≡ suc m → p at ≡ true → all_cells p n at ≡ all_cells p m (at + 1)
@@ -15,12 +15,12 @@ all_cells-next p len at k lt h =
     rw f (sym (all_cells-suc p (len - k) (len - (k + 1)) (at + k) e h))
 
 bytes_in-suc : (seen : Seen) (n m at : ℕ) → n ≡ suc m →
-    bytes_in seen n at ≡ unwrap_or (seen.byte at) 0 ∷ bytes_in seen m (at + 1)
+    bytes_seen seen n at ≡ unwrap_or (seen.byte at) 0 ∷ bytes_seen seen m (at + 1)
 bytes_in-suc seen n m at e = rw e refl
 
 -- a byte more
 pub bytes_in-push : (seen : Seen) (len at k r : ℕ) (items : List ℕ) → k < len → r ≡ unwrap_or (seen.byte (at + k)) 0 →
-    (items ++ r ∷ []) ++ bytes_in seen (len - (k + 1)) (at + (k + 1)) ≡ items ++ bytes_in seen (len - k) (at + k)
+    (items ++ r ∷ []) ++ bytes_seen seen (len - (k + 1)) (at + (k + 1)) ≡ items ++ bytes_seen seen (len - k) (at + k)
 bytes_in-push seen len at k r items lt h =
     let e : len - k ≡ suc (len - (k + 1)) = omega arith in
     let f : at + (k + 1) ≡ at + k + 1 = omega arith in

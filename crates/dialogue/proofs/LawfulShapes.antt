@@ -12,10 +12,10 @@ use Rattle.dialogue.specs.declared.request.ArgWord.{ArgWord}
 use Rattle.dialogue.specs.declared.request.ArgWord.TheVariants.{Byte}
 use Rattle.dialogue.specs.declared.request.Range.{Range}
 use Rattle.dialogue.specs.declared.request.Shape.{Shape}
-use Rattle.dialogue.specs.Table.{Argument, NoArgument, InE, DirectInE, InDE, Extent, F, Dma, Text, Line, Row, call_table, row_of, padded}
-use Rattle.dialogue.specs.Shape.{Seen, argument_of, address_of, is_readable, line_room, text_length, text_range, range_of, is_within, range_within, ranges_within, has_room, ranges, bytes_in, block_of, request_of, shape_by, shape_in, shape_of}
+use Rattle.dialogue.specs.Table.{Argument, NoArgument, InE, DirectInE, InDE, Extent, F, Dma, Text, Line, Row, call_table, row_of, padded_to}
+use Rattle.dialogue.specs.Shape.{Seen, argument_of, argument_address, is_readable, line_room, text_length, text_range, range_of, is_within, range_within, ranges_within, has_room, ranges, bytes_seen, block_seen, request_of, shape_by, shape_by_row, shape_of}
 use Rattle.dialogue.specs.Places.{room_at}
-use Rattle.dialogue.specs.Lawful.{IsShapeOver, is_argument, IsRangeOf, AreRangesOf, first_byte, range_of_block, IsLawful}
+use Rattle.dialogue.specs.Lawful.{IsShapeOver, is_argument, IsRangeOf, AreRangesOf, first_byte, range_of_block, IsLawfulRequest}
 use Rattle.dialogue.proofs.Rows.{rows_have_places, entry_at-passes, fits_in_places, has_room-padded}
 use Rattle.dialogue.proofs.Tried.{ok_is, then_is, cond_ok}
 
@@ -45,9 +45,9 @@ range_of-is seen de dma Text r h = by_length (text_length seen _ de) h
 pub record Placed (de dma mx : ℕ) (xs : List Extent) (rs : List Range) : Type 0 where
   pub same_length : length rs ≡ length xs
   pub ends : All Ends rs
-  pub are : (k : ℕ) → length xs ≤ k → AreRangesOf de dma mx xs (padded k rs)
+  pub are : (k : ℕ) → length xs ≤ k → AreRangesOf de dma mx xs (padded_to k rs)
 
-ranges-padded : (k : ℕ) (rs : List Range) → length rs ≤ k → ranges (padded k rs) ≡ rs
+ranges-padded : (k : ℕ) (rs : List Range) → length rs ≤ k → ranges (padded_to k rs) ≡ rs
 ranges-padded zero [] le = refl
 ranges-padded (suc k) [] le = ranges-padded k [] (omega arith)
 ranges-padded zero (r ∷ rs) le = absurd (omega arith)
@@ -76,8 +76,8 @@ ranges_within-placed passes rule seen de dma (x ∷ xs) rs h =
     })
   where
     placed_cons : (mx : ℕ) (r : Range) (rs' : List Range) → IsRangeOf de dma mx x r →
-        ((k : ℕ) → length xs ≤ k → AreRangesOf de dma mx xs (padded k rs')) →
-        (k : ℕ) → length (x ∷ xs) ≤ k → AreRangesOf de dma mx (x ∷ xs) (padded k (r ∷ rs'))
+        ((k : ℕ) → length xs ≤ k → AreRangesOf de dma mx xs (padded_to k rs')) →
+        (k : ℕ) → length (x ∷ xs) ≤ k → AreRangesOf de dma mx (x ∷ xs) (padded_to k (r ∷ rs'))
     placed_cons mx r rs' is are zero le = absurd (omega arith)
     placed_cons mx r rs' is are (suc k) le = (is, are k (omega arith))
 
@@ -100,11 +100,11 @@ AreRangesOf-any de dma mx m (Text ∷ xs) (Some r ∷ places) h are = (are.0, Ar
 AreRangesOf-any de dma mx m (Line ∷ xs) (Some r ∷ places) h are = cc
 
 -- the blocks of ranges have these ranges
-length-bytes_in : (seen : Seen) (k at : ℕ) → length (bytes_in seen k at) ≡ k
+length-bytes_in : (seen : Seen) (k at : ℕ) → length (bytes_seen seen k at) ≡ k
 length-bytes_in seen zero at = refl
 length-bytes_in seen (suc k) at = ap suc (length-bytes_in seen k (at + 1))
 
-pub range_of_block-block_of : (seen : Seen) (rs : List Range) → map range_of_block (map (block_of seen) rs) ≡ rs
+pub range_of_block-block_of : (seen : Seen) (rs : List Range) → map range_of_block (map (block_seen seen) rs) ≡ rs
 range_of_block-block_of seen [] = refl
 range_of_block-block_of seen (r ∷ rs) = rw (length-bytes_in seen r.len r.at, range_of_block-block_of seen rs) refl
 
@@ -161,12 +161,12 @@ unfolding row_of
 rows_read_mx function row found = entry_at-passes reads_mx call_table function row refl found
 
 first_byte-cell : (seen : Seen) (de : ℕ) (r : Range) (rs : List Range) → r.at ≡ de + 0 → r.len ≡ 1 →
-    first_byte (map (block_of seen) (r ∷ rs)) ≡ line_room seen de
+    first_byte (map (block_seen seen) (r ∷ rs)) ≡ line_room seen de
 first_byte-cell seen de r rs start len =
     rw (len, start) (ap (λ a. unwrap_or (seen.byte a) 0) (add-zero de))
 
 mx_is_read : (seen : Seen) (de dma : ℕ) (xs : List Extent) (rs : List Range) → is_first_cell xs ≡ true →
-    AreRangesOf de dma (line_room seen de) xs (padded 3 rs) → first_byte (map (block_of seen) rs) ≡ line_room seen de
+    AreRangesOf de dma (line_room seen de) xs (padded_to 3 rs) → first_byte (map (block_seen seen) rs) ≡ line_room seen de
 mx_is_read seen de dma [] rs first are = cc
 mx_is_read seen de dma (Dma ∷ xs) rs first are = cc
 mx_is_read seen de dma (Text ∷ xs) rs first are = cc
@@ -191,7 +191,7 @@ pub record Lines (row : Row) (function : ℕ) (de dma : ℕ) (reads writes : Lis
   pub writes_are : AreRangesOf de dma mx row.writes writes
   pub room : function ≡ 10 → mx ≢ 0
 
-room-is : (seen : Seen) (de function : ℕ) (row : Row) → row_of function ≡ Some row → room_at seen de (padded 2 row.writes) ≡ true →
+room-is : (seen : Seen) (de function : ℕ) (row : Row) → row_of function ≡ Some row → room_at seen de (padded_to 2 row.writes) ≡ true →
     function ≡ 10 → line_room seen de ≢ 0
 room-is seen de function row found room ten none =
     let line : row.writes ≡ Line ∷ [] = row_of-ten row (rw (← ten) found) in
@@ -206,28 +206,28 @@ no_line_at_ten function row found ten none =
     cc
 
 pub lines : (seen : Seen) (function : ℕ) (row : Row) (de dma : ℕ) (rs ws : List Range) → row_of function ≡ Some row →
-    AreRangesOf de dma (line_room seen de) row.reads (padded 3 rs) →
-    AreRangesOf de dma (line_room seen de) row.writes (padded 2 ws) →
-    room_at seen de (padded 2 row.writes) ≡ true →
-    Lines row function de dma (padded 3 rs) (padded 2 ws) (first_byte (map (block_of seen) rs))
+    AreRangesOf de dma (line_room seen de) row.reads (padded_to 3 rs) →
+    AreRangesOf de dma (line_room seen de) row.writes (padded_to 2 ws) →
+    room_at seen de (padded_to 2 row.writes) ≡ true →
+    Lines row function de dma (padded_to 3 rs) (padded_to 2 ws) (first_byte (map (block_seen seen) rs))
 lines seen function row de dma rs ws found reads writes room =
     let told = and_parts (has_no_line row.reads) _ (rows_read_mx function row found) in
     by_lines (has_no_line row.writes) refl told.0 told.1
   where
     mx : ℕ
-    mx = first_byte (map (block_of seen) rs)
+    mx = first_byte (map (block_seen seen) rs)
 
     by_lines : (b : Bool) → has_no_line row.writes ≡ b → has_no_line row.reads ≡ true → (b || is_first_cell row.reads) ≡ true →
-        Lines row function de dma (padded 3 rs) (padded 2 ws) mx
+        Lines row function de dma (padded_to 3 rs) (padded_to 2 ws) mx
     by_lines true none plain first = record {
-      reads_are = AreRangesOf-any de dma (line_room seen de) mx row.reads (padded 3 rs) plain reads;
-      writes_are = AreRangesOf-any de dma (line_room seen de) mx row.writes (padded 2 ws) none writes;
+      reads_are = AreRangesOf-any de dma (line_room seen de) mx row.reads (padded_to 3 rs) plain reads;
+      writes_are = AreRangesOf-any de dma (line_room seen de) mx row.writes (padded_to 2 ws) none writes;
       room = λ ten. absurd (no_line_at_ten function row found ten none);
     }
     by_lines false line plain first =
         let same : mx ≡ line_room seen de = mx_is_read seen de dma row.reads rs first reads in
         record {
-          reads_are = AreRangesOf-any de dma (line_room seen de) mx row.reads (padded 3 rs) plain reads;
+          reads_are = AreRangesOf-any de dma (line_room seen de) mx row.reads (padded_to 3 rs) plain reads;
           writes_are = rw same writes;
           room = λ ten none. room-is seen de function row found room ten (sym same ∙ none);
         }
@@ -239,22 +239,22 @@ pub record Made (seen : Seen) (shape : Shape) : Type 0 where
   pub argument : IsTrue (is_argument row.argument shape.arg)
   pub dma : ℕ
   pub reads : List Range
-  pub reads_are : shape.reads ≡ padded 3 reads
-  pub reads_placed : Placed (address_of shape.arg) dma (line_room seen (address_of shape.arg)) row.reads reads
+  pub reads_are : shape.reads ≡ padded_to 3 reads
+  pub reads_placed : Placed (argument_address shape.arg) dma (line_room seen (argument_address shape.arg)) row.reads reads
   pub writes : List Range
-  pub writes_are : shape.writes ≡ padded 2 writes
-  pub writes_placed : Placed (address_of shape.arg) dma (line_room seen (address_of shape.arg)) row.writes writes
-  pub room : room_at seen (address_of shape.arg) (padded 2 row.writes) ≡ true
+  pub writes_are : shape.writes ≡ padded_to 2 writes
+  pub writes_placed : Placed (argument_address shape.arg) dma (line_room seen (argument_address shape.arg)) row.writes writes
+  pub room : room_at seen (argument_address shape.arg) (padded_to 2 row.writes) ≡ true
 
 made_by_row : (seen : Seen) (function : ℕ) (row : Row) (d e : Option ℕ) (dma : ℕ) (shape : Shape) → row_of function ≡ Some row →
     shape_by function row d e dma seen ≡ Ok shape → Made seen shape
 made_by_row seen function row d e dma shape found given =
     let a = then_is (argument_of row.argument d e) _ shape given in
-    let de = address_of a.0 in
+    let de = argument_address a.0 in
     let r = then_is (ranges_within (is_readable seen) P10 seen de dma row.reads) _ shape a.2 in
     let x = then_is (has_room seen de row.writes) _ shape r.2 in
     let w = then_is (ranges_within seen.writable P11 seen de dma x.0) _ shape x.2 in
-    let room = cond_ok (room_at seen de (padded 2 row.writes)) row.writes x.0 P10 (sym (has_room-padded seen de 1 row.writes) ∙ x.1) in
+    let room = cond_ok (room_at seen de (padded_to 2 row.writes)) row.writes x.0 P10 (sym (has_room-padded seen de 1 row.writes) ∙ x.1) in
     let writes : ranges_within seen.writable P11 seen de dma row.writes ≡ Ok w.0 =
     ap (λ xs. ranges_within seen.writable P11 seen de dma xs) room.1 ∙ w.1 in
     let P : Shape → Type 0 = Made seen in
@@ -275,7 +275,7 @@ made_by_row seen function row d e dma shape found given =
 pub made : (seen : Seen) (shape : Shape) → IsShapeOver seen shape → Made seen shape
 made seen shape over = by_function over.function over.given
   where
-    by_row : (function : ℕ) (o : Option Row) → row_of function ≡ o → shape_in function o over.d over.e over.dma seen ≡ Ok shape → Made seen shape
+    by_row : (function : ℕ) (o : Option Row) → row_of function ≡ o → shape_by_row function o over.d over.e over.dma seen ≡ Ok shape → Made seen shape
     by_row function None found given = cc
     by_row function (Some row) found given = made_by_row seen function row over.d over.e over.dma shape found given
 
@@ -301,10 +301,10 @@ pub made-ends : (seen : Seen) (shape : Shape) → Made seen shape → All Ends (
 made-ends seen shape m = rw (made-reads seen shape m) m.reads_placed.ends
 
 -- the request of such a shape is lawful
-pub made-lawful : (seen : Seen) (shape : Shape) → Made seen shape → IsLawful (request_of shape seen)
+pub made-lawful : (seen : Seen) (shape : Shape) → Made seen shape → IsLawfulRequest (request_of shape seen)
 made-lawful seen shape m =
     let fits = fits_in_places m.row (rows_have_places shape.function m.row m.found) in
-    let de = address_of shape.arg in
+    let de = argument_address shape.arg in
     let about = lines seen shape.function m.row de m.dma m.reads m.writes m.found
     (m.reads_placed.are 3 fits.0) (m.writes_placed.are 2 fits.1) m.room in
     let reads = made-reads seen shape m in

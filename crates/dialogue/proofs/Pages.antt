@@ -4,7 +4,7 @@ use Rattle.std.proofs.lemmas.List.{take_at, drop_at, length-replicate, replicate
 use Rattle.std.proofs.Math.Seq.{take-append-add}
 use Rattle.std.specs.Prelude.{replicate, map, Some, ◌==◌, true, false}
 use Rattle.std.specs.Char.{to_ascii_uppercase}
-use Rattle.dialogue.specs.StartPage.{name_of, type_of, field, control_block, counted, tail_area, is_tail, page, page_of_tail}
+use Rattle.dialogue.specs.StartPage.{name_in_tail, type_of, field, control_block, counted, tail_area, is_tail, page, page_of_tail}
 
 -- bytes put into cells of which the first are given and the others are 0: they stand after a gap
 pub put-zeros : (given bytes cells : List ℕ) (gap left total start : ℕ) → cells ≡ given ++ replicate total 0 →
@@ -46,7 +46,7 @@ length-field k part = by_parts _ _
 
 pub length-control_block : (word : List ℕ) → length (control_block word) ≡ 16
 length-control_block word =
-    let name = length-field 8 (name_of word) in
+    let name = length-field 8 (name_in_tail word) in
     let kind = length-field 3 (type_of word) in
     rw (length-append, length-append, name, kind) refl
 

@@ -13,8 +13,8 @@ use Rattle.dialogue.specs.declared.table.Argument.{Argument}
 use Rattle.dialogue.specs.declared.table.Argument.TheVariants.{NoArgument, InE, DirectInE, InDE}
 use Rattle.dialogue.specs.declared.table.Extent.{Extent}
 use Rattle.dialogue.specs.declared.table.Extent.TheVariants.{F, Dma, Text, Line}
-use Rattle.dialogue.specs.Table.{Row, call_table, row_of, padded}
-use Rattle.dialogue.specs.Shape.{Seen, argument_of, address_of, is_readable, line_room, text_length, text_length_by, text_range, range_of, all_cells, is_within, range_within, ranges_within, has_room, ranges, bytes_in, block_of, request_of, shape_by, shape_in}
+use Rattle.dialogue.specs.Table.{Row, call_table, row_of, padded_to}
+use Rattle.dialogue.specs.Shape.{Seen, argument_of, argument_address, is_readable, line_room, text_length, text_length_by, text_range, range_of, all_cells, is_within, range_within, ranges_within, has_room, ranges, bytes_seen, block_seen, request_of, shape_by, shape_by_row}
 use Rattle.dialogue.proofs.Rows.{entry_at-passes}
 use Rattle.dialogue.proofs.Tried.{ok_is, then_is, cond_ok}
 use Rattle.dialogue.specs.Sight.{SeesMore, KnowsMore, WhoSeesMoreAsksTheSame}
@@ -54,22 +54,22 @@ arg_same InDE (Some m) None d' e' arg kd ke h = absurd (cc)
 arg_same InDE (Some m) (Some n) d' e' arg kd ke h =
     subst (λ o. argument_of InDE o e' ≡ Ok arg) (sym (kd m refl).1) (subst (λ o. argument_of InDE (Some m) o ≡ Ok arg) (sym (ke n refl).1) h)
 
-arg_small : (k : Argument) (d e d' e' : Option ℕ) (arg : ArgWord) → KnowsMore d d' → KnowsMore e e' → argument_of k d e ≡ Ok arg → address_of arg < 0x10000
-arg_small NoArgument d e d' e' arg kd ke h = subst (λ w. address_of w < 0x10000) (ok_is _ arg h) (omega arith)
+arg_small : (k : Argument) (d e d' e' : Option ℕ) (arg : ArgWord) → KnowsMore d d' → KnowsMore e e' → argument_of k d e ≡ Ok arg → argument_address arg < 0x10000
+arg_small NoArgument d e d' e' arg kd ke h = subst (λ w. argument_address w < 0x10000) (ok_is _ arg h) (omega arith)
 arg_small InE d None d' e' arg kd ke h = absurd (cc)
-arg_small InE d (Some n) d' e' arg kd ke h = subst (λ w. address_of w < 0x10000) (ok_is _ arg h) (omega arith)
+arg_small InE d (Some n) d' e' arg kd ke h = subst (λ w. argument_address w < 0x10000) (ok_is _ arg h) (omega arith)
 arg_small DirectInE d None d' e' arg kd ke h = absurd (cc)
 arg_small DirectInE d (Some n) d' e' arg kd ke h = by_byte (n == 0xFE) h
   where
-    by_byte : (b : Bool) → cond b (Err P10) (Ok (Byte n)) ≡ Ok arg → address_of arg < 0x10000
+    by_byte : (b : Bool) → cond b (Err P10) (Ok (Byte n)) ≡ Ok arg → argument_address arg < 0x10000
     by_byte true h = absurd (cc)
-    by_byte false h = subst (λ w. address_of w < 0x10000) (ok_is _ arg h) (omega arith)
+    by_byte false h = subst (λ w. argument_address w < 0x10000) (ok_is _ arg h) (omega arith)
 arg_small InDE None e d' e' arg kd ke h = absurd (cc)
 arg_small InDE (Some m) None d' e' arg kd ke h = absurd (cc)
 arg_small InDE (Some m) (Some n) d' e' arg kd ke h =
     let hm = (kd m refl).0 in
     let hn = (ke n refl).0 in
-    subst (λ w. address_of w < 0x10000) (ok_is _ arg h) (omega (arith, hm, hn))
+    subst (λ w. argument_address w < 0x10000) (ok_is _ arg h) (omega (arith, hm, hn))
 
 module _ (s t : Seen) (more : SeesMore s t) where
   -- cells that pass
@@ -96,16 +96,16 @@ module _ (s t : Seen) (more : SeesMore s t) where
       and_from _ _ p.0 (all_same P Q each r.len r.at (within_end P r h) p.1)
 
   -- the bytes of cells that are read
-  bytes_same : (k at : ℕ) → at + k ≤ 0x10000 → all_cells (is_readable s) k at ≡ true → bytes_in t k at ≡ bytes_in s k at
+  bytes_same : (k at : ℕ) → at + k ≤ 0x10000 → all_cells (is_readable s) k at ≡ true → bytes_seen t k at ≡ bytes_seen s k at
   bytes_same zero at le h = refl
   bytes_same (suc k) at le h =
       let p = and_parts (is_readable s at) (all_cells (is_readable s) k (at + 1)) h in
       by_byte (bytes_same k (at + 1) (omega (arith, le)) p.1) (s.byte at) refl p.0
     where
-      by_byte : bytes_in t k (at + 1) ≡ bytes_in s k (at + 1) → (o : Option ℕ) → s.byte at ≡ o → is_some o ≡ true → unwrap_or (t.byte at) 0 ∷ bytes_in t k (at + 1) ≡ unwrap_or (s.byte at) 0 ∷ bytes_in s k (at + 1)
+      by_byte : bytes_seen t k (at + 1) ≡ bytes_seen s k (at + 1) → (o : Option ℕ) → s.byte at ≡ o → is_some o ≡ true → unwrap_or (t.byte at) 0 ∷ bytes_seen t k (at + 1) ≡ unwrap_or (s.byte at) 0 ∷ bytes_seen s k (at + 1)
       by_byte rest None e h = absurd (cc)
       by_byte rest (Some n) e h =
-          ap (λ o. unwrap_or o 0 ∷ bytes_in t k (at + 1)) (more.byte at n (omega (arith, le)) e ∙ sym e)
+          ap (λ o. unwrap_or o 0 ∷ bytes_seen t k (at + 1)) (more.byte at n (omega (arith, le)) e ∙ sym e)
           ∙ ap (λ bs. unwrap_or (s.byte at) 0 ∷ bs) rest
 
   -- the length of a text
@@ -190,13 +190,13 @@ module _ (s t : Seen) (more : SeesMore s t) where
         )
 
     -- the blocks that are read
-    blocks_same : (k : ℕ) (rs : List Range) → AllWithin (is_readable s) rs → map (block_of t) (ranges (padded k rs)) ≡ map (block_of s) (ranges (padded k rs))
+    blocks_same : (k : ℕ) (rs : List Range) → AllWithin (is_readable s) rs → map (block_seen t) (ranges (padded_to k rs)) ≡ map (block_seen s) (ranges (padded_to k rs))
     blocks_same zero rs h = refl
     blocks_same (suc k) [] h = blocks_same k [] tt
     blocks_same (suc k) (r ∷ rs) h =
         let all = and_parts (nat_le (r.at + r.len) 0x10000) (all_cells (is_readable s) r.len r.at) h.0 in
-        ap (λ bs. record { at = r.at; bytes = bs } ∷ map (block_of t) (ranges (padded k rs))) (bytes_same r.len r.at (within_end (is_readable s) r h.0) all.1)
-        ∙ ap (λ bs. block_of s r ∷ bs) (blocks_same k rs h.1)
+        ap (λ bs. record { at = r.at; bytes = bs } ∷ map (block_seen t) (ranges (padded_to k rs))) (bytes_same r.len r.at (within_end (is_readable s) r h.0) all.1)
+        ∙ ap (λ bs. block_seen s r ∷ bs) (blocks_same k rs h.1)
 
     -- room for a line
 
@@ -217,7 +217,7 @@ shape_same : (function dma : ℕ) (row : Row) (d e d' e' : Option ℕ) (s t : Se
 shape_same function dma row d e d' e' s t shape first more kd ke h =
     let f = and_parts (not (has_line row.reads)) (not (has_line (drop 1 row.writes))) first in
     let a = then_is (argument_of row.argument d e) _ shape h in
-    let de = address_of a.0 in
+    let de = argument_address a.0 in
     let small = arg_small row.argument d e d' e' a.0 kd ke a.1 in
     let b = then_is (ranges_within (is_readable s) P10 s de dma row.reads) _ shape a.2 in
     let reads = ranges_same s t more de dma small (is_readable s) (is_readable t) P10 (readable_same s t more) row.reads b.0 (λ g. absurd (not_true (has_line row.reads) f.0 g)) b.1 in
@@ -230,14 +230,14 @@ shape_same function dma row d e d' e' s t shape first more kd ke h =
           (then_from (has_room t de row.writes) _ c.0 shape room.0
           (then_from (ranges_within t.writable P11 t de dma c.0) _ w.0 shape writes.0 w.2))),
       subst (λ z. request_of z t ≡ request_of z s) (ok_is _ shape w.2)
-          (ap (λ bs. record { shape = record { function = function; arg = a.0; reads = padded 3 b.0; writes = padded 2 w.0 }; blocks = bs }) (blocks_same s t more de dma small 3 b.0 reads.1)),
+          (ap (λ bs. record { shape = record { function = function; arg = a.0; reads = padded_to 3 b.0; writes = padded_to 2 w.0 }; blocks = bs }) (blocks_same s t more de dma small 3 b.0 reads.1)),
     )
 
 pub asks_same : WhoSeesMoreAsksTheSame
 asks_same function dma d e d' e' s t shape more kd ke h = by_row (row_of function) refl h
   where
-    by_row : (o : Option Row) → row_of function ≡ o → shape_in function o d e dma s ≡ Ok shape → (shape_in function (row_of function) d' e' dma t ≡ Ok shape) × (request_of shape t ≡ request_of shape s)
+    by_row : (o : Option Row) → row_of function ≡ o → shape_by_row function o d e dma s ≡ Ok shape → (shape_by_row function (row_of function) d' e' dma t ≡ Ok shape) × (request_of shape t ≡ request_of shape s)
     by_row None g h = absurd (cc)
     by_row (Some row) g h =
         let r = shape_same function dma row d e d' e' s t shape (rows_have_it function row g) more kd ke h in
-        (ap (λ o. shape_in function o d' e' dma t) g ∙ r.0, r.1)
+        (ap (λ o. shape_by_row function o d' e' dma t) g ∙ r.0, r.1)

@@ -1,4 +1,4 @@
--- A memory of bytes: a byte at each of 65,536 addresses. Both machines over bytes have one, that of the 8080 over plain bytes and
+-- A memory of bytes: a byte at each of 65,536 addresses. Both machines over bytes have one, that of the untagged 8080 and
 -- that of the 8086.
 use Rattle.std.specs.Prelude.{ℕ, ◌+◌, ◌%◌, ◌==◌, true, cond, List, [], ◌∷◌, Some}
 use Rattle.dialogue.specs.declared.blocks.Block.{Block}

@@ -9,7 +9,7 @@ use Rattle.dialogue.specs.declared.request.ArgWord.TheVariants.{None as NoWord, 
 use Rattle.dialogue.specs.declared.request.Event.{Event}
 use Rattle.dialogue.specs.declared.request.Event.TheVariants.{Call, In, Out, End}
 use Rattle.dialogue.specs.Table.{AnswerKind, NoAnswer, ByteAnswer, WordAnswer, AnswerRule, Always, ByteWhere, Row, row_of}
-use Rattle.dialogue.specs.Shape.{ranges, address_of}
+use Rattle.dialogue.specs.Shape.{ranges, argument_address}
 
 -- the kind of a call's answer, by its argument: function 6 answers a byte where it asks for one
 abbrev pub kind_by : AnswerRule → ArgWord → AnswerKind
@@ -25,14 +25,14 @@ answer_fits ByteAnswer n = nat_lt n 256
 answer_fits WordAnswer n = nat_lt n 0x10000
 
 -- a block fills a range
-abbrev pub fills : Range → Block → Bool
-fills r b = (b.at == r.at) && (length b.bytes == r.len)
+abbrev pub fills_range : Range → Block → Bool
+fills_range r b = (b.at == r.at) && (length b.bytes == r.len)
 
 -- each range is written wholly once or not at all, in order
 abbrev pub writes_fit : List Range → List Block → Bool
 writes_fit rs [] = true
 writes_fit [] (b ∷ bs) = false
-writes_fit (r ∷ rs) (b ∷ bs) = cond (fills r b) (writes_fit rs bs) (writes_fit rs (b ∷ bs))
+writes_fit (r ∷ rs) (b ∷ bs) = cond (fills_range r b) (writes_fit rs bs) (writes_fit rs (b ∷ bs))
 
 -- a line's length k is below the cells of its buffer, and k bytes follow it
 abbrev pub line_bytes_fit : ℕ → List ℕ → Bool
@@ -63,8 +63,8 @@ abbrev pub answer_in : Option Row → ArgWord → AnswerKind
 answer_in None arg = NoAnswer
 answer_in (Some row) arg = kind_by row.answer arg
 
-abbrev pub answer_of : Request → AnswerKind
-answer_of request = answer_in (row_of request.shape.function) request.shape.arg
+abbrev pub answer_kind_of : Request → AnswerKind
+answer_kind_of request = answer_in (row_of request.shape.function) request.shape.arg
 
 -- a port takes no memory: to an IN any byte is a reply, to an OUT the answer 0
 abbrev pub writes_nothing : List Block → Bool
@@ -89,5 +89,5 @@ waits_in (Some End) = None
 -- the DMA address after a call: function 26 sets it, function 13 sets it to 80H
 abbrev pub dma_after : Request → ℕ → ℕ
 dma_after request dma =
-    cond (request.shape.function == 26) (address_of request.shape.arg)
+    cond (request.shape.function == 26) (argument_address request.shape.arg)
     (cond (request.shape.function == 13) 0x80 dma)

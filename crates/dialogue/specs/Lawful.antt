@@ -10,7 +10,7 @@ use Rattle.dialogue.specs.declared.request.Request.{Request}
 use Rattle.dialogue.specs.declared.request.Event.{Event}
 use Rattle.dialogue.specs.declared.request.Event.TheVariants.{Call, In, Out, End}
 use Rattle.dialogue.specs.Table.{Argument, NoArgument, InE, DirectInE, InDE, Extent, F, Dma, Text, Line, Row, row_of}
-use Rattle.dialogue.specs.Shape.{Seen, address_of, ranges, shape_of}
+use Rattle.dialogue.specs.Shape.{Seen, argument_address, ranges, shape_of}
 
 -- the shape of some call over this memory
 pub record IsShapeOver (seen : Seen) (shape : Shape) : Type 0 where
@@ -43,13 +43,13 @@ AreRangesOf de dma mx (x ∷ xs) (None ∷ places) = ⊥
 AreRangesOf de dma mx (x ∷ xs) (Some r ∷ places) = IsRangeOf de dma mx x r × AreRangesOf de dma mx xs places
 
 -- the first byte of the first block: in a request of function 10 it is mx
-abbrev pub first_of : List ℕ → ℕ
-first_of [] = 0
-first_of (n ∷ ns) = n
+abbrev pub first_byte_of : List ℕ → ℕ
+first_byte_of [] = 0
+first_byte_of (n ∷ ns) = n
 
 abbrev pub first_byte : List Block → ℕ
 first_byte [] = 0
-first_byte (b ∷ bs) = first_of b.bytes
+first_byte (b ∷ bs) = first_byte_of b.bytes
 
 -- the range of a block
 abbrev pub range_of_block : Block → Range
@@ -57,13 +57,13 @@ range_of_block b = record { at = b.at; len = length b.bytes }
 
 -- a request is lawful where its function is in the table, its argument and its ranges are those of the row, no range
 -- passes 0FFFFH, mx is not 0, and it has a block for each range read
-pub record IsLawful (request : Request) : Type 0 where
+pub record IsLawfulRequest (request : Request) : Type 0 where
   pub row : Row
   pub in_table : row_of request.shape.function ≡ Some row
   pub argument : IsTrue (is_argument row.argument request.shape.arg)
   pub dma : ℕ
-  pub reads : AreRangesOf (address_of request.shape.arg) dma (first_byte request.blocks) row.reads request.shape.reads
-  pub writes : AreRangesOf (address_of request.shape.arg) dma (first_byte request.blocks) row.writes request.shape.writes
+  pub reads : AreRangesOf (argument_address request.shape.arg) dma (first_byte request.blocks) row.reads request.shape.reads
+  pub writes : AreRangesOf (argument_address request.shape.arg) dma (first_byte request.blocks) row.writes request.shape.writes
   pub reads_end : All (λ r. r.at + r.len ≤ 0x10000) (ranges request.shape.reads)
   pub writes_end : All (λ r. r.at + r.len ≤ 0x10000) (ranges request.shape.writes)
   pub room : request.shape.function ≡ 10 → first_byte request.blocks ≢ 0
@@ -71,7 +71,7 @@ pub record IsLawful (request : Request) : Type 0 where
 
 -- an event that a program may ask: of a call, that its request is lawful; the end is not asked
 abbrev pub IsLawfulEvent : Event → Type 0
-IsLawfulEvent (Call request) = IsLawful request
+IsLawfulEvent (Call request) = IsLawfulRequest request
 IsLawfulEvent (In port) = Unit {0}
 IsLawfulEvent (Out port byte) = Unit {0}
 IsLawfulEvent End = ⊥

@@ -10,3 +10,4 @@ pub mod Run
 pub mod Same
 pub mod Fill
 pub mod Sight
+pub mod Replies

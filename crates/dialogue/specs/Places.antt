@@ -10,7 +10,7 @@ use Rattle.dialogue.specs.declared.shape.Access.TheVariants.{Read, Write}
 use Rattle.dialogue.specs.declared.table.Row.{Row}
 use Rattle.dialogue.specs.Tried.{try_then}
 use Rattle.dialogue.specs.Table.{Extent, F, Dma, Text, Line}
-use Rattle.dialogue.specs.Shape.{Seen, argument_of, address_of, is_readable, line_room, range_of, range_within}
+use Rattle.dialogue.specs.Shape.{Seen, argument_of, argument_address, is_readable, line_room, range_of, range_within}
 
 -- whether a cell passes, and the rule that is broken where one does not
 abbrev pub passes : Access → Seen → ℕ → Bool
@@ -62,8 +62,8 @@ room_at seen de (Some Line ∷ xs) = not (line_room seen de == 0)
 abbrev pub shape_by_places : ℕ → Row → Option ℕ → Option ℕ → ℕ → Seen → Result Shape Rule
 shape_by_places function row d e dma seen =
     try_then (argument_of row.argument d e) (λ arg.
-    try_then (places_within Read seen (address_of arg) dma row.reads) (λ reads.
-    cond (room_at seen (address_of arg) row.writes)
-    (try_then (places_within Write seen (address_of arg) dma row.writes) (λ writes.
+    try_then (places_within Read seen (argument_address arg) dma row.reads) (λ reads.
+    cond (room_at seen (argument_address arg) row.writes)
+    (try_then (places_within Write seen (argument_address arg) dma row.writes) (λ writes.
     Ok (record { function = function; arg = arg; reads = reads; writes = writes })))
     (Err P10)))

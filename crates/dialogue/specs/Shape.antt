@@ -10,7 +10,7 @@ use Rattle.dialogue.specs.declared.request.Range.{Range}
 use Rattle.dialogue.specs.declared.request.Shape.{Shape}
 use Rattle.dialogue.specs.declared.request.Request.{Request}
 use Rattle.dialogue.specs.Tried.{try_then}
-use Rattle.dialogue.specs.Table.{Argument, NoArgument, InE, DirectInE, InDE, Extent, F, Dma, Text, Line, Row, row_of, padded}
+use Rattle.dialogue.specs.Table.{Argument, NoArgument, InE, DirectInE, InDE, Extent, F, Dma, Text, Line, Row, row_of, padded_to}
 
 -- the memory that a call sees: the byte of each cell that it may read, and the cells that it may write
 pub record Seen : Type 0 where
@@ -18,8 +18,8 @@ pub record Seen : Type 0 where
   pub writable : ℕ → Bool
 
 -- the memory that a view shows
-abbrev pub seen_by : (ℕ → Option ℕ) → (ℕ → Bool) → Seen
-seen_by byte writable = record { byte = byte; writable = writable }
+abbrev pub seen_by_view : (ℕ → Option ℕ) → (ℕ → Bool) → Seen
+seen_by_view byte writable = record { byte = byte; writable = writable }
 
 -- the argument, from the numbers in D and E where they are known; the direct console has none of 0FEH
 abbrev pub argument_of : Argument → Option ℕ → Option ℕ → Result ArgWord Rule
@@ -33,10 +33,10 @@ argument_of InDE (Some d) None = Err P10
 argument_of InDE (Some d) (Some e) = Ok (Word (256 * d + e))
 
 -- the address that a row's F counts from
-abbrev pub address_of : ArgWord → ℕ
-address_of NoWord = 0
-address_of (Byte e) = 0
-address_of (Word w) = w
+abbrev pub argument_address : ArgWord → ℕ
+argument_address NoWord = 0
+argument_address (Byte e) = 0
+argument_address (Word w) = w
 
 -- the number of cells before the first `$` among k cells from a place up, if all of them can be read
 abbrev pub text_length_by : Option ℕ → Option ℕ → Option ℕ
@@ -98,19 +98,19 @@ has_room seen de (Line ∷ xs) = cond (line_room seen de == 0) (Err P10) (Ok (Li
 abbrev pub shape_by : ℕ → Row → Option ℕ → Option ℕ → ℕ → Seen → Result Shape Rule
 shape_by function row d e dma seen =
     try_then (argument_of row.argument d e) (λ arg.
-    try_then (ranges_within (is_readable seen) P10 seen (address_of arg) dma row.reads) (λ reads.
-    try_then (has_room seen (address_of arg) row.writes) (λ extents.
-    try_then (ranges_within seen.writable P11 seen (address_of arg) dma extents) (λ writes.
-    Ok (record { function = function; arg = arg; reads = padded 3 reads; writes = padded 2 writes })))))
+    try_then (ranges_within (is_readable seen) P10 seen (argument_address arg) dma row.reads) (λ reads.
+    try_then (has_room seen (argument_address arg) row.writes) (λ extents.
+    try_then (ranges_within seen.writable P11 seen (argument_address arg) dma extents) (λ writes.
+    Ok (record { function = function; arg = arg; reads = padded_to 3 reads; writes = padded_to 2 writes })))))
 
-abbrev pub shape_in : ℕ → Option Row → Option ℕ → Option ℕ → ℕ → Seen → Result Shape Rule
-shape_in function None d e dma seen = Err P9
-shape_in function (Some row) d e dma seen = shape_by function row d e dma seen
+abbrev pub shape_by_row : ℕ → Option Row → Option ℕ → Option ℕ → ℕ → Seen → Result Shape Rule
+shape_by_row function None d e dma seen = Err P9
+shape_by_row function (Some row) d e dma seen = shape_by function row d e dma seen
 
 -- the shape of a call with this function in C and these numbers in D and E, where they are known
 abbrev pub shape_of : Option ℕ → Option ℕ → Option ℕ → ℕ → Seen → Result Shape Rule
 shape_of None d e dma seen = Err P9
-shape_of (Some function) d e dma seen = shape_in function (row_of function) d e dma seen
+shape_of (Some function) d e dma seen = shape_by_row function (row_of function) d e dma seen
 
 -- the ranges of a list with places that are free
 abbrev pub ranges : List (Option Range) → List Range
@@ -119,13 +119,13 @@ ranges (None ∷ rs) = ranges rs
 ranges (Some r ∷ rs) = r ∷ ranges rs
 
 -- the bytes of k cells from a place up
-abbrev pub bytes_in : Seen → ℕ → ℕ → List ℕ
-bytes_in seen zero at = []
-bytes_in seen (suc k) at = unwrap_or (seen.byte at) 0 ∷ bytes_in seen k (at + 1)
+abbrev pub bytes_seen : Seen → ℕ → ℕ → List ℕ
+bytes_seen seen zero at = []
+bytes_seen seen (suc k) at = unwrap_or (seen.byte at) 0 ∷ bytes_seen seen k (at + 1)
 
-abbrev pub block_of : Seen → Range → Block
-block_of seen r = record { at = r.at; bytes = bytes_in seen r.len r.at }
+abbrev pub block_seen : Seen → Range → Block
+block_seen seen r = record { at = r.at; bytes = bytes_seen seen r.len r.at }
 
 -- the request of a shape: what it reads, a block for each range in order
 abbrev pub request_of : Shape → Seen → Request
-request_of shape seen = record { shape = shape; blocks = map (block_of seen) (ranges shape.reads) }
+request_of shape seen = record { shape = shape; blocks = map (block_seen seen) (ranges shape.reads) }

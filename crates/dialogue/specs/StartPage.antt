@@ -34,14 +34,14 @@ abbrev pub drive_of : List ℕ → ℕ
 drive_of word = cond (has_drive word) (slice_index word 0 - 0x40) 0
 
 -- the rest is a file's name and, after the first dot, its type
-abbrev pub file_of : List ℕ → List ℕ
-file_of word = cond (has_drive word) (drop 2 word) word
+abbrev pub file_in_tail : List ℕ → List ℕ
+file_in_tail word = cond (has_drive word) (drop 2 word) word
 
-abbrev pub name_of : List ℕ → List ℕ
-name_of word = before_first (is 0x2E) (file_of word)
+abbrev pub name_in_tail : List ℕ → List ℕ
+name_in_tail word = before_first (is 0x2E) (file_in_tail word)
 
 abbrev pub type_of : List ℕ → List ℕ
-type_of word = after_first (is 0x2E) (file_of word)
+type_of word = after_first (is 0x2E) (file_in_tail word)
 
 -- a part in a field of k bytes: it is filled with blanks, or with `?` where a `*` stands in it; more bytes are dropped
 abbrev pub field : ℕ → List ℕ → List ℕ
@@ -49,7 +49,7 @@ field k part = take k (before_first (is 0x2A) part ++ replicate k (cond (list_an
 
 -- the first 16 bytes of a file control block: the drive, the name, the type, four zeros
 abbrev pub control_block : List ℕ → List ℕ
-control_block word = drive_of word ∷ (field 8 (name_of word) ++ (field 3 (type_of word) ++ replicate 4 0))
+control_block word = drive_of word ∷ (field 8 (name_in_tail word) ++ (field 3 (type_of word) ++ replicate 4 0))
 
 -- the tail at 80H: one more than its length, a blank, its bytes; nothing where it is empty. Zeros fill the 128 bytes
 abbrev pub counted : List ℕ → List ℕ

@@ -58,16 +58,16 @@ unfoldable pub row_of : ℕ → Option Row
 row_of function = entry_at call_table function
 
 -- so many places: the items, and None after them
-abbrev pub padded : {X : Type 0} → ℕ → List X → List (Option X)
-padded zero xs = []
-padded (suc k) [] = None ∷ padded k []
-padded (suc k) (x ∷ xs) = Some x ∷ padded k xs
+abbrev pub padded_to : {X : Type 0} → ℕ → List X → List (Option X)
+padded_to zero xs = []
+padded_to (suc k) [] = None ∷ padded_to k []
+padded_to (suc k) (x ∷ xs) = Some x ∷ padded_to k xs
 
 -- a row as the code has it, in arrays
 abbrev pub laid_out : Row → LaidOut
 laid_out row = record {
   argument = row.argument;
   answer = row.answer;
-  reads = padded 3 row.reads;
-  writes = padded 2 row.writes;
+  reads = padded_to 3 row.reads;
+  writes = padded_to 2 row.writes;
 }

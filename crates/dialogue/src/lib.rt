@@ -1,4 +1,13 @@
-// What a program asks of the BDOS and of ports, what may be answered, and the page that a program starts with.
+// What a program asks of the BDOS and of ports, and what it may be answered: the requests, replies and events whose sequence is the
+// dialogue of a run (the trace of its observable events), and the page that a program starts with. The table of calls is that of the CP/M
+// 2.2 manual.
+//
+// Proved: `shape_of` gives exactly the shape of a system call or the rule that it breaks; `request_of` gives exactly the memory that the
+// shape reads, and a lawful request; `fits`, `fits_event`, `dma_after` and `answer_of` are the table's; `Page::of_tail` gives the start
+// page of a command tail, and None exactly for a tail of more than 126 bytes or with a byte outside 20H to 7EH. Law
+// `who_sees_more_asks_the_same`: a call that one machine may make by what it knows of D and E and sees of memory, another machine that
+// knows and sees all this and more makes too, with the same request; the tagged 8080 sees less than the 8086. Runs by turns (small steps,
+// `specs/Run`) and `SameDialogue` are definitions; that turns add up is a lemma (`proofs/Turns`).
 #![tactic(auto)]
 
 mod blocks;

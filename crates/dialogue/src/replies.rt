@@ -1,6 +1,6 @@
 // What a reply may answer and write, and what it leaves.
 ghost use Rattle.std.specs.Prelude.{◌≡◌};
-ghost use Rattle.dialogue.specs.Fits.{answer_fits, fills, writes_fit, line_bytes_fit, line_fits, fits, fits_event, kind_by, answer_of, dma_after, writes_nothing};
+ghost use Rattle.dialogue.specs.Fits.{answer_fits, fills_range, writes_fit, line_bytes_fit, line_fits, fits, fits_event, kind_by, answer_kind_of, dma_after, writes_nothing};
 ghost use Rattle.dialogue.specs.Shape.{ranges};
 
 use crate::blocks::Block;
@@ -52,7 +52,7 @@ pub fn fits_event(event: &Event, reply: &Reply) -> bool
 
 /// What the call of a request answers: of function 6 its argument decides.
 pub fn answer_of(request: &Request) -> AnswerKind
-    ensures { result ≡ answer_of request.now }
+    ensures { result ≡ answer_kind_of request.now }
 {
     match row_of(request.shape.function) {
         Some(row) => kind_by(row.answer, request.shape.arg),
@@ -95,7 +95,7 @@ fn answer_fits(kind: AnswerKind, answer: u16) -> bool
 
 /// Whether a block fills a range.
 fn fills(range: Range, block: &Block) -> bool
-    ensures { result ≡ fills range block.now }
+    ensures { result ≡ fills_range range block.now }
 {
     block.at == range.at && block.bytes.as_slice().len() == usize::from(range.len)
 }

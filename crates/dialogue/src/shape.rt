@@ -1,9 +1,9 @@
 // What a call asks for: its shape, or the rule that it breaks; and its request.
 ghost use Rattle.std.specs.Prelude.{◌≡◌, ◌<◌, ◌≤◌, ◌+◌, ◌-◌, Some, [], ◌∷◌, ◌++◌, map, IfSome, IfOk, IsTrue};
 ghost use Rattle.std.specs.List.{list_all};
-ghost use Rattle.dialogue.specs.Shape.{seen_by, argument_of, address_of, text_length, range_of, range_within, line_room, all_cells, shape_of, ranges, block_of, request_of};
+ghost use Rattle.dialogue.specs.Shape.{seen_by_view, argument_of, argument_address, text_length, range_of, range_within, line_room, all_cells, shape_of, ranges, block_seen, request_of};
 ghost use Rattle.dialogue.specs.Places.{passes, rule_of, has_cells, HaveCells, in_memory, place_within, places_within, room_at, shape_by_places};
-ghost use Rattle.dialogue.specs.Lawful.{IsShapeOver, IsLawful};
+ghost use Rattle.dialogue.specs.Lawful.{IsShapeOver, IsLawfulRequest};
 
 use crate::blocks::{Block, Blocks, Bytes};
 use crate::request::{ArgWord, Range, Request, Shape, View};
@@ -20,7 +20,7 @@ pub fn shape_of<V: View>(
     dma: u16,
     view: &V,
 ) -> Result<Shape, Rule>
-    ensures { result ≡ shape_of function d e dma (seen_by (V.byte_at view.now) (V.is_writable view.now)) }
+    ensures { result ≡ shape_of function d e dma (seen_by_view (V.byte_at view.now) (V.is_writable view.now)) }
 {
     let Some(function) = function else {
         return Err(Rule::P9);
@@ -33,9 +33,9 @@ pub fn shape_of<V: View>(
 
 /// The request of a shape that was given over the same view: a block for each range that it reads, in order.
 pub fn request_of<V: View>(alloc: Global, shape: Shape, view: &V) -> Result<Request, AllocError>
-    requires { IsShapeOver (seen_by (V.byte_at view.now) (V.is_writable view.now)) shape }
-    ensures request { IfOk result (λ r. r ≡ request_of shape (seen_by (V.byte_at view.now) (V.is_writable view.now))) }
-    ensures lawful { IfOk result (λ r. IsLawful r) }
+    requires { IsShapeOver (seen_by_view (V.byte_at view.now) (V.is_writable view.now)) shape }
+    ensures request { IfOk result (λ r. r ≡ request_of shape (seen_by_view (V.byte_at view.now) (V.is_writable view.now))) }
+    ensures lawful { IfOk result (λ r. IsLawfulRequest r) }
 {
     let mut blocks = Vec::new(alloc);
     for place in shape.reads {
@@ -55,7 +55,7 @@ fn push_block<V: View>(
     view: &V,
 ) -> Result<(), AllocError>
     requires { IfSome place (λ r. r.at + r.len ≤ 0x10000) }
-    ensures { IfOk result (λ _. blocks.new.items ≡ blocks.old.items ++ map (block_of (seen_by (V.byte_at view.now) (V.is_writable view.now))) (ranges (place ∷ []))) }
+    ensures { IfOk result (λ _. blocks.new.items ≡ blocks.old.items ++ map (block_seen (seen_by_view (V.byte_at view.now) (V.is_writable view.now))) (ranges (place ∷ []))) }
 {
     if let Some(range) = place {
         blocks.push(block_of(alloc, range, view)?)?;
@@ -66,7 +66,7 @@ fn push_block<V: View>(
 /// The cells of a range, as a block.
 fn block_of<V: View>(alloc: Global, range: Range, view: &V) -> Result<Block, AllocError>
     requires { range.at + range.len ≤ 0x10000 }
-    ensures { IfOk result (λ b. b ≡ block_of (seen_by (V.byte_at view.now) (V.is_writable view.now)) range) }
+    ensures { IfOk result (λ b. b ≡ block_seen (seen_by_view (V.byte_at view.now) (V.is_writable view.now)) range) }
 {
     let mut bytes = Vec::new(alloc);
     for k in 0..range.len {
@@ -98,7 +98,7 @@ impl Access {
 
     /// Whether a view gives a cell to this access.
     fn has<V: View>(self, view: &V, at: u16) -> bool
-        ensures { result ≡ passes self (seen_by (V.byte_at view.now) (V.is_writable view.now)) at }
+        ensures { result ≡ passes self (seen_by_view (V.byte_at view.now) (V.is_writable view.now)) at }
     {
         match self {
             Access::Read => view.byte(at).is_some(),
@@ -117,7 +117,7 @@ fn shape_by<V: View>(
     view: &V,
 ) -> Result<Shape, Rule>
     requires { HaveCells row.now }
-    ensures { result ≡ shape_by_places function row.now d e dma (seen_by (V.byte_at view.now) (V.is_writable view.now)) }
+    ensures { result ≡ shape_by_places function row.now d e dma (seen_by_view (V.byte_at view.now) (V.is_writable view.now)) }
 {
     let arg = argument_of(row.argument, d, e)?;
     let de = address_of(arg);
@@ -149,7 +149,7 @@ fn argument_of(argument: Argument, d: Option<u8>, e: Option<u8>) -> Result<ArgWo
 
 /// The word in DE, from which the table counts its ranges; 0 where the argument is none.
 pub(crate) fn address_of(arg: ArgWord) -> u16
-    ensures { result ≡ address_of arg }
+    ensures { result ≡ argument_address arg }
 {
     match arg {
         ArgWord::Word(word) => word,
@@ -165,7 +165,7 @@ fn reads_within<V: View>(
     view: &V,
 ) -> Result<[Option<Range>; 3], Rule>
     requires { IsTrue (list_all has_cells extents) }
-    ensures { result ≡ places_within Access.Read (seen_by (V.byte_at view.now) (V.is_writable view.now)) de dma extents }
+    ensures { result ≡ places_within Access.Read (seen_by_view (V.byte_at view.now) (V.is_writable view.now)) de dma extents }
 {
     let [first, second, third] = extents;
     Ok([
@@ -183,7 +183,7 @@ fn writes_within<V: View>(
     view: &V,
 ) -> Result<[Option<Range>; 2], Rule>
     requires { IsTrue (list_all has_cells extents) }
-    ensures { result ≡ places_within Access.Write (seen_by (V.byte_at view.now) (V.is_writable view.now)) de dma extents }
+    ensures { result ≡ places_within Access.Write (seen_by_view (V.byte_at view.now) (V.is_writable view.now)) de dma extents }
 {
     let [first, second] = extents;
     Ok([
@@ -201,7 +201,7 @@ fn place_within<V: View>(
     view: &V,
 ) -> Result<Option<Range>, Rule>
     requires { IsTrue (has_cells extent) }
-    ensures { result ≡ place_within access (seen_by (V.byte_at view.now) (V.is_writable view.now)) de dma extent }
+    ensures { result ≡ place_within access (seen_by_view (V.byte_at view.now) (V.is_writable view.now)) de dma extent }
 {
     let Some(extent) = extent else {
         return Ok(None);
@@ -215,7 +215,7 @@ fn place_within<V: View>(
 /// The range of an extent, unless it passes 0FFFFH or a text has no end.
 fn range_of<V: View>(extent: Extent, de: u16, dma: u16, view: &V) -> Option<Range>
     requires { IsTrue (has_cells (Some extent)) }
-    ensures { result ≡ in_memory (range_of (seen_by (V.byte_at view.now) (V.is_writable view.now)) de dma extent) }
+    ensures { result ≡ in_memory (range_of (seen_by_view (V.byte_at view.now) (V.is_writable view.now)) de dma extent) }
 {
     match extent {
         Extent::F(offset, len) => range_from(de, offset, len),
@@ -245,7 +245,7 @@ fn range_from(base: u16, offset: u16, len: u16) -> Option<Range>
 
 /// The number of cells from DE up before the first `$`, if they can be read and there is one.
 fn text_length<V: View>(de: u16, view: &V) -> Option<u16>
-    ensures count { result ≡ text_length (seen_by (V.byte_at view.now) (V.is_writable view.now)) (0x10000 - de) de }
+    ensures count { result ≡ text_length (seen_by_view (V.byte_at view.now) (V.is_writable view.now)) (0x10000 - de) de }
     ensures bound { IfSome result (λ n. de + n < 0x10000) }
 {
     for at in u32::from(de)..0x1_0000 {
@@ -260,14 +260,14 @@ fn text_length<V: View>(de: u16, view: &V) -> Option<u16>
 
 /// How many bytes a line may have, by the first byte of its buffer; 0 where that cannot be read.
 fn line_room<V: View>(de: u16, view: &V) -> u8
-    ensures { result ≡ line_room (seen_by (V.byte_at view.now) (V.is_writable view.now)) de }
+    ensures { result ≡ line_room (seen_by_view (V.byte_at view.now) (V.is_writable view.now)) de }
 {
     view.byte(de).unwrap_or(0)
 }
 
 /// Whether a call that writes a line has room for a byte.
 fn has_room<V: View>(writes: [Option<Extent>; 2], de: u16, view: &V) -> bool
-    ensures { result ≡ room_at (seen_by (V.byte_at view.now) (V.is_writable view.now)) de writes }
+    ensures { result ≡ room_at (seen_by_view (V.byte_at view.now) (V.is_writable view.now)) de writes }
 {
     match writes[0] {
         Some(Extent::Line) => line_room(de, view) != 0,
@@ -278,7 +278,7 @@ fn has_room<V: View>(writes: [Option<Extent>; 2], de: u16, view: &V) -> bool
 /// Whether a view gives each cell of a range.
 fn all_cells<V: View>(access: Access, range: Range, view: &V) -> bool
     requires { range.at + range.len ≤ 0x10000 }
-    ensures { result ≡ all_cells (passes access (seen_by (V.byte_at view.now) (V.is_writable view.now))) range.len range.at }
+    ensures { result ≡ all_cells (passes access (seen_by_view (V.byte_at view.now) (V.is_writable view.now))) range.len range.at }
 {
     for k in 0..range.len {
         if !access.has(view, range.at + k) {

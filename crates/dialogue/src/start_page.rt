@@ -2,7 +2,7 @@
 ghost use Rattle.std.specs.Prelude.{◌≡◌, ◌==◌, ◌≤◌, ◌+◌, ◌++◌, not, length, map, take, drop, replicate};
 ghost use Rattle.std.specs.List.{list_all, position, before_first, after_first};
 ghost use Rattle.std.specs.Char.{to_ascii_uppercase};
-ghost use Rattle.dialogue.specs.StartPage.{is_printable, is_tail, is, from_word, first_word, after_word, drive_of, file_of, field, control_block, tail_area, page_of_tail};
+ghost use Rattle.dialogue.specs.StartPage.{is_printable, is_tail, is, from_word, first_word, after_word, drive_of, file_in_tail, field, control_block, tail_area, page_of_tail};
 
 use std::marker::Model;
 
@@ -123,7 +123,7 @@ fn next_word(text: &[u8]) -> (&[u8], &[u8])
 /// The drive that a word begins with, and the rest of the word.
 fn split_drive(word: &[u8]) -> (u8, &[u8])
     ensures drive { result.0 ≡ drive_of word.now }
-    ensures file { result.1.now ≡ file_of word.now }
+    ensures file { result.1.now ≡ file_in_tail word.now }
 {
     match word {
         [letter @ b'A'..=b'P', b':', file @ ..] => (*letter - 0x40, file),

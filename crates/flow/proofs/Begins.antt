@@ -7,15 +7,15 @@ use Rattle.std.proofs.lemmas.List.Sums.{sum_by_push, sum_by-cons}
 use Rattle.cells.specs.Parts.{has}
 use Rattle.i80.specs.declared.Instr80.TheVariants.{Nop}
 use Rattle.i80.specs.Columns.{uses80, defs80}
-use Rattle.asm80_program.specs.declared.program.Placed.{Placed}
-use Rattle.asm80_program.specs.Program.{Program, IsProgram}
-use Rattle.asm80_program.proofs.Lookup.{length-starts}
+use Rattle.asm80_program_types.specs.declared.program.Placed.{Placed}
+use Rattle.asm80_program_types.specs.Program.{Program, IsProgram}
+use Rattle.asm80_program_types.proofs.Lookup.{length-starts}
 use Rattle.flow.specs.declared.node.Node.TheVariants.{Return}
 use Rattle.flow.specs.declared.search.Vertex.{Vertex}
 use Rattle.flow.specs.Begin.{vertex_placed, vertex_return, first_vertices}
 use Rattle.flow.specs.Graph.{nodes}
-use Rattle.flow.specs.Need.{uses_at, defines_at, parts_of}
-use Rattle.flow.specs.Search.{vertex, no_vertex, node_at, row, AreOf, IsPassedOn, IsQueue}
+use Rattle.flow.specs.Need.{uses_at, defines_at, parts_at}
+use Rattle.flow.specs.Search.{vertex, no_vertex, node_at, row, AreVerticesOf, IsPassedOn, IsQueue}
 use Rattle.flow.specs.Wiring.{IsWired}
 use Rattle.flow.proofs.Needs.{need_here}
 use Rattle.flow.proofs.Numbers.{length-nodes, node_at-return}
@@ -44,7 +44,7 @@ HasColumns p k v = (v.defines ≡ defines_at p (node_at p k)) × (v.need ≡ use
 columns_placed : (p : Program) → IsProgram p → (k : ℕ) → k < length p.instrs → HasColumns p k (vertex_placed (get_or p.instrs k some_placed))
 columns_placed p is k lt =
     let at = placed_at p k some_placed is lt in
-    (sym (ap (defines_at p) (start_at p k some_placed lt) ∙ ap (parts_of defs80) at), sym (ap (uses_at p) (start_at p k some_placed lt) ∙ ap (parts_of uses80) at), refl)
+    (sym (ap (defines_at p) (start_at p k some_placed lt) ∙ ap (parts_at defs80) at), sym (ap (uses_at p) (start_at p k some_placed lt) ∙ ap (parts_at uses80) at), refl)
 
 columns_return : (p : Program) → HasColumns p (length p.instrs) vertex_return
 columns_return p =
@@ -60,7 +60,7 @@ columns p is k lt =
     subst (λ j. HasColumns p j (vertex (first_vertices p) j)) (sym last) (subst (HasColumns p (length p.instrs)) (sym (first-return p)) (columns_return p)))
     (cases_lt k (length p.instrs))
 
-pub first_are : (p : Program) → IsProgram p → AreOf p (first_vertices p)
+pub first_are : (p : Program) → IsProgram p → AreVerticesOf p (first_vertices p)
 first_are p is = record {
   sized = sized_first p;
   defines = λ k lt. (columns p is k lt).0;

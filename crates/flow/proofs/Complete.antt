@@ -7,12 +7,12 @@ use Rattle.std.proofs.lemmas.List.Elements.{All-head, All-tail}
 use Rattle.std.proofs.lemmas.List.Sums.{get_or-le-sum_by}
 use Rattle.cells.specs.declared.Part.{Part}
 use Rattle.cells.specs.Parts.{has}
-use Rattle.asm80_program.specs.Program.{Program}
+use Rattle.asm80_program_types.specs.Program.{Program}
 use Rattle.flow.specs.declared.node.Node.{Node}
 use Rattle.flow.specs.declared.search.Vertex.{Vertex}
 use Rattle.flow.specs.Graph.{IsEdge}
 use Rattle.flow.specs.Need.{Need, IsPath, BeginsAt, uses_at, defines_at}
-use Rattle.flow.specs.Search.{vertex, no_vertex, AreOf, IsPassedOn, IsQueue}
+use Rattle.flow.specs.Search.{vertex, no_vertex, AreVerticesOf, IsPassedOn, IsQueue}
 use Rattle.flow.specs.Solving.{AreNeeds}
 use Rattle.flow.specs.Wiring.{IsWired, IsNumber}
 use Rattle.flow.proofs.Queue.{one_if}
@@ -29,7 +29,7 @@ none_waits vs work capacity k empty q =
     (λ ge. ap (λ (v : Vertex). v.waits) (get_or_past vs k no_vertex ge))
     (cases_lt k (length vs))
 
-module _ (p : Program) (ss : List (List ℕ)) (vs : List Vertex) (x : Part) (w : IsWired p ss) (a : AreOf p vs) (passed : IsPassedOn ss vs) (idle : (k : ℕ) → (vertex vs k).waits ≡ false) where
+module _ (p : Program) (ss : List (List ℕ)) (vs : List Vertex) (x : Part) (w : IsWired p ss) (a : AreVerticesOf p vs) (passed : IsPassedOn ss vs) (idle : (k : ℕ) → (vertex vs k).waits ≡ false) where
   abbrev Found : Node → Type 0
   Found q = (k : ℕ) → IsNumber p k q → has (vertex vs k).need x ≡ true
 
@@ -55,14 +55,14 @@ module _ (p : Program) (ss : List (List ℕ)) (vs : List Vertex) (x : Part) (w :
   pub found_needed : (q : Node) → Need p q x → Found q
   found_needed q n = found_along n.earlier q n.user n.path n.begins n.uses n.kept
 
-pub are_needs : (p : Program) (ss : List (List ℕ)) (vs : List Vertex) (work : List ℕ) (capacity k : ℕ) (q : Node) → IsWired p ss → AreOf p vs → IsPassedOn ss vs → IsQueue vs work capacity → length work ≡ 0 → IsNumber p k q → AreNeeds p q (vertex vs k).need
+pub are_needs : (p : Program) (ss : List (List ℕ)) (vs : List Vertex) (work : List ℕ) (capacity k : ℕ) (q : Node) → IsWired p ss → AreVerticesOf p vs → IsPassedOn ss vs → IsQueue vs work capacity → length work ≡ 0 → IsNumber p k q → AreNeeds p q (vertex vs k).need
 are_needs p ss vs work capacity k q w a passed queue empty n x = (
   λ h. subst (λ r. Need p r x) n.stands (a.sound k x n.within h),
   λ need. found_needed p ss vs x w a passed (λ j. none_waits vs work capacity j empty queue) q need k n,
 )
 
 -- the same of a vertex that was read
-pub read_needs : (p : Program) (ss : List (List ℕ)) (vs : List Vertex) (work : List ℕ) (capacity k : ℕ) (q : Node) (v : Vertex) → IsWired p ss → AreOf p vs → IsPassedOn ss vs → IsQueue vs work capacity → IsTrue (length work == 0) → IsNumber p k q → v ≡ get_or vs k v → AreNeeds p q v.need
+pub read_needs : (p : Program) (ss : List (List ℕ)) (vs : List Vertex) (work : List ℕ) (capacity k : ℕ) (q : Node) (v : Vertex) → IsWired p ss → AreVerticesOf p vs → IsPassedOn ss vs → IsQueue vs work capacity → IsTrue (length work == 0) → IsNumber p k q → v ≡ get_or vs k v → AreNeeds p q v.need
 read_needs p ss vs work capacity k q v w a passed queue solved n read =
     let same : v ≡ vertex vs k = get_or_read vs k v (omega (arith, n.within, a.sized)) read no_vertex in
     subst (λ (u : Vertex). AreNeeds p q u.need) (sym same) (are_needs p ss vs work capacity k q w a passed queue (eqb-true (length work) 0 solved) n)

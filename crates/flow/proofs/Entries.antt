@@ -3,13 +3,13 @@ use Rattle.std.proofs.Common.{◌≡◌, ℕ, zero, suc, ◌<◌, true, ◌||◌
 use Rattle.std.specs.Prelude.{◌==◌, filter_map, not}
 use Rattle.std.specs.List.{Contains, cons_option}
 use Rattle.std.proofs.lemmas.Bool.{or_left, or_right, or_cases, eq-eqb, eqb-true, ne_eqb}
-use Rattle.base.specs.Addresses.{is_among}
+use Rattle.base_types.specs.Addresses.{is_among}
 use Rattle.i80.specs.declared.Instr80.{Instr80}
 use Rattle.i80.specs.declared.Instr80.TheVariants.{Jmp, Jif, Call, Cif}
 use Rattle.i80.specs.Columns.{ends80}
-use Rattle.asm80_program.specs.declared.program.Placed.{Placed}
-use Rattle.asm80_program.specs.Program.{Program, named_by}
-use Rattle.asm80_program.specs.Taken.{taken}
+use Rattle.asm80_program_types.specs.declared.program.Placed.{Placed}
+use Rattle.asm80_program_types.specs.Program.{Program, named_by}
+use Rattle.asm80_program_types.specs.Taken.{taken_places}
 use Rattle.flow.specs.Blocks.{target_of, target_placed, targets, is_entered, is_cut, end_of}
 
 pub target_named : (i : Instr80) (t : ℕ) → target_of i ≡ Some t → named_by i ≡ Some t
@@ -38,10 +38,10 @@ among_at (b ∷ bs) zero a d lt is = or_left (b == a) (is_among bs a) (eq-eqb b 
 among_at (b ∷ bs) (suc k) a d lt is = or_right (b == a) (is_among bs a) (among_at bs k a d (omega arith) is)
 
 pub entered_target : (p : Program) (k t : ℕ) (d : Placed) → k < length p.instrs → target_of (get_or p.instrs k d).instr ≡ Some t → is_entered p t ≡ true
-entered_target p k t d lt is = or_left (is_among (targets p) t) (is_among (taken p) t) (among_targets p.instrs k t d lt is)
+entered_target p k t d lt is = or_left (is_among (targets p) t) (is_among (taken_places p) t) (among_targets p.instrs k t d lt is)
 
-pub entered_taken : (p : Program) (a : ℕ) → Contains (taken p) a → is_entered p a ≡ true
-entered_taken p a h = or_right (is_among (targets p) a) (is_among (taken p) a) (among_at (taken p) h.0 a a h.1 h.2)
+pub entered_taken : (p : Program) (a : ℕ) → Contains (taken_places p) a → is_entered p a ≡ true
+entered_taken p a h = or_right (is_among (targets p) a) (is_among (taken_places p) a) (among_at (taken_places p) h.0 a a h.1 h.2)
 
 -- where a cut stands
 pub cut_entered : (p : Program) (x y : Placed) → is_entered p y.at ≡ true → is_cut p x y ≡ true

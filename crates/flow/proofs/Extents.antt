@@ -5,14 +5,14 @@ use Rattle.std.specs.List.{Contains}
 use Rattle.std.proofs.lemmas.Bool.{both_ways, cases_eq, cases_lt, or_cases, not-true, eq-eqb, eqb-true}
 use Rattle.std.proofs.lemmas.List.{length-map, get_or-map}
 use Rattle.std.proofs.lemmas.List.Elements.{All-contains}
-use Rattle.base.specs.Addresses.{is_among}
+use Rattle.base_types.specs.Addresses.{is_among}
 use Rattle.i80.specs.declared.Instr80.{Instr80}
 use Rattle.i80.specs.declared.Instr80.TheVariants.{Nop}
 use Rattle.i80.specs.Columns.{length80, ends80}
-use Rattle.asm80_program.specs.declared.program.Placed.{Placed}
-use Rattle.asm80_program.specs.Program.{Program, IsProgram, instr_at, is_start}
-use Rattle.asm80_program.specs.Taken.{taken}
-use Rattle.asm80_program.proofs.Lookup.{above-laid, rising-laid}
+use Rattle.asm80_program_types.specs.declared.program.Placed.{Placed}
+use Rattle.asm80_program_types.specs.Program.{Program, IsProgram, instr_at, is_start}
+use Rattle.asm80_program_types.specs.Taken.{taken_places}
+use Rattle.asm80_program_types.proofs.Lookup.{above-laid, rising-laid}
 use Rattle.flow.specs.Blocks.{is_cut, is_entered, cut_from, extent, blocks, leader_of, count_in, block_at, end_of, target_of, targets, place_after, IsBlockOf, IsLeader, IsStraight, IsBehindNone, BlocksCut, Cause, First, Target, Taken, BehindEnd, BehindNone, BehindSixteen}
 use Rattle.flow.proofs.Cuts.{flat-cut, offset, block, within_flat, at_flat, Located, locate, one_location, joined_block, uncut_inside, sized_block, leader-first, next_block, ended_block, offset-zero}
 use Rattle.flow.proofs.Entries.{target_named, entered_target, entered_taken, cut_entered, cut_ended, cut_apart, target_among, contained}
@@ -186,9 +186,9 @@ module _ (p : Program) (is : IsProgram p) where
       let entered = entered_target p at.0 t no_placed at.1 (ap target_of (at.2 no_placed) ∙ goes) in
       start_cut t (named_start p a t i is here (target_named i t goes)) (λ h lt same. cut_entered p (placed p h) (placed p (suc h)) (ap (λ b. is_entered p b) same ∙ entered))
 
-  is_taken : (a : ℕ) → Contains (taken p) a → IsLeader p a
+  is_taken : (a : ℕ) → Contains (taken_places p) a → IsLeader p a
   is_taken a among =
-      let start = All-contains (λ b. is_start p b ≡ true) (taken p) a (taken_are p) among in
+      let start = All-contains (λ b. is_start p b ≡ true) (taken_places p) a (taken_are p) among in
       start_cut a start (λ h lt same. cut_entered p (placed p h) (placed p (suc h)) (ap (λ b. is_entered p b) same ∙ entered_taken p a among))
 
   behind_gap : (a : ℕ) → is_start p a ≡ true → IsBehindNone p a → IsLeader p a
@@ -283,8 +283,8 @@ module _ (p : Program) (is : IsProgram p) where
       (λ apart. absurd (both_ways (end_of (placed p h) == (placed p (suc h)).at) (not-true (end_of (placed p h) == (placed p (suc h)).at) apart) (eq-eqb (end_of (placed p h)) (placed p (suc h)).at follows)))
       (λ entered. ⊎_elim
       (λ goes. let at = target_among p.instrs (placed p (suc h)).at no_placed goes in Target (placed p at.0).at (placed p at.0).instr (placed_at p at.0 no_placed is at.1) at.2)
-      (λ taken'. Taken (contained (taken p) (placed p (suc h)).at taken'))
-      (or_cases (is_among (targets p) (placed p (suc h)).at) (is_among (taken p) (placed p (suc h)).at) entered))
+      (λ taken'. Taken (contained (taken_places p) (placed p (suc h)).at taken'))
+      (or_cases (is_among (targets p) (placed p (suc h)).at) (is_among (taken_places p) (placed p (suc h)).at) entered))
       (or_cases (not (end_of (placed p h) == (placed p (suc h)).at)) (is_entered p (placed p (suc h)).at) other))
       (or_cases (ends80 (placed p h).instr) (not (end_of (placed p h) == (placed p (suc h)).at) || is_entered p (placed p (suc h)).at) t)
 

@@ -6,9 +6,9 @@ use Rattle.std.proofs.lemmas.List.{get_or-map}
 use Rattle.i80.specs.declared.Instr80.{Instr80}
 use Rattle.i80.specs.declared.Instr80.TheVariants.{Nop}
 use Rattle.i80.specs.Columns.{length80}
-use Rattle.asm80_program.specs.declared.program.Placed.{Placed}
-use Rattle.asm80_program.specs.Program.{AreLaid, starts_of, placed_in}
-use Rattle.asm80_program.proofs.Lookup.{above-laid, rising-laid}
+use Rattle.asm80_program_types.specs.declared.program.Placed.{Placed}
+use Rattle.asm80_program_types.specs.Program.{AreLaid, starts_of, placed_in}
+use Rattle.asm80_program_types.proofs.Lookup.{above-laid, rising-laid}
 use Rattle.flow.specs.Blocks.{end_of}
 
 pub length80-positive : (i : Instr80) → 1 ≤ length80 i

@@ -6,8 +6,8 @@ use Rattle.std.proofs.lemmas.List.{get_or-map, length-map}
 use Rattle.std.proofs.lemmas.List.Elements.{All-nil, All-cons, All-head, All-tail}
 use Rattle.cells.specs.declared.Part.{Part}
 use Rattle.cells.specs.Parts.{has}
-use Rattle.asm80_program.specs.Program.{Program}
-use Rattle.asm80_program.specs.Taken.{taken}
+use Rattle.asm80_program_types.specs.Program.{Program}
+use Rattle.asm80_program_types.specs.Taken.{taken_places}
 use Rattle.flow.specs.declared.node.Node.{Node}
 use Rattle.flow.specs.declared.node.Node.TheVariants.{Start, Return}
 use Rattle.flow.specs.Graph.{IsEdge}
@@ -48,8 +48,8 @@ pub need_only : (p : Program) (q : Node) (x : Part) → Need p q x → (has (use
 need_only p q x n = need_only_by p q n.user x n.earlier n.path n.begins n.uses n.kept
 
 -- an edge leads from Return to each place that is taken
-pub taken_edge : (p : Program) (a : ℕ) → Contains (taken p) a → IsEdge p Return (Start a)
+pub taken_edge : (p : Program) (a : ℕ) → Contains (taken_places p) a → IsEdge p Return (Start a)
 taken_edge p a t =
-    let e = get_or-map (λ (b : ℕ). Start b) (taken p) t.0 a (Start a) t.1 in
-    let l = length-map (taken p) (λ (b : ℕ). Start b) in
+    let e = get_or-map (λ (b : ℕ). Start b) (taken_places p) t.0 a (Start a) t.1 in
+    let l = length-map (taken_places p) (λ (b : ℕ). Start b) in
     (t.0, omega (arith, l, t.1), e ∙ ap (λ (b : ℕ). Start b) t.2)

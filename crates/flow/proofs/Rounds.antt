@@ -6,11 +6,11 @@ use Rattle.std.proofs.Math.ListN.{set}
 use Rattle.std.proofs.lemmas.Bool.{and_parts, both_ways, not-true, cases_eq}
 use Rattle.cells.specs.declared.Part.{Part}
 use Rattle.cells.specs.Parts.{has, weight}
-use Rattle.asm80_program.specs.Program.{Program}
+use Rattle.asm80_program_types.specs.Program.{Program}
 use Rattle.flow.specs.declared.search.Vertex.{Vertex}
 use Rattle.flow.specs.Graph.{nodes}
 use Rattle.flow.specs.Need.{Need}
-use Rattle.flow.specs.Search.{vertex, no_vertex, row, credit, visits_left, is_left, node_at, IsSpread, IsPassedOn, AreOf}
+use Rattle.flow.specs.Search.{vertex, no_vertex, row, credit, visits_left, is_left, node_at, IsSpread, IsPassedOn, AreVerticesOf}
 use Rattle.flow.specs.Rounds.{IsRound}
 use Rattle.flow.specs.Wiring.{IsWired}
 use Rattle.flow.proofs.Credits.{credits-set, visits_left-less}
@@ -68,7 +68,7 @@ module _ (ss : List (List ℕ)) (vs new : List Vertex) (at : ℕ) (within : at <
   same_length : length new ≡ length vs
   same_length = s.same_length ∙ length-set vs at (woken (vertex vs at))
 
-  sound_here : (p : Program) → IsWired p ss → AreOf p vs → (k : ℕ) (x : Part) → k < length (nodes p) → has (vertex new k).need x ≡ true → Need p (node_at p k) x
+  sound_here : (p : Program) → IsWired p ss → AreVerticesOf p vs → (k : ℕ) (x : Part) → k < length (nodes p) → has (vertex new k).need x ≡ true → Need p (node_at p k) x
   sound_here p w a k x lt h =
       ⊎_elim
       (λ before. a.sound k x lt (sym (ap (λ m. has m x) (mid_need k)) ∙ before))
@@ -80,7 +80,7 @@ module _ (ss : List (List ℕ)) (vs new : List Vertex) (at : ℕ) (within : at <
       need_passes p (node_at p k) (node_at p at) x edge.1 (sym (ap (λ m. has m x) (a.defines k lt)) ∙ not-true (has (vertex vs k).defines x) both.1) (a.sound at x at_within both.0))
       (s.only k x h)
 
-  still_of : (p : Program) → IsWired p ss → AreOf p vs → AreOf p new
+  still_of : (p : Program) → IsWired p ss → AreVerticesOf p vs → AreVerticesOf p new
   still_of p w a = record {
     sized = same_length ∙ a.sized;
     defines = λ k lt. new_defines k ∙ a.defines k lt;

@@ -3,9 +3,9 @@ use Rattle.std.proofs.Common.{◌≡◌, ℕ, zero, suc, ◌<◌, false, ◌||�
 use Rattle.std.specs.Prelude.{◌==◌, not}
 use Rattle.std.proofs.lemmas.Bool.{or_parts, not-false, eqb-true}
 use Rattle.i80.specs.Columns.{ends80}
-use Rattle.asm80_program.specs.declared.program.Placed.{Placed}
-use Rattle.asm80_program.specs.Program.{Program, instr_at}
-use Rattle.flow.specs.Blocks.{is_cut, is_entered, end_of, leader_of, behind, place_after, IsStraight}
+use Rattle.asm80_program_types.specs.declared.program.Placed.{Placed}
+use Rattle.asm80_program_types.specs.Program.{Program, instr_at}
+use Rattle.flow.specs.Blocks.{is_cut, is_entered, end_of, leader_of, address_after_instruction, place_after, IsStraight}
 use Rattle.flow.proofs.Cuts.{Joined}
 
 -- where two are not cut, the first ends no block, and the second stands right behind it
@@ -22,8 +22,8 @@ AreKnown p b = (k : ℕ) (d : Placed) → k < length b → instr_at p (get_or b 
 rest_known : (p : Program) (x : Placed) (xs : List Placed) → AreKnown p (x ∷ xs) → AreKnown p xs
 rest_known p x xs known k d lt = known (suc k) d (omega arith)
 
-end_behind : (p : Program) (x : Placed) (xs : List Placed) → AreKnown p (x ∷ xs) → behind x.at (instr_at p x.at) ≡ end_of x
-end_behind p x xs known = ap (behind x.at) (known 0 x (omega arith))
+end_behind : (p : Program) (x : Placed) (xs : List Placed) → AreKnown p (x ∷ xs) → address_after_instruction x.at (instr_at p x.at) ≡ end_of x
+end_behind p x xs known = ap (address_after_instruction x.at) (known 0 x (omega arith))
 
 pub straight : (p : Program) (b : List Placed) → Joined p b → AreKnown p b → IsStraight p (leader_of b) (length b)
 straight p [] j known = tt

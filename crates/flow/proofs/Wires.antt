@@ -10,10 +10,10 @@ use Rattle.std.proofs.lemmas.List.Elements.{Contains-get_or, Contains-push, Cont
 use Rattle.std.proofs.lemmas.List.Sums.{sum_by-set, sum_by_more}
 use Rattle.i80.specs.declared.Instr80.{Instr80}
 use Rattle.i80.specs.Columns.{length80}
-use Rattle.asm80_program.specs.declared.program.Placed.{Placed}
-use Rattle.asm80_program.specs.Program.{Program, IsProgram, NameStarts, is_start, starts, instr_at, instr_of_placed, placed_in, named_by}
-use Rattle.asm80_program.specs.Taken.{taken, takes}
-use Rattle.asm80_program.proofs.Lookup.{length-starts}
+use Rattle.asm80_program_types.specs.declared.program.Placed.{Placed}
+use Rattle.asm80_program_types.specs.Program.{Program, IsProgram, NameStarts, is_start, starts, instr_at, instr_of_placed, placed_in, named_by}
+use Rattle.asm80_program_types.specs.Taken.{taken_places, takes}
+use Rattle.asm80_program_types.proofs.Lookup.{length-starts}
 use Rattle.flow.specs.declared.node.Node.{Node}
 use Rattle.flow.specs.declared.node.Node.TheVariants.{Start, Return}
 use Rattle.flow.specs.Graph.{nodes, edges, edge_to, edges_at, successors, IsEdge}
@@ -125,7 +125,7 @@ wired_all p ss w = record {
 starts_are : (p : Program) → All (λ a. is_start p a ≡ true) (starts p)
 starts_are p k d lt = start_found p.instrs (get_or (starts p) k d) k (omega (arith, lt, length-starts p.instrs)) (get_or_default (starts p) k 0 d lt)
 
-pub taken_are : (p : Program) → All (λ a. is_start p a ≡ true) (taken p)
+pub taken_are : (p : Program) → All (λ a. is_start p a ≡ true) (taken_places p)
 taken_are p = All-filter (takes p) (λ a. is_start p a ≡ true) (starts p) (starts_are p)
 
 named_in : (p : Program) (xs : List Placed) (k t : ℕ) (d : Placed) → NameStarts p xs → k < length xs → named_by (get_or xs k d).instr ≡ Some t → is_start p t ≡ true
@@ -168,10 +168,10 @@ edges_wired p a i node goes_on is here named split =
     by_next false = refl
 
 -- the next place that is taken
-pub taken_more : (p : Program) (i : ℕ) → i < length (taken p) → start_nodes (take i (taken p)) ++ edge_if_node p (Start (get_or (taken p) i 0)) ≡ start_nodes (take (i + 1) (taken p))
+pub taken_more : (p : Program) (i : ℕ) → i < length (taken_places p) → start_nodes (take i (taken_places p)) ++ edge_if_node p (Start (get_or (taken_places p) i 0)) ≡ start_nodes (take (i + 1) (taken_places p))
 taken_more p i lt =
-    let start : is_start p (get_or (taken p) i 0) ≡ true = taken_are p i 0 lt in
-    rw start (sym (map_more (λ (a : ℕ). Start a) (taken p) i 0 lt))
+    let start : is_start p (get_or (taken_places p) i 0) ≡ true = taken_are p i 0 lt in
+    rw start (sym (map_more (λ (a : ℕ). Start a) (taken_places p) i 0 lt))
 
 -- the instructions by their places
 pub placed_at : (p : Program) (k : ℕ) (d : Placed) → IsProgram p → k < length p.instrs → instr_at p (get_or p.instrs k d).at ≡ Some (get_or p.instrs k d).instr

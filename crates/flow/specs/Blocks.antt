@@ -2,13 +2,13 @@
 -- elsewhere behind the last alone.
 use Rattle.std.specs.Prelude.{◌≡◌, ◌≢◌, ℕ, zero, suc, ◌+◌, ◌<◌, ◌≤◌, ◌==◌, ◌||◌, not, Bool, true, false, cond, List, [], ◌∷◌, map, filter_map, length, Option, Some, None}
 use Rattle.std.specs.List.{Contains}
-use Rattle.base.specs.Addresses.{is_among}
+use Rattle.base_types.specs.Addresses.{is_among}
 use Rattle.i80.specs.declared.Instr80.{Instr80}
 use Rattle.i80.specs.declared.Instr80.TheVariants.{Jmp, Jif, Call, Cif}
 use Rattle.i80.specs.Columns.{length80, ends80}
-use Rattle.asm80_program.specs.declared.program.Placed.{Placed}
-use Rattle.asm80_program.specs.Program.{Program, if_instr, instr_at, is_start}
-use Rattle.asm80_program.specs.Taken.{taken}
+use Rattle.asm80_program_types.specs.declared.program.Placed.{Placed}
+use Rattle.asm80_program_types.specs.Program.{Program, if_instr, instr_at, is_start}
+use Rattle.asm80_program_types.specs.Taken.{taken_places}
 
 -- the instruction that a jump or call goes to
 abbrev pub target_of : Instr80 → Option ℕ
@@ -26,7 +26,7 @@ targets p = filter_map target_placed p.instrs
 
 -- control comes to the address from elsewhere: it is a target, or a place that is taken
 abbrev pub is_entered : Program → ℕ → Bool
-is_entered p a = is_among (targets p) a || is_among (taken p) a
+is_entered p a = is_among (targets p) a || is_among (taken_places p) a
 
 -- the address behind an instruction
 abbrev pub end_of : Placed → ℕ
@@ -80,14 +80,14 @@ IsBlockOf p a n = Contains (blocks p) (a, n)
 abbrev pub IsLeader : Program → ℕ → Type 0
 IsLeader p a = Contains (leaders p) a
 
-abbrev pub behind : ℕ → Option Instr80 → ℕ
-behind a None = a
-behind a (Some i) = a + length80 i
+abbrev pub address_after_instruction : ℕ → Option Instr80 → ℕ
+address_after_instruction a None = a
+address_after_instruction a (Some i) = a + length80 i
 
 -- the address behind so many instructions that stand one after the other
 abbrev pub place_after : Program → ℕ → ℕ → ℕ
 place_after p a zero = a
-place_after p a (suc n) = place_after p (behind a (instr_at p a)) n
+place_after p a (suc n) = place_after p (address_after_instruction a (instr_at p a)) n
 
 -- from the address on so many instructions stand one after the other, of which the last alone may end a block
 abbrev pub IsStraight : Program → ℕ → ℕ → Type 0
@@ -103,7 +103,7 @@ IsBehindNone p a = (b : ℕ) (i : Instr80) → instr_at p b ≡ Some i → b + l
 pub data Cause (p : Program) (a : ℕ) : Type 0 where
   First : (is : a ≡ 0x100) → Cause p a
   Target : (b : ℕ) (i : Instr80) (here : instr_at p b ≡ Some i) (goes : target_of i ≡ Some a) → Cause p a
-  Taken : (among : Contains (taken p) a) → Cause p a
+  Taken : (among : Contains (taken_places p) a) → Cause p a
   BehindEnd : (b : ℕ) (i : Instr80) (here : instr_at p b ≡ Some i) (ends : ends80 i ≡ true) (place : b + length80 i ≡ a) → Cause p a
   BehindNone : (none : IsBehindNone p a) → Cause p a
   BehindSixteen : (b : ℕ) (block : IsBlockOf p b 16) (place : place_after p b 16 ≡ a) → Cause p a
@@ -120,7 +120,7 @@ pub record BlocksCut (p : Program) : Type 0 where
   pub once : (a n k b m j : ℕ) → IsBlockOf p a n → k < n → IsBlockOf p b m → j < m → place_after p a k ≡ place_after p b j → (a ≡ b) × (n ≡ m) × (k ≡ j)
   pub first : IsLeader p 0x100
   pub target : (a t : ℕ) (i : Instr80) → instr_at p a ≡ Some i → target_of i ≡ Some t → IsLeader p t
-  pub is_taken : (a : ℕ) → Contains (taken p) a → IsLeader p a
+  pub is_taken : (a : ℕ) → Contains (taken_places p) a → IsLeader p a
   pub behind_end : (a : ℕ) (i : Instr80) → instr_at p a ≡ Some i → ends80 i ≡ true → is_start p (a + length80 i) ≡ true → IsLeader p (a + length80 i)
   pub behind_gap : (a : ℕ) → is_start p a ≡ true → IsBehindNone p a → IsLeader p a
   pub behind_block : (a n : ℕ) → IsBlockOf p a n → is_start p (place_after p a n) ≡ true → IsLeader p (place_after p a n)

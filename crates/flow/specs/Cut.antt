@@ -1,9 +1,9 @@
 -- How the blocks are found in one pass over the instructions.
 use Rattle.std.specs.Prelude.{◌≡◌, ℕ, ◌+◌, ◌<◌, ◌==◌, ◌||◌, Bool, true, cond, List, [], ◌∷◌, ◌++◌, map}
-use Rattle.base.specs.Addresses.{has_address}
+use Rattle.base_types.specs.Addresses.{has_address}
 use Rattle.i80.specs.Columns.{is_well_formed}
-use Rattle.asm80_program.specs.declared.program.Placed.{Placed}
-use Rattle.asm80_program.specs.Program.{Program}
+use Rattle.asm80_program_types.specs.declared.program.Placed.{Placed}
+use Rattle.asm80_program_types.specs.Program.{Program}
 use Rattle.flow.specs.Blocks.{is_entered, is_cut, end_of, cut_from, extent}
 
 -- a set has the addresses that control comes to from elsewhere
@@ -30,5 +30,5 @@ abbrev pub extents : Program → List Placed → List (ℕ × ℕ)
 extents p xs = map extent (cut_from p 0 xs)
 
 -- an instruction of the 8080 that ends below 65,536
-abbrev pub IsWhole : Placed → Type 0
-IsWhole x = (is_well_formed x.instr ≡ true) × (end_of x < 65536)
+abbrev pub EndsInMemory : Placed → Type 0
+EndsInMemory x = (is_well_formed x.instr ≡ true) × (end_of x < 65536)

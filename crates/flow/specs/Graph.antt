@@ -6,8 +6,8 @@ use Rattle.i80.specs.declared.Goal.TheVariants.{At, Boot, Bdos}
 use Rattle.i80.specs.declared.Instr80.{Instr80}
 use Rattle.i80.specs.declared.Instr80.TheVariants.{Pchl, Jmp, Jif, Call, Cif, Ret, Rif, Rst0}
 use Rattle.i80.specs.Columns.{length80}
-use Rattle.asm80_program.specs.Program.{Program, instr_at, is_start, starts}
-use Rattle.asm80_program.specs.Taken.{taken}
+use Rattle.asm80_program_types.specs.Program.{Program, instr_at, is_start, starts}
+use Rattle.asm80_program_types.specs.Taken.{taken_places}
 use Rattle.flow.specs.declared.node.Node.{Node}
 use Rattle.flow.specs.declared.node.Node.TheVariants.{Start, Return}
 
@@ -45,7 +45,7 @@ edges_at p a (Some i) = edges (edge_to p (a + length80 i)) i
 -- where the edges of a node lead: those of Return to every place that is taken
 abbrev pub successors : Program → Node → List Node
 successors p (Start a) = edges_at p a (instr_at p a)
-successors p Return = map (λ (a : ℕ). Start a) (taken p)
+successors p Return = map (λ (a : ℕ). Start a) (taken_places p)
 
 abbrev pub IsEdge : Program → Node → Node → Type 0
 IsEdge p q r = Contains (successors p q) r

@@ -5,23 +5,23 @@ use Rattle.cells.specs.declared.Part.{Part}
 use Rattle.cells.specs.Parts.{Parts, nothing, has}
 use Rattle.i80.specs.declared.Instr80.{Instr80}
 use Rattle.i80.specs.Columns.{uses80, defs80}
-use Rattle.asm80_program.specs.Program.{Program, instr_at}
-use Rattle.asm80_program.specs.Taken.{taken}
+use Rattle.asm80_program_types.specs.Program.{Program, instr_at}
+use Rattle.asm80_program_types.specs.Taken.{taken_places}
 use Rattle.flow.specs.declared.node.Node.{Node}
 use Rattle.flow.specs.declared.node.Node.TheVariants.{Start, Return}
 use Rattle.flow.specs.Graph.{IsEdge}
 
-abbrev pub parts_of : (Instr80 → Parts) → Option Instr80 → Parts
-parts_of column None = nothing
-parts_of column (Some i) = column i
+abbrev pub parts_at : (Instr80 → Parts) → Option Instr80 → Parts
+parts_at column None = nothing
+parts_at column (Some i) = column i
 
 -- the parts that a node uses, and those that it defines: its instruction's columns; Return uses and defines nothing
 abbrev pub uses_at : Program → Node → Parts
-uses_at p (Start a) = parts_of uses80 (instr_at p a)
+uses_at p (Start a) = parts_at uses80 (instr_at p a)
 uses_at p Return = nothing
 
 abbrev pub defines_at : Program → Node → Parts
-defines_at p (Start a) = parts_of defs80 (instr_at p a)
+defines_at p (Start a) = parts_at defs80 (instr_at p a)
 defines_at p Return = nothing
 
 -- an edge leads from a node to the first of some nodes, if there is one
@@ -55,4 +55,4 @@ pub record NeedsAreClosed (p : Program) : Type 0 where
   pub uses : (q : Node) (x : Part) → has (uses_at p q) x ≡ true → Need p q x
   pub passes : (q r : Node) (x : Part) → IsEdge p q r → has (defines_at p q) x ≡ false → Need p r x → Need p q x
   pub only : (q : Node) (x : Part) → Need p q x → (has (uses_at p q) x ≡ true) ⊎ ((r : Node) × IsEdge p q r × (has (defines_at p q) x ≡ false) × Need p r x)
-  pub returns : (a : ℕ) (x : Part) → Contains (taken p) a → Need p (Start a) x → Need p Return x
+  pub returns : (a : ℕ) (x : Part) → Contains (taken_places p) a → Need p (Start a) x → Need p Return x

@@ -5,9 +5,9 @@ use Rattle.cells.specs.declared.Part.TheVariants.{S, Z, Ac, P}
 use Rattle.cells.specs.Parts.{Parts, has}
 use Rattle.i80.specs.declared.Instr80.{Instr80}
 use Rattle.i80.specs.declared.Instr80.TheVariants.{Inx, Dcx, Dad}
-use Rattle.asm80_program.specs.Program.{Program, instr_at}
+use Rattle.asm80_program_types.specs.Program.{Program, instr_at}
 use Rattle.flow.specs.declared.node.Node.TheVariants.{Start}
-use Rattle.flow.specs.Blocks.{behind}
+use Rattle.flow.specs.Blocks.{address_after_instruction}
 use Rattle.flow.specs.Need.{Need}
 
 -- INX, DCX and DAD change none of S Z AC P (Intel 8080 Assembly Language Programming Manual, "Register pair instructions"); the
@@ -35,4 +35,4 @@ is_sum_at p a = is_sum_in (instr_at p a)
 
 -- a set has exactly those of S Z AC P that are needed behind the instruction at the address
 abbrev pub AreSaves : Program → ℕ → Parts → Type 0
-AreSaves p a keep = (x : Part) → (has keep x ≡ true) ↔ ((is_saved x ≡ true) × Need p (Start (behind a (instr_at p a))) x)
+AreSaves p a keep = (x : Part) → (has keep x ≡ true) ↔ ((is_saved x ≡ true) × Need p (Start (address_after_instruction a (instr_at p a))) x)

@@ -4,7 +4,7 @@ use Rattle.std.specs.Prelude.{◌≡◌, ◌≢◌, ◌⊎◌, ℕ, ◌+◌, ◌
 use Rattle.std.specs.List.{Contains, sum_by, count_by}
 use Rattle.cells.specs.declared.Part.{Part}
 use Rattle.cells.specs.Parts.{Parts, nothing, has, weight}
-use Rattle.asm80_program.specs.Program.{Program}
+use Rattle.asm80_program_types.specs.Program.{Program}
 use Rattle.flow.specs.declared.node.Node.{Node}
 use Rattle.flow.specs.declared.node.Node.TheVariants.{Return}
 use Rattle.flow.specs.declared.search.Vertex.{Vertex}
@@ -74,7 +74,7 @@ pub record IsSpread (sources : List ℕ) (passed : Parts) (old new : List Vertex
   pub cheaper : (ss : List (List ℕ)) → visits_left ss new ≤ visits_left ss old
 
 -- the vertices are those of a program's nodes; what a node uses is found, and what is found is needed
-pub record AreOf (p : Program) (vs : List Vertex) : Type 0 where
+pub record AreVerticesOf (p : Program) (vs : List Vertex) : Type 0 where
   pub sized : length vs ≡ length (nodes p)
   pub defines : (k : ℕ) → k < length (nodes p) → (vertex vs k).defines ≡ defines_at p (node_at p k)
   pub uses : (k : ℕ) (x : Part) → k < length (nodes p) → has (uses_at p (node_at p k)) x ≡ true → has (vertex vs k).need x ≡ true

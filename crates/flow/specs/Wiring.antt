@@ -2,7 +2,7 @@
 use Rattle.std.specs.Prelude.{◌≡◌, ◌⊎◌, ℕ, ◌+◌, ◌<◌, List, [], ◌∷◌, map, length, take, Option, Some, None}
 use Rattle.std.specs.List.{Contains, sum_by}
 use Rattle.std.specs.Global.{Vec}
-use Rattle.asm80_program.specs.Program.{Program}
+use Rattle.asm80_program_types.specs.Program.{Program}
 use Rattle.flow.specs.declared.node.Node.{Node}
 use Rattle.flow.specs.declared.node.Node.TheVariants.{Start, Return}
 use Rattle.flow.specs.Graph.{nodes, edge_to, successors, edge_count, IsEdge}

@@ -6,7 +6,7 @@ ghost use Rattle.i80.specs.Columns.{is_well_formed};
 ghost use Rattle.flow.specs.Begin.{vertex_placed, first_vertices};
 
 use crate::search::Vertex;
-use asm80_program::{Placed, Program80};
+use asm80_program_types::{Placed, Program80};
 use cells::Keep;
 use std::alloc::{AllocError, Global};
 

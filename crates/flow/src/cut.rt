@@ -1,13 +1,13 @@
 // The blocks of a program, found in one pass.
 
 ghost use Rattle.std.specs.Prelude.{◌≡◌, ◌+◌, ◌-◌, ◌<◌, ◌≤◌, ◌++◌, ◌∷◌, [], ◌||◌, ℕ, true, map, filter_map, if◌then◌else◌, All, IfOk, OnOk, option_to_list};
-ghost use Rattle.base.specs.Addresses.{has_address, is_among};
-ghost use Rattle.asm80_program.specs.Program.{Program};
+ghost use Rattle.base_types.specs.Addresses.{has_address, is_among};
+ghost use Rattle.asm80_program_types.specs.Program.{Program};
 ghost use Rattle.flow.specs.Blocks.{target_placed, is_entered, blocks, leaders};
-ghost use Rattle.flow.specs.Cut.{Marks, ends_before, closed, blocks_from, extents, IsWhole};
+ghost use Rattle.flow.specs.Cut.{Marks, ends_before, closed, blocks_from, extents, EndsInMemory};
 
-use asm80_program::{Placed, Program80};
-use base::AddressSet;
+use asm80_program_types::{Placed, Program80};
+use base_types::AddressSet;
 use i80::{Goal, Instr80};
 use std::alloc::{AllocError, Global};
 
@@ -77,7 +77,7 @@ fn entered_of(alloc: Global, program: &Program80) -> Result<AddressSet, AllocErr
 
 // Whether a block of so many instructions ends between two that follow each other in the program.
 fn ends_before(entered: &AddressSet, count: u32, last: &Placed, next: &Placed) -> bool
-    requires { IsWhole last.now }
+    requires { EndsInMemory last.now }
     ensures value { (p : Program) → Marks entered.now p → result ≡ ends_before p count last.now next.now }
     ensures full { count ≡ 16 → result ≡ true }
 {
@@ -127,8 +127,8 @@ impl Cut {
         first: &Placed,
         rest: &[Placed],
     ) -> Result<(), AllocError>
-        requires first { IsWhole first.now }
-        requires rest { All IsWhole rest.now }
+        requires first { EndsInMemory first.now }
+        requires rest { All EndsInMemory rest.now }
         ensures leaders { (p : Program) → Marks entered.now p → OnOk result (self.new.leaders.items ≡ self.old.leaders.items ++ map (λ b. b.0) (blocks_from p first.now.at 1 first.now rest.now)) }
         ensures counts { (p : Program) → Marks entered.now p → OnOk result (self.new.counts.items ≡ self.old.counts.items ++ map (λ b. b.1) (blocks_from p first.now.at 1 first.now rest.now)) }
     {
@@ -147,7 +147,7 @@ impl Cut {
 
     // Adds the blocks of instructions.
     fn add_all(&mut self, entered: &AddressSet, instrs: &[Placed]) -> Result<(), AllocError>
-        requires { All IsWhole instrs.now }
+        requires { All EndsInMemory instrs.now }
         ensures leaders { (p : Program) → Marks entered.now p → OnOk result (self.new.leaders.items ≡ self.old.leaders.items ++ map (λ b. b.0) (extents p instrs.now)) }
         ensures counts { (p : Program) → Marks entered.now p → OnOk result (self.new.counts.items ≡ self.old.counts.items ++ map (λ b. b.1) (extents p instrs.now)) }
     {

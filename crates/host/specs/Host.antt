@@ -1,5 +1,7 @@
--- What a host tells of the files and of what was said, its two counts of faults, and what a call may change.
-use Rattle.std.specs.Prelude.{◌≡◌, ◌≢◌, ℕ, ◌+◌, ◌-◌, ◌^◌, ◌<◌, ◌≤◌, ◌⊎◌, ◌↔◌, List, ◌++◌, length, take, drop, Option, Some, None, if◌then◌else◌, nat_lt}
+-- What a host tells of the files and of what was said, its counts of faults, and what a call may change.
+use Rattle.std.specs.Prelude.{◌≡◌, ◌≢◌, ℕ, ◌+◌, ◌-◌, ◌^◌, ◌<◌, ◌≤◌, ◌⊎◌, ◌↔◌, List, ◌++◌, length, take, drop, Option, Some, None, Result, Ok, Err, if◌then◌else◌, nat_lt}
+use Rattle.host.specs.declared.HostFault.{HostFault}
+use Rattle.host.specs.declared.HostFault.TheVariants.{Failed, Memory}
 
 -- what a host tells of the file of a name: nothing, that there is no such file, or the bytes that it holds
 pub data FileTold : Type 0 where
@@ -8,12 +10,14 @@ pub data FileTold : Type 0 where
   Holds : (bytes : List ℕ) → FileTold
 
 -- a host as its callers see it: each file by the bytes of its name, what was said so far (None where the host does not
--- tell it), and how many faults its reads and its writes (begin, append and say) have met
+-- tell it), how many of its reads and how many of its writes (begin, append and say) failed, and how many of all its calls wanted
+-- memory
 pub record HostState : Type 0 where
   pub file : List ℕ → FileTold
   pub said : Option (List ℕ)
   pub read_faults : ℕ
   pub write_faults : ℕ
+  pub memory_faults : ℕ
 
 -- a count of faults is a 64-bit number, and stands still at the last of them
 abbrev pub last_count : ℕ
@@ -22,6 +26,24 @@ last_count = 2 ^ 64 - 1
 -- a count of faults after one more
 abbrev pub one_more : ℕ → ℕ
 one_more count = if nat_lt count last_count then count + 1 else count
+
+-- a count of calls that failed after a call, by its answer: want of memory is not counted there
+abbrev pub failures_by : HostFault → ℕ → ℕ
+failures_by Failed count = one_more count
+failures_by Memory count = count
+
+abbrev pub failures_after : {T : Type 0} → Result T HostFault → ℕ → ℕ
+failures_after (Ok answer) count = count
+failures_after (Err fault) count = failures_by fault count
+
+-- the count of calls that wanted memory after a call, by its answer
+abbrev pub wants_by : HostFault → ℕ → ℕ
+wants_by Failed count = count
+wants_by Memory count = one_more count
+
+abbrev pub wants_after : {T : Type 0} → Result T HostFault → ℕ → ℕ
+wants_after (Ok answer) count = count
+wants_after (Err fault) count = wants_by fault count
 
 -- the count rose, or stands at its last value
 abbrev pub HasRisen : ℕ → ℕ → Type 0
@@ -91,36 +113,54 @@ module _ (old new : HostState) where
   pub record SameFaults : Type 0 where
     pub reads : new.read_faults ≡ old.read_faults
     pub writes : new.write_faults ≡ old.write_faults
+    pub memory : new.memory_faults ≡ old.memory_faults
 
   -- every file and what was said are as before
   pub record IsUndisturbed : Type 0 where
     pub files : SameFiles
     pub said : SameSaid
 
-  -- what reads may change: their own count, which does not fall
+  -- what reads may change: their own count and that of memory, which do not fall
   pub record OnlyReads : Type 0 where
     pub files : SameFiles
     pub said : SameSaid
     pub writes : new.write_faults ≡ old.write_faults
     pub reads : old.read_faults ≤ new.read_faults
+    pub memory : old.memory_faults ≤ new.memory_faults
 
-  -- what writes to the file of this name may change: that file, and their own count, which does not fall
+  -- what writes to the file of this name may change: that file, and their own count and that of memory, which do not fall
   pub record OnlyWrites (name : List ℕ) : Type 0 where
     pub files : OnlyFileChanged name
     pub said : SameSaid
     pub reads : new.read_faults ≡ old.read_faults
     pub writes : old.write_faults ≤ new.write_faults
+    pub memory : old.memory_faults ≤ new.memory_faults
 
-  -- what saying may change: what was said, and the count of the writes, which does not fall
+  -- what saying may change: what was said, and the counts of the writes and of memory, which do not fall
   pub record OnlySays : Type 0 where
     pub files : SameFiles
     pub reads : new.read_faults ≡ old.read_faults
     pub writes : old.write_faults ≤ new.write_faults
+    pub memory : old.memory_faults ≤ new.memory_faults
 
-  -- the cause of a read that failed: the count of the reads' faults, or that there is no file of that name
+  -- the cause of a read that failed: the count of such reads, or that there is no file of that name
   abbrev pub ReadFailed : List ℕ → Type 0
   ReadFailed name = HasRisen old.read_faults new.read_faults ⊎ (old.file name ≡ Missing)
 
   -- the cause of a `begin`, an `append` or a `say` that failed
   abbrev pub WriteFailed : Type 0
   WriteFailed = HasRisen old.write_faults new.write_faults
+
+  -- the cause of any call that wanted memory
+  abbrev pub MemoryWanted : Type 0
+  MemoryWanted = HasRisen old.memory_faults new.memory_faults
+
+  -- the cause of a `begin`, an `append` or a `say` that answers a fault
+  abbrev pub WriteFault : HostFault → Type 0
+  WriteFault Failed = WriteFailed
+  WriteFault Memory = MemoryWanted
+
+  -- a fault is counted as what it is alone: a failure is no want of memory, and want of memory no failure
+  abbrev pub CountsAlone : HostFault → Type 0
+  CountsAlone Failed = new.memory_faults ≡ old.memory_faults
+  CountsAlone Memory = (new.read_faults ≡ old.read_faults) × (new.write_faults ≡ old.write_faults)

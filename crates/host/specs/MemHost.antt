@@ -1,13 +1,13 @@
 -- What a `MemHost` holds, and what each of its calls does to it.
-use Rattle.std.specs.Prelude.{◌≡◌, ◌≢◌, ℕ, min, List, Contains, Option, Some, None, option_map, Result, Ok, Err}
+use Rattle.std.specs.Prelude.{◌≡◌, ◌≢◌, ℕ, min, List, Contains, Option, Some, None, option_map, Result}
 use Rattle.std.specs.BTreeMap.{get_by_text}
-use Rattle.host.specs.Host.{FileTold, Missing, Holds, HostState, one_more}
+use Rattle.host.specs.Host.{FileTold, Missing, Holds, HostState, one_more, failures_after}
 use Rattle.host.specs.declared.HostFault.{HostFault}
 use Rattle.host.specs.declared.mem.MemHost.{MemHost}
 
 -- the bytes of the file of a name, None where there is no such file
-abbrev pub file_of : MemHost → List ℕ → Option (List ℕ)
-file_of host name = option_map (λ held. held.items) (get_by_text host.files name)
+abbrev pub file_in_mem_host : MemHost → List ℕ → Option (List ℕ)
+file_in_mem_host host name = option_map (λ held. held.items) (get_by_text host.files name)
 
 -- the bytes said so far
 abbrev pub said_of : MemHost → List ℕ
@@ -21,13 +21,17 @@ fails_of host = host.fails.items
 abbrev pub calls_of : MemHost → ℕ
 calls_of host = host.calls
 
--- how many faults the reads met
+-- how many reads failed
 abbrev pub read_faults_of : MemHost → ℕ
 read_faults_of host = host.read_faults
 
--- how many faults the writes met
+-- how many writes failed
 abbrev pub write_faults_of : MemHost → ℕ
 write_faults_of host = host.write_faults
+
+-- how many calls wanted memory
+abbrev pub memory_faults_of : MemHost → ℕ
+memory_faults_of host = host.memory_faults
 
 -- what is told of a file
 abbrev pub told_of : Option (List ℕ) → FileTold
@@ -35,27 +39,23 @@ told_of None = Missing
 told_of (Some bytes) = Holds bytes
 
 -- a `MemHost` tells everything
-abbrev pub state_of : MemHost → HostState
-state_of host = record {
-  file = λ name. told_of (file_of host name);
+abbrev pub state_of_mem_host : MemHost → HostState
+state_of_mem_host host = record {
+  file = λ name. told_of (file_in_mem_host host name);
   said = Some (said_of host);
   read_faults = read_faults_of host;
   write_faults = write_faults_of host;
+  memory_faults = memory_faults_of host;
 }
 
 -- the next call, counted from 1, is among those that fail
 abbrev pub NextFails : MemHost → Type 0
 NextFails host = Contains (fails_of host) (one_more (calls_of host))
 
--- a count of faults after a call: each fault is counted, want of memory too
-abbrev pub count_after : {T : Type 0} → Result T HostFault → ℕ → ℕ
-count_after (Ok answer) count = count
-count_after (Err fault) count = one_more count
-
--- the count of the reads' faults after a read: a file that is not there is not counted
+-- the count of the reads that failed after a read: a file that is not there is not counted
 abbrev pub read_count_after : {T : Type 0} → Option (List ℕ) → Result T HostFault → ℕ → ℕ
 read_count_after None result count = count
-read_count_after (Some held) result count = count_after result count
+read_count_after (Some held) result count = failures_after result count
 
 -- how many bytes one call takes of those that are there
 abbrev pub piece_of : ℕ → ℕ
@@ -73,12 +73,13 @@ module _ (old new : MemHost) where
     pub fails : fails_of new ≡ fails_of old
     pub read_faults : read_faults_of new ≡ read_faults_of old
     pub write_faults : write_faults_of new ≡ write_faults_of old
+    pub memory_faults : memory_faults_of new ≡ memory_faults_of old
 
   -- every file is as before
   abbrev pub KeepsFiles : Type 0
-  KeepsFiles = (name : List ℕ) → file_of new name ≡ file_of old name
+  KeepsFiles = (name : List ℕ) → file_in_mem_host new name ≡ file_in_mem_host old name
 
   -- the file of this name holds these bytes, and every other file is as before
   pub record PutsFile (name bytes : List ℕ) : Type 0 where
-    pub file : file_of new name ≡ Some bytes
-    pub others : (other : List ℕ) → other ≢ name → file_of new other ≡ file_of old other
+    pub file : file_in_mem_host new name ≡ Some bytes
+    pub others : (other : List ℕ) → other ≢ name → file_in_mem_host new other ≡ file_in_mem_host old other

@@ -1,7 +1,7 @@
 // A host in memory, for tests: it tells everything, and fails where it is told to.
-ghost use Rattle.std.specs.Prelude.{◌≡◌, ◌≢◌, ◌+◌, ◌-◌, ◌<◌, ◌≤◌, ◌↔◌, ◌⊎◌, [], ◌∷◌, ◌++◌, min, take, drop, length, IsTrue, IsOk, IfOk, IfSome, OnOk, OnErr, option_copied, unwrap_or};
-ghost use Rattle.host.specs.Host.{one_more};
-ghost use Rattle.host.specs.MemHost.{file_of, said_of, fails_of, calls_of, read_faults_of, write_faults_of, state_of, NextFails, count_after, read_count_after, piece_of, CountsCall, CountsNothing, KeepsFiles, PutsFile};
+ghost use Rattle.std.specs.Prelude.{◌≡◌, ◌≢◌, ◌+◌, ◌-◌, ◌<◌, ◌≤◌, ◌↔◌, ◌⊎◌, [], ◌∷◌, ◌++◌, min, take, drop, length, IsTrue, IsOk, IfOk, IfErr, IfSome, OnOk, OnErr, option_copied, unwrap_or};
+ghost use Rattle.host.specs.Host.{one_more, failures_after, wants_after};
+ghost use Rattle.host.specs.MemHost.{file_in_mem_host, said_of, fails_of, calls_of, read_faults_of, write_faults_of, memory_faults_of, state_of_mem_host, NextFails, read_count_after, piece_of, CountsCall, CountsNothing, KeepsFiles, PutsFile};
 
 use crate::{Host, HostFault};
 use std::alloc::{AllocError, Global};
@@ -20,6 +20,7 @@ pub struct MemHost {
     calls: u64,
     read_faults: u64,
     write_faults: u64,
+    memory_faults: u64,
 }
 
 /// Copies a piece of what is held from `at` on, and answers how many bytes.
@@ -36,11 +37,11 @@ fn copy_piece(held: &[u8], at: u64, into: &mut [u8]) -> usize
 impl MemHost {
     /// A host with no files, of which no call fails.
     pub fn new(alloc: Global) -> MemHost
-        ensures files { (name : _) → file_of result name ≡ None }
+        ensures files { (name : _) → file_in_mem_host result name ≡ None }
         ensures said { said_of result ≡ [] }
         ensures fails { fails_of result ≡ [] }
         ensures calls { calls_of result ≡ 0 }
-        ensures faults { (read_faults_of result ≡ 0) × (write_faults_of result ≡ 0) }
+        ensures faults { (read_faults_of result ≡ 0) × (write_faults_of result ≡ 0) × (memory_faults_of result ≡ 0) }
     {
         MemHost {
             alloc,
@@ -50,6 +51,7 @@ impl MemHost {
             calls: 0,
             read_faults: 0,
             write_faults: 0,
+            memory_faults: 0,
         }
     }
 
@@ -75,6 +77,7 @@ impl MemHost {
         ensures calls { calls_of self.new ≡ calls_of self.old }
         ensures read_faults { read_faults_of self.new ≡ read_faults_of self.old }
         ensures write_faults { write_faults_of self.new ≡ write_faults_of self.old }
+        ensures memory_faults { memory_faults_of self.new ≡ memory_faults_of self.old }
     {
         self.fails.push(call)?;
         Ok(())
@@ -82,7 +85,7 @@ impl MemHost {
 
     /// The bytes of a file; None exactly where there is no file of that name.
     pub fn file(&self, name: &str) -> Option<&[u8]>
-        ensures { option_copied result ≡ file_of self.now name.now }
+        ensures { option_copied result ≡ file_in_mem_host self.now name.now }
     {
         Some(self.files.get(name)?.as_slice())
     }
@@ -109,7 +112,7 @@ impl MemHost {
         ensures memory { result ≢ Err HostFault.Memory }
         ensures change { self.new ≡ record self.old {
           calls = one_more self.old.calls;
-          write_faults = count_after result self.old.write_faults;
+          write_faults = failures_after result self.old.write_faults;
         } }
     {
         if self.next_fails() {
@@ -122,13 +125,13 @@ impl MemHost {
     /// Counts a write that memory did not do for.
     fn counted(&mut self, done: Result<(), AllocError>) -> Result<(), HostFault>
         ensures answer { IsOk result ↔ IsOk done }
-        ensures memory { result ≢ Err HostFault.Failed }
+        ensures memory { IfErr result (λ fault. fault ≡ HostFault.Memory) }
         ensures change { self.new ≡ record self.old {
-          write_faults = count_after result self.old.write_faults;
+          memory_faults = wants_after result self.old.memory_faults;
         } }
     {
         if done.is_err() {
-            self.write_faults = self.write_faults.saturating_add(1);
+            self.memory_faults = self.memory_faults.saturating_add(1);
             return Err(HostFault::Memory);
         }
         Ok(())
@@ -137,7 +140,7 @@ impl MemHost {
     /// Adds bytes at the end of a file, and makes it where there is none.
     fn add(&mut self, name: &str, bytes: &[u8]) -> Result<(), AllocError>
         ensures ok { OnOk result (PutsFile self.old self.new name.now
-            (unwrap_or (file_of self.old name.now) [] ++ bytes.now)) }
+            (unwrap_or (file_in_mem_host self.old name.now) [] ++ bytes.now)) }
         ensures err { OnErr result (KeepsFiles self.old self.new) }
         ensures said { said_of self.new ≡ said_of self.old }
         ensures counts { CountsNothing self.old self.new }
@@ -150,23 +153,24 @@ impl MemHost {
 }
 
 impl Host for MemHost {
-    ghost state = { state_of };
+    ghost state = { state_of_mem_host };
 
     fn read(&mut self, name: &str, at: u64, into: &mut [u8]) -> Result<usize, HostFault>
         ensures failed { (result ≡ Err HostFault.Failed)
-            ↔ (NextFails self.old ⊎ (file_of self.old name.now ≡ None)) }
+            ↔ (NextFails self.old ⊎ (file_in_mem_host self.old name.now ≡ None)) }
         ensures memory { result ≢ Err HostFault.Memory }
-        ensures count { IfOk result (λ k. IfSome (file_of self.old name.now)
+        ensures count { IfOk result (λ k. IfSome (file_in_mem_host self.old name.now)
             (λ held. k ≡ piece_of (min (length into.old) (length held - at)))) }
-        ensures bytes { IfOk result (λ k. IfSome (file_of self.old name.now)
+        ensures bytes { IfOk result (λ k. IfSome (file_in_mem_host self.old name.now)
             (λ held. into.new ≡ take k (drop at held) ++ drop k into.old)) }
         ensures unread { OnErr result (into.new ≡ into.old) }
         ensures files { KeepsFiles self.old self.new }
         ensures said { said_of self.new ≡ said_of self.old }
         ensures call { CountsCall self.old self.new }
         ensures read_faults { read_faults_of self.new
-            ≡ read_count_after (file_of self.old name.now) result (read_faults_of self.old) }
+            ≡ read_count_after (file_in_mem_host self.old name.now) result (read_faults_of self.old) }
         ensures write_faults { write_faults_of self.new ≡ write_faults_of self.old }
+        ensures memory_faults { memory_faults_of self.new ≡ memory_faults_of self.old }
     {
         let fails = self.next_fails();
         let Some(held) = self.files.get(name) else {
@@ -186,7 +190,8 @@ impl Host for MemHost {
         ensures said { said_of self.new ≡ said_of self.old }
         ensures call { CountsCall self.old self.new }
         ensures read_faults { read_faults_of self.new ≡ read_faults_of self.old }
-        ensures write_faults { write_faults_of self.new ≡ count_after result (write_faults_of self.old) }
+        ensures write_faults { write_faults_of self.new ≡ failures_after result (write_faults_of self.old) }
+        ensures memory_faults { memory_faults_of self.new ≡ wants_after result (memory_faults_of self.old) }
     {
         self.start_write()?;
         let made = self.put(name, &[]);
@@ -197,12 +202,13 @@ impl Host for MemHost {
         ensures failed { (result ≡ Err HostFault.Failed) ↔ NextFails self.old }
         ensures count { IfOk result (λ k. k ≡ piece_of (length bytes.now)) }
         ensures ok { IfOk result (λ k. PutsFile self.old self.new name.now
-            (unwrap_or (file_of self.old name.now) [] ++ take k bytes.now)) }
+            (unwrap_or (file_in_mem_host self.old name.now) [] ++ take k bytes.now)) }
         ensures fault { OnErr result (KeepsFiles self.old self.new) }
         ensures said { said_of self.new ≡ said_of self.old }
         ensures call { CountsCall self.old self.new }
         ensures read_faults { read_faults_of self.new ≡ read_faults_of self.old }
-        ensures write_faults { write_faults_of self.new ≡ count_after result (write_faults_of self.old) }
+        ensures write_faults { write_faults_of self.new ≡ failures_after result (write_faults_of self.old) }
+        ensures memory_faults { memory_faults_of self.new ≡ wants_after result (memory_faults_of self.old) }
     {
         self.start_write()?;
         let piece = &bytes[..PIECE.min(bytes.len())];
@@ -219,7 +225,8 @@ impl Host for MemHost {
         ensures files { KeepsFiles self.old self.new }
         ensures call { CountsCall self.old self.new }
         ensures read_faults { read_faults_of self.new ≡ read_faults_of self.old }
-        ensures write_faults { write_faults_of self.new ≡ count_after result (write_faults_of self.old) }
+        ensures write_faults { write_faults_of self.new ≡ failures_after result (write_faults_of self.old) }
+        ensures memory_faults { memory_faults_of self.new ≡ wants_after result (memory_faults_of self.old) }
     {
         self.start_write()?;
         let piece = &bytes[..PIECE.min(bytes.len())];

@@ -1,8 +1,8 @@
 // The host that the program runs over: files of the system and the standard output. No clause can say what these hold,
 // so what this file does with them is trusted, and tried by a test.
-ghost use Rattle.std.specs.Prelude.{◌≡◌, ◌<◌, ◌≤◌, length, Ok, IfOk, IfErr, ◌↔◌, IsErr, IsErrAnd, MatchResult, is_ok, if◌then◌else◌};
+ghost use Rattle.std.specs.Prelude.{◌≡◌, ◌<◌, ◌≤◌, length, Ok, IfOk, IfErr, ◌↔◌, IsErr, IsErrAnd, MatchResult};
 ghost use Rattle.std.specs.IoError.{error_kind};
-ghost use Rattle.host.specs.Host.{one_more};
+ghost use Rattle.host.specs.Host.{failures_after, wants_after};
 ghost use Rattle.host.specs.RealHost.{untold};
 
 use crate::{Host, HostFault};
@@ -11,40 +11,49 @@ use std::io;
 use std::io::{ErrorKind, Read, Seek, SeekFrom, Write};
 use std::rt::Files;
 
-/// Files by their paths, and the standard output. It counts the faults that it meets.
+/// Files by their paths, and the standard output. It counts its calls that failed, and those that wanted memory.
 #[derive(Drop)]
 pub struct RealHost<R> {
     rt: R,
     read_faults: u64,
     write_faults: u64,
+    memory_faults: u64,
 }
 
 impl<R: Files + Print + Drop> RealHost<R> {
     /// A host that has met no fault.
     pub fn new(rt: R) -> RealHost<R>
-        ensures { ⟦<RealHost<R> as Host>⟧.state result ≡ untold 0 0 }
+        ensures { ⟦<RealHost<R> as Host>⟧.state result ≡ untold 0 0 0 }
     {
         RealHost {
             rt,
             read_faults: 0,
             write_faults: 0,
+            memory_faults: 0,
         }
     }
 }
 
-/// The answer of a call of the system, whose fault is counted.
-fn counted<T>(done: io::Result<T>, faults: &mut u64) -> Result<T, HostFault>
+/// The answer of a call of the system. Its fault is counted: as a failure, or as a want of memory.
+fn counted<T>(done: io::Result<T>, failures: &mut u64, wants: &mut u64) -> Result<T, HostFault>
     ensures answer { MatchResult done (λ answer. result ≡ Ok answer) (λ _. IsErr result) }
     ensures fault { IfErr done (λ error. (result ≡ Err HostFault.Memory)
         ↔ (error_kind error ≡ ErrorKind.OutOfMemory)) }
-    ensures count { faults.new ≡ (if is_ok result then faults.old else one_more faults.old) }
+    ensures failed { failures.new ≡ failures_after result failures.old }
+    ensures wanted { wants.new ≡ wants_after result wants.old }
 {
     match done {
         Ok(answer) => Ok(answer),
-        Err(error) => {
-            *faults = faults.saturating_add(1);
-            Err(fault_of(&error))
-        }
+        Err(error) => match fault_of(&error) {
+            HostFault::Failed => {
+                *failures = failures.saturating_add(1);
+                Err(HostFault::Failed)
+            }
+            HostFault::Memory => {
+                *wants = wants.saturating_add(1);
+                Err(HostFault::Memory)
+            }
+        },
     }
 }
 
@@ -94,24 +103,37 @@ fn append_file<R: Files>(rt: &R, name: &str, bytes: &[u8]) -> io::Result<usize>
 }
 
 impl<R: Files + Print + Drop> Host for RealHost<R> {
-    ghost state = { λ host. untold host.read_faults host.write_faults };
+    ghost state = { λ host. untold host.read_faults host.write_faults host.memory_faults };
 
     fn read(&mut self, name: &str, at: u64, into: &mut [u8]) -> Result<usize, HostFault> {
-        counted(read_file(&self.rt, name, at, into), &mut self.read_faults)
+        counted(
+            read_file(&self.rt, name, at, into),
+            &mut self.read_faults,
+            &mut self.memory_faults,
+        )
     }
 
     fn begin(&mut self, name: &str) -> Result<(), HostFault> {
-        counted(empty_file(&self.rt, name), &mut self.write_faults)
+        counted(
+            empty_file(&self.rt, name),
+            &mut self.write_faults,
+            &mut self.memory_faults,
+        )
     }
 
     fn append(&mut self, name: &str, bytes: &[u8]) -> Result<usize, HostFault> {
-        counted(append_file(&self.rt, name, bytes), &mut self.write_faults)
+        counted(
+            append_file(&self.rt, name, bytes),
+            &mut self.write_faults,
+            &mut self.memory_faults,
+        )
     }
 
     fn say(&mut self, bytes: &[u8]) -> Result<usize, HostFault> {
         counted(
             some_taken(self.rt.write_some(bytes)),
             &mut self.write_faults,
+            &mut self.memory_faults,
         )
     }
 }

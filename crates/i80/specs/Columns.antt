@@ -101,9 +101,9 @@ address_parts (Reg r) = nothing
 address_parts Mem = these (H ∷ L ∷ [])
 
 -- a byte operand that is written: it defines a register, and M is no part
-abbrev pub written : Src → Parts
-written (Reg r) = only (part_of_reg r)
-written Mem = nothing
+abbrev pub parts_written : Src → Parts
+parts_written (Reg r) = only (part_of_reg r)
+parts_written Mem = nothing
 
 -- a pair's two registers; SP is no part
 abbrev pub pair : Pair → Parts
@@ -124,10 +124,10 @@ stack_pair StackH = these (H ∷ L ∷ [])
 stack_pair Psw = union (only A) five_flags
 
 -- the carry that ADC and SBB read
-abbrev pub carry_in : Op → Parts
-carry_in Adc = only Cy
-carry_in Sbb = only Cy
-carry_in op = nothing
+abbrev pub carry_used : Op → Parts
+carry_used Adc = only Cy
+carry_used Sbb = only Cy
+carry_used op = nothing
 
 -- an operation puts its result in A, but CMP leaves A as it was
 abbrev pub result_in_a : Op → Parts
@@ -135,15 +135,15 @@ result_in_a Cmp = nothing
 result_in_a op = only A
 
 -- the flag of a condition
-abbrev pub flag : Cond → Parts
-flag Nz = only Z
-flag Zero = only Z
-flag Nc = only Cy
-flag Carry = only Cy
-flag Po = only P
-flag Pe = only P
-flag Plus = only S
-flag Minus = only S
+abbrev pub flag_of_condition : Cond → Parts
+flag_of_condition Nz = only Z
+flag_of_condition Zero = only Z
+flag_of_condition Nc = only Cy
+flag_of_condition Carry = only Cy
+flag_of_condition Po = only P
+flag_of_condition Pe = only P
+flag_of_condition Plus = only S
+flag_of_condition Minus = only S
 
 -- the system at 5 takes its function in C and its argument in E or DE (CP/M 2.2 Operating System Manual, "BDOS functions")
 abbrev pub asked_of : Goal → Parts
@@ -179,8 +179,8 @@ uses80 Xchg = these (D ∷ E ∷ H ∷ L ∷ [])
 uses80 Xthl = these (H ∷ L ∷ [])
 uses80 Sphl = these (H ∷ L ∷ [])
 uses80 Pchl = these (H ∷ L ∷ [])
-uses80 (Alu op s) = (if gives_zero op s then nothing else union (union (only A) (read s)) (carry_in op))
-uses80 (AluI op n) = union (only A) (carry_in op)
+uses80 (Alu op s) = (if gives_zero op s then nothing else union (union (only A) (read s)) (carry_used op))
+uses80 (AluI op n) = union (only A) (carry_used op)
 uses80 (Inr s) = read s
 uses80 (Dcr s) = read s
 uses80 (Inx p) = pair p
@@ -197,11 +197,11 @@ uses80 Rar = these (A ∷ Cy ∷ [])
 uses80 (Push p) = stack_pair p
 uses80 (Pop p) = nothing
 uses80 (Jmp t) = asked_of t
-uses80 (Jif cond t) = union (flag cond) (asked_of t)
+uses80 (Jif cond t) = union (flag_of_condition cond) (asked_of t)
 uses80 (Call t) = asked_of t
-uses80 (Cif cond t) = union (flag cond) (asked_of t)
+uses80 (Cif cond t) = union (flag_of_condition cond) (asked_of t)
 uses80 Ret = nothing
-uses80 (Rif cond) = flag cond
+uses80 (Rif cond) = flag_of_condition cond
 uses80 Rst0 = nothing
 uses80 (In n) = nothing
 uses80 (Out n) = only A
@@ -209,8 +209,8 @@ uses80 (Out n) = only A
 -- the parts that an instruction defines, whatever they held; a conditional one defines nothing
 abbrev pub defs80 : Instr80 → Parts
 defs80 Nop = nothing
-defs80 (Mov to from) = written to
-defs80 (Mvi to n) = written to
+defs80 (Mov to from) = parts_written to
+defs80 (Mvi to n) = parts_written to
 defs80 (Lxi p w) = pair p
 defs80 (Lda a) = only A
 defs80 (Sta a) = nothing
@@ -224,8 +224,8 @@ defs80 Sphl = nothing
 defs80 Pchl = nothing
 defs80 (Alu op s) = union (result_in_a op) five_flags
 defs80 (AluI op n) = union (result_in_a op) five_flags
-defs80 (Inr s) = union (written s) (these (S ∷ Z ∷ Ac ∷ P ∷ []))
-defs80 (Dcr s) = union (written s) (these (S ∷ Z ∷ Ac ∷ P ∷ []))
+defs80 (Inr s) = union (parts_written s) (these (S ∷ Z ∷ Ac ∷ P ∷ []))
+defs80 (Dcr s) = union (parts_written s) (these (S ∷ Z ∷ Ac ∷ P ∷ []))
 defs80 (Inx p) = pair p
 defs80 (Dcx p) = pair p
 defs80 (Dad p) = these (H ∷ L ∷ Cy ∷ [])

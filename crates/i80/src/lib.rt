@@ -1,4 +1,8 @@
-// The instructions of the 8080 (Intel 8080 Assembly Language Programming Manual), but for HLT, EI, DI and RST 1 to 7.
+// The instructions of the 8080 with their table (Intel 8080 Assembly Language Programming Manual), all but HLT, EI, DI and RST 1 to 7.
+//
+// Proved, for every instruction: `well_formed`, `length`, `uses`, `defs` and `ends` are the columns of the table in `specs/Columns`:
+// whether the 8080 has the instruction, how many bytes it has, which registers and flags it reads, which ones it gives a new value, and
+// whether it ends a basic block.
 #![tactic(auto)]
 
 ghost use Rattle.std.specs.Prelude.{◌≡◌, IsTrue};

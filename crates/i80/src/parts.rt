@@ -2,7 +2,7 @@
 ghost use Rattle.std.specs.Prelude.{◌≡◌, [], ◌∷◌};
 ghost use Rattle.cells.specs.Parts.{only, these};
 ghost use Rattle.cells.specs.declared.Part.TheVariants.{A, Ac, B, C, Cy, D, E, H, L, P, S, Z};
-ghost use Rattle.i80.specs.Columns.{uses80, gives_zero, part_of_reg, read, address_parts, written, pair, five_flags, stack_pair, carry_in, result_in_a, flag, asked_of, changed_by};
+ghost use Rattle.i80.specs.Columns.{uses80, gives_zero, part_of_reg, read, address_parts, parts_written, pair, five_flags, stack_pair, carry_used, result_in_a, flag_of_condition, asked_of, changed_by};
 
 use crate::{Goal, Instr80, Op, Pair, Reg, Src, StackPair};
 use cells::{Cond, Keep, Part};
@@ -90,7 +90,7 @@ pub(crate) fn address_parts(operand: Src) -> Keep
 
 /// What an operand that is written defines: M is no part.
 pub(crate) fn written(operand: Src) -> Keep
-    ensures { result ≡ written operand }
+    ensures { result ≡ parts_written operand }
 {
     match operand {
         Src::Reg(reg) => Keep::none().with(part_of(reg)),
@@ -123,7 +123,7 @@ pub(crate) fn stack_pair(registers: StackPair) -> Keep
 
 /// The carry that ADC and SBB use.
 pub(crate) fn carry_in(op: Op) -> Keep
-    ensures { result ≡ carry_in op }
+    ensures { result ≡ carry_used op }
 {
     match op {
         Op::Adc | Op::Sbb => cy(),
@@ -154,7 +154,7 @@ pub(crate) fn result_in_a(op: Op) -> Keep
 
 /// The flag that a condition reads.
 pub(crate) fn flag(cond: Cond) -> Keep
-    ensures { result ≡ flag cond }
+    ensures { result ≡ flag_of_condition cond }
 {
     Keep::none().with(match cond {
         Cond::Nz | Cond::Z => Part::Z,

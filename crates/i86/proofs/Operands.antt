@@ -10,7 +10,7 @@ use Rattle.i86.specs.declared.Operand16.{Operand16}
 use Rattle.i86.specs.declared.Operand16.TheVariants.{Reg as Reg_16, Direct}
 use Rattle.i86.specs.declared.Instr86.{Instr86}
 use Rattle.i86.specs.Enc86.{code8, code16, code_of_ptr, two, one, with_operand}
-use Rattle.i86.specs.Decoder.{look, regs8, regs16, ptrs, reg8_at, reg16_at, ptr_at, operand8_at, direct_at, operand16_at, of_two}
+use Rattle.i86.specs.Decoder.{entry_under, regs8, regs16, ptrs, reg8_at, reg16_at, ptr_at, operand8_at, direct_at, operand16_at, of_two}
 use Rattle.i86.proofs.Tables.{code_of_reg8, code_of_reg16, code_of_found_ptr, reg8_found, ptr_found, code8_small, ptr_small}
 
 -- the number of the fields
@@ -48,17 +48,17 @@ both_found f o p a b h g = ap (λ x. of_two f x p) h ∙ ap (option_map (f a)) g
 -- an operand that is found is the one whose fields these are
 pub reg8_at_is : (mode reg rm : ℕ) (r : Reg8) → reg8_at mode rm ≡ Some r → fields mode reg rm ≡ two reg (code8 r)
 reg8_at_is mode reg rm r h =
-    if_then (mode == 3) (look regs8 rm) r (fields mode reg rm ≡ two reg (code8 r)) h
+    if_then (mode == 3) (entry_under regs8 rm) r (fields mode reg rm ≡ two reg (code8 r)) h
     (λ t e. let m : mode ≡ 3 = eqb-true mode 3 t in let k : rm ≡ code8 r = code_of_reg8 rm r e in omega arith)
 
 pub reg16_at_is : (mode reg rm : ℕ) (r : Reg16) → reg16_at mode rm ≡ Some r → fields mode reg rm ≡ two reg (code16 r)
 reg16_at_is mode reg rm r h =
-    if_then (mode == 3) (look regs16 rm) r (fields mode reg rm ≡ two reg (code16 r)) h
+    if_then (mode == 3) (entry_under regs16 rm) r (fields mode reg rm ≡ two reg (code16 r)) h
     (λ t e. let m : mode ≡ 3 = eqb-true mode 3 t in let k : rm ≡ code16 r = code_of_reg16 rm r e in omega arith)
 
 pub ptr_at_is : (mode reg rm : ℕ) (p : Ptr) → ptr_at mode rm ≡ Some p → fields mode reg rm ≡ one reg (code_of_ptr p)
 ptr_at_is mode reg rm p h =
-    if_then (mode == 0) (look ptrs rm) p (fields mode reg rm ≡ one reg (code_of_ptr p)) h
+    if_then (mode == 0) (entry_under ptrs rm) p (fields mode reg rm ≡ one reg (code_of_ptr p)) h
     (λ t e. let m : mode ≡ 0 = eqb-true mode 0 t in let k : rm ≡ code_of_ptr p = code_of_found_ptr rm p e in omega arith)
 
 pub direct_at_is : (mode reg rm a : ℕ) (word : Option ℕ) → direct_at mode rm word ≡ Some a → (fields mode reg rm ≡ one reg 6) × (word ≡ Some a)
@@ -70,9 +70,9 @@ direct_at_is mode reg rm a word h =
 pub operand8_at_is : (mode reg rm : ℕ) (o : Operand8) → operand8_at mode rm ≡ Some o → fields mode reg rm ≡ with_operand reg o
 operand8_at_is mode reg rm o h = by_test (mode == 3) refl h
   where
-    by_test : (b : Bool) → (mode == 3) ≡ b → cond b (option_map Reg (look regs8 rm)) (option_map Mem (ptr_at mode rm)) ≡ Some o → fields mode reg rm ≡ with_operand reg o
+    by_test : (b : Bool) → (mode == 3) ≡ b → cond b (option_map Reg (entry_under regs8 rm)) (option_map Mem (ptr_at mode rm)) ≡ Some o → fields mode reg rm ≡ with_operand reg o
     by_test true t e =
-        of_map Reg (look regs8 rm) o (λ o. fields mode reg rm ≡ with_operand reg o) e
+        of_map Reg (entry_under regs8 rm) o (λ o. fields mode reg rm ≡ with_operand reg o) e
         (λ r f. let m : mode ≡ 3 = eqb-true mode 3 t in let k : rm ≡ code8 r = code_of_reg8 rm r f in omega arith)
     by_test false t e = of_map Mem (ptr_at mode rm) o (λ o. fields mode reg rm ≡ with_operand reg o) e (λ p f. ptr_at_is mode reg rm p f)
 
@@ -84,9 +84,9 @@ Names reg (Direct a) m word = (m ≡ one reg 6) × (word ≡ Some a)
 pub operand16_at_is : (mode reg rm : ℕ) (o : Operand16) (word : Option ℕ) → operand16_at mode rm word ≡ Some o → Names reg o (fields mode reg rm) word
 operand16_at_is mode reg rm o word h = by_test (mode == 3) refl h
   where
-    by_test : (b : Bool) → (mode == 3) ≡ b → cond b (option_map Reg_16 (look regs16 rm)) (option_map Direct (direct_at mode rm word)) ≡ Some o → Names reg o (fields mode reg rm) word
+    by_test : (b : Bool) → (mode == 3) ≡ b → cond b (option_map Reg_16 (entry_under regs16 rm)) (option_map Direct (direct_at mode rm word)) ≡ Some o → Names reg o (fields mode reg rm) word
     by_test true t e =
-        of_map Reg_16 (look regs16 rm) o (λ o. Names reg o (fields mode reg rm) word) e
+        of_map Reg_16 (entry_under regs16 rm) o (λ o. Names reg o (fields mode reg rm) word) e
         (λ r f. let m : mode ≡ 3 = eqb-true mode 3 t in let k : rm ≡ code16 r = code_of_reg16 rm r f in omega arith)
     by_test false t e = of_map Direct (direct_at mode rm word) o (λ o. Names reg o (fields mode reg rm) word) e (λ a f. direct_at_is mode reg rm a word f)
 

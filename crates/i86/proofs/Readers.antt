@@ -22,9 +22,9 @@ use Rattle.i86.specs.declared.decoding.FieldsForm.TheVariants.{MovReg8 as Fields
 use Rattle.i86.specs.declared.decoding.Form.{Form}
 use Rattle.i86.specs.declared.decoding.Form.TheVariants.{Alone, Fixed, Byte, Word, Fields}
 use Rattle.i86.specs.Enc86.{code8, code16, reg_of_stack, code_of_ptr, code_of_alu, code_of_count, code_of_rotate, two, one, with_operand, word_then, enc86}
-use Rattle.i86.specs.Code.{HasBytes, Reads}
+use Rattle.i86.specs.Code.{HasBytes, ReadsCode}
 use Rattle.i86.specs.Decode.{IsOnlyReader, HasOneReader, IsDecodedAt}
-use Rattle.i86.specs.Decoder.{look, regs8, regs16, counts, rotates, reg8_at, reg16_at, ptr_at, operand8_at, direct_at, operand16_at, or_cl_cl, of_two, with_fields, with_byte, with_word, word_from, form_of, by_form, by_first, decoded}
+use Rattle.i86.specs.Decoder.{entry_under, regs8, regs16, counts, rotates, reg8_at, reg16_at, ptr_at, operand8_at, direct_at, operand16_at, or_cl_cl, of_two, with_fields, instruction_with_byte, instruction_with_word, word_from, form_of, by_form, by_first, decoded}
 use Rattle.i86.proofs.Tables.{code_of_reg8, code_of_reg16, code_of_found_count, code_of_found_rotate, reg8_found, reg16_found, ptr_found, count_found, rotate_found, code8_small, code16_small, ptr_small, count_small, rotate_small, byte_opcode, word_opcode, fields_opcode, byte_form, word_form, fields_form, count_form, push_form, pop_form, Says, form_says}
 use Rattle.i86.proofs.Operands.{fields, mode_of, reg_of, rm_of, parts, if_then, of_map, of_both, both_found, reg8_at_is, reg16_at_is, ptr_at_is, direct_at_is, operand8_at_is, Names, operand16_at_is, mode_of_operand, rm_of_operand, operand8_fields, operand8_mode_small, operand8_rm_small, operand8_found}
 
@@ -37,7 +37,7 @@ low_of h l b = omega arith
 high_of : (h l : ℕ) → l < 256 → (256 * h + l) / 256 ≡ h
 high_of h l b = omega arith
 
-byte_encoding : (f : ByteForm) (n : ℕ) → enc86 (with_byte f n) ≡ byte_opcode f ∷ (n ∷ [])
+byte_encoding : (f : ByteForm) (n : ℕ) → enc86 (instruction_with_byte f n) ≡ byte_opcode f ∷ (n ∷ [])
 byte_encoding (ByteMov r) n = refl
 byte_encoding (ByteAlu o) n = refl
 byte_encoding (ByteJcc j) n = refl
@@ -45,7 +45,7 @@ byte_encoding ByteJmp n = refl
 byte_encoding ByteIn n = refl
 byte_encoding ByteOut n = refl
 
-word_encoding : (f : WordForm) (w : ℕ) → enc86 (with_word f w) ≡ word_opcode f ∷ word_then w []
+word_encoding : (f : WordForm) (w : ℕ) → enc86 (instruction_with_word f w) ≡ word_opcode f ∷ word_then w []
 word_encoding WordToAl w = refl
 word_encoding WordFromAl w = refl
 word_encoding (WordMov r) w = refl
@@ -79,11 +79,11 @@ module _ (code : List ℕ) (at : ℕ) where
   word_there : (p q : Option ℕ) (w : ℕ) → p ≡ Some (w % 256) → q ≡ Some (w / 256) → word_from p q ≡ Some w
   word_there p q w h g = ap (λ o. word_from o q) h ∙ ap (λ o. word_from (Some (w % 256)) o) g ∙ ap Some (word_parts w)
 
-  at_byte : (f : ByteForm) (n : ℕ) → HasBytes code at (byte_opcode f ∷ (n ∷ [])) → decoded code at ≡ Some (with_byte f n)
-  at_byte f n h = at_form (byte_opcode f) (Byte f) (byte_form f) h.0 ∙ ap (option_map (with_byte f)) h.1.0
+  at_byte : (f : ByteForm) (n : ℕ) → HasBytes code at (byte_opcode f ∷ (n ∷ [])) → decoded code at ≡ Some (instruction_with_byte f n)
+  at_byte f n h = at_form (byte_opcode f) (Byte f) (byte_form f) h.0 ∙ ap (option_map (instruction_with_byte f)) h.1.0
 
-  at_word : (f : WordForm) (w : ℕ) → HasBytes code at (word_opcode f ∷ word_then w []) → decoded code at ≡ Some (with_word f w)
-  at_word f w h = at_form (word_opcode f) (Word f) (word_form f) h.0 ∙ ap (option_map (with_word f)) (word_there x y w h.1.0 (sym third ∙ h.1.1.0))
+  at_word : (f : WordForm) (w : ℕ) → HasBytes code at (word_opcode f ∷ word_then w []) → decoded code at ≡ Some (instruction_with_word f w)
+  at_word f w h = at_form (word_opcode f) (Word f) (word_form f) h.0 ∙ ap (option_map (instruction_with_word f)) (word_there x y w h.1.0 (sym third ∙ h.1.1.0))
 
   at_fixed : (b c : ℕ) (i : Instr86) → form_of b ≡ Some (Fixed c i) → HasBytes code at (b ∷ (c ∷ [])) → decoded code at ≡ Some i
   at_fixed b c i e h = at_form b (Fixed c i) e h.0 ∙ ap (option_and_then (λ (m : ℕ). cond (m == c) (Some i) None)) h.1.0 ∙ ap (λ t. cond t (Some i) None) self
@@ -113,8 +113,8 @@ module _ (code : List ℕ) (at : ℕ) where
       ∙ ap (with_fields f 0 reg 6 y) (word_there y z a (sym third ∙ h.1.1.0) (sym fourth ∙ h.1.1.1.0))
 
   pub complete : (i : Instr86) → HasBytes code at (enc86 i) → decoded code at ≡ Some i
-  complete (MovReg8 r o) h = at_operand FieldsMov8 (code8 r) o (code8_small r) h ∙ both_found MovReg8 (look regs8 (code8 r)) (operand8_at (mode_of_operand o) (rm_of_operand o)) r o (reg8_found r) (operand8_found o)
-  complete (MovMem8 p r) h = at_operand FieldsToMem (code8 r) (Mem p) (code8_small r) h ∙ both_found (λ r p. MovMem8 p r) (look regs8 (code8 r)) (ptr_at 0 (code_of_ptr p)) r p (reg8_found r) (ptr_found p)
+  complete (MovReg8 r o) h = at_operand FieldsMov8 (code8 r) o (code8_small r) h ∙ both_found MovReg8 (entry_under regs8 (code8 r)) (operand8_at (mode_of_operand o) (rm_of_operand o)) r o (reg8_found r) (operand8_found o)
+  complete (MovMem8 p r) h = at_operand FieldsToMem (code8 r) (Mem p) (code8_small r) h ∙ both_found (λ r p. MovMem8 p r) (entry_under regs8 (code8 r)) (ptr_at 0 (code_of_ptr p)) r p (reg8_found r) (ptr_found p)
   complete (MovAlDirect a) h = at_word WordToAl a h
   complete (MovDirectAl a) h = at_word WordFromAl a h
   complete (MovNum8 r n) h = at_byte (ByteMov r) n h
@@ -122,23 +122,23 @@ module _ (code : List ℕ) (at : ℕ) where
   complete (MovMemNum p n) h =
       at_fields FieldsMemNum (one 0 (code_of_ptr p)) 0 0 (code_of_ptr p) (omega arith) (lit< tt) (lit< tt) (ptr_small p) h.0 h.1.0
       ∙ both_found MovMemNum (ptr_at 0 (code_of_ptr p)) y p n (ptr_found p) (sym third ∙ h.1.1.0)
-  complete (MovReg16 r (Reg_16 q)) h = at_two FieldsMov16 (code16 r) (code16 q) (code16_small r) (code16_small q) h ∙ both_found MovReg16 (look regs16 (code16 r)) (operand16_at 3 (code16 q) (word_from y z)) r (Reg_16 q) (reg16_found r) (ap (option_map Reg_16) (reg16_found q))
-  complete (MovReg16 r (Direct a)) h = at_direct FieldsMov16 (code16 r) a (code16_small r) h ∙ both_found MovReg16 (look regs16 (code16 r)) (Some (Direct a)) r (Direct a) (reg16_found r) refl
-  complete (MovDirect16 a r) h = at_direct FieldsToDirect (code16 r) a (code16_small r) h ∙ both_found (λ r a. MovDirect16 a r) (look regs16 (code16 r)) (Some a) r a (reg16_found r) refl
+  complete (MovReg16 r (Reg_16 q)) h = at_two FieldsMov16 (code16 r) (code16 q) (code16_small r) (code16_small q) h ∙ both_found MovReg16 (entry_under regs16 (code16 r)) (operand16_at 3 (code16 q) (word_from y z)) r (Reg_16 q) (reg16_found r) (ap (option_map Reg_16) (reg16_found q))
+  complete (MovReg16 r (Direct a)) h = at_direct FieldsMov16 (code16 r) a (code16_small r) h ∙ both_found MovReg16 (entry_under regs16 (code16 r)) (Some (Direct a)) r (Direct a) (reg16_found r) refl
+  complete (MovDirect16 a r) h = at_direct FieldsToDirect (code16 r) a (code16_small r) h ∙ both_found (λ r a. MovDirect16 a r) (entry_under regs16 (code16 r)) (Some a) r a (reg16_found r) refl
   complete MovAxDs h = at_fixed 0x8C 0xD8 MovAxDs refl h
   complete MovSsAx h = at_fixed 0x8E 0xD0 MovSsAx refl h
   complete (Alu op o) h = at_operand (FieldsAlu op) 0 o (lit< tt) h ∙ ap (option_map (Alu op)) (operand8_found o)
   complete (AluNum op n) h = at_byte (ByteAlu op) n h
   complete OrClCl h = at_two (FieldsAlu Or) 1 1 (lit< tt) (lit< tt) h
-  complete (Add16 r q) h = at_two FieldsAdd16 (code16 r) (code16 q) (code16_small r) (code16_small q) h ∙ both_found Add16 (look regs16 (code16 r)) (look regs16 (code16 q)) r q (reg16_found r) (reg16_found q)
-  complete (Count8 c o) h = at_operand FieldsCount8 (code_of_count c) o (count_small c) h ∙ both_found Count8 (look counts (code_of_count c)) (operand8_at (mode_of_operand o) (rm_of_operand o)) c o (count_found c) (operand8_found o)
+  complete (Add16 r q) h = at_two FieldsAdd16 (code16 r) (code16 q) (code16_small r) (code16_small q) h ∙ both_found Add16 (entry_under regs16 (code16 r)) (entry_under regs16 (code16 q)) r q (reg16_found r) (reg16_found q)
+  complete (Count8 c o) h = at_operand FieldsCount8 (code_of_count c) o (count_small c) h ∙ both_found Count8 (entry_under counts (code_of_count c)) (operand8_at (mode_of_operand o) (rm_of_operand o)) c o (count_found c) (operand8_found o)
   complete (Count16 c r) h = at_form (0x40 + (8 * code_of_count c + code16 r)) (Alone (Count16 c r)) (count_form c r) h.0
   complete (Push r) h = at_form (0x50 + code16 (reg_of_stack r)) (Alone (Push r)) (push_form r) h.0
   complete (Pop r) h = at_form (0x58 + code16 (reg_of_stack r)) (Alone (Pop r)) (pop_form r) h.0
-  complete (Xchg8 r q) h = at_two FieldsXchg8 (code8 r) (code8 q) (code8_small r) (code8_small q) h ∙ both_found Xchg8 (look regs8 (code8 r)) (look regs8 (code8 q)) r q (reg8_found r) (reg8_found q)
-  complete (Xchg16 r q) h = at_two FieldsXchg16 (code16 r) (code16 q) (code16_small r) (code16_small q) h ∙ both_found Xchg16 (look regs16 (code16 r)) (look regs16 (code16 q)) r q (reg16_found r) (reg16_found q)
-  complete (Rotate8 k r) h = at_two FieldsRotate8 (code_of_rotate k) (code8 r) (rotate_small k) (code8_small r) h ∙ both_found Rotate8 (look rotates (code_of_rotate k)) (look regs8 (code8 r)) k r (rotate_found k) (reg8_found r)
-  complete (Rotate16 k r) h = at_two FieldsRotate16 (code_of_rotate k) (code16 r) (rotate_small k) (code16_small r) h ∙ both_found Rotate16 (look rotates (code_of_rotate k)) (look regs16 (code16 r)) k r (rotate_found k) (reg16_found r)
+  complete (Xchg8 r q) h = at_two FieldsXchg8 (code8 r) (code8 q) (code8_small r) (code8_small q) h ∙ both_found Xchg8 (entry_under regs8 (code8 r)) (entry_under regs8 (code8 q)) r q (reg8_found r) (reg8_found q)
+  complete (Xchg16 r q) h = at_two FieldsXchg16 (code16 r) (code16 q) (code16_small r) (code16_small q) h ∙ both_found Xchg16 (entry_under regs16 (code16 r)) (entry_under regs16 (code16 q)) r q (reg16_found r) (reg16_found q)
+  complete (Rotate8 k r) h = at_two FieldsRotate8 (code_of_rotate k) (code8 r) (rotate_small k) (code8_small r) h ∙ both_found Rotate8 (entry_under rotates (code_of_rotate k)) (entry_under regs8 (code8 r)) k r (rotate_found k) (reg8_found r)
+  complete (Rotate16 k r) h = at_two FieldsRotate16 (code_of_rotate k) (code16 r) (rotate_small k) (code16_small r) h ∙ both_found Rotate16 (entry_under rotates (code_of_rotate k)) (entry_under regs16 (code16 r)) k r (rotate_found k) (reg16_found r)
   complete (Not8 r) h = at_two FieldsNot8 2 (code8 r) (lit< tt) (code8_small r) h ∙ ap (option_map Not8) (reg8_found r)
   complete Daa h = at_form 0x27 (Alone Daa) refl h.0
   complete Sahf h = at_form 0x9E (Alone Sahf) refl h.0
@@ -200,20 +200,20 @@ module _ (code : List ℕ) (at : ℕ) where
 
     fields_has : (f : FieldsForm) (mode reg rm : ℕ) (j : Instr86) → slice_get code at ≡ Some (fields_opcode f) → x ≡ Some (fields mode reg rm) → with_fields f mode reg rm y (word_from y z) ≡ Some j → HasAt j
     fields_has FieldsMov8 mode reg rm j h g e =
-        of_both MovReg8 (look regs8 reg) (operand8_at mode rm) j HasAt e
+        of_both MovReg8 (entry_under regs8 reg) (operand8_at mode rm) j HasAt e
         (λ r o er eo. has_two 0x8A (fields mode reg rm) (with_operand (code8 r) o) h g (operand8_at_is mode reg rm o eo ∙ ap (λ k. with_operand k o) (code_of_reg8 reg r er)))
     fields_has FieldsToMem mode reg rm j h g e =
-        of_both (λ r p. MovMem8 p r) (look regs8 reg) (ptr_at mode rm) j HasAt e
+        of_both (λ r p. MovMem8 p r) (entry_under regs8 reg) (ptr_at mode rm) j HasAt e
         (λ r p er ep. has_two 0x88 (fields mode reg rm) (one (code8 r) (code_of_ptr p)) h g (ptr_at_is mode reg rm p ep ∙ ap (λ k. one k (code_of_ptr p)) (code_of_reg8 reg r er)))
     fields_has FieldsMemNum mode reg rm j h g e =
         if_then (reg == 0) (of_two MovMemNum (ptr_at mode rm) y) j (HasAt j) e
         (λ t f. of_both MovMemNum (ptr_at mode rm) y j HasAt f
         (λ p n ep en. (h, (g ∙ ap Some (ptr_at_is mode reg rm p ep ∙ ap (λ k. one k (code_of_ptr p)) (eqb-true reg 0 t)), (third ∙ en, tt)))))
     fields_has FieldsMov16 mode reg rm j h g e =
-        of_both MovReg16 (look regs16 reg) (operand16_at mode rm (word_from y z)) j HasAt e
+        of_both MovReg16 (entry_under regs16 reg) (operand16_at mode rm (word_from y z)) j HasAt e
         (λ r o er eo. mov16_has (fields mode reg rm) r o h g (subst (λ k. Names k o (fields mode reg rm) (word_from y z)) (code_of_reg16 reg r er) (operand16_at_is mode reg rm o (word_from y z) eo)))
     fields_has FieldsToDirect mode reg rm j h g e =
-        of_both (λ r a. MovDirect16 a r) (look regs16 reg) (direct_at mode rm (word_from y z)) j HasAt e
+        of_both (λ r a. MovDirect16 a r) (entry_under regs16 reg) (direct_at mode rm (word_from y z)) j HasAt e
         (λ r a er ea. let d = direct_at_is mode reg rm a (word_from y z) ea in (h, (g ∙ ap Some (d.0 ∙ ap (λ k. one k 6) (code_of_reg16 reg r er)), word_behind a d.1)))
     fields_has (FieldsAlu op) mode reg rm j h g e = by_test (reg == 0) refl e
       where
@@ -223,22 +223,22 @@ module _ (code : List ℕ) (at : ℕ) where
             (λ o eo. has_two (8 * code_of_alu op + 2) (fields mode reg rm) (with_operand 0 o) h g (operand8_at_is mode reg rm o eo ∙ ap (λ k. with_operand k o) (eqb-true reg 0 t)))
         by_test false t f = or_cl_has op mode reg rm j h g f
     fields_has FieldsAdd16 mode reg rm j h g e =
-        of_both Add16 (look regs16 reg) (reg16_at mode rm) j HasAt e
+        of_both Add16 (entry_under regs16 reg) (reg16_at mode rm) j HasAt e
         (λ r q er eq. has_two 0x03 (fields mode reg rm) (two (code16 r) (code16 q)) h g (reg16_at_is mode reg rm q eq ∙ ap (λ k. two k (code16 q)) (code_of_reg16 reg r er)))
     fields_has FieldsCount8 mode reg rm j h g e =
-        of_both Count8 (look counts reg) (operand8_at mode rm) j HasAt e
+        of_both Count8 (entry_under counts reg) (operand8_at mode rm) j HasAt e
         (λ c o er eo. has_two 0xFE (fields mode reg rm) (with_operand (code_of_count c) o) h g (operand8_at_is mode reg rm o eo ∙ ap (λ k. with_operand k o) (code_of_found_count reg c er)))
     fields_has FieldsXchg8 mode reg rm j h g e =
-        of_both Xchg8 (look regs8 reg) (reg8_at mode rm) j HasAt e
+        of_both Xchg8 (entry_under regs8 reg) (reg8_at mode rm) j HasAt e
         (λ r q er eq. has_two 0x86 (fields mode reg rm) (two (code8 r) (code8 q)) h g (reg8_at_is mode reg rm q eq ∙ ap (λ k. two k (code8 q)) (code_of_reg8 reg r er)))
     fields_has FieldsXchg16 mode reg rm j h g e =
-        of_both Xchg16 (look regs16 reg) (reg16_at mode rm) j HasAt e
+        of_both Xchg16 (entry_under regs16 reg) (reg16_at mode rm) j HasAt e
         (λ r q er eq. has_two 0x87 (fields mode reg rm) (two (code16 r) (code16 q)) h g (reg16_at_is mode reg rm q eq ∙ ap (λ k. two k (code16 q)) (code_of_reg16 reg r er)))
     fields_has FieldsRotate8 mode reg rm j h g e =
-        of_both Rotate8 (look rotates reg) (reg8_at mode rm) j HasAt e
+        of_both Rotate8 (entry_under rotates reg) (reg8_at mode rm) j HasAt e
         (λ k r er eq. has_two 0xD0 (fields mode reg rm) (two (code_of_rotate k) (code8 r)) h g (reg8_at_is mode reg rm r eq ∙ ap (λ n. two n (code8 r)) (code_of_found_rotate reg k er)))
     fields_has FieldsRotate16 mode reg rm j h g e =
-        of_both Rotate16 (look rotates reg) (reg16_at mode rm) j HasAt e
+        of_both Rotate16 (entry_under rotates reg) (reg16_at mode rm) j HasAt e
         (λ k r er eq. has_two 0xD1 (fields mode reg rm) (two (code_of_rotate k) (code16 r)) h g (reg16_at_is mode reg rm r eq ∙ ap (λ n. two n (code16 r)) (code_of_found_rotate reg k er)))
     fields_has FieldsNot8 mode reg rm j h g e =
         if_then (reg == 2) (option_map Not8 (reg8_at mode rm)) j (HasAt j) e
@@ -254,10 +254,10 @@ module _ (code : List ℕ) (at : ℕ) where
         if_then (m == c) (Some i) j (HasAt j) e
         (λ t f. let is : i ≡ j = cc in subst HasAt is (subst (HasBytes code at) (sym s) (has_two b m c h g (eqb-true m c t))))
     form_has b (Byte f) o j h s g e =
-        of_map (with_byte f) o j HasAt e
+        of_map (instruction_with_byte f) o j HasAt e
         (λ n en. subst (HasBytes code at) (sym (byte_encoding f n)) (h ∙ ap Some s, (g ∙ en, tt)))
     form_has b (Word f) o j h s g e =
-        of_map (with_word f) (word_from o y) j HasAt e
+        of_map (instruction_with_word f) (word_from o y) j HasAt e
         (λ w ew. subst (HasBytes code at) (sym (word_encoding f w)) (h ∙ ap Some s, word_has (at + 1) w o y g third ew))
     form_has b (Fields f) None j h s g e = absurd (cc)
     form_has b (Fields f) (Some m) j h s g e = fields_has f (m / 64) (m / 8 % 8) (m % 8) j (h ∙ ap Some s) (g ∙ ap Some (parts m)) e
@@ -274,11 +274,11 @@ module _ (code : List ℕ) (at : ℕ) where
     unfolding decoded
     sound j e = all_has (slice_get code at) j refl e
 
-pub reads_decoded : (code : List ℕ) → ((k b : ℕ) → slice_get code k ≡ Some b → b < 256) → Reads code (decoded code)
+pub reads_decoded : (code : List ℕ) → ((k b : ℕ) → slice_get code k ≡ Some b → b < 256) → ReadsCode code (decoded code)
 reads_decoded code bytes = λ at i. (sound code at bytes i, complete code at i)
 
 -- readers of one code agree
-pub readers_agree : (code : List ℕ) (f g : ℕ → Option Instr86) → Reads code f → Reads code g → (at : ℕ) → f at ≡ g at
+pub readers_agree : (code : List ℕ) (f g : ℕ → Option Instr86) → ReadsCode code f → ReadsCode code g → (at : ℕ) → f at ≡ g at
 readers_agree code f g hf hg at = by_cases (f at) (g at) refl refl
   where
     by_cases : (o p : Option Instr86) → f at ≡ o → g at ≡ p → o ≡ p
@@ -293,7 +293,7 @@ decoded_is_only_reader code fits = (reads, λ other h at. readers_agree code oth
     byte : (k b : ℕ) → slice_get code k ≡ Some b → b < 256
     byte k b h = subst (λ c. c < 256) (get_or_from_slice_get code k b 0 h) (fits k)
 
-    reads : Reads code (decoded code)
+    reads : ReadsCode code (decoded code)
     reads = reads_decoded code byte
 
 -- a place past the end gives 0

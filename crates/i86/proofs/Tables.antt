@@ -28,7 +28,7 @@ use Rattle.i86.specs.declared.decoding.FieldsForm.TheVariants.{MovReg8 as Fields
 use Rattle.i86.specs.declared.decoding.Form.{Form}
 use Rattle.i86.specs.declared.decoding.Form.TheVariants.{Alone, Fixed, Byte, Word, Fields}
 use Rattle.i86.specs.Enc86.{code8, code16, reg_of_stack, code_of_ptr, code_of_alu, code_of_count, code_of_rotate, code_of_jump, enc86}
-use Rattle.i86.specs.Decoder.{look, regs8, regs16, ptrs, counts, rotates, form_of}
+use Rattle.i86.specs.Decoder.{entry_under, regs8, regs16, ptrs, counts, rotates, form_of}
 
 -- what holds of each entry of a table
 abbrev AllEntries : {X : Type 0} → (ℕ → X → Type 0) → List (ℕ × X) → Type 0
@@ -36,30 +36,30 @@ AllEntries P [] = Unit {0}
 AllEntries P (e ∷ es) = P e.0 e.1 × AllEntries P es
 
 -- what holds of each entry holds of the one that is found
-look_holds : {X : Type 0} (P : ℕ → X → Type 0) (es : List (ℕ × X)) (n : ℕ) (x : X) → AllEntries P es → look es n ≡ Some x → P n x
+look_holds : {X : Type 0} (P : ℕ → X → Type 0) (es : List (ℕ × X)) (n : ℕ) (x : X) → AllEntries P es → entry_under es n ≡ Some x → P n x
 look_holds P [] n x all h = absurd (cc)
 look_holds P (e ∷ es) n x all h = by_test (e.0 == n) refl h (look_holds P es n x all.1)
   where
-    by_test : (b : Bool) → (e.0 == n) ≡ b → cond b (Some e.1) (look es n) ≡ Some x → (look es n ≡ Some x → P n x) → P n x
+    by_test : (b : Bool) → (e.0 == n) ≡ b → cond b (Some e.1) (entry_under es n) ≡ Some x → (entry_under es n ≡ Some x → P n x) → P n x
     by_test false f g rec = rec g
     by_test true f g rec =
         let at : e.0 ≡ n = grind (arith, nat_tests) in
         let is : e.1 ≡ x = cc in
         subst (λ m. P m x) at (subst (λ y. P e.0 y) is all.0)
 
-pub code_of_reg8 : (n : ℕ) (r : Reg8) → look regs8 n ≡ Some r → n ≡ code8 r
+pub code_of_reg8 : (n : ℕ) (r : Reg8) → entry_under regs8 n ≡ Some r → n ≡ code8 r
 code_of_reg8 n r h = look_holds (λ m q. m ≡ code8 q) regs8 n r (refl, (refl, (refl, (refl, (refl, (refl, (refl, (refl, tt)))))))) h
 
-pub code_of_reg16 : (n : ℕ) (r : Reg16) → look regs16 n ≡ Some r → n ≡ code16 r
+pub code_of_reg16 : (n : ℕ) (r : Reg16) → entry_under regs16 n ≡ Some r → n ≡ code16 r
 code_of_reg16 n r h = look_holds (λ m q. m ≡ code16 q) regs16 n r (refl, (refl, (refl, (refl, (refl, (refl, tt)))))) h
 
-pub code_of_found_ptr : (n : ℕ) (p : Ptr) → look ptrs n ≡ Some p → n ≡ code_of_ptr p
+pub code_of_found_ptr : (n : ℕ) (p : Ptr) → entry_under ptrs n ≡ Some p → n ≡ code_of_ptr p
 code_of_found_ptr n p h = look_holds (λ m q. m ≡ code_of_ptr q) ptrs n p (refl, (refl, tt)) h
 
-pub code_of_found_count : (n : ℕ) (c : Count) → look counts n ≡ Some c → n ≡ code_of_count c
+pub code_of_found_count : (n : ℕ) (c : Count) → entry_under counts n ≡ Some c → n ≡ code_of_count c
 code_of_found_count n c h = look_holds (λ m q. m ≡ code_of_count q) counts n c (refl, (refl, tt)) h
 
-pub code_of_found_rotate : (n : ℕ) (k : Rotate) → look rotates n ≡ Some k → n ≡ code_of_rotate k
+pub code_of_found_rotate : (n : ℕ) (k : Rotate) → entry_under rotates n ≡ Some k → n ≡ code_of_rotate k
 code_of_found_rotate n k h = look_holds (λ m q. m ≡ code_of_rotate q) rotates n k (refl, (refl, (refl, (refl, tt)))) h
 
 -- what holds of each register or operation, by name
@@ -108,21 +108,21 @@ each_jump P a b c d e f g h Jns = f
 each_jump P a b c d e f g h Jp = g
 each_jump P a b c d e f g h Jnp = h
 
-pub reg8_found : (r : Reg8) → look regs8 (code8 r) ≡ Some r
-reg8_found = each_reg8 (λ r. look regs8 (code8 r) ≡ Some r) refl refl refl refl refl refl refl refl
+pub reg8_found : (r : Reg8) → entry_under regs8 (code8 r) ≡ Some r
+reg8_found = each_reg8 (λ r. entry_under regs8 (code8 r) ≡ Some r) refl refl refl refl refl refl refl refl
 
-pub reg16_found : (r : Reg16) → look regs16 (code16 r) ≡ Some r
-reg16_found = each_reg16 (λ r. look regs16 (code16 r) ≡ Some r) refl refl refl refl refl refl
+pub reg16_found : (r : Reg16) → entry_under regs16 (code16 r) ≡ Some r
+reg16_found = each_reg16 (λ r. entry_under regs16 (code16 r) ≡ Some r) refl refl refl refl refl refl
 
-pub ptr_found : (p : Ptr) → look ptrs (code_of_ptr p) ≡ Some p
+pub ptr_found : (p : Ptr) → entry_under ptrs (code_of_ptr p) ≡ Some p
 ptr_found PtrBx = refl
 ptr_found PtrSi = refl
 
-pub count_found : (c : Count) → look counts (code_of_count c) ≡ Some c
+pub count_found : (c : Count) → entry_under counts (code_of_count c) ≡ Some c
 count_found Inc = refl
 count_found Dec = refl
 
-pub rotate_found : (k : Rotate) → look rotates (code_of_rotate k) ≡ Some k
+pub rotate_found : (k : Rotate) → entry_under rotates (code_of_rotate k) ≡ Some k
 rotate_found Rol = refl
 rotate_found Ror = refl
 rotate_found Rcl = refl

@@ -9,5 +9,5 @@ HasBytes code ip [] = Unit {0}
 HasBytes code ip (b ∷ bs) = (slice_get code ip ≡ Some b) × HasBytes code (ip + 1) bs
 
 -- what `fetch` gives at each place of the code is the instruction that stands there
-abbrev pub Reads : List ℕ → (ℕ → Option Instr86) → Type 0
-Reads code fetch = (ip : ℕ) (i : Instr86) → (fetch ip ≡ Some i) ↔ HasBytes code ip (enc86 i)
+abbrev pub ReadsCode : List ℕ → (ℕ → Option Instr86) → Type 0
+ReadsCode code fetch = (ip : ℕ) (i : Instr86) → (fetch ip ≡ Some i) ↔ HasBytes code ip (enc86 i)

@@ -2,7 +2,7 @@
 use Rattle.std.specs.Prelude.{◌≡◌, ℕ, ◌<◌, List, ◌++◌, length, Option, Some, None, All}
 use Rattle.i86.specs.declared.Instr86.{Instr86}
 use Rattle.i86.specs.Enc86.{enc86}
-use Rattle.i86.specs.Code.{HasBytes, Reads}
+use Rattle.i86.specs.Code.{HasBytes, ReadsCode}
 
 -- the bytes begin with these
 abbrev pub IsPrefix : List ℕ → List ℕ → Type 0
@@ -27,7 +27,7 @@ IsPrefixFree = (i j : Instr86) → IsPrefix (enc86 i) (enc86 j) → i ≡ j
 
 -- this reads the code, and whatever reads it gives the same at every place
 abbrev pub IsOnlyReader : List ℕ → (ℕ → Option Instr86) → Type 0
-IsOnlyReader code fetch = Reads code fetch × ((other : ℕ → Option Instr86) → Reads code other → (at : ℕ) → other at ≡ fetch at)
+IsOnlyReader code fetch = ReadsCode code fetch × ((other : ℕ → Option Instr86) → ReadsCode code other → (at : ℕ) → other at ≡ fetch at)
 
 -- the code has a reader, and only one
 abbrev pub HasReader : List ℕ → Type 0

@@ -33,9 +33,9 @@ use Rattle.i86.specs.declared.decoding.Form.{Form}
 use Rattle.i86.specs.declared.decoding.Form.TheVariants.{Alone, Fixed, Byte, Word, Fields}
 
 -- the entry of a table under a number
-abbrev pub look : {X : Type 0} → List (ℕ × X) → ℕ → Option X
-look [] n = None
-look (e ∷ es) n = cond (e.0 == n) (Some e.1) (look es n)
+abbrev pub entry_under : {X : Type 0} → List (ℕ × X) → ℕ → Option X
+entry_under [] n = None
+entry_under (e ∷ es) n = cond (e.0 == n) (Some e.1) (entry_under es n)
 
 abbrev pub regs8 : List (ℕ × Reg8)
 regs8 = (0, Al) ∷ ((1, Cl) ∷ ((2, Dl) ∷ ((3, Bl) ∷ ((4, Ah) ∷ ((5, Ch) ∷ ((6, Dh) ∷ ((7, Bh) ∷ [])))))))
@@ -65,17 +65,17 @@ jumps = (2, Jb) ∷ ((3, Jnb) ∷ ((4, Jz) ∷ ((5, Jnz) ∷ ((8, Js) ∷ ((9, J
 -- the opcodes below 40H, by their bits 3 to 5 and 0 to 2
 abbrev pub arithmetic : ℕ → ℕ → Option Form
 arithmetic op low =
-    cond (low == 2) (option_map (λ o. Fields (FieldsAlu o)) (look alu_ops op))
-    (cond (low == 4) (option_map (λ o. Byte (ByteAlu o)) (look alu_ops op))
+    cond (low == 2) (option_map (λ o. Fields (FieldsAlu o)) (entry_under alu_ops op))
+    (cond (low == 4) (option_map (λ o. Byte (ByteAlu o)) (entry_under alu_ops op))
     (cond (low == 3) (cond (op == 0) (Some (Fields FieldsAdd16)) None)
     (cond (low == 7) (cond (op == 4) (Some (Alone Daa)) None) None)))
 
 -- the opcodes from 40H to 5FH, by their high five and low three bits
 abbrev pub on_word : ℕ → ℕ → Option Form
 on_word high low =
-    cond (high == 8) (option_map (λ r. Alone (Count16 Inc r)) (look regs16 low))
-    (cond (high == 9) (option_map (λ r. Alone (Count16 Dec r)) (look regs16 low))
-    (cond (high == 10) (option_map (λ r. Alone (Push r)) (look stack_regs low)) (option_map (λ r. Alone (Pop r)) (look stack_regs low))))
+    cond (high == 8) (option_map (λ r. Alone (Count16 Inc r)) (entry_under regs16 low))
+    (cond (high == 9) (option_map (λ r. Alone (Count16 Dec r)) (entry_under regs16 low))
+    (cond (high == 10) (option_map (λ r. Alone (Push r)) (entry_under stack_regs low)) (option_map (λ r. Alone (Pop r)) (entry_under stack_regs low))))
 
 -- the opcodes that stand for one form each
 abbrev pub singles : List (ℕ × Form)
@@ -94,30 +94,30 @@ abbrev pub form_of : ℕ → Option Form
 form_of first =
     cond (is_from 0x00 0x3F first) (arithmetic (first / 8) (first % 8))
     (cond (is_from 0x40 0x5F first) (on_word (first / 8) (first % 8))
-    (cond (is_from 0x70 0x7F first) (option_map (λ j. Byte (ByteJcc j)) (look jumps (first % 16)))
-    (cond (is_from 0xB0 0xB7 first) (option_map (λ r. Byte (ByteMov r)) (look regs8 (first % 8)))
-    (cond (is_from 0xB8 0xBF first) (option_map (λ r. Word (WordMov r)) (look regs16 (first % 8)))
-    (look singles first)))))
+    (cond (is_from 0x70 0x7F first) (option_map (λ j. Byte (ByteJcc j)) (entry_under jumps (first % 16)))
+    (cond (is_from 0xB0 0xB7 first) (option_map (λ r. Byte (ByteMov r)) (entry_under regs8 (first % 8)))
+    (cond (is_from 0xB8 0xBF first) (option_map (λ r. Word (WordMov r)) (entry_under regs16 (first % 8)))
+    (entry_under singles first)))))
 
 -- the operands that the fields mod and rm name
 abbrev pub reg8_at : ℕ → ℕ → Option Reg8
-reg8_at mode rm = cond (mode == 3) (look regs8 rm) None
+reg8_at mode rm = cond (mode == 3) (entry_under regs8 rm) None
 
 abbrev pub reg16_at : ℕ → ℕ → Option Reg16
-reg16_at mode rm = cond (mode == 3) (look regs16 rm) None
+reg16_at mode rm = cond (mode == 3) (entry_under regs16 rm) None
 
 abbrev pub ptr_at : ℕ → ℕ → Option Ptr
-ptr_at mode rm = cond (mode == 0) (look ptrs rm) None
+ptr_at mode rm = cond (mode == 0) (entry_under ptrs rm) None
 
 abbrev pub operand8_at : ℕ → ℕ → Option Operand8
-operand8_at mode rm = cond (mode == 3) (option_map Reg (look regs8 rm)) (option_map Mem (ptr_at mode rm))
+operand8_at mode rm = cond (mode == 3) (option_map Reg (entry_under regs8 rm)) (option_map Mem (ptr_at mode rm))
 
 -- a word that follows the fields, where they are those of a direct address
 abbrev pub direct_at : ℕ → ℕ → Option ℕ → Option ℕ
 direct_at mode rm word = cond (mode == 0) (cond (rm == 6) word None) None
 
 abbrev pub operand16_at : ℕ → ℕ → Option ℕ → Option Operand16
-operand16_at mode rm word = cond (mode == 3) (option_map Reg_16 (look regs16 rm)) (option_map Direct (direct_at mode rm word))
+operand16_at mode rm word = cond (mode == 3) (option_map Reg_16 (entry_under regs16 rm)) (option_map Direct (direct_at mode rm word))
 
 abbrev pub or_cl_cl : AluOp → ℕ → ℕ → ℕ → Option Instr86
 or_cl_cl Or mode reg rm = cond (mode == 3) (cond (reg == 1) (cond (rm == 1) (Some OrClCl) None) None) None
@@ -130,34 +130,34 @@ of_two f (Some a) b = option_map (f a) b
 
 -- the instruction of a form with fields: mod, reg and rm, then the byte or the word behind them
 abbrev pub with_fields : FieldsForm → ℕ → ℕ → ℕ → Option ℕ → Option ℕ → Option Instr86
-with_fields FieldsMov8 mode reg rm byte word = of_two MovReg8 (look regs8 reg) (operand8_at mode rm)
-with_fields FieldsToMem mode reg rm byte word = of_two (λ r p. MovMem8 p r) (look regs8 reg) (ptr_at mode rm)
+with_fields FieldsMov8 mode reg rm byte word = of_two MovReg8 (entry_under regs8 reg) (operand8_at mode rm)
+with_fields FieldsToMem mode reg rm byte word = of_two (λ r p. MovMem8 p r) (entry_under regs8 reg) (ptr_at mode rm)
 with_fields FieldsMemNum mode reg rm byte word = cond (reg == 0) (of_two MovMemNum (ptr_at mode rm) byte) None
-with_fields FieldsMov16 mode reg rm byte word = of_two MovReg16 (look regs16 reg) (operand16_at mode rm word)
-with_fields FieldsToDirect mode reg rm byte word = of_two (λ r a. MovDirect16 a r) (look regs16 reg) (direct_at mode rm word)
+with_fields FieldsMov16 mode reg rm byte word = of_two MovReg16 (entry_under regs16 reg) (operand16_at mode rm word)
+with_fields FieldsToDirect mode reg rm byte word = of_two (λ r a. MovDirect16 a r) (entry_under regs16 reg) (direct_at mode rm word)
 with_fields (FieldsAlu op) mode reg rm byte word = cond (reg == 0) (option_map (Alu op) (operand8_at mode rm)) (or_cl_cl op mode reg rm)
-with_fields FieldsAdd16 mode reg rm byte word = of_two Add16 (look regs16 reg) (reg16_at mode rm)
-with_fields FieldsCount8 mode reg rm byte word = of_two Count8 (look counts reg) (operand8_at mode rm)
-with_fields FieldsXchg8 mode reg rm byte word = of_two Xchg8 (look regs8 reg) (reg8_at mode rm)
-with_fields FieldsXchg16 mode reg rm byte word = of_two Xchg16 (look regs16 reg) (reg16_at mode rm)
-with_fields FieldsRotate8 mode reg rm byte word = of_two Rotate8 (look rotates reg) (reg8_at mode rm)
-with_fields FieldsRotate16 mode reg rm byte word = of_two Rotate16 (look rotates reg) (reg16_at mode rm)
+with_fields FieldsAdd16 mode reg rm byte word = of_two Add16 (entry_under regs16 reg) (reg16_at mode rm)
+with_fields FieldsCount8 mode reg rm byte word = of_two Count8 (entry_under counts reg) (operand8_at mode rm)
+with_fields FieldsXchg8 mode reg rm byte word = of_two Xchg8 (entry_under regs8 reg) (reg8_at mode rm)
+with_fields FieldsXchg16 mode reg rm byte word = of_two Xchg16 (entry_under regs16 reg) (reg16_at mode rm)
+with_fields FieldsRotate8 mode reg rm byte word = of_two Rotate8 (entry_under rotates reg) (reg8_at mode rm)
+with_fields FieldsRotate16 mode reg rm byte word = of_two Rotate16 (entry_under rotates reg) (reg16_at mode rm)
 with_fields FieldsNot8 mode reg rm byte word = cond (reg == 2) (option_map Not8 (reg8_at mode rm)) None
 
-abbrev pub with_byte : ByteForm → ℕ → Instr86
-with_byte (ByteMov r) n = MovNum8 r n
-with_byte (ByteAlu op) n = AluNum op n
-with_byte (ByteJcc j) n = Jcc j n
-with_byte ByteJmp n = JmpShort n
-with_byte ByteIn n = InAl n
-with_byte ByteOut n = OutAl n
+abbrev pub instruction_with_byte : ByteForm → ℕ → Instr86
+instruction_with_byte (ByteMov r) n = MovNum8 r n
+instruction_with_byte (ByteAlu op) n = AluNum op n
+instruction_with_byte (ByteJcc j) n = Jcc j n
+instruction_with_byte ByteJmp n = JmpShort n
+instruction_with_byte ByteIn n = InAl n
+instruction_with_byte ByteOut n = OutAl n
 
-abbrev pub with_word : WordForm → ℕ → Instr86
-with_word WordToAl w = MovAlDirect w
-with_word WordFromAl w = MovDirectAl w
-with_word (WordMov r) w = MovNum16 r w
-with_word WordJmp w = JmpNear w
-with_word WordCall w = CallNear w
+abbrev pub instruction_with_word : WordForm → ℕ → Instr86
+instruction_with_word WordToAl w = MovAlDirect w
+instruction_with_word WordFromAl w = MovDirectAl w
+instruction_with_word (WordMov r) w = MovNum16 r w
+instruction_with_word WordJmp w = JmpNear w
+instruction_with_word WordCall w = CallNear w
 
 -- a word from its two bytes
 abbrev pub word_from : Option ℕ → Option ℕ → Option ℕ
@@ -168,8 +168,8 @@ abbrev pub by_form : Option Form → Option ℕ → Option ℕ → Option ℕ �
 by_form None x y z = None
 by_form (Some (Alone i)) x y z = Some i
 by_form (Some (Fixed second i)) x y z = option_and_then (λ (m : ℕ). cond (m == second) (Some i) None) x
-by_form (Some (Byte f)) x y z = option_map (with_byte f) x
-by_form (Some (Word f)) x y z = option_map (with_word f) (word_from x y)
+by_form (Some (Byte f)) x y z = option_map (instruction_with_byte f) x
+by_form (Some (Word f)) x y z = option_map (instruction_with_word f) (word_from x y)
 by_form (Some (Fields f)) x y z = option_and_then (λ (m : ℕ). with_fields f (m / 64) (m / 8 % 8) (m % 8) y (word_from y z)) x
 
 abbrev pub by_first : Option ℕ → Option ℕ → Option ℕ → Option ℕ → Option Instr86

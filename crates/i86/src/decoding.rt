@@ -1,7 +1,7 @@
 // From bytes to instructions: the first byte says a form, and the form says what follows it.
 ghost use Rattle.std.specs.Prelude.{◌≡◌, ◌<◌, option_map, slice_get};
 ghost use Rattle.i86.specs.Decode.{IsDecoded, IsDecodedAt, IsOnlyReader, HasOneReader};
-ghost use Rattle.i86.specs.Decoder.{look, regs8, regs16, stack_regs, ptrs, alu_ops, counts, rotates, jumps, arithmetic, on_word, singles, form_of, reg8_at, reg16_at, ptr_at, operand8_at, direct_at, operand16_at, or_cl_cl, with_fields, with_byte, with_word, word_from, by_form, decoded};
+ghost use Rattle.i86.specs.Decoder.{entry_under, regs8, regs16, stack_regs, ptrs, alu_ops, counts, rotates, jumps, arithmetic, on_word, singles, form_of, reg8_at, reg16_at, ptr_at, operand8_at, direct_at, operand16_at, or_cl_cl, with_fields, instruction_with_byte, instruction_with_word, word_from, by_form, decoded};
 
 use crate::encoding::length_of;
 use crate::{AluOp, Count, Instr86, Jump, Operand8, Operand16, Ptr, Reg8, Reg16, Rotate, StackReg};
@@ -172,7 +172,7 @@ fn on_word(high: u8, low: u8) -> Option<Form>
 
 // The opcodes that stand for one form each.
 fn single(first: u8) -> Option<Form>
-    ensures { result ≡ look singles first }
+    ensures { result ≡ entry_under singles first }
 {
     match first {
         0x86 => Some(Form::Fields(FieldsForm::Xchg8)),
@@ -208,7 +208,7 @@ fn single(first: u8) -> Option<Form>
 }
 
 fn with_byte(form: ByteForm, byte: u8) -> Instr86
-    ensures { result ≡ with_byte form byte }
+    ensures { result ≡ instruction_with_byte form byte }
 {
     match form {
         ByteForm::MovNum8(reg) => Instr86::MovNum8(reg, byte),
@@ -221,7 +221,7 @@ fn with_byte(form: ByteForm, byte: u8) -> Instr86
 }
 
 fn with_word(form: WordForm, word: u16) -> Instr86
-    ensures { result ≡ with_word form word }
+    ensures { result ≡ instruction_with_word form word }
 {
     match form {
         WordForm::MovAlDirect => Instr86::MovAlDirect(word),
@@ -328,7 +328,7 @@ fn ptr(mode: u8, rm: u8) -> Option<Ptr>
 }
 
 fn reg8(code: u8) -> Option<Reg8>
-    ensures { result ≡ look regs8 code }
+    ensures { result ≡ entry_under regs8 code }
 {
     match code {
         0 => Some(Reg8::Al),
@@ -344,7 +344,7 @@ fn reg8(code: u8) -> Option<Reg8>
 }
 
 fn reg16(code: u8) -> Option<Reg16>
-    ensures { result ≡ look regs16 code }
+    ensures { result ≡ entry_under regs16 code }
 {
     match code {
         0 => Some(Reg16::Ax),
@@ -358,7 +358,7 @@ fn reg16(code: u8) -> Option<Reg16>
 }
 
 fn stack_reg(code: u8) -> Option<StackReg>
-    ensures { result ≡ look stack_regs code }
+    ensures { result ≡ entry_under stack_regs code }
 {
     match code {
         0 => Some(StackReg::Ax),
@@ -371,7 +371,7 @@ fn stack_reg(code: u8) -> Option<StackReg>
 }
 
 fn alu_op(code: u8) -> Option<AluOp>
-    ensures { result ≡ look alu_ops code }
+    ensures { result ≡ entry_under alu_ops code }
 {
     match code {
         0 => Some(AluOp::Add),
@@ -387,7 +387,7 @@ fn alu_op(code: u8) -> Option<AluOp>
 }
 
 fn count(code: u8) -> Option<Count>
-    ensures { result ≡ look counts code }
+    ensures { result ≡ entry_under counts code }
 {
     match code {
         0 => Some(Count::Inc),
@@ -397,7 +397,7 @@ fn count(code: u8) -> Option<Count>
 }
 
 fn rotate(code: u8) -> Option<Rotate>
-    ensures { result ≡ look rotates code }
+    ensures { result ≡ entry_under rotates code }
 {
     match code {
         0 => Some(Rotate::Rol),
@@ -410,7 +410,7 @@ fn rotate(code: u8) -> Option<Rotate>
 
 // The conditional jump of the low four bits of an opcode.
 fn jump(low: u8) -> Option<Jump>
-    ensures { result ≡ look jumps low }
+    ensures { result ≡ entry_under jumps low }
 {
     match low {
         2 => Some(Jump::Jb),

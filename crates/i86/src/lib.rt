@@ -1,4 +1,9 @@
-// The instructions of the 8086 that the texts use (Intel 8086 Family User's Manual, "Instruction set").
+// The instructions of the 8086 that the texts use, and their encoding (Intel 8086 Family User's Manual, "Instruction set" and "Machine
+// instruction encoding").
+//
+// Proved: `encode` gives the bytes of the table (`enc86`), 1 to 6 of them (`length_of`). `decode` and `decode_at` answer the one
+// instruction that stands there, with its length, and None exactly where none stands. Laws: no encoding begins with another
+// (`encodings_are_prefix_free`), and each code, as a list of bytes, has exactly one reading (`code_has_one_reader`).
 #![tactic(auto)]
 
 mod decoding;

@@ -1,11 +1,11 @@
 -- Ways and exits that are found one node after another.
-use Rattle.std.proofs.Common.{◌≡◌, ◌∙◌, ℕ, ◌+◌, ◌≤◌, Bool, length, Option, Some, None, ap, ap₂, refl, arith}
+use Rattle.std.proofs.Common.{◌≡◌, ◌∙◌, ℕ, ◌+◌, ◌≤◌, Bool, length, Option, Some, None, ap, ap₂, refl, subst, sym, arith}
 use Rattle.xlt_pool.specs.Contents.{Contents}
 use Rattle.sym_terms.specs.declared.head.Term.{Term as TermId}
 use Rattle.sym_terms.specs.Term.{Term}
-use Rattle.sym_terms.specs.Trees.{StandsFor, Grows, Makes, AreTerms}
+use Rattle.sym_terms.specs.Trees.{StandsFor, PoolGrows, Makes, AreTerms}
 use Rattle.sym_terms.proofs.Interning.{still, more, then_grows}
-use Rattle.sym_blocks.specs.Outcome.{Way, ByTerms, Exit, One, Two, Outcome}
+use Rattle.sym_block_def.specs.Outcome.{Way, ByTerms, Exit, One, Two, Outcome}
 use Rattle.sym_micro.specs.declared.outcome.Way.{Way as WayIds}
 use Rattle.sym_micro.specs.declared.outcome.Way.TheVariants.{Goto as GotoIds, ByTerms as ByTermsIds, Call as CallIds, Sys as SysIds, SysReturn as SysReturnIds, Boot as BootIds, Leave as LeaveIds, In as InIds, Out as OutIds}
 use Rattle.sym_micro.specs.declared.outcome.Exit.{Exit as ExitIds}
@@ -17,7 +17,7 @@ use Rattle.sym_micro.specs.Exits.{WayIs, FindsWay, FindsExit, RunsTo}
 use Rattle.sym_micro.proofs.Ready.{run_given, same_machine}
 
 -- where a node is missing, so is the way
-pub no_way : (old mid new : Contents) (j : ℕ) (tree : Term) (way : Way) → Grows old mid j → j + 1 ≤ 3 → Makes mid new 1 tree None → FindsWay old new 3 way None
+pub no_way : (old mid new : Contents) (j : ℕ) (tree : Term) (way : Way) → PoolGrows old mid j → j + 1 ≤ 3 → Makes mid new 1 tree None → FindsWay old new 3 way None
 no_way old mid new j tree way g few m = record {
   grows = more old new (j + 1) 3 few (then_grows old mid new j 1 g m.grows);
   terms = m.terms;
@@ -28,7 +28,7 @@ no_way old mid new j tree way g few m = record {
       m.room (omega arith);
 }
 
-pub way_of_terms : (old new : Contents) (n : ℕ) (h l : TermId) (x y : Term) → Grows old new n → AreTerms new → StandsFor new h x → StandsFor new l y → FindsWay old new n (ByTerms x y) (Some (ByTermsIds h l))
+pub way_of_terms : (old new : Contents) (n : ℕ) (h l : TermId) (x y : Term) → PoolGrows old new n → AreTerms new → StandsFor new h x → StandsFor new l y → FindsWay old new n (ByTerms x y) (Some (ByTermsIds h l))
 way_of_terms old new n h l x y g terms p q = record {
   grows = g;
   terms = terms;
@@ -37,7 +37,7 @@ way_of_terms old new n h l x y g terms p q = record {
 }
 
 -- a way that is given stays what it is
-pub way_still : (old new : Contents) (n : ℕ) (way : WayIds) (tree : Way) → Grows old new n → WayIs old tree way → WayIs new tree way
+pub way_still : (old new : Contents) (n : ℕ) (way : WayIds) (tree : Way) → PoolGrows old new n → WayIs old tree way → WayIs new tree way
 way_still old new n (ByTermsIds h l) tree g w =
     let p = g.kept h w.given.0 in
     let q = g.kept l w.given.1 in
@@ -61,13 +61,21 @@ one_exit pool n tree way terms w = record {
   enough = λ _. refl;
 }
 
-pub two_exit : (old new : Contents) (n : ℕ) (f : TermId) (x : Term) (value : Bool) (a b : WayIds) (v w : Way) → Grows old new n → AreTerms new → StandsFor new f x → WayIs new v a → WayIs new w b → FindsExit old new n (Two x value v w) (Some (TwoIds f value a b))
+pub two_exit : (old new : Contents) (n : ℕ) (f : TermId) (x : Term) (value : Bool) (a b : WayIds) (v w : Way) → PoolGrows old new n → AreTerms new → StandsFor new f x → WayIs new v a → WayIs new w b → FindsExit old new n (Two x value v w) (Some (TwoIds f value a b))
 two_exit old new n f x value a b v w g terms p q r = record {
   grows = g;
   terms = terms;
   gives = record { given = (p.0, q.given, r.given); is = λ i. Two (p.1 i) value (q.is i) (r.is i) };
   enough = λ _. refl;
 }
+
+-- by an id that is known to be that of a flag, and a value that is the one that is wanted
+pub two_by : (old new : Contents) (n : ℕ) (f k : TermId) (x : Term) (value wanted : Bool) (a b : WayIds) (v w : Way) → PoolGrows old new n → AreTerms new → StandsFor old k x → f ≡ k → value ≡ wanted → WayIs new v a → WayIs new w b → FindsExit old new n (Two x wanted v w) (Some (TwoIds f value a b))
+two_by old new n f k x value wanted a b v w g terms s ef ev p q =
+    let kept = g.kept k s.0 in
+    subst (λ (i : TermId). FindsExit old new n (Two x wanted v w) (Some (TwoIds i value a b))) (sym ef)
+    (subst (λ (i : Bool). FindsExit old new n (Two x wanted v w) (Some (TwoIds k i a b))) (sym ev)
+    (two_exit old new n k x wanted a b v w g terms (kept.0, kept.1 ∙ s.1) p q))
 
 -- where the way is missing, so is the exit
 pub no_exit : (old new : Contents) (n : ℕ) (tree : Way) (exit : Exit) → FindsWay old new n tree None → FindsExit old new n exit None

@@ -1,28 +1,31 @@
 -- A run that goes on: its ids stand for what they stood for, and a register more has an id.
 use Rattle.std.proofs.Common.{◌≡◌, ℕ, suc, ◌+◌, ◌≤◌, ◌<◌, List, [], ◌∷◌, ◌++◌, length, Option, Some, None, refl, sym, ap, ap₂, subst, ◌∙◌, arith, length-append}
 use Rattle.std.specs.Vec.{vec_capacity}
+use Rattle.i80.specs.declared.Reg.{Reg as Register}
+use Rattle.i80.specs.declared.Reg.TheVariants.{A as RegA, B as RegB, C as RegC, D as RegD, E as RegE, H as RegH, L as RegL}
+use Rattle.i86.specs.declared.Reg8.TheVariants.{Al, Cl, Dl, Bl, Ah, Ch, Dh, Bh}
 use Rattle.xlt_pool.specs.Contents.{Contents}
 use Rattle.sym_terms.specs.declared.head.Term.{Term as TermId}
 use Rattle.sym_terms.specs.Term.{Term, is_bit, is_byte, is_word}
 use Rattle.sym_terms.specs.Laws.{IsMadeAs}
-use Rattle.sym_terms.specs.Trees.{tree_in, IsGiven, AreTerms, Grows, Makes}
+use Rattle.sym_terms.specs.Trees.{tree_in, IsGiven, AreTerms, PoolGrows, Makes}
 use Rattle.sym_terms.proofs.Interning.{still, more, then_grows}
-use Rattle.sym_blocks.specs.Outcome.{Action}
+use Rattle.sym_block_def.specs.Outcome.{Action}
 use Rattle.sym_micro.specs.declared.outcome.Action.{Action as ActionId}
 use Rattle.sym_micro.specs.declared.outcome.Action.TheVariants.{Load8 as Load8Id, Load16 as Load16Id, Store8 as Store8Id, Store16 as Store16Id}
 use Rattle.sym_micro.specs.declared.outcome.Held.{Held as HeldIds}
 use Rattle.sym_micro.specs.declared.run.Run.{Run}
 use Rattle.sym_micro.specs.declared.micro.ByteSlot.{ByteSlot}
-use Rattle.sym_micro.specs.declared.micro.ByteSlot.TheVariants.{A, B, C, D, E, H, L, Ah, T, U}
+use Rattle.sym_micro.specs.declared.micro.ByteSlot.TheVariants.{Of80 as Byte80, Of86 as Byte86, T, U}
 use Rattle.sym_micro.specs.declared.micro.FlagSlot.{FlagSlot}
 use Rattle.sym_micro.specs.declared.micro.FlagSlot.TheVariants.{S, Z, Ac, P, Cy}
 use Rattle.sym_micro.specs.declared.micro.WordSlot.{WordSlot}
 use Rattle.sym_micro.specs.declared.micro.WordSlot.TheVariants.{V, W, X}
 use Rattle.sym_micro.specs.Machine.{Machine, byte_in, with_byte, word_in, with_word, with_flag}
-use Rattle.sym_micro.specs.Stands.{id_of_byte, run_with_byte, run_with_word, run_with_flag, trees_of_held, tree_of_action, trees_of_actions, machine_of, HeldIsGiven, ActionIsGiven, ActionsAreGiven, RunIsGiven, IsResult, IsTurned, IsSorted, IsReady, GoesOn, Gives, Runs}
+use Rattle.sym_micro.specs.Stands.{id_of_byte, run_with_reg, run_with_byte, run_with_word, run_with_flag, trees_of_held, tree_of_action, trees_of_actions, machine_of, HeldIsGiven, ActionIsGiven, ActionsAreGiven, RunIsGiven, IsResult, IsTurned, IsSorted, IsReady, GoesOn, Gives, Runs}
 use Rattle.sym_micro.proofs.Sorted.{with_byte_sorted, with_word_sorted, with_flag_sorted, with_result_sorted, with_turned_sorted}
 
-module _ (old new : Contents) (n : ℕ) (g : Grows old new n) where
+module _ (old new : Contents) (n : ℕ) (g : PoolGrows old new n) where
   given_still : (t : TermId) → IsGiven old t → IsGiven new t
   given_still t h = (g.kept t h).0
 
@@ -124,79 +127,113 @@ module _ (old new : Contents) (n : ℕ) (g : Grows old new n) where
     room = h.room;
   }
 
+-- A register more has an id: no load or store joins.
+gave_to : (old new : Contents) (r s : Run) (n : ℕ) (tree : Term) (t : TermId) (put : Machine → Term → Machine) → s.actions ≡ r.actions → s.loads ≡ r.loads → machine_of new s ≡ put (machine_of new r) (tree_in new t) → (RunIsGiven new r → IsGiven new t → RunIsGiven new s) → (IsSorted (machine_of new r) → IsSorted (put (machine_of new r) (tree_in new t))) → IsReady old r → Gives old new n tree (Some t) → GoesOn old new r s n 0 (λ m. m ≡ put (machine_of old r) tree) (Some tt)
+gave_to old new r s n tree t put actions loads is given sorted h g =
+    let before : IsReady new r = ready_still old new n g.grows r g.terms h in
+    let same_length : length s.actions.items ≡ length r.actions.items = ap (λ a. length a.items) actions in
+    let few : r.loads ≤ length r.actions.items = h.few in
+    let room : length r.actions.items ≤ 512 = h.room in
+    record {
+      grows = g.grows;
+      ready = record {
+        terms = g.terms;
+        given = given before.given g.gives.0;
+        sorted = subst IsSorted (sym is) (sorted before.sorted);
+        capacity = ap vec_capacity actions ∙ h.capacity;
+        few = omega arith;
+        room = omega arith;
+      };
+      few = omega arith;
+      gives = is ∙ ap₂ put (same_machine old new n g.grows r h.given) g.gives.1;
+      enough = λ _. refl;
+    }
+
 -- Byte registers
 
+reg_given : (pool : Contents) (r : Run) (reg : Register) (t : TermId) → RunIsGiven pool r → IsGiven pool t → RunIsGiven pool (run_with_reg r reg t)
+reg_given pool r RegA t h q = record { held = record { a = q; b = h.held.b; c = h.held.c; d = h.held.d; e = h.held.e; h = h.held.h; l = h.held.l; s = h.held.s; z = h.held.z; ac = h.held.ac; p = h.held.p; cy = h.held.cy }; ah = h.ah; si = h.si; sp = h.sp; t = h.t; u = h.u; v = h.v; w = h.w; x = h.x; result = h.result; turned = h.turned; actions = h.actions }
+reg_given pool r RegB t h q = record { held = record { a = h.held.a; b = q; c = h.held.c; d = h.held.d; e = h.held.e; h = h.held.h; l = h.held.l; s = h.held.s; z = h.held.z; ac = h.held.ac; p = h.held.p; cy = h.held.cy }; ah = h.ah; si = h.si; sp = h.sp; t = h.t; u = h.u; v = h.v; w = h.w; x = h.x; result = h.result; turned = h.turned; actions = h.actions }
+reg_given pool r RegC t h q = record { held = record { a = h.held.a; b = h.held.b; c = q; d = h.held.d; e = h.held.e; h = h.held.h; l = h.held.l; s = h.held.s; z = h.held.z; ac = h.held.ac; p = h.held.p; cy = h.held.cy }; ah = h.ah; si = h.si; sp = h.sp; t = h.t; u = h.u; v = h.v; w = h.w; x = h.x; result = h.result; turned = h.turned; actions = h.actions }
+reg_given pool r RegD t h q = record { held = record { a = h.held.a; b = h.held.b; c = h.held.c; d = q; e = h.held.e; h = h.held.h; l = h.held.l; s = h.held.s; z = h.held.z; ac = h.held.ac; p = h.held.p; cy = h.held.cy }; ah = h.ah; si = h.si; sp = h.sp; t = h.t; u = h.u; v = h.v; w = h.w; x = h.x; result = h.result; turned = h.turned; actions = h.actions }
+reg_given pool r RegE t h q = record { held = record { a = h.held.a; b = h.held.b; c = h.held.c; d = h.held.d; e = q; h = h.held.h; l = h.held.l; s = h.held.s; z = h.held.z; ac = h.held.ac; p = h.held.p; cy = h.held.cy }; ah = h.ah; si = h.si; sp = h.sp; t = h.t; u = h.u; v = h.v; w = h.w; x = h.x; result = h.result; turned = h.turned; actions = h.actions }
+reg_given pool r RegH t h q = record { held = record { a = h.held.a; b = h.held.b; c = h.held.c; d = h.held.d; e = h.held.e; h = q; l = h.held.l; s = h.held.s; z = h.held.z; ac = h.held.ac; p = h.held.p; cy = h.held.cy }; ah = h.ah; si = h.si; sp = h.sp; t = h.t; u = h.u; v = h.v; w = h.w; x = h.x; result = h.result; turned = h.turned; actions = h.actions }
+reg_given pool r RegL t h q = record { held = record { a = h.held.a; b = h.held.b; c = h.held.c; d = h.held.d; e = h.held.e; h = h.held.h; l = q; s = h.held.s; z = h.held.z; ac = h.held.ac; p = h.held.p; cy = h.held.cy }; ah = h.ah; si = h.si; sp = h.sp; t = h.t; u = h.u; v = h.v; w = h.w; x = h.x; result = h.result; turned = h.turned; actions = h.actions }
+
 pub byte_given : (pool : Contents) (r : Run) (slot : ByteSlot) (t : TermId) → RunIsGiven pool r → IsGiven pool t → RunIsGiven pool (run_with_byte r slot t)
-byte_given pool r A t h q = record { held = record { a = q; b = h.held.b; c = h.held.c; d = h.held.d; e = h.held.e; h = h.held.h; l = h.held.l; s = h.held.s; z = h.held.z; ac = h.held.ac; p = h.held.p; cy = h.held.cy }; ah = h.ah; si = h.si; sp = h.sp; t = h.t; u = h.u; v = h.v; w = h.w; x = h.x; result = h.result; turned = h.turned; actions = h.actions }
-byte_given pool r B t h q = record { held = record { a = h.held.a; b = q; c = h.held.c; d = h.held.d; e = h.held.e; h = h.held.h; l = h.held.l; s = h.held.s; z = h.held.z; ac = h.held.ac; p = h.held.p; cy = h.held.cy }; ah = h.ah; si = h.si; sp = h.sp; t = h.t; u = h.u; v = h.v; w = h.w; x = h.x; result = h.result; turned = h.turned; actions = h.actions }
-byte_given pool r C t h q = record { held = record { a = h.held.a; b = h.held.b; c = q; d = h.held.d; e = h.held.e; h = h.held.h; l = h.held.l; s = h.held.s; z = h.held.z; ac = h.held.ac; p = h.held.p; cy = h.held.cy }; ah = h.ah; si = h.si; sp = h.sp; t = h.t; u = h.u; v = h.v; w = h.w; x = h.x; result = h.result; turned = h.turned; actions = h.actions }
-byte_given pool r D t h q = record { held = record { a = h.held.a; b = h.held.b; c = h.held.c; d = q; e = h.held.e; h = h.held.h; l = h.held.l; s = h.held.s; z = h.held.z; ac = h.held.ac; p = h.held.p; cy = h.held.cy }; ah = h.ah; si = h.si; sp = h.sp; t = h.t; u = h.u; v = h.v; w = h.w; x = h.x; result = h.result; turned = h.turned; actions = h.actions }
-byte_given pool r E t h q = record { held = record { a = h.held.a; b = h.held.b; c = h.held.c; d = h.held.d; e = q; h = h.held.h; l = h.held.l; s = h.held.s; z = h.held.z; ac = h.held.ac; p = h.held.p; cy = h.held.cy }; ah = h.ah; si = h.si; sp = h.sp; t = h.t; u = h.u; v = h.v; w = h.w; x = h.x; result = h.result; turned = h.turned; actions = h.actions }
-byte_given pool r H t h q = record { held = record { a = h.held.a; b = h.held.b; c = h.held.c; d = h.held.d; e = h.held.e; h = q; l = h.held.l; s = h.held.s; z = h.held.z; ac = h.held.ac; p = h.held.p; cy = h.held.cy }; ah = h.ah; si = h.si; sp = h.sp; t = h.t; u = h.u; v = h.v; w = h.w; x = h.x; result = h.result; turned = h.turned; actions = h.actions }
-byte_given pool r L t h q = record { held = record { a = h.held.a; b = h.held.b; c = h.held.c; d = h.held.d; e = h.held.e; h = h.held.h; l = q; s = h.held.s; z = h.held.z; ac = h.held.ac; p = h.held.p; cy = h.held.cy }; ah = h.ah; si = h.si; sp = h.sp; t = h.t; u = h.u; v = h.v; w = h.w; x = h.x; result = h.result; turned = h.turned; actions = h.actions }
-byte_given pool r Ah t h q = record { held = h.held; ah = q; si = h.si; sp = h.sp; t = h.t; u = h.u; v = h.v; w = h.w; x = h.x; result = h.result; turned = h.turned; actions = h.actions }
+byte_given pool r (Byte80 reg) t h q = reg_given pool r reg t h q
+byte_given pool r (Byte86 Ah) t h q = record { held = h.held; ah = q; si = h.si; sp = h.sp; t = h.t; u = h.u; v = h.v; w = h.w; x = h.x; result = h.result; turned = h.turned; actions = h.actions }
+byte_given pool r (Byte86 Al) t h q = reg_given pool r RegA t h q
+byte_given pool r (Byte86 Cl) t h q = reg_given pool r RegC t h q
+byte_given pool r (Byte86 Dl) t h q = reg_given pool r RegE t h q
+byte_given pool r (Byte86 Bl) t h q = reg_given pool r RegL t h q
+byte_given pool r (Byte86 Ch) t h q = reg_given pool r RegB t h q
+byte_given pool r (Byte86 Dh) t h q = reg_given pool r RegD t h q
+byte_given pool r (Byte86 Bh) t h q = reg_given pool r RegH t h q
 byte_given pool r T t h q = record { held = h.held; ah = h.ah; si = h.si; sp = h.sp; t = q; u = h.u; v = h.v; w = h.w; x = h.x; result = h.result; turned = h.turned; actions = h.actions }
 byte_given pool r U t h q = record { held = h.held; ah = h.ah; si = h.si; sp = h.sp; t = h.t; u = q; v = h.v; w = h.w; x = h.x; result = h.result; turned = h.turned; actions = h.actions }
 
 pub byte_machine : (pool : Contents) (r : Run) (slot : ByteSlot) (t : TermId) → machine_of pool (run_with_byte r slot t) ≡ with_byte (machine_of pool r) slot (tree_in pool t)
-byte_machine pool r A t = refl
-byte_machine pool r B t = refl
-byte_machine pool r C t = refl
-byte_machine pool r D t = refl
-byte_machine pool r E t = refl
-byte_machine pool r H t = refl
-byte_machine pool r L t = refl
-byte_machine pool r Ah t = refl
+byte_machine pool r (Byte80 RegA) t = refl
+byte_machine pool r (Byte80 RegB) t = refl
+byte_machine pool r (Byte80 RegC) t = refl
+byte_machine pool r (Byte80 RegD) t = refl
+byte_machine pool r (Byte80 RegE) t = refl
+byte_machine pool r (Byte80 RegH) t = refl
+byte_machine pool r (Byte80 RegL) t = refl
+byte_machine pool r (Byte86 Al) t = refl
+byte_machine pool r (Byte86 Cl) t = refl
+byte_machine pool r (Byte86 Dl) t = refl
+byte_machine pool r (Byte86 Bl) t = refl
+byte_machine pool r (Byte86 Ah) t = refl
+byte_machine pool r (Byte86 Ch) t = refl
+byte_machine pool r (Byte86 Dh) t = refl
+byte_machine pool r (Byte86 Bh) t = refl
 byte_machine pool r T t = refl
 byte_machine pool r U t = refl
 
 byte_actions : (r : Run) (slot : ByteSlot) (t : TermId) → (run_with_byte r slot t).actions ≡ r.actions
-byte_actions r A t = refl
-byte_actions r B t = refl
-byte_actions r C t = refl
-byte_actions r D t = refl
-byte_actions r E t = refl
-byte_actions r H t = refl
-byte_actions r L t = refl
-byte_actions r Ah t = refl
+byte_actions r (Byte80 RegA) t = refl
+byte_actions r (Byte80 RegB) t = refl
+byte_actions r (Byte80 RegC) t = refl
+byte_actions r (Byte80 RegD) t = refl
+byte_actions r (Byte80 RegE) t = refl
+byte_actions r (Byte80 RegH) t = refl
+byte_actions r (Byte80 RegL) t = refl
+byte_actions r (Byte86 Al) t = refl
+byte_actions r (Byte86 Cl) t = refl
+byte_actions r (Byte86 Dl) t = refl
+byte_actions r (Byte86 Bl) t = refl
+byte_actions r (Byte86 Ah) t = refl
+byte_actions r (Byte86 Ch) t = refl
+byte_actions r (Byte86 Dh) t = refl
+byte_actions r (Byte86 Bh) t = refl
 byte_actions r T t = refl
 byte_actions r U t = refl
 
 byte_loads : (r : Run) (slot : ByteSlot) (t : TermId) → (run_with_byte r slot t).loads ≡ r.loads
-byte_loads r A t = refl
-byte_loads r B t = refl
-byte_loads r C t = refl
-byte_loads r D t = refl
-byte_loads r E t = refl
-byte_loads r H t = refl
-byte_loads r L t = refl
-byte_loads r Ah t = refl
+byte_loads r (Byte80 RegA) t = refl
+byte_loads r (Byte80 RegB) t = refl
+byte_loads r (Byte80 RegC) t = refl
+byte_loads r (Byte80 RegD) t = refl
+byte_loads r (Byte80 RegE) t = refl
+byte_loads r (Byte80 RegH) t = refl
+byte_loads r (Byte80 RegL) t = refl
+byte_loads r (Byte86 Al) t = refl
+byte_loads r (Byte86 Cl) t = refl
+byte_loads r (Byte86 Dl) t = refl
+byte_loads r (Byte86 Bl) t = refl
+byte_loads r (Byte86 Ah) t = refl
+byte_loads r (Byte86 Ch) t = refl
+byte_loads r (Byte86 Dh) t = refl
+byte_loads r (Byte86 Bh) t = refl
 byte_loads r T t = refl
 byte_loads r U t = refl
 
-byte_ready : (pool : Contents) (r : Run) (slot : ByteSlot) (t : TermId) → IsReady pool r → IsGiven pool t → IsMadeAs is_byte (tree_in pool t) → IsReady pool (run_with_byte r slot t)
-byte_ready pool r slot t h q s =
-    let length_is : length (run_with_byte r slot t).actions.items ≡ length r.actions.items = ap (λ a. length a.items) (byte_actions r slot t) in
-    let loads_is : (run_with_byte r slot t).loads ≡ r.loads = byte_loads r slot t in
-    let few : r.loads ≤ length r.actions.items = h.few in
-    let room : length r.actions.items ≤ 512 = h.room in
-    record {
-      terms = h.terms;
-      given = byte_given pool r slot t h.given q;
-      sorted = subst IsSorted (sym (byte_machine pool r slot t)) (with_byte_sorted (machine_of pool r) slot (tree_in pool t) h.sorted s);
-      capacity = ap vec_capacity (byte_actions r slot t) ∙ h.capacity;
-      few = omega arith;
-      room = omega arith;
-    }
-
 pub gave_byte : (old new : Contents) (r : Run) (slot : ByteSlot) (n : ℕ) (tree : Term) (t : TermId) → IsReady old r → Gives old new n tree (Some t) → IsMadeAs is_byte tree → GoesOn old new r (run_with_byte r slot t) n 0 (λ m. m ≡ with_byte (machine_of old r) slot tree) (Some tt)
-gave_byte old new r slot n tree t h g s = record {
-  grows = g.grows;
-  ready = byte_ready new r slot t (ready_still old new n g.grows r g.terms h) g.gives.0 (subst (IsMadeAs is_byte) (sym g.gives.1) s);
-  few = let same : length (run_with_byte r slot t).actions.items ≡ length r.actions.items = ap (λ a. length a.items) (byte_actions r slot t) in omega arith;
-  gives = byte_machine new r slot t ∙ ap₂ (λ m q. with_byte m slot q) (same_machine old new n g.grows r h.given) g.gives.1;
-  enough = λ _. refl;
-}
+gave_byte old new r slot n tree t h g s =
+    gave_to old new r (run_with_byte r slot t) n tree t (λ m q. with_byte m slot q) (byte_actions r slot t) (byte_loads r slot t) (byte_machine new r slot t)
+    (byte_given new r slot t) (λ k. with_byte_sorted (machine_of new r) slot (tree_in new t) k (subst (IsMadeAs is_byte) (sym g.gives.1) s)) h g
 
 -- Word registers
 
@@ -220,29 +257,10 @@ word_loads r V t = refl
 word_loads r W t = refl
 word_loads r X t = refl
 
-word_ready : (pool : Contents) (r : Run) (slot : WordSlot) (t : TermId) → IsReady pool r → IsGiven pool t → IsMadeAs is_word (tree_in pool t) → IsReady pool (run_with_word r slot t)
-word_ready pool r slot t h q s =
-    let length_is : length (run_with_word r slot t).actions.items ≡ length r.actions.items = ap (λ a. length a.items) (word_actions r slot t) in
-    let loads_is : (run_with_word r slot t).loads ≡ r.loads = word_loads r slot t in
-    let few : r.loads ≤ length r.actions.items = h.few in
-    let room : length r.actions.items ≤ 512 = h.room in
-    record {
-      terms = h.terms;
-      given = word_given pool r slot t h.given q;
-      sorted = subst IsSorted (sym (word_machine pool r slot t)) (with_word_sorted (machine_of pool r) slot (tree_in pool t) h.sorted s);
-      capacity = ap vec_capacity (word_actions r slot t) ∙ h.capacity;
-      few = omega arith;
-      room = omega arith;
-    }
-
 pub gave_word : (old new : Contents) (r : Run) (slot : WordSlot) (n : ℕ) (tree : Term) (t : TermId) → IsReady old r → Gives old new n tree (Some t) → IsMadeAs is_word tree → GoesOn old new r (run_with_word r slot t) n 0 (λ m. m ≡ with_word (machine_of old r) slot tree) (Some tt)
-gave_word old new r slot n tree t h g s = record {
-  grows = g.grows;
-  ready = word_ready new r slot t (ready_still old new n g.grows r g.terms h) g.gives.0 (subst (IsMadeAs is_word) (sym g.gives.1) s);
-  few = let same : length (run_with_word r slot t).actions.items ≡ length r.actions.items = ap (λ a. length a.items) (word_actions r slot t) in omega arith;
-  gives = word_machine new r slot t ∙ ap₂ (λ m q. with_word m slot q) (same_machine old new n g.grows r h.given) g.gives.1;
-  enough = λ _. refl;
-}
+gave_word old new r slot n tree t h g s =
+    gave_to old new r (run_with_word r slot t) n tree t (λ m q. with_word m slot q) (word_actions r slot t) (word_loads r slot t) (word_machine new r slot t)
+    (word_given new r slot t) (λ k. with_word_sorted (machine_of new r) slot (tree_in new t) k (subst (IsMadeAs is_word) (sym g.gives.1) s)) h g
 
 -- Flag registers
 
@@ -274,72 +292,23 @@ flag_loads r Ac t = refl
 flag_loads r P t = refl
 flag_loads r Cy t = refl
 
-flag_ready : (pool : Contents) (r : Run) (slot : FlagSlot) (t : TermId) → IsReady pool r → IsGiven pool t → IsMadeAs is_bit (tree_in pool t) → IsReady pool (run_with_flag r slot t)
-flag_ready pool r slot t h q s =
-    let length_is : length (run_with_flag r slot t).actions.items ≡ length r.actions.items = ap (λ a. length a.items) (flag_actions r slot t) in
-    let loads_is : (run_with_flag r slot t).loads ≡ r.loads = flag_loads r slot t in
-    let few : r.loads ≤ length r.actions.items = h.few in
-    let room : length r.actions.items ≤ 512 = h.room in
-    record {
-      terms = h.terms;
-      given = flag_given pool r slot t h.given q;
-      sorted = subst IsSorted (sym (flag_machine pool r slot t)) (with_flag_sorted (machine_of pool r) slot (tree_in pool t) h.sorted s);
-      capacity = ap vec_capacity (flag_actions r slot t) ∙ h.capacity;
-      few = omega arith;
-      room = omega arith;
-    }
-
 pub gave_flag : (old new : Contents) (r : Run) (slot : FlagSlot) (n : ℕ) (tree : Term) (t : TermId) → IsReady old r → Gives old new n tree (Some t) → IsMadeAs is_bit tree → GoesOn old new r (run_with_flag r slot t) n 0 (λ m. m ≡ with_flag (machine_of old r) slot tree) (Some tt)
-gave_flag old new r slot n tree t h g s = record {
-  grows = g.grows;
-  ready = flag_ready new r slot t (ready_still old new n g.grows r g.terms h) g.gives.0 (subst (IsMadeAs is_bit) (sym g.gives.1) s);
-  few = let same : length (run_with_flag r slot t).actions.items ≡ length r.actions.items = ap (λ a. length a.items) (flag_actions r slot t) in omega arith;
-  gives = flag_machine new r slot t ∙ ap₂ (λ m q. with_flag m slot q) (same_machine old new n g.grows r h.given) g.gives.1;
-  enough = λ _. refl;
-}
+gave_flag old new r slot n tree t h g s =
+    gave_to old new r (run_with_flag r slot t) n tree t (λ m q. with_flag m slot q) (flag_actions r slot t) (flag_loads r slot t) (flag_machine new r slot t)
+    (flag_given new r slot t) (λ k. with_flag_sorted (machine_of new r) slot (tree_in new t) k (subst (IsMadeAs is_bit) (sym g.gives.1) s)) h g
 
 pub gave_result : (old new : Contents) (r : Run) (n : ℕ) (tree : Term) (t : TermId) → IsReady old r → Gives old new n tree (Some t) → IsResult tree → GoesOn old new r (record r { result = t }) n 0 (λ m. m ≡ record (machine_of old r) { result = tree }) (Some tt)
 gave_result old new r n tree t h g s =
-    let k : IsReady new r = ready_still old new n g.grows r g.terms h in
-    let q = g.gives.0 in
-    let given : RunIsGiven new (record r { result = t }) = with_given k.given q in
-    record {
-      grows = g.grows;
-      ready = record {
-        terms = g.terms;
-        given = given;
-        sorted = with_result_sorted (machine_of new r) (tree_in new t) k.sorted (subst (IsResult) (sym g.gives.1) s);
-        capacity = h.capacity;
-        few = h.few;
-        room = h.room;
-      };
-      few = omega arith;
-      gives = ap₂ (λ (m : Machine) (q : Term). record m { result = q }) (same_machine old new n g.grows r h.given) g.gives.1;
-      enough = λ _. refl;
-    }
+    gave_to old new r (record r { result = t }) n tree t (λ m q. record m { result = q }) refl refl refl
+    with_given (λ k. with_result_sorted (machine_of new r) (tree_in new t) k (subst IsResult (sym g.gives.1) s)) h g
   where
     with_given : RunIsGiven new r → IsGiven new t → RunIsGiven new (record r { result = t })
     with_given h q = record { held = h.held; ah = h.ah; si = h.si; sp = h.sp; t = h.t; u = h.u; v = h.v; w = h.w; x = h.x; result = q; turned = h.turned; actions = h.actions }
 
 pub gave_turned : (old new : Contents) (r : Run) (n : ℕ) (tree : Term) (t : TermId) → IsReady old r → Gives old new n tree (Some t) → IsTurned tree → GoesOn old new r (record r { turned = t }) n 0 (λ m. m ≡ record (machine_of old r) { turned = tree }) (Some tt)
 gave_turned old new r n tree t h g s =
-    let k : IsReady new r = ready_still old new n g.grows r g.terms h in
-    let q = g.gives.0 in
-    let given : RunIsGiven new (record r { turned = t }) = with_given k.given q in
-    record {
-      grows = g.grows;
-      ready = record {
-        terms = g.terms;
-        given = given;
-        sorted = with_turned_sorted (machine_of new r) (tree_in new t) k.sorted (subst (IsTurned) (sym g.gives.1) s);
-        capacity = h.capacity;
-        few = h.few;
-        room = h.room;
-      };
-      few = omega arith;
-      gives = ap₂ (λ (m : Machine) (q : Term). record m { turned = q }) (same_machine old new n g.grows r h.given) g.gives.1;
-      enough = λ _. refl;
-    }
+    gave_to old new r (record r { turned = t }) n tree t (λ m q. record m { turned = q }) refl refl refl
+    with_given (λ k. with_turned_sorted (machine_of new r) (tree_in new t) k (subst IsTurned (sym g.gives.1) s)) h g
   where
     with_given : RunIsGiven new r → IsGiven new t → RunIsGiven new (record r { turned = t })
     with_given h q = record { held = h.held; ah = h.ah; si = h.si; sp = h.sp; t = h.t; u = h.u; v = h.v; w = h.w; x = h.x; result = h.result; turned = q; actions = h.actions }
@@ -350,7 +319,7 @@ pub gives_of : (old new : Contents) (n : ℕ) (tree : Term) (made : Option TermI
 gives_of old new n tree None m = record { grows = m.grows; gives = m.gives.full; enough = m.room; terms = m.terms }
 gives_of old new n tree (Some t) m = record { grows = m.grows; gives = m.gives; enough = m.room; terms = m.terms }
 
-pub then_gives : (old mid new : Contents) (j k : ℕ) (tree : Term) (made : Option TermId) → Grows old mid j → Gives mid new k tree made → Gives old new (j + k) tree made
+pub then_gives : (old mid new : Contents) (j k : ℕ) (tree : Term) (made : Option TermId) → PoolGrows old mid j → Gives mid new k tree made → Gives old new (j + k) tree made
 then_gives old mid new j k tree made g m = record {
   grows = then_grows old mid new j k g m.grows;
   gives = m.gives;
@@ -400,6 +369,10 @@ then_goes_on old mid new r s t j k a b Here There Both (Some u) g h f = record {
   enough = λ _. refl;
 }
 
+pub both_go_on : (old mid new : Contents) (r s t : Run) (j k a b : ℕ) (f g : Machine → Machine) (made : Option (Unit {0})) → GoesOn old mid r s j a (λ m. m ≡ f (machine_of old r)) (Some tt) → GoesOn mid new s t k b (λ m. m ≡ g (machine_of mid s)) made → GoesOn old new r t (j + k) (a + b) (λ m. m ≡ g (f (machine_of old r))) made
+both_go_on old mid new r s t j k a b f g made x y =
+    then_goes_on old mid new r s t j k a b (λ m. m ≡ f (machine_of old r)) (λ m. m ≡ g (machine_of mid s)) (λ m. m ≡ g (f (machine_of old r))) made x y (λ m e. e ∙ ap g x.gives)
+
 -- where the first of them fails, all do
 pub fails_first : (old new : Contents) (r s : Run) (j k a b : ℕ) (Here There : Machine → Type 0) → j ≤ k → a ≤ b → GoesOn old new r s j a Here None → GoesOn old new r s k b There None
 fails_first old new r s j k a b Here There le le' g = record {
@@ -436,54 +409,43 @@ actions_appended pool (y ∷ ys) x = ap (λ l. tree_of_action pool y ∷ l) (act
 
 -- what a register's id stands for
 byte_tree : (pool : Contents) (r : Run) (slot : ByteSlot) → tree_in pool (id_of_byte r slot) ≡ byte_in (machine_of pool r) slot
-byte_tree pool r A = refl
-byte_tree pool r B = refl
-byte_tree pool r C = refl
-byte_tree pool r D = refl
-byte_tree pool r E = refl
-byte_tree pool r H = refl
-byte_tree pool r L = refl
-byte_tree pool r Ah = refl
+byte_tree pool r (Byte80 RegA) = refl
+byte_tree pool r (Byte80 RegB) = refl
+byte_tree pool r (Byte80 RegC) = refl
+byte_tree pool r (Byte80 RegD) = refl
+byte_tree pool r (Byte80 RegE) = refl
+byte_tree pool r (Byte80 RegH) = refl
+byte_tree pool r (Byte80 RegL) = refl
+byte_tree pool r (Byte86 Al) = refl
+byte_tree pool r (Byte86 Cl) = refl
+byte_tree pool r (Byte86 Dl) = refl
+byte_tree pool r (Byte86 Bl) = refl
+byte_tree pool r (Byte86 Ah) = refl
+byte_tree pool r (Byte86 Ch) = refl
+byte_tree pool r (Byte86 Dh) = refl
+byte_tree pool r (Byte86 Bh) = refl
 byte_tree pool r T = refl
 byte_tree pool r U = refl
 
-pub byte_is : (old new : Contents) (n : ℕ) (r : Run) (slot : ByteSlot) (t : TermId) → Grows old new n → RunIsGiven old r → t ≡ id_of_byte r slot → tree_in new t ≡ byte_in (machine_of old r) slot
+pub byte_is : (old new : Contents) (n : ℕ) (r : Run) (slot : ByteSlot) (t : TermId) → PoolGrows old new n → RunIsGiven old r → t ≡ id_of_byte r slot → tree_in new t ≡ byte_in (machine_of old r) slot
 byte_is old new n r slot t g h e = ap (tree_in new) e ∙ byte_tree new r slot ∙ ap (λ m. byte_in m slot) (same_machine old new n g r h)
 
 -- a byte register is no word register
 v_kept : (m : Machine) (b : ByteSlot) (q : Term) → (with_byte m b q).v ≡ m.v
-v_kept m A q = refl
-v_kept m B q = refl
-v_kept m C q = refl
-v_kept m D q = refl
-v_kept m E q = refl
-v_kept m H q = refl
-v_kept m L q = refl
-v_kept m Ah q = refl
+v_kept m (Byte80 r) q = refl
+v_kept m (Byte86 r) q = refl
 v_kept m T q = refl
 v_kept m U q = refl
 
 w_kept : (m : Machine) (b : ByteSlot) (q : Term) → (with_byte m b q).w ≡ m.w
-w_kept m A q = refl
-w_kept m B q = refl
-w_kept m C q = refl
-w_kept m D q = refl
-w_kept m E q = refl
-w_kept m H q = refl
-w_kept m L q = refl
-w_kept m Ah q = refl
+w_kept m (Byte80 r) q = refl
+w_kept m (Byte86 r) q = refl
 w_kept m T q = refl
 w_kept m U q = refl
 
 x_kept : (m : Machine) (b : ByteSlot) (q : Term) → (with_byte m b q).x ≡ m.x
-x_kept m A q = refl
-x_kept m B q = refl
-x_kept m C q = refl
-x_kept m D q = refl
-x_kept m E q = refl
-x_kept m H q = refl
-x_kept m L q = refl
-x_kept m Ah q = refl
+x_kept m (Byte80 r) q = refl
+x_kept m (Byte86 r) q = refl
 x_kept m T q = refl
 x_kept m U q = refl
 
@@ -517,7 +479,7 @@ moved pool r s x same items capacity loads h q below = record {
     longer = ap length items ∙ length-append r.actions.items (x ∷ [])
 
 -- a run that began, and goes on
-pub began : (old mid new : Contents) (r s : Run) (j k a : ℕ) (Here : Machine → Type 0) (made : Option (Unit {0})) → Grows old mid j → r.actions.items ≡ [] → GoesOn mid new r s k a Here made → Runs old new s (j + k) a Here made
+pub began : (old mid new : Contents) (r s : Run) (j k a : ℕ) (Here : Machine → Type 0) (made : Option (Unit {0})) → PoolGrows old mid j → r.actions.items ≡ [] → GoesOn mid new r s k a Here made → Runs old new s (j + k) a Here made
 began old mid new r s j k a Here None g empty h = record {
   grows = then_grows old mid new j k g h.grows;
   terms = h.ready.terms;

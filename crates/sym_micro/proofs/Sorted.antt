@@ -4,32 +4,40 @@ use Rattle.std.proofs.lemmas.Bool.{lt-ltb}
 use Rattle.cells.specs.declared.Part.{Part}
 use Rattle.cells.specs.declared.Part.TheVariants.{Cy as PartCy}
 use Rattle.i80.specs.declared.Op.{Op}
-use Rattle.i80.specs.declared.Op.TheVariants.{Adc, Sbb, Xra}
+use Rattle.i80.specs.declared.Op.TheVariants.{Adc, Sbb, Xra, Cmp}
+use Rattle.i80.specs.declared.Reg.{Reg as Register}
+use Rattle.i80.specs.declared.Reg.TheVariants.{A as RegA, B as RegB, C as RegC, D as RegD, E as RegE, H as RegH, L as RegL}
+use Rattle.i80.specs.declared.Pair.{Pair}
+use Rattle.i80.specs.declared.Pair.TheVariants.{B as PairB, D as PairD, H as PairH, Sp as PairSp}
+use Rattle.i86.specs.declared.Reg8.TheVariants.{Al, Cl, Dl, Bl, Ah, Ch, Dh, Bh}
+use Rattle.i86.specs.declared.Reg16.TheVariants.{Ax, Cx, Dx, Bx, Sp, Si}
+use Rattle.i86.specs.declared.Ptr.{Ptr}
+use Rattle.i86.specs.declared.Ptr.TheVariants.{Bx as PtrBx, Si as PtrSi}
 use Rattle.i86.specs.declared.Rotate.{Rotate}
 use Rattle.i86.specs.declared.Rotate.TheVariants.{Rol, Ror, Rcl, Rcr}
 use Rattle.sym_terms.specs.Term.{Term, Num, Start, Alu, Turn, Turned, Adjust, Unknown, is_flag, is_bit, is_byte, is_word, is_open, leaves_flag}
 use Rattle.sym_terms.specs.Making.{alu, half_of, high, low, turn, turn_or_turned, adjust}
 use Rattle.sym_terms.specs.Laws.{IsMadeAs, MadeTermsHaveSorts}
 use Rattle.sym_terms.proofs.Sorts.{byte_sorted as byte_number_sorted, leaves_open}
-use Rattle.sym_blocks.specs.Outcome.{Held}
-use Rattle.sym_blocks.specs.Block80.{operation, carry_in, flag_byte}
-use Rattle.sym_blocks.specs.Symbolic86.{turn_kind, turn_carry, brought_back}
-use Rattle.sym_blocks.specs.Sorts.{HeldIsSorted}
+use Rattle.sym_block_def.specs.Outcome.{Held}
+use Rattle.sym_block_def.specs.Block80.{operation, carry_in, a_after, flag_byte}
+use Rattle.sym_block_def.specs.Symbolic86.{pointed, turn_kind, turn_carry, brought_back}
+use Rattle.sym_block_def.specs.Sorts.{HeldIsSorted}
 use Rattle.sym_micro.specs.declared.micro.ByteSlot.{ByteSlot}
-use Rattle.sym_micro.specs.declared.micro.ByteSlot.TheVariants.{A, B, C, D, E, H, L, Ah, T, U}
+use Rattle.sym_micro.specs.declared.micro.ByteSlot.TheVariants.{Of80 as Byte80, Of86 as Byte86, T, U}
 use Rattle.sym_micro.specs.declared.micro.FlagSlot.{FlagSlot}
 use Rattle.sym_micro.specs.declared.micro.FlagSlot.TheVariants.{S, Z, Ac, P, Cy}
 use Rattle.sym_micro.specs.declared.micro.WordSlot.{WordSlot}
 use Rattle.sym_micro.specs.declared.micro.WordSlot.TheVariants.{V, W, X}
 use Rattle.sym_micro.specs.declared.micro.Wide.{Wide}
-use Rattle.sym_micro.specs.declared.micro.Wide.TheVariants.{Ax, Bc, De, Hl, Sp, Si}
+use Rattle.sym_micro.specs.declared.micro.Wide.TheVariants.{Of80 as Wide80, Of86 as Wide86}
 use Rattle.sym_micro.specs.declared.micro.ByteValue.{ByteValue}
-use Rattle.sym_micro.specs.declared.micro.ByteValue.TheVariants.{Of as OfByte, Number as NumberByte, Start as StartByte, Code as CodeByte, Half, Result, Turned as TurnedByte, Loaded as LoadedByte}
+use Rattle.sym_micro.specs.declared.micro.ByteValue.TheVariants.{Of as OfByte, Number as NumberByte, Start as StartByte, Code as CodeByte, Half, Result, After, Turned as TurnedByte, Loaded as LoadedByte}
 use Rattle.sym_micro.specs.declared.micro.WordValue.{WordValue}
-use Rattle.sym_micro.specs.declared.micro.WordValue.TheVariants.{Of as OfWide, Number as NumberWord, Join as JoinWord, StartSp as StartSpWord, Turned as TurnedWord, Loaded as LoadedWord, Unknown as UnknownWord}
+use Rattle.sym_micro.specs.declared.micro.WordValue.TheVariants.{Of as OfWide, Pointed, Number as NumberWord, Join as JoinWord, StartSp as StartSpWord, Turned as TurnedWord, Loaded as LoadedWord, Unknown as UnknownWord}
 use Rattle.sym_micro.specs.declared.micro.FlagValue.{FlagValue}
 use Rattle.sym_micro.specs.declared.micro.FlagValue.TheVariants.{Number as NumberFlag, Start as StartFlag, OfResult, OfTurned, InByte, BroughtBack, Unknown as UnknownFlag}
-use Rattle.sym_micro.specs.Machine.{Machine, byte_in, with_byte, word_in, with_word, with_flag, part_of_flag, wide_in, with_halves, with_wide, byte_value, word_value, flag_value, ByteIsCoded, WordIsCoded}
+use Rattle.sym_micro.specs.Machine.{Machine, as86, byte_in, with_byte, word_in, with_word, with_flag, part_of_flag, wide_in, with_halves, with_wide, byte_value, word_value, flag_value, ByteIsCoded, WordIsCoded}
 use Rattle.sym_micro.specs.Stands.{IsResult, IsTurned, IsSorted}
 
 zero_bit : IsMadeAs is_bit (Num 0)
@@ -44,14 +52,21 @@ one_byte = (lit< tt, refl)
 -- registers
 
 pub byte_sorted : (m : Machine) (r : ByteSlot) → IsSorted m → IsMadeAs is_byte (byte_in m r)
-byte_sorted m A h = h.held.a
-byte_sorted m B h = h.held.b
-byte_sorted m C h = h.held.c
-byte_sorted m D h = h.held.d
-byte_sorted m E h = h.held.e
-byte_sorted m H h = h.held.h
-byte_sorted m L h = h.held.l
-byte_sorted m Ah h = h.ah
+byte_sorted m (Byte80 RegA) h = h.held.a
+byte_sorted m (Byte80 RegB) h = h.held.b
+byte_sorted m (Byte80 RegC) h = h.held.c
+byte_sorted m (Byte80 RegD) h = h.held.d
+byte_sorted m (Byte80 RegE) h = h.held.e
+byte_sorted m (Byte80 RegH) h = h.held.h
+byte_sorted m (Byte80 RegL) h = h.held.l
+byte_sorted m (Byte86 Ah) h = h.ah
+byte_sorted m (Byte86 Al) h = h.held.a
+byte_sorted m (Byte86 Cl) h = h.held.c
+byte_sorted m (Byte86 Dl) h = h.held.e
+byte_sorted m (Byte86 Bl) h = h.held.l
+byte_sorted m (Byte86 Ch) h = h.held.b
+byte_sorted m (Byte86 Dh) h = h.held.d
+byte_sorted m (Byte86 Bh) h = h.held.h
 byte_sorted m T h = h.t
 byte_sorted m U h = h.u
 
@@ -60,15 +75,25 @@ word_sorted m V h = h.v
 word_sorted m W h = h.w
 word_sorted m X h = h.x
 
+with_reg_sorted : (m : Machine) (r : Register) (q : Term) → IsSorted m → IsMadeAs is_byte q → IsSorted (with_byte m (Byte80 r) q)
+with_reg_sorted m RegA q h p = record { held = record { a = p; b = h.held.b; c = h.held.c; d = h.held.d; e = h.held.e; h = h.held.h; l = h.held.l; s = h.held.s; z = h.held.z; ac = h.held.ac; p = h.held.p; cy = h.held.cy }; ah = h.ah; si = h.si; sp = h.sp; t = h.t; u = h.u; v = h.v; w = h.w; x = h.x; result = h.result; turned = h.turned }
+with_reg_sorted m RegB q h p = record { held = record { a = h.held.a; b = p; c = h.held.c; d = h.held.d; e = h.held.e; h = h.held.h; l = h.held.l; s = h.held.s; z = h.held.z; ac = h.held.ac; p = h.held.p; cy = h.held.cy }; ah = h.ah; si = h.si; sp = h.sp; t = h.t; u = h.u; v = h.v; w = h.w; x = h.x; result = h.result; turned = h.turned }
+with_reg_sorted m RegC q h p = record { held = record { a = h.held.a; b = h.held.b; c = p; d = h.held.d; e = h.held.e; h = h.held.h; l = h.held.l; s = h.held.s; z = h.held.z; ac = h.held.ac; p = h.held.p; cy = h.held.cy }; ah = h.ah; si = h.si; sp = h.sp; t = h.t; u = h.u; v = h.v; w = h.w; x = h.x; result = h.result; turned = h.turned }
+with_reg_sorted m RegD q h p = record { held = record { a = h.held.a; b = h.held.b; c = h.held.c; d = p; e = h.held.e; h = h.held.h; l = h.held.l; s = h.held.s; z = h.held.z; ac = h.held.ac; p = h.held.p; cy = h.held.cy }; ah = h.ah; si = h.si; sp = h.sp; t = h.t; u = h.u; v = h.v; w = h.w; x = h.x; result = h.result; turned = h.turned }
+with_reg_sorted m RegE q h p = record { held = record { a = h.held.a; b = h.held.b; c = h.held.c; d = h.held.d; e = p; h = h.held.h; l = h.held.l; s = h.held.s; z = h.held.z; ac = h.held.ac; p = h.held.p; cy = h.held.cy }; ah = h.ah; si = h.si; sp = h.sp; t = h.t; u = h.u; v = h.v; w = h.w; x = h.x; result = h.result; turned = h.turned }
+with_reg_sorted m RegH q h p = record { held = record { a = h.held.a; b = h.held.b; c = h.held.c; d = h.held.d; e = h.held.e; h = p; l = h.held.l; s = h.held.s; z = h.held.z; ac = h.held.ac; p = h.held.p; cy = h.held.cy }; ah = h.ah; si = h.si; sp = h.sp; t = h.t; u = h.u; v = h.v; w = h.w; x = h.x; result = h.result; turned = h.turned }
+with_reg_sorted m RegL q h p = record { held = record { a = h.held.a; b = h.held.b; c = h.held.c; d = h.held.d; e = h.held.e; h = h.held.h; l = p; s = h.held.s; z = h.held.z; ac = h.held.ac; p = h.held.p; cy = h.held.cy }; ah = h.ah; si = h.si; sp = h.sp; t = h.t; u = h.u; v = h.v; w = h.w; x = h.x; result = h.result; turned = h.turned }
+
 pub with_byte_sorted : (m : Machine) (r : ByteSlot) (q : Term) → IsSorted m → IsMadeAs is_byte q → IsSorted (with_byte m r q)
-with_byte_sorted m A q h p = record { held = record { a = p; b = h.held.b; c = h.held.c; d = h.held.d; e = h.held.e; h = h.held.h; l = h.held.l; s = h.held.s; z = h.held.z; ac = h.held.ac; p = h.held.p; cy = h.held.cy }; ah = h.ah; si = h.si; sp = h.sp; t = h.t; u = h.u; v = h.v; w = h.w; x = h.x; result = h.result; turned = h.turned }
-with_byte_sorted m B q h p = record { held = record { a = h.held.a; b = p; c = h.held.c; d = h.held.d; e = h.held.e; h = h.held.h; l = h.held.l; s = h.held.s; z = h.held.z; ac = h.held.ac; p = h.held.p; cy = h.held.cy }; ah = h.ah; si = h.si; sp = h.sp; t = h.t; u = h.u; v = h.v; w = h.w; x = h.x; result = h.result; turned = h.turned }
-with_byte_sorted m C q h p = record { held = record { a = h.held.a; b = h.held.b; c = p; d = h.held.d; e = h.held.e; h = h.held.h; l = h.held.l; s = h.held.s; z = h.held.z; ac = h.held.ac; p = h.held.p; cy = h.held.cy }; ah = h.ah; si = h.si; sp = h.sp; t = h.t; u = h.u; v = h.v; w = h.w; x = h.x; result = h.result; turned = h.turned }
-with_byte_sorted m D q h p = record { held = record { a = h.held.a; b = h.held.b; c = h.held.c; d = p; e = h.held.e; h = h.held.h; l = h.held.l; s = h.held.s; z = h.held.z; ac = h.held.ac; p = h.held.p; cy = h.held.cy }; ah = h.ah; si = h.si; sp = h.sp; t = h.t; u = h.u; v = h.v; w = h.w; x = h.x; result = h.result; turned = h.turned }
-with_byte_sorted m E q h p = record { held = record { a = h.held.a; b = h.held.b; c = h.held.c; d = h.held.d; e = p; h = h.held.h; l = h.held.l; s = h.held.s; z = h.held.z; ac = h.held.ac; p = h.held.p; cy = h.held.cy }; ah = h.ah; si = h.si; sp = h.sp; t = h.t; u = h.u; v = h.v; w = h.w; x = h.x; result = h.result; turned = h.turned }
-with_byte_sorted m H q h p = record { held = record { a = h.held.a; b = h.held.b; c = h.held.c; d = h.held.d; e = h.held.e; h = p; l = h.held.l; s = h.held.s; z = h.held.z; ac = h.held.ac; p = h.held.p; cy = h.held.cy }; ah = h.ah; si = h.si; sp = h.sp; t = h.t; u = h.u; v = h.v; w = h.w; x = h.x; result = h.result; turned = h.turned }
-with_byte_sorted m L q h p = record { held = record { a = h.held.a; b = h.held.b; c = h.held.c; d = h.held.d; e = h.held.e; h = h.held.h; l = p; s = h.held.s; z = h.held.z; ac = h.held.ac; p = h.held.p; cy = h.held.cy }; ah = h.ah; si = h.si; sp = h.sp; t = h.t; u = h.u; v = h.v; w = h.w; x = h.x; result = h.result; turned = h.turned }
-with_byte_sorted m Ah q h p = record { held = h.held; ah = p; si = h.si; sp = h.sp; t = h.t; u = h.u; v = h.v; w = h.w; x = h.x; result = h.result; turned = h.turned }
+with_byte_sorted m (Byte80 r) q h p = with_reg_sorted m r q h p
+with_byte_sorted m (Byte86 Ah) q h p = record { held = h.held; ah = p; si = h.si; sp = h.sp; t = h.t; u = h.u; v = h.v; w = h.w; x = h.x; result = h.result; turned = h.turned }
+with_byte_sorted m (Byte86 Al) q h p = with_reg_sorted m RegA q h p
+with_byte_sorted m (Byte86 Cl) q h p = with_reg_sorted m RegC q h p
+with_byte_sorted m (Byte86 Dl) q h p = with_reg_sorted m RegE q h p
+with_byte_sorted m (Byte86 Bl) q h p = with_reg_sorted m RegL q h p
+with_byte_sorted m (Byte86 Ch) q h p = with_reg_sorted m RegB q h p
+with_byte_sorted m (Byte86 Dh) q h p = with_reg_sorted m RegD q h p
+with_byte_sorted m (Byte86 Bh) q h p = with_reg_sorted m RegH q h p
 with_byte_sorted m T q h p = record { held = h.held; ah = h.ah; si = h.si; sp = h.sp; t = p; u = h.u; v = h.v; w = h.w; x = h.x; result = h.result; turned = h.turned }
 with_byte_sorted m U q h p = record { held = h.held; ah = h.ah; si = h.si; sp = h.sp; t = h.t; u = p; v = h.v; w = h.w; x = h.x; result = h.result; turned = h.turned }
 
@@ -149,6 +174,10 @@ number_flag_sorted : (set : Bool) → IsMadeAs is_bit (Num (cond set 1 0))
 number_flag_sorted true = one_bit
 number_flag_sorted false = zero_bit
 
+after_sorted : (m : Machine) (op : Op) → IsSorted m → IsMadeAs is_byte (a_after op m.held.a m.result)
+after_sorted m Cmp h = h.held.a
+after_sorted m op h = h.result.byte
+
 module _ (k : MadeTermsHaveSorts) where
   pub operated_sorted : (op : Op) (a b cy : Term) → IsMadeAs is_byte a → IsMadeAs is_byte b → IsMadeAs is_bit cy → IsResult (alu (operation op) a b (carry_in op cy))
   operated_sorted op a b cy p q r =
@@ -174,13 +203,24 @@ module _ (k : MadeTermsHaveSorts) where
   half_sorted true w h = k.high w h
   half_sorted false w h = k.low w h
 
+  pair_sorted : (m : Machine) (pair : Pair) → IsSorted m → IsMadeAs is_word (wide_in m (Wide80 pair))
+  pair_sorted m PairB h = k.join m.held.b m.held.c h.held.b h.held.c
+  pair_sorted m PairD h = k.join m.held.d m.held.e h.held.d h.held.e
+  pair_sorted m PairH h = k.join m.held.h m.held.l h.held.h h.held.l
+  pair_sorted m PairSp h = h.sp
+
   pub wide_sorted : (m : Machine) (r : Wide) → IsSorted m → IsMadeAs is_word (wide_in m r)
-  wide_sorted m Ax h = k.join m.ah m.held.a h.ah h.held.a
-  wide_sorted m Bc h = k.join m.held.b m.held.c h.held.b h.held.c
-  wide_sorted m De h = k.join m.held.d m.held.e h.held.d h.held.e
-  wide_sorted m Hl h = k.join m.held.h m.held.l h.held.h h.held.l
-  wide_sorted m Sp h = h.sp
-  wide_sorted m Si h = h.si
+  wide_sorted m (Wide80 pair) h = pair_sorted m pair h
+  wide_sorted m (Wide86 Ax) h = k.join m.ah m.held.a h.ah h.held.a
+  wide_sorted m (Wide86 Cx) h = pair_sorted m PairB h
+  wide_sorted m (Wide86 Dx) h = pair_sorted m PairD h
+  wide_sorted m (Wide86 Bx) h = pair_sorted m PairH h
+  wide_sorted m (Wide86 Sp) h = h.sp
+  wide_sorted m (Wide86 Si) h = h.si
+
+  pointed_sorted : (m : Machine) (p : Ptr) → IsSorted m → IsMadeAs is_word (pointed (as86 m) p)
+  pointed_sorted m PtrBx h = pair_sorted m PairH h
+  pointed_sorted m PtrSi h = h.si
 
   -- values
 
@@ -191,11 +231,13 @@ module _ (k : MadeTermsHaveSorts) where
   byte_value_sorted m (CodeByte place is_high) c h = (tt, refl)
   byte_value_sorted m (Half w is_high) c h = half_sorted is_high (word_in m w) (word_sorted m w h)
   byte_value_sorted m Result c h = h.result.byte
+  byte_value_sorted m (After op) c h = after_sorted m op h
   byte_value_sorted m TurnedByte c h = h.turned.byte
   byte_value_sorted m LoadedByte c h = (tt, refl)
 
   pub word_value_sorted : (m : Machine) (value : WordValue) → WordIsCoded value → IsSorted m → IsMadeAs is_word (word_value m value)
   word_value_sorted m (OfWide r) c h = wide_sorted m r h
+  word_value_sorted m (Pointed p) c h = pointed_sorted m p h
   word_value_sorted m (NumberWord n) c h = (c, lt-ltb n 0x10000 c)
   word_value_sorted m (JoinWord x y) c h = k.join (byte_in m x) (byte_in m y) (byte_sorted m x h) (byte_sorted m y h)
   word_value_sorted m StartSpWord c h = (tt, refl)
@@ -218,10 +260,17 @@ module _ (k : MadeTermsHaveSorts) where
   with_halves_sorted : (m : Machine) (x y : ByteSlot) (q : Term) → IsSorted m → IsMadeAs is_word q → IsSorted (with_halves m x y q)
   with_halves_sorted m x y q h p = with_byte_sorted (with_byte m x (high q)) y (low q) (with_byte_sorted m x (high q) h (k.high q p)) (k.low q p)
 
+  with_pair_sorted : (m : Machine) (pair : Pair) (q : Term) → IsSorted m → IsMadeAs is_word q → IsSorted (with_wide m (Wide80 pair) q)
+  with_pair_sorted m PairB q h p = with_halves_sorted m (Byte80 RegB) (Byte80 RegC) q h p
+  with_pair_sorted m PairD q h p = with_halves_sorted m (Byte80 RegD) (Byte80 RegE) q h p
+  with_pair_sorted m PairH q h p = with_halves_sorted m (Byte80 RegH) (Byte80 RegL) q h p
+  with_pair_sorted m PairSp q h p = with_sp_sorted m q h p
+
   pub with_wide_sorted : (m : Machine) (r : Wide) (q : Term) → IsSorted m → IsMadeAs is_word q → IsSorted (with_wide m r q)
-  with_wide_sorted m Ax q h p = with_halves_sorted m Ah A q h p
-  with_wide_sorted m Bc q h p = with_halves_sorted m B C q h p
-  with_wide_sorted m De q h p = with_halves_sorted m D E q h p
-  with_wide_sorted m Hl q h p = with_halves_sorted m H L q h p
-  with_wide_sorted m Sp q h p = with_sp_sorted m q h p
-  with_wide_sorted m Si q h p = with_si_sorted m q h p
+  with_wide_sorted m (Wide80 pair) q h p = with_pair_sorted m pair q h p
+  with_wide_sorted m (Wide86 Ax) q h p = with_halves_sorted m (Byte86 Ah) (Byte80 RegA) q h p
+  with_wide_sorted m (Wide86 Cx) q h p = with_pair_sorted m PairB q h p
+  with_wide_sorted m (Wide86 Dx) q h p = with_pair_sorted m PairD q h p
+  with_wide_sorted m (Wide86 Bx) q h p = with_pair_sorted m PairH q h p
+  with_wide_sorted m (Wide86 Sp) q h p = with_sp_sorted m q h p
+  with_wide_sorted m (Wide86 Si) q h p = with_si_sorted m q h p

@@ -2,8 +2,8 @@
 use Rattle.std.specs.Prelude.{◌≡◌, ℕ, ◌≤◌, Bool, Option, IsSome, MatchOption}
 use Rattle.std.specs.Vec.{vec_capacity}
 use Rattle.xlt_pool.specs.Contents.{Contents}
-use Rattle.sym_terms.specs.Trees.{tree_in, IsGiven, AreTerms, Grows}
-use Rattle.sym_blocks.specs.Outcome.{Way, Goto, ByTerms, Call, Sys, SysReturn, Boot, Leave, In, Out, Exit, One, Two, Outcome}
+use Rattle.sym_terms.specs.Trees.{tree_in, IsGiven, AreTerms, PoolGrows}
+use Rattle.sym_block_def.specs.Outcome.{Way, Goto, ByTerms, Call, Sys, SysReturn, Boot, Leave, In, Out, Exit, One, Two, Outcome}
 use Rattle.sym_micro.specs.declared.outcome.Way.{Way as WayIds}
 use Rattle.sym_micro.specs.declared.outcome.Way.TheVariants.{Goto as GotoIds, ByTerms as ByTermsIds, Call as CallIds, Sys as SysIds, SysReturn as SysReturnIds, Boot as BootIds, Leave as LeaveIds, In as InIds, Out as OutIds}
 use Rattle.sym_micro.specs.declared.outcome.Exit.{Exit as ExitIds}
@@ -46,13 +46,13 @@ pub record ExitIs (pool : Contents) (tree : Exit) (exit : ExitIds) : Type 0 wher
 -- A way is found, for which so many nodes join at most; there is none only where there is no room for a node more, and with so much room
 -- there is one.
 pub record FindsWay (old new : Contents) (nodes : ℕ) (tree : Way) (found : Option WayIds) : Type 0 where
-  pub grows : Grows old new nodes
+  pub grows : PoolGrows old new nodes
   pub terms : AreTerms new
   pub gives : MatchOption found (new.spare ≡ 0) (WayIs new tree)
   pub enough : nodes ≤ old.spare → IsSome found
 
 pub record FindsExit (old new : Contents) (nodes : ℕ) (tree : Exit) (found : Option ExitIds) : Type 0 where
-  pub grows : Grows old new nodes
+  pub grows : PoolGrows old new nodes
   pub terms : AreTerms new
   pub gives : MatchOption found (new.spare ≡ 0) (ExitIs new tree)
   pub enough : nodes ≤ old.spare → IsSome found
@@ -71,7 +71,7 @@ pub record OutcomeIs (pool : Contents) (r : Run) (end : ExitIds) (asks : Bool) (
 -- A run to its end: so many nodes join at most, and with its exit it stands for an outcome. There is no answer only where there is no
 -- room for a node more; with so much room there is one.
 pub record RunsTo (old new : Contents) (r : Run) (nodes : ℕ) (direct : Bool) (x : Outcome) (exit : Option ExitIds) : Type 0 where
-  pub grows : Grows old new nodes
+  pub grows : PoolGrows old new nodes
   pub terms : AreTerms new
   pub capacity : vec_capacity r.actions ≡ 512
   pub gives : MatchOption exit (new.spare ≡ 0) (λ e. OutcomeIs new r e direct x)

@@ -5,25 +5,27 @@ use Rattle.cells.specs.declared.Part.TheVariants.{S as PartS, Z as PartZ, Ac as 
 use Rattle.i80.specs.declared.Op.TheVariants.{Xra}
 use Rattle.sym_terms.specs.Term.{Term, Num, Start, StartSp, Loaded8, Loaded16, Turned, Code, Unknown}
 use Rattle.sym_terms.specs.Making.{alu, flag, sum16, half_of, high, low, join, bit, turn, adjust}
-use Rattle.sym_blocks.specs.Outcome.{Action, Load8, Load16, Store8, Store16, Held, Trace, no_actions, loading, storing}
-use Rattle.sym_blocks.specs.Block80.{Symbolic80, operation, carry_in, flag_byte}
-use Rattle.sym_blocks.specs.Symbolic86.{Symbolic86, turn_kind, turn_carry, brought_back}
+use Rattle.sym_block_def.specs.Outcome.{Action, Load8, Load16, Store8, Store16, Held, Trace, no_actions, loading, storing}
+use Rattle.sym_block_def.specs.Block80.{Symbolic80, reg_term, with_reg, pair_term, with_pair, operation, carry_in, a_after, flag_byte}
+use Rattle.sym_block_def.specs.Symbolic86.{Symbolic86, reg8_term, with_reg8, reg16_term, with_reg16, pointed, turn_kind, turn_carry, brought_back}
 use Rattle.sym_micro.specs.declared.micro.ByteSlot.{ByteSlot}
-use Rattle.sym_micro.specs.declared.micro.ByteSlot.TheVariants.{A, B, C, D, E, H, L, Ah, T, U}
+use Rattle.sym_micro.specs.declared.micro.ByteSlot.TheVariants.{Of80 as Byte80, Of86 as Byte86, T, U}
 use Rattle.sym_micro.specs.declared.micro.FlagSlot.{FlagSlot}
 use Rattle.sym_micro.specs.declared.micro.FlagSlot.TheVariants.{S, Z, Ac, P, Cy}
 use Rattle.sym_micro.specs.declared.micro.WordSlot.{WordSlot}
 use Rattle.sym_micro.specs.declared.micro.WordSlot.TheVariants.{V, W, X}
 use Rattle.sym_micro.specs.declared.micro.Wide.{Wide}
-use Rattle.sym_micro.specs.declared.micro.Wide.TheVariants.{Ax, Bc, De, Hl, Sp, Si}
+use Rattle.sym_micro.specs.declared.micro.Wide.TheVariants.{Of80 as Wide80, Of86 as Wide86}
+use Rattle.sym_micro.specs.declared.micro.FlagSet.{FlagSet}
+use Rattle.sym_micro.specs.declared.micro.FlagSet.TheVariants.{All, AllButCy}
 use Rattle.sym_micro.specs.declared.micro.ByteValue.{ByteValue}
-use Rattle.sym_micro.specs.declared.micro.ByteValue.TheVariants.{Of as OfByte, Number as NumberByte, Start as StartByte, Code as CodeByte, Half, Result, Turned as TurnedByte, Loaded as LoadedByte}
+use Rattle.sym_micro.specs.declared.micro.ByteValue.TheVariants.{Of as OfByte, Number as NumberByte, Start as StartByte, Code as CodeByte, Half, Result, After, Turned as TurnedByte, Loaded as LoadedByte}
 use Rattle.sym_micro.specs.declared.micro.WordValue.{WordValue}
-use Rattle.sym_micro.specs.declared.micro.WordValue.TheVariants.{Of as OfWide, Number as NumberWord, Join as JoinWord, StartSp as StartSpWord, Turned as TurnedWord, Loaded as LoadedWord, Unknown as UnknownWord}
+use Rattle.sym_micro.specs.declared.micro.WordValue.TheVariants.{Of as OfWide, Pointed, Number as NumberWord, Join as JoinWord, StartSp as StartSpWord, Turned as TurnedWord, Loaded as LoadedWord, Unknown as UnknownWord}
 use Rattle.sym_micro.specs.declared.micro.FlagValue.{FlagValue}
 use Rattle.sym_micro.specs.declared.micro.FlagValue.TheVariants.{Number as NumberFlag, Start as StartFlag, OfResult, OfTurned, InByte, BroughtBack, Unknown as UnknownFlag}
 use Rattle.sym_micro.specs.declared.micro.Micro.{Micro}
-use Rattle.sym_micro.specs.declared.micro.Micro.TheVariants.{Byte, Word, Flag as FlagMicro, Put, Sum, FlagByte as FlagByteMicro, Complement, Operate, Adjust, Turn, Load8 as LoadByte, Load16 as LoadWord, Store8 as StoreByte, Store16 as StoreWord}
+use Rattle.sym_micro.specs.declared.micro.Micro.TheVariants.{Byte, Word, Flag as FlagMicro, Flags as FlagsMicro, Put, Sum, FlagByte as FlagByteMicro, Complement, Operate, Adjust, Turn, Load8 as LoadByte, Load16 as LoadWord, Store8 as StoreByte, Store16 as StoreWord}
 
 -- the terms of the registers: those of the processors, and those that instructions use on the way
 pub record Machine : Type 0 where
@@ -47,6 +49,13 @@ as80 m = record { held = m.held; sp = m.sp; trace = m.trace }
 abbrev pub as86 : Machine → Symbolic86
 as86 m = record { held = m.held; ah = m.ah; si = m.si; sp = m.sp; trace = m.trace }
 
+-- a machine of which a processor sees this, and that is as it was beside it
+abbrev pub with80 : Machine → Symbolic80 → Machine
+with80 m s = record m { held = s.held; sp = s.sp; trace = s.trace }
+
+abbrev pub with86 : Machine → Symbolic86 → Machine
+with86 m s = record m { held = s.held; ah = s.ah; si = s.si; sp = s.sp; trace = s.trace }
+
 -- a machine of which nothing is known, before any load or store
 abbrev pub nothing_known : Machine
 nothing_known = record {
@@ -67,26 +76,14 @@ nothing_known = record {
 -- registers
 
 abbrev pub byte_in : Machine → ByteSlot → Term
-byte_in m A = m.held.a
-byte_in m B = m.held.b
-byte_in m C = m.held.c
-byte_in m D = m.held.d
-byte_in m E = m.held.e
-byte_in m H = m.held.h
-byte_in m L = m.held.l
-byte_in m Ah = m.ah
+byte_in m (Byte80 r) = reg_term m.held r
+byte_in m (Byte86 r) = reg8_term (as86 m) r
 byte_in m T = m.t
 byte_in m U = m.u
 
 abbrev pub with_byte : Machine → ByteSlot → Term → Machine
-with_byte m A q = record m { held = record (m.held) { a = q } }
-with_byte m B q = record m { held = record (m.held) { b = q } }
-with_byte m C q = record m { held = record (m.held) { c = q } }
-with_byte m D q = record m { held = record (m.held) { d = q } }
-with_byte m E q = record m { held = record (m.held) { e = q } }
-with_byte m H q = record m { held = record (m.held) { h = q } }
-with_byte m L q = record m { held = record (m.held) { l = q } }
-with_byte m Ah q = record m { ah = q }
+with_byte m (Byte80 r) q = record m { held = with_reg m.held r q }
+with_byte m (Byte86 r) q = with86 m (with_reg8 (as86 m) r q)
 with_byte m T q = record m { t = q }
 with_byte m U q = record m { u = q }
 
@@ -115,23 +112,15 @@ part_of_flag P = PartP
 part_of_flag Cy = PartCy
 
 abbrev pub wide_in : Machine → Wide → Term
-wide_in m Ax = join m.ah m.held.a
-wide_in m Bc = join m.held.b m.held.c
-wide_in m De = join m.held.d m.held.e
-wide_in m Hl = join m.held.h m.held.l
-wide_in m Sp = m.sp
-wide_in m Si = m.si
+wide_in m (Wide80 pair) = pair_term (as80 m) pair
+wide_in m (Wide86 r) = reg16_term (as86 m) r
 
 abbrev pub with_halves : Machine → ByteSlot → ByteSlot → Term → Machine
 with_halves m h l q = with_byte (with_byte m h (high q)) l (low q)
 
 abbrev pub with_wide : Machine → Wide → Term → Machine
-with_wide m Ax q = with_halves m Ah A q
-with_wide m Bc q = with_halves m B C q
-with_wide m De q = with_halves m D E q
-with_wide m Hl q = with_halves m H L q
-with_wide m Sp q = record m { sp = q }
-with_wide m Si q = record m { si = q }
+with_wide m (Wide80 pair) q = with80 m (with_pair (as80 m) pair q)
+with_wide m (Wide86 r) q = with86 m (with_reg16 (as86 m) r q)
 
 -- values
 
@@ -142,11 +131,13 @@ byte_value m (StartByte known part) = cond known (Start part) Unknown
 byte_value m (CodeByte place is_high) = Code place is_high
 byte_value m (Half w is_high) = half_of is_high (word_in m w)
 byte_value m Result = m.result
+byte_value m (After op) = a_after op m.held.a m.result
 byte_value m TurnedByte = m.turned
 byte_value m LoadedByte = Loaded8 m.trace.loads
 
 abbrev pub word_value : Machine → WordValue → Term
 word_value m (OfWide r) = wide_in m r
+word_value m (Pointed p) = pointed (as86 m) p
 word_value m (NumberWord n) = Num n
 word_value m (JoinWord h l) = join (byte_in m h) (byte_in m l)
 word_value m StartSpWord = StartSp
@@ -163,6 +154,17 @@ flag_value m f (InByte r) = bit (byte_in m r) (part_of_flag f)
 flag_value m f (BroughtBack w) = brought_back (word_in m w)
 flag_value m f UnknownFlag = Unknown
 
+abbrev pub given_flag : Machine → FlagSlot → FlagValue → Machine
+given_flag m f value = with_flag m f (flag_value m f value)
+
+-- all but CY
+abbrev pub given_four : Machine → FlagValue → Machine
+given_four m value = given_flag (given_flag (given_flag (given_flag m S value) Z value) Ac value) P value
+
+abbrev pub given_flags : Machine → FlagSet → FlagValue → Machine
+given_flags m AllButCy value = given_four m value
+given_flags m All value = given_flag (given_four m value) Cy value
+
 -- loads and stores
 
 abbrev pub loads_at : Machine → Action → Machine
@@ -175,7 +177,8 @@ stores_at m action = record m { trace = storing action m.trace }
 abbrev pub micro : Machine → Micro → Machine
 micro m (Byte r value) = with_byte m r (byte_value m value)
 micro m (Word w value) = with_word m w (word_value m value)
-micro m (FlagMicro f value) = with_flag m f (flag_value m f value)
+micro m (FlagMicro f value) = given_flag m f value
+micro m (FlagsMicro fs value) = given_flags m fs value
 micro m (Put r w) = with_wide m r (word_in m w)
 micro m (Sum to a b) = with_word m to (sum16 (word_in m a) (word_in m b))
 micro m (FlagByteMicro r) = with_byte m r (flag_byte m.held)
@@ -198,6 +201,8 @@ abbrev pub weight : Micro → ℕ
 weight (Byte r value) = 1
 weight (Word w value) = 1
 weight (FlagMicro f value) = 1
+weight (FlagsMicro All value) = 5
+weight (FlagsMicro AllButCy value) = 4
 weight (Put r w) = 2
 weight (Sum to a b) = 2
 weight (FlagByteMicro r) = 2

@@ -3,19 +3,25 @@ use Rattle.std.specs.Prelude.{◌≡◌, ℕ, ◌+◌, ◌≤◌, true, List, []
 use Rattle.std.specs.Vec.{vec_capacity}
 use Rattle.cells.specs.declared.Part.{Part}
 use Rattle.cells.specs.declared.Part.TheVariants.{A as PartA, B as PartB, C as PartC, D as PartD, E as PartE, H as PartH, L as PartL, S as PartS, Z as PartZ, Ac as PartAc, P as PartP, Cy as PartCy}
+use Rattle.i80.specs.declared.Reg.{Reg as Register}
+use Rattle.i80.specs.declared.Reg.TheVariants.{A as RegA, B as RegB, C as RegC, D as RegD, E as RegE, H as RegH, L as RegL}
+use Rattle.i80.specs.declared.Op.{Op}
+use Rattle.i80.specs.declared.Op.TheVariants.{Cmp}
+use Rattle.i86.specs.declared.Reg8.{Reg8}
+use Rattle.i86.specs.declared.Reg8.TheVariants.{Al, Cl, Dl, Bl, Ah, Ch, Dh, Bh}
 use Rattle.xlt_pool.specs.Contents.{Contents}
 use Rattle.sym_terms.specs.declared.head.Term.{Term as TermId}
 use Rattle.sym_terms.specs.Term.{Term, is_flag, is_byte, is_word, leaves_flag}
 use Rattle.sym_terms.specs.Laws.{IsMadeAs}
-use Rattle.sym_terms.specs.Trees.{tree_in, IsGiven, StandsFor, AreTerms, Grows}
-use Rattle.sym_blocks.specs.Outcome.{Action, Load8, Load16, Store8, Store16, Held}
-use Rattle.sym_blocks.specs.Sorts.{HeldIsSorted}
+use Rattle.sym_terms.specs.Trees.{tree_in, IsGiven, StandsFor, AreTerms, PoolGrows}
+use Rattle.sym_block_def.specs.Outcome.{Action, Load8, Load16, Store8, Store16, Held}
+use Rattle.sym_block_def.specs.Sorts.{HeldIsSorted}
 use Rattle.sym_micro.specs.declared.outcome.Action.{Action as ActionId}
 use Rattle.sym_micro.specs.declared.outcome.Action.TheVariants.{Load8 as Load8Id, Load16 as Load16Id, Store8 as Store8Id, Store16 as Store16Id}
 use Rattle.sym_micro.specs.declared.outcome.Held.{Held as HeldIds}
 use Rattle.sym_micro.specs.declared.run.Run.{Run}
 use Rattle.sym_micro.specs.declared.micro.ByteSlot.{ByteSlot}
-use Rattle.sym_micro.specs.declared.micro.ByteSlot.TheVariants.{A, B, C, D, E, H, L, Ah, T, U}
+use Rattle.sym_micro.specs.declared.micro.ByteSlot.TheVariants.{Of80 as Byte80, Of86 as Byte86, T, U}
 use Rattle.sym_micro.specs.declared.micro.FlagSlot.{FlagSlot}
 use Rattle.sym_micro.specs.declared.micro.FlagSlot.TheVariants.{S, Z, Ac, P, Cy}
 use Rattle.sym_micro.specs.declared.micro.WordSlot.{WordSlot}
@@ -38,34 +44,65 @@ id_of_part x PartAc = x.ac
 id_of_part x PartP = x.p
 id_of_part x PartCy = x.cy
 
+abbrev pub id_of_reg : HeldIds → Register → TermId
+id_of_reg x RegA = x.a
+id_of_reg x RegB = x.b
+id_of_reg x RegC = x.c
+id_of_reg x RegD = x.d
+id_of_reg x RegE = x.e
+id_of_reg x RegH = x.h
+id_of_reg x RegL = x.l
+
+abbrev pub id_of_reg8 : Run → Reg8 → TermId
+id_of_reg8 r Al = r.held.a
+id_of_reg8 r Cl = r.held.c
+id_of_reg8 r Dl = r.held.e
+id_of_reg8 r Bl = r.held.l
+id_of_reg8 r Ah = r.ah
+id_of_reg8 r Ch = r.held.b
+id_of_reg8 r Dh = r.held.d
+id_of_reg8 r Bh = r.held.h
+
 abbrev pub id_of_byte : Run → ByteSlot → TermId
-id_of_byte r A = r.held.a
-id_of_byte r B = r.held.b
-id_of_byte r C = r.held.c
-id_of_byte r D = r.held.d
-id_of_byte r E = r.held.e
-id_of_byte r H = r.held.h
-id_of_byte r L = r.held.l
-id_of_byte r Ah = r.ah
+id_of_byte r (Byte80 q) = id_of_reg r.held q
+id_of_byte r (Byte86 q) = id_of_reg8 r q
 id_of_byte r T = r.t
 id_of_byte r U = r.u
+
+-- what A holds after an operation
+abbrev pub id_after : Op → Run → TermId
+id_after Cmp r = r.held.a
+id_after op r = r.result
 
 abbrev pub id_of_word : Run → WordSlot → TermId
 id_of_word r V = r.v
 id_of_word r W = r.w
 id_of_word r X = r.x
 
+abbrev pub run_with_reg : Run → Register → TermId → Run
+run_with_reg r RegA q = record r { held = record (r.held) { a = q } }
+run_with_reg r RegB q = record r { held = record (r.held) { b = q } }
+run_with_reg r RegC q = record r { held = record (r.held) { c = q } }
+run_with_reg r RegD q = record r { held = record (r.held) { d = q } }
+run_with_reg r RegE q = record r { held = record (r.held) { e = q } }
+run_with_reg r RegH q = record r { held = record (r.held) { h = q } }
+run_with_reg r RegL q = record r { held = record (r.held) { l = q } }
+
+abbrev pub run_with_reg8 : Run → Reg8 → TermId → Run
+run_with_reg8 r Al q = record r { held = record (r.held) { a = q } }
+run_with_reg8 r Cl q = record r { held = record (r.held) { c = q } }
+run_with_reg8 r Dl q = record r { held = record (r.held) { e = q } }
+run_with_reg8 r Bl q = record r { held = record (r.held) { l = q } }
+run_with_reg8 r Ah q = record r { ah = q }
+run_with_reg8 r Ch q = record r { held = record (r.held) { b = q } }
+run_with_reg8 r Dh q = record r { held = record (r.held) { d = q } }
+run_with_reg8 r Bh q = record r { held = record (r.held) { h = q } }
+
 abbrev pub run_with_byte : Run → ByteSlot → TermId → Run
-run_with_byte r A q = record r { held = record (r.held) { a = q } }
-run_with_byte r B q = record r { held = record (r.held) { b = q } }
-run_with_byte r C q = record r { held = record (r.held) { c = q } }
-run_with_byte r D q = record r { held = record (r.held) { d = q } }
-run_with_byte r E q = record r { held = record (r.held) { e = q } }
-run_with_byte r H q = record r { held = record (r.held) { h = q } }
-run_with_byte r L q = record r { held = record (r.held) { l = q } }
-run_with_byte r Ah q = record r { ah = q }
-run_with_byte r T q = record r { t = q }
-run_with_byte r U q = record r { u = q }
+run_with_byte r (Byte80 q) t = run_with_reg r q t
+run_with_byte r (Byte86 q) t = run_with_reg8 r q t
+run_with_byte r T t = record r { t = t }
+run_with_byte r U t = record r { u = t }
 
 abbrev pub run_with_word : Run → WordSlot → TermId → Run
 run_with_word r V q = record r { v = q }
@@ -199,7 +236,7 @@ pub record IsReady (pool : Contents) (r : Run) : Type 0 where
 -- A run went on: so many nodes and actions joined at most, and afterwards the machine is such a one. There is no answer only where there
 -- is no room for a node more; with so much room there is one.
 pub record GoesOn (old new : Contents) (r s : Run) (nodes actions : ℕ) (P : Machine → Type 0) (made : Option (Unit {0})) : Type 0 where
-  pub grows : Grows old new nodes
+  pub grows : PoolGrows old new nodes
   pub ready : IsReady new s
   pub few : length s.actions.items ≤ length r.actions.items + actions
   pub gives : MatchOption made (new.spare ≡ 0) (λ _. P (machine_of new s))
@@ -208,7 +245,7 @@ pub record GoesOn (old new : Contents) (r s : Run) (nodes actions : ℕ) (P : Ma
 -- A term is given, for which so many nodes join at most; there is none only where there is no room for a node more, and with so much
 -- room there is one.
 pub record Gives (old new : Contents) (nodes : ℕ) (tree : Term) (made : Option TermId) : Type 0 where
-  pub grows : Grows old new nodes
+  pub grows : PoolGrows old new nodes
   pub gives : MatchOption made (new.spare ≡ 0) (λ t. StandsFor new t tree)
   pub enough : nodes ≤ old.spare → IsSome made
   pub terms : AreTerms new
@@ -222,7 +259,7 @@ pub record IsSuch (pool : Contents) (r : Run) (actions : ℕ) (P : Machine → T
 -- A run from its beginning on: so many nodes and actions joined at most, and it is such a one. There is no answer only where there is no
 -- room for a node more; with so much room there is one.
 pub record Runs (old new : Contents) (r : Run) (nodes actions : ℕ) (P : Machine → Type 0) (made : Option (Unit {0})) : Type 0 where
-  pub grows : Grows old new nodes
+  pub grows : PoolGrows old new nodes
   pub terms : AreTerms new
   pub capacity : vec_capacity r.actions ≡ 512
   pub gives : MatchOption made (new.spare ≡ 0) (λ _. IsSuch new r actions P)

@@ -1,20 +1,15 @@
 // Micro-operations.
 
 use cells::{Part, Place};
-use i80::Op;
-use i86::Rotate;
+use i80::{Op, Pair, Reg};
+use i86::{Ptr, Reg8, Reg16, Rotate};
 
-/// A register that holds a byte: those of the 8080, AH of the 8086, and two that instructions use on the way.
+/// A register that holds a byte: one of the 8080, one of the 8086, which has those of the 8080 where the register map puts them, or one
+/// of two that instructions use on the way.
 #[derive(Clone, Copy)]
 pub enum ByteSlot {
-    A,
-    B,
-    C,
-    D,
-    E,
-    H,
-    L,
-    Ah,
+    Of80(Reg),
+    Of86(Reg8),
     T,
     U,
 }
@@ -29,6 +24,14 @@ pub enum FlagSlot {
     Cy,
 }
 
+/// Flags that are given a value together.
+#[derive(Clone, Copy)]
+pub enum FlagSet {
+    All,
+    /// S, Z, AC and P.
+    AllButCy,
+}
+
 /// A register that holds a word, and that instructions use on the way.
 #[derive(Clone, Copy)]
 pub enum WordSlot {
@@ -40,13 +43,8 @@ pub enum WordSlot {
 /// A word of a processor: two byte registers, or SP or SI.
 #[derive(Clone, Copy)]
 pub enum Wide {
-    /// AH and A.
-    Ax,
-    Bc,
-    De,
-    Hl,
-    Sp,
-    Si,
+    Of80(Pair),
+    Of86(Reg16),
 }
 
 /// What a byte register may be given.
@@ -62,6 +60,8 @@ pub enum ByteValue {
     Half(WordSlot, bool),
     /// What the last operation gave.
     Result,
+    /// What A holds after an operation: what it gave, or, after CMP, what A held.
+    After(Op),
     /// What the last rotation gave.
     Turned,
     /// What the next load brings.
@@ -72,6 +72,8 @@ pub enum ByteValue {
 #[derive(Clone, Copy)]
 pub enum WordValue {
     Of(Wide),
+    /// The address in BX or SI.
+    Pointed(Ptr),
     Number(u16),
     /// A high and a low byte.
     Join(ByteSlot, ByteSlot),
@@ -108,6 +110,7 @@ pub enum Micro {
     Byte(ByteSlot, ByteValue),
     Word(WordSlot, WordValue),
     Flag(FlagSlot, FlagValue),
+    Flags(FlagSet, FlagValue),
     /// A word of a processor is given what a word register holds.
     Put(Wide, WordSlot),
     /// The first is given the sum of the other two.

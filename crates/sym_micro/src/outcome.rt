@@ -1,6 +1,7 @@
 // What a block does, over the ids of terms.
 
 use cells::{Part, Place};
+use i80::Reg;
 use sym_terms::Term;
 
 /// A load or a store, of a byte or a word, at an address.
@@ -63,7 +64,22 @@ pub struct Held {
 
 impl Held {
     ghost use Rattle.std.specs.Prelude.{◌≡◌};
-    ghost use Rattle.sym_micro.specs.Stands.{id_of_part};
+    ghost use Rattle.sym_micro.specs.Stands.{id_of_part, id_of_reg};
+
+    /// The term of a register.
+    pub fn register(&self, reg: Reg) -> Term
+        ensures { result ≡ id_of_reg self.now reg }
+    {
+        match reg {
+            Reg::A => self.a,
+            Reg::B => self.b,
+            Reg::C => self.c,
+            Reg::D => self.d,
+            Reg::E => self.e,
+            Reg::H => self.h,
+            Reg::L => self.l,
+        }
+    }
 
     /// The term of a part.
     pub fn part(&self, part: Part) -> Term

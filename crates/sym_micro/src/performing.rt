@@ -1,18 +1,20 @@
 // Micro-operations performed.
 
 ghost use Rattle.std.specs.Prelude.{◌≡◌, ◌+◌, ◌≤◌, ◌<◌, length};
-ghost use Rattle.sym_micro.specs.Machine.{micro, micros, weight, weights, moves, all_moves, with_byte, with_word, with_flag, with_halves, with_wide, byte_value, word_value, flag_value, word_in, loads_at, stores_at};
+ghost use Rattle.sym_micro.specs.Machine.{as80, as86, micro, micros, weight, weights, moves, all_moves, with_byte, with_word, with_halves, with_wide, byte_value, word_value, given_flag, given_flags, word_in, loads_at, stores_at};
 ghost use Rattle.sym_micro.specs.Stands.{tree_of_action, ActionIsGiven, machine_of, IsReady, GoesOn};
 
-use crate::micro::{ByteSlot, ByteValue, FlagSlot, FlagValue, Micro, Wide, WordSlot, WordValue};
+use crate::micro::{
+    ByteSlot, ByteValue, FlagSet, FlagSlot, FlagValue, Micro, Wide, WordSlot, WordValue,
+};
 use crate::outcome::Action;
 use crate::results::{
     adjusted_term, complement_term, flag_byte_term, operated_term, sum_term, turned_term,
 };
 use crate::run::Run;
 use crate::values::{byte_term, flag_term, word_term};
-use i80::Op;
-use i86::Rotate;
+use i80::{Op, Pair, Reg};
+use i86::{Reg8, Reg16, Rotate};
 use sym_terms::{Terms, made_terms_have_sorts};
 
 fn give_byte(terms: &mut Terms, run: &mut Run, slot: ByteSlot, value: ByteValue) -> Option<()>
@@ -37,12 +39,54 @@ fn give_word(terms: &mut Terms, run: &mut Run, slot: WordSlot, value: WordValue)
 
 fn give_flag(terms: &mut Terms, run: &mut Run, slot: FlagSlot, value: FlagValue) -> Option<()>
     requires { IsReady terms.old run.old }
-    ensures { GoesOn terms.old terms.new run.old run.new 1 0 (λ m. m ≡ with_flag (machine_of terms.old run.old) slot (flag_value (machine_of terms.old run.old) slot value)) result }
+    ensures { GoesOn terms.old terms.new run.old run.new 1 0 (λ m. m ≡ given_flag (machine_of terms.old run.old) slot value) result }
 {
     made_terms_have_sorts();
     let term = flag_term(terms, run, slot, value)?;
     run.set_flag(slot, term);
     Some(())
+}
+
+// Two flags are given a value, one after the other.
+fn give_two_flags(
+    terms: &mut Terms,
+    run: &mut Run,
+    first: FlagSlot,
+    second: FlagSlot,
+    value: FlagValue,
+) -> Option<()>
+    requires { IsReady terms.old run.old }
+    ensures { GoesOn terms.old terms.new run.old run.new 2 0 (λ m. m ≡ given_flag (given_flag (machine_of terms.old run.old) first value) second value) result }
+{
+    give_flag(terms, run, first, value)?;
+    give_flag(terms, run, second, value)
+}
+
+// All but CY.
+fn give_four_flags(terms: &mut Terms, run: &mut Run, value: FlagValue) -> Option<()>
+    requires { IsReady terms.old run.old }
+    ensures { GoesOn terms.old terms.new run.old run.new 4 0 (λ m. m ≡ given_flags (machine_of terms.old run.old) FlagSet.AllButCy value) result }
+{
+    give_two_flags(terms, run, FlagSlot::S, FlagSlot::Z, value)?;
+    give_two_flags(terms, run, FlagSlot::Ac, FlagSlot::P, value)
+}
+
+fn give_five_flags(terms: &mut Terms, run: &mut Run, value: FlagValue) -> Option<()>
+    requires { IsReady terms.old run.old }
+    ensures { GoesOn terms.old terms.new run.old run.new 5 0 (λ m. m ≡ given_flags (machine_of terms.old run.old) FlagSet.All value) result }
+{
+    give_four_flags(terms, run, value)?;
+    give_flag(terms, run, FlagSlot::Cy, value)
+}
+
+fn give_flags(terms: &mut Terms, run: &mut Run, flags: FlagSet, value: FlagValue) -> Option<()>
+    requires { IsReady terms.old run.old }
+    ensures { GoesOn terms.old terms.new run.old run.new (weight (Micro.Flags flags value)) 0 (λ m. m ≡ given_flags (machine_of terms.old run.old) flags value) result }
+{
+    match flags {
+        FlagSet::All => give_five_flags(terms, run, value),
+        FlagSet::AllButCy => give_four_flags(terms, run, value),
+    }
 }
 
 // Two bytes are given the halves of a word.
@@ -65,15 +109,61 @@ fn put(terms: &mut Terms, run: &mut Run, wide: Wide, from: WordSlot) -> Option<(
     ensures { GoesOn terms.old terms.new run.old run.new 2 0 (λ m. m ≡ with_wide (machine_of terms.old run.old) wide (word_in (machine_of terms.old run.old) from)) result }
 {
     match wide {
-        Wide::Ax => put_halves(terms, run, ByteSlot::Ah, ByteSlot::A, from),
-        Wide::Bc => put_halves(terms, run, ByteSlot::B, ByteSlot::C, from),
-        Wide::De => put_halves(terms, run, ByteSlot::D, ByteSlot::E, from),
-        Wide::Hl => put_halves(terms, run, ByteSlot::H, ByteSlot::L, from),
-        Wide::Sp => {
+        Wide::Of80(pair) => put_pair(terms, run, pair, from),
+        Wide::Of86(reg) => put_word(terms, run, reg, from),
+    }
+}
+
+fn put_pair(terms: &mut Terms, run: &mut Run, pair: Pair, from: WordSlot) -> Option<()>
+    requires { IsReady terms.old run.old }
+    ensures { GoesOn terms.old terms.new run.old run.new 2 0 (λ m. m ≡ with_wide (machine_of terms.old run.old) (Wide.Of80 pair) (word_in (machine_of terms.old run.old) from)) result }
+{
+    match pair {
+        Pair::B => put_halves(
+            terms,
+            run,
+            ByteSlot::Of80(Reg::B),
+            ByteSlot::Of80(Reg::C),
+            from,
+        ),
+        Pair::D => put_halves(
+            terms,
+            run,
+            ByteSlot::Of80(Reg::D),
+            ByteSlot::Of80(Reg::E),
+            from,
+        ),
+        Pair::H => put_halves(
+            terms,
+            run,
+            ByteSlot::Of80(Reg::H),
+            ByteSlot::Of80(Reg::L),
+            from,
+        ),
+        Pair::Sp => {
             run.sp = run.word(from);
             Some(())
         }
-        Wide::Si => {
+    }
+}
+
+fn put_word(terms: &mut Terms, run: &mut Run, reg: Reg16, from: WordSlot) -> Option<()>
+    requires { IsReady terms.old run.old }
+    ensures { GoesOn terms.old terms.new run.old run.new 2 0 (λ m. m ≡ with_wide (machine_of terms.old run.old) (Wide.Of86 reg) (word_in (machine_of terms.old run.old) from)) result }
+{
+    match reg {
+        Reg16::Ax => put_halves(
+            terms,
+            run,
+            ByteSlot::Of86(Reg8::Ah),
+            ByteSlot::Of86(Reg8::Al),
+            from,
+        ),
+        Reg16::Cx => put_pair(terms, run, Pair::B, from),
+        Reg16::Dx => put_pair(terms, run, Pair::D, from),
+        Reg16::Bx => put_pair(terms, run, Pair::H, from),
+        Reg16::Sp => put_pair(terms, run, Pair::Sp, from),
+        Reg16::Si => {
             run.si = run.word(from);
             Some(())
         }
@@ -178,6 +268,7 @@ fn perform_one(terms: &mut Terms, run: &mut Run, step: Micro) -> Option<()>
         Micro::Byte(slot, value) => give_byte(terms, run, slot, value),
         Micro::Word(slot, value) => give_word(terms, run, slot, value),
         Micro::Flag(slot, value) => give_flag(terms, run, slot, value),
+        Micro::Flags(flags, value) => give_flags(terms, run, flags, value),
         Micro::Put(wide, from) => put(terms, run, wide, from),
         Micro::Sum(slot, a, b) => give_sum(terms, run, slot, a, b),
         Micro::FlagByte(slot) => give_flag_byte(terms, run, slot),
@@ -205,7 +296,7 @@ fn perform_one(terms: &mut Terms, run: &mut Run, step: Micro) -> Option<()>
 }
 
 /// Micro-operations, one after the other. None only where the terms had no room for a node more.
-pub fn perform(terms: &mut Terms, run: &mut Run, steps: &[Micro]) -> Option<()>
+pub fn perform_each(terms: &mut Terms, run: &mut Run, steps: &[Micro]) -> Option<()>
     requires ready { IsReady terms.old run.old }
     requires room { length run.old.actions.items + all_moves steps.now ≤ 512 }
     ensures { GoesOn terms.old terms.new run.old run.new (weights steps.now) (all_moves steps.now) (λ m. m ≡ micros (machine_of terms.old run.old) steps.now) result }
@@ -214,4 +305,16 @@ pub fn perform(terms: &mut Terms, run: &mut Run, steps: &[Micro]) -> Option<()>
         perform_one(terms, run, *step)?;
     }
     Some(())
+}
+
+/// The micro-operations of an instruction, as either processor sees what they do. None only where the terms had no room for a node more.
+pub fn perform(terms: &mut Terms, run: &mut Run, steps: &[Micro]) -> Option<()>
+    requires ready { IsReady terms.old run.old }
+    requires room { length run.old.actions.items ≤ 510 }
+    requires light { weights steps.now ≤ 24 }
+    requires few { all_moves steps.now ≤ 2 }
+    ensures on_80 { GoesOn terms.old terms.new run.old run.new 24 2 (λ m. as80 m ≡ as80 (micros (machine_of terms.old run.old) steps.now)) result }
+    ensures on_86 { GoesOn terms.old terms.new run.old run.new 24 2 (λ m. as86 m ≡ as86 (micros (machine_of terms.old run.old) steps.now)) result }
+{
+    perform_each(terms, run, steps)
 }

@@ -5,8 +5,8 @@ ghost use Rattle.i80.specs.declared.Op.TheVariants.{Xra};
 ghost use Rattle.sym_terms.specs.Term.{Num};
 ghost use Rattle.sym_terms.specs.Making.{alu, sum16, adjust, turn};
 ghost use Rattle.sym_terms.specs.Trees.{tree_in};
-ghost use Rattle.sym_blocks.specs.Block80.{operation, carry_in, flag_byte};
-ghost use Rattle.sym_blocks.specs.Symbolic86.{turn_kind, turn_carry};
+ghost use Rattle.sym_block_def.specs.Block80.{operation, carry_in, flag_byte};
+ghost use Rattle.sym_block_def.specs.Symbolic86.{turn_kind, turn_carry};
 ghost use Rattle.sym_micro.specs.Machine.{byte_in, word_in};
 ghost use Rattle.sym_micro.specs.Stands.{machine_of, trees_of_held, IsReady, Gives};
 

@@ -5,15 +5,16 @@ ghost use Rattle.std.specs.Vec.{vec_capacity};
 ghost use Rattle.cells.specs.Parts.{has};
 ghost use Rattle.sym_terms.specs.Term.{Unknown};
 ghost use Rattle.sym_terms.specs.Trees.{StandsFor, AreTerms};
-ghost use Rattle.sym_blocks.specs.Symbolic86.{start86};
+ghost use Rattle.sym_block_def.specs.Symbolic86.{start86};
 ghost use Rattle.sym_micro.specs.Machine.{nothing_known, as86};
 ghost use Rattle.sym_micro.specs.Stands.{machine_of, IsReady, GoesOn, Runs};
 
 use crate::micro::{ByteSlot, ByteValue, FlagSlot, FlagValue, Micro, Wide, WordSlot, WordValue};
 use crate::outcome::Held;
-use crate::performing::perform;
+use crate::performing::perform_each;
 use crate::run::Run;
 use cells::{Keep, Part};
+use i80::{Pair, Reg};
 use sym_terms::{Term, Terms};
 
 // Nothing is known, and there are no actions.
@@ -70,32 +71,32 @@ fn start(terms: &mut Terms, run: &mut Run, keep: Keep) -> Option<()>
     requires machine { machine_of terms.old run.old ≡ nothing_known }
     ensures { GoesOn terms.old terms.new run.old run.new 15 0 (λ m. as86 m ≡ start86 keep) result }
 {
-    perform(
+    perform_each(
         terms,
         run,
         &[
-            start_byte(keep, ByteSlot::A, Part::A),
-            start_byte(keep, ByteSlot::B, Part::B),
-            start_byte(keep, ByteSlot::C, Part::C),
-            start_byte(keep, ByteSlot::D, Part::D),
-            start_byte(keep, ByteSlot::E, Part::E),
-            start_byte(keep, ByteSlot::H, Part::H),
-            start_byte(keep, ByteSlot::L, Part::L),
+            start_byte(keep, Reg::A, Part::A),
+            start_byte(keep, Reg::B, Part::B),
+            start_byte(keep, Reg::C, Part::C),
+            start_byte(keep, Reg::D, Part::D),
+            start_byte(keep, Reg::E, Part::E),
+            start_byte(keep, Reg::H, Part::H),
+            start_byte(keep, Reg::L, Part::L),
             start_flag(keep, FlagSlot::S, Part::S),
             start_flag(keep, FlagSlot::Z, Part::Z),
             start_flag(keep, FlagSlot::Ac, Part::Ac),
             start_flag(keep, FlagSlot::P, Part::P),
             start_flag(keep, FlagSlot::Cy, Part::Cy),
             Micro::Word(WordSlot::W, WordValue::StartSp),
-            Micro::Put(Wide::Sp, WordSlot::W),
+            Micro::Put(Wide::Of80(Pair::Sp), WordSlot::W),
         ],
     )
 }
 
-fn start_byte(keep: Keep, slot: ByteSlot, part: Part) -> Micro
-    ensures { result ≡ Micro.Byte slot (ByteValue.Start (has keep part) part) }
+fn start_byte(keep: Keep, reg: Reg, part: Part) -> Micro
+    ensures { result ≡ Micro.Byte (ByteSlot.Of80 reg) (ByteValue.Start (has keep part) part) }
 {
-    Micro::Byte(slot, ByteValue::Start(keep.has(part), part))
+    Micro::Byte(ByteSlot::Of80(reg), ByteValue::Start(keep.has(part), part))
 }
 
 fn start_flag(keep: Keep, slot: FlagSlot, part: Part) -> Micro

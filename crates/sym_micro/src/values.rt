@@ -4,16 +4,16 @@ ghost use Rattle.std.specs.Prelude.{◌≡◌, ◌<◌, cond, true};
 ghost use Rattle.cells.specs.declared.Part.TheVariants.{Cy};
 ghost use Rattle.sym_terms.specs.Term.{Num, Start, Unknown, is_flag};
 ghost use Rattle.sym_terms.specs.Trees.{tree_in, IsGiven, Makes};
-ghost use Rattle.sym_blocks.specs.Symbolic86.{turn_kind, turn_carry, brought_back};
-ghost use Rattle.sym_blocks.specs.Block80.{carry_in};
-ghost use Rattle.sym_micro.specs.Machine.{byte_value, word_value, flag_value, wide_in, part_of_flag, ByteIsCoded, WordIsCoded};
-ghost use Rattle.sym_micro.specs.Stands.{machine_of, IsReady};
+ghost use Rattle.sym_block_def.specs.Symbolic86.{pointed, turn_kind, turn_carry, brought_back};
+ghost use Rattle.sym_block_def.specs.Block80.{carry_in};
+ghost use Rattle.sym_micro.specs.Machine.{as86, byte_value, word_value, flag_value, wide_in, part_of_flag, ByteIsCoded, WordIsCoded};
+ghost use Rattle.sym_micro.specs.Stands.{id_after, machine_of, IsReady};
 
 use crate::micro::{ByteValue, FlagSlot, FlagValue, Wide, WordValue};
 use crate::run::Run;
 use cells::Part;
-use i80::Op;
-use i86::Rotate;
+use i80::{Op, Pair};
+use i86::{Ptr, Reg16, Rotate};
 use sym_terms::{Head, Term, Terms};
 
 /// The term of a value that a byte register may be given.
@@ -29,8 +29,19 @@ pub fn byte_term(terms: &mut Terms, run: &Run, value: ByteValue) -> Option<Term>
         ByteValue::Code(place, high) => terms.code(place, high),
         ByteValue::Half(slot, high) => terms.half(run.word(slot), high),
         ByteValue::Result => Some(run.result),
+        ByteValue::After(op) => Some(after(run, op)),
         ByteValue::Turned => Some(run.turned),
         ByteValue::Loaded => terms.loaded(run.loads, false),
+    }
+}
+
+// What A holds after an operation.
+fn after(run: &Run, op: Op) -> Term
+    ensures { result ≡ id_after op run.now }
+{
+    match op {
+        Op::Cmp => run.held.a,
+        _ => run.result,
     }
 }
 
@@ -56,6 +67,7 @@ pub fn word_term(terms: &mut Terms, run: &Run, value: WordValue) -> Option<Term>
 {
     match value {
         WordValue::Of(wide) => wide_term(terms, run, wide),
+        WordValue::Pointed(at) => pointed_term(terms, run, at),
         WordValue::Number(n) => word_number(terms, n),
         WordValue::Join(high, low) => terms.join(run.byte(high), run.byte(low)),
         WordValue::StartSp => terms.start_sp(),
@@ -71,12 +83,47 @@ fn wide_term(terms: &mut Terms, run: &Run, wide: Wide) -> Option<Term>
     ensures { Makes terms.old terms.new 1 (wide_in (machine_of terms.old run.now) wide) result }
 {
     match wide {
-        Wide::Ax => terms.join(run.ah, run.held.a),
-        Wide::Bc => terms.join(run.held.b, run.held.c),
-        Wide::De => terms.join(run.held.d, run.held.e),
-        Wide::Hl => terms.join(run.held.h, run.held.l),
-        Wide::Sp => Some(run.sp),
-        Wide::Si => Some(run.si),
+        Wide::Of80(pair) => pair_term(terms, run, pair),
+        Wide::Of86(reg) => word_86_term(terms, run, reg),
+    }
+}
+
+// The word of a pair of the 8080.
+fn pair_term(terms: &mut Terms, run: &Run, pair: Pair) -> Option<Term>
+    requires { IsReady terms.old run.now }
+    ensures { Makes terms.old terms.new 1 (wide_in (machine_of terms.old run.now) (Wide.Of80 pair)) result }
+{
+    match pair {
+        Pair::B => terms.join(run.held.b, run.held.c),
+        Pair::D => terms.join(run.held.d, run.held.e),
+        Pair::H => terms.join(run.held.h, run.held.l),
+        Pair::Sp => Some(run.sp),
+    }
+}
+
+// The word of a register of the 8086.
+fn word_86_term(terms: &mut Terms, run: &Run, reg: Reg16) -> Option<Term>
+    requires { IsReady terms.old run.now }
+    ensures { Makes terms.old terms.new 1 (wide_in (machine_of terms.old run.now) (Wide.Of86 reg)) result }
+{
+    match reg {
+        Reg16::Ax => terms.join(run.ah, run.held.a),
+        Reg16::Cx => terms.join(run.held.b, run.held.c),
+        Reg16::Dx => terms.join(run.held.d, run.held.e),
+        Reg16::Bx => terms.join(run.held.h, run.held.l),
+        Reg16::Sp => Some(run.sp),
+        Reg16::Si => Some(run.si),
+    }
+}
+
+// The address in BX or SI.
+fn pointed_term(terms: &mut Terms, run: &Run, at: Ptr) -> Option<Term>
+    requires { IsReady terms.old run.now }
+    ensures { Makes terms.old terms.new 1 (pointed (as86 (machine_of terms.old run.now)) at) result }
+{
+    match at {
+        Ptr::Bx => pair_term(terms, run, Pair::H),
+        Ptr::Si => Some(run.si),
     }
 }
 

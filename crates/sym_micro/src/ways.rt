@@ -2,7 +2,7 @@
 
 ghost use Rattle.sym_terms.specs.Term.{Loaded16};
 ghost use Rattle.sym_terms.specs.Making.{high, low};
-ghost use Rattle.sym_blocks.specs.Outcome.{ByTerms};
+ghost use Rattle.sym_block_def.specs.Outcome.{ByTerms};
 ghost use Rattle.sym_micro.specs.Stands.{IsReady};
 ghost use Rattle.sym_micro.specs.Exits.{FindsWay};
 

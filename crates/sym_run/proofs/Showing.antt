@@ -3,15 +3,15 @@ use Rattle.std.proofs.Common.{◌≡◌, ◌∙◌, ◌&&◌, ◌||◌, ◌==◌
 use Rattle.std.proofs.lemmas.Bool.{eq-eqb, or_from, or_parts}
 use Rattle.xlt_pool.specs.Contents.{Contents}
 use Rattle.sym_terms.specs.declared.head.Term.{Term as TermId}
-use Rattle.sym_terms.specs.Heads.{number_of}
+use Rattle.sym_terms.specs.Heads.{number_of_id}
 use Rattle.sym_terms.specs.Term.{Term, Num, Start, StartSp, Loaded8, Loaded16, Alu, Flag, Sum16, High, Low, Join, FlagByte, Bit, Turn, Turned, Adjust, Code, Unknown, is_bit, is_byte, is_open, same_term}
-use Rattle.sym_terms.specs.Making.{IsMade}
+use Rattle.sym_terms.specs.Making.{IsTermMade}
 use Rattle.sym_terms.specs.Laws.{MadeTermsHaveSorts}
 use Rattle.sym_terms.specs.Trees.{tree_in, IsGiven, AreTerms}
 use Rattle.sym_terms.proofs.Equal.{same_term-true, same_term_refl}
 use Rattle.sym_terms.proofs.Making.{same_ids}
-use Rattle.sym_blocks.specs.Agree.{has_unknown, agrees}
-use Rattle.sym_run.specs.Five.{is_flag_byte, is_plain}
+use Rattle.block_check_def.specs.Agree.{has_unknown, agrees}
+use Rattle.sym_run.specs.Five.{is_byte_of_flags, is_put_together}
 
 -- where nothing is open, nothing is unknown
 closed_knows : (t : Term) → is_open t ≡ false → has_unknown t ≡ false
@@ -42,7 +42,7 @@ closed_knows Unknown h = absurd (cc)
 
 module _ (k : MadeTermsHaveSorts) where
   -- of a plain term that is no FlagByte, only an Unknown itself is unknown
-  pub plain_unknown : (t : Term) → IsMade t → is_plain t ≡ true → is_flag_byte t ≡ false → has_unknown t ≡ same_term t Unknown
+  pub plain_unknown : (t : Term) → IsTermMade t → is_put_together t ≡ true → is_byte_of_flags t ≡ false → has_unknown t ≡ same_term t Unknown
   plain_unknown (Join a b) m p f = absurd (cc)
   plain_unknown (Turned c) m p f = absurd (cc)
   plain_unknown (FlagByte s z ac p cy) m q f = absurd (cc)
@@ -67,7 +67,7 @@ module _ (k : MadeTermsHaveSorts) where
   known_as x y false p q = sym (ap (λ b. b || false) q)
 
   -- such a term agrees with what it is, and an Unknown with everything
-  pub plain_agrees : (s t : Term) → IsMade s → is_plain s ≡ true → is_flag_byte s ≡ false → agrees s t ≡ (same_term s Unknown || same_term s t)
+  pub plain_agrees : (s t : Term) → IsTermMade s → is_put_together s ≡ true → is_byte_of_flags s ≡ false → agrees s t ≡ (same_term s Unknown || same_term s t)
   plain_agrees (Join a b) t m p f = absurd (cc)
   plain_agrees (Turned c) t m p f = absurd (cc)
   plain_agrees (FlagByte s z ac p cy) t m q f = absurd (cc)
@@ -89,23 +89,23 @@ module _ (k : MadeTermsHaveSorts) where
 
 -- bytes and bits are plain, and bits are no FlagBytes
 
-pub byte_plain : (t : Term) → is_byte t ≡ true → is_plain t ≡ true
+pub byte_plain : (t : Term) → is_byte t ≡ true → is_put_together t ≡ true
 byte_plain (Join h l) s = absurd (cc)
 byte_plain (Turned c) s = absurd (cc)
 byte_plain t s = refl
 
-pub bit_plain : (t : Term) → is_bit t ≡ true → is_plain t ≡ true
+pub bit_plain : (t : Term) → is_bit t ≡ true → is_put_together t ≡ true
 bit_plain (Join h l) s = absurd (cc)
 bit_plain (Turned c) s = absurd (cc)
 bit_plain t s = refl
 
-pub bit_no_flags : (t : Term) → is_bit t ≡ true → is_flag_byte t ≡ false
+pub bit_no_flags : (t : Term) → is_bit t ≡ true → is_byte_of_flags t ≡ false
 bit_no_flags (FlagByte s z ac p cy) h = absurd (cc)
 bit_no_flags t h = refl
 
 -- two ids are one where their terms are
 
-by_test : (pool : Contents) (s t : TermId) (x y : Bool) → AreTerms pool → IsGiven pool s → IsGiven pool t → (number_of s == number_of t) ≡ x → same_term (tree_in pool s) (tree_in pool t) ≡ y → x ≡ y
+by_test : (pool : Contents) (s t : TermId) (x y : Bool) → AreTerms pool → IsGiven pool s → IsGiven pool t → (number_of_id s == number_of_id t) ≡ x → same_term (tree_in pool s) (tree_in pool t) ≡ y → x ≡ y
 by_test pool s t true true terms p q e f = refl
 by_test pool s t false false terms p q e f = refl
 by_test pool s t true false terms p q e f =
@@ -114,8 +114,8 @@ by_test pool s t true false terms p q e f =
     absurd (cc)
 by_test pool s t false true terms p q e f =
     let one : s ≡ t = terms.shared s t p q (same_term-true (tree_in pool s) (tree_in pool t) f) in
-    let same : (number_of s == number_of t) ≡ true = ap (λ r. number_of s == number_of r) (sym one) ∙ eq-eqb (number_of s) (number_of s) refl in
+    let same : (number_of_id s == number_of_id t) ≡ true = ap (λ r. number_of_id s == number_of_id r) (sym one) ∙ eq-eqb (number_of_id s) (number_of_id s) refl in
     absurd (cc)
 
-pub same_is : (pool : Contents) (s t : TermId) → AreTerms pool → IsGiven pool s → IsGiven pool t → (number_of s == number_of t) ≡ same_term (tree_in pool s) (tree_in pool t)
-same_is pool s t terms p q = by_test pool s t (number_of s == number_of t) (same_term (tree_in pool s) (tree_in pool t)) terms p q refl refl
+pub same_is : (pool : Contents) (s t : TermId) → AreTerms pool → IsGiven pool s → IsGiven pool t → (number_of_id s == number_of_id t) ≡ same_term (tree_in pool s) (tree_in pool t)
+same_is pool s t terms p q = by_test pool s t (number_of_id s == number_of_id t) (same_term (tree_in pool s) (tree_in pool t)) terms p q refl refl

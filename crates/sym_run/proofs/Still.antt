@@ -1,8 +1,8 @@
 -- An outcome that stands for one stands for it still, where terms join.
 use Rattle.std.proofs.Common.{◌≡◌, ◌∙◌, ℕ, ◌+◌, length, ap, refl, arith, length-append}
 use Rattle.xlt_pool.specs.Contents.{Contents}
-use Rattle.sym_terms.specs.Trees.{Grows}
-use Rattle.sym_blocks.specs.Outcome.{Exit, One, Two, Outcome}
+use Rattle.sym_terms.specs.Trees.{PoolGrows}
+use Rattle.sym_block_def.specs.Outcome.{Exit, One, Two, Outcome}
 use Rattle.sym_micro.specs.declared.outcome.Held.{Held as HeldIds}
 use Rattle.sym_micro.specs.declared.outcome.Way.{Way as WayIds}
 use Rattle.sym_micro.specs.declared.outcome.Exit.{Exit as ExitIds}
@@ -13,7 +13,7 @@ use Rattle.sym_micro.proofs.Ready.{actions_given, same_actions}
 use Rattle.sym_micro.proofs.Found.{way_still}
 use Rattle.sym_run.specs.Outcomes.{OutcomeIds, OutcomeStands}
 
-module _ (old new : Contents) (n : ℕ) (g : Grows old new n) where
+module _ (old new : Contents) (n : ℕ) (g : PoolGrows old new n) where
   held_still : (x : HeldIds) → HeldIsGiven old x → HeldIsGiven new x
   held_still x h = record {
     a = (g.kept x.a h.a).0;
@@ -72,7 +72,7 @@ module _ (old new : Contents) (n : ℕ) (g : Grows old new n) where
       }
 
 -- a pool keeps its room: what nodes it has with those that can still join
-pub whole_still : (old new : Contents) (n : ℕ) → Grows old new n → old.spare + length old.nodes ≡ 8192 → new.spare + length new.nodes ≡ 8192
+pub whole_still : (old new : Contents) (n : ℕ) → PoolGrows old new n → old.spare + length old.nodes ≡ 8192 → new.spare + length new.nodes ≡ 8192
 whole_still old new n g whole =
     let nodes : length new.nodes ≡ length old.nodes + length g.added = ap length g.nodes ∙ length-append old.nodes g.added in
     let spare : new.spare + length g.added ≡ old.spare = g.spare in

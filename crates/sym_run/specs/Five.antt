@@ -9,14 +9,14 @@ use Rattle.sym_terms.specs.Trees.{tree_in, IsA}
 use Rattle.sym_run.specs.declared.known.Five.{Five}
 
 -- what is put together of bytes and flags otherwise than by an operation
-abbrev pub is_flag_byte : Term → Bool
-is_flag_byte (FlagByte s z ac p cy) = true
-is_flag_byte t = false
+abbrev pub is_byte_of_flags : Term → Bool
+is_byte_of_flags (FlagByte s z ac p cy) = true
+is_byte_of_flags t = false
 
-abbrev pub is_plain : Term → Bool
-is_plain (Join h l) = false
-is_plain (Turned c) = false
-is_plain t = true
+abbrev pub is_put_together : Term → Bool
+is_put_together (Join h l) = false
+is_put_together (Turned c) = false
+is_put_together t = true
 
 pub record FiveAre (pool : Contents) (tree : Term) (f : Five) : Type 0 where
   pub s : IsA is_bit pool f.s
@@ -26,12 +26,12 @@ pub record FiveAre (pool : Contents) (tree : Term) (f : Five) : Type 0 where
   pub cy : IsA is_bit pool f.cy
   pub is : tree ≡ FlagByte (tree_in pool f.s) (tree_in pool f.z) (tree_in pool f.ac) (tree_in pool f.p) (tree_in pool f.cy)
 
-abbrev pub one_of : Five → Part → TermId
-one_of f S = f.s
-one_of f Z = f.z
-one_of f Ac = f.ac
-one_of f P = f.p
-one_of f part = f.cy
+abbrev pub id_of_five : Five → Part → TermId
+id_of_five f S = f.s
+id_of_five f Z = f.z
+id_of_five f Ac = f.ac
+id_of_five f P = f.p
+id_of_five f part = f.cy
 
 -- a word of two bytes, and one that was rotated
 pub record IsJoin (pool : Contents) (s h l : TermId) : Type 0 where
@@ -39,6 +39,6 @@ pub record IsJoin (pool : Contents) (s h l : TermId) : Type 0 where
   pub low : IsA is_byte pool l
   pub is : tree_in pool s ≡ Join (tree_in pool h) (tree_in pool l)
 
-pub record IsTurned (pool : Contents) (s c : TermId) : Type 0 where
+pub record IsTurnedId (pool : Contents) (s c : TermId) : Type 0 where
   pub carry : IsA is_bit pool c
   pub is : tree_in pool s ≡ Turned (tree_in pool c)

@@ -4,8 +4,8 @@ use Rattle.cells.specs.Parts.{Parts}
 use Rattle.xlt_pool.specs.Contents.{Contents}
 use Rattle.sym_terms.specs.declared.head.Term.{Term as TermId}
 use Rattle.sym_terms.specs.Trees.{tree_in, IsGiven}
-use Rattle.sym_blocks.specs.declared.reason.Reason.{Reason}
-use Rattle.sym_blocks.specs.Outcome.{Outcome}
+use Rattle.sym_block_def.specs.declared.reason.Reason.{Reason}
+use Rattle.sym_block_def.specs.Outcome.{Outcome}
 use Rattle.sym_micro.specs.declared.outcome.Action.{Action as ActionId}
 use Rattle.sym_micro.specs.declared.outcome.Held.{Held as HeldIds}
 use Rattle.sym_micro.specs.declared.outcome.Exit.{Exit as ExitIds}
@@ -32,10 +32,10 @@ pub record OutcomeStands (pool : Contents) (ids : OutcomeIds) (x : Outcome) : Ty
   pub direct : ids.direct ≡ x.direct
 
 -- a walk through a text comes to an outcome, or to the same reason
-abbrev pub Comes : Contents → OutcomeIds → Result Outcome Reason → Result (Unit {0}) Reason → Type 0
-Comes pool ids (Ok x) (Ok u) = OutcomeStands pool ids x
-Comes pool ids (Err r) (Err q) = q ≡ r
-Comes pool ids tree came = ⊥
+abbrev pub WalkComesTo : Contents → OutcomeIds → Result Outcome Reason → Result (Unit {0}) Reason → Type 0
+WalkComesTo pool ids (Ok x) (Ok u) = OutcomeStands pool ids x
+WalkComesTo pool ids (Err r) (Err q) = q ≡ r
+WalkComesTo pool ids tree came = ⊥
 
 pub record WorkState : Type 0 where
   pub terms : Contents

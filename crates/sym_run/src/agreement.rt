@@ -6,9 +6,9 @@ ghost use Rattle.sym_terms.specs.Numbers.{part_number};
 ghost use Rattle.sym_terms.specs.Term.{Bit, same_term, is_bit, is_byte, is_flag};
 ghost use Rattle.sym_terms.specs.Making.{bit};
 ghost use Rattle.sym_terms.specs.Trees.{tree_in, IsGiven, IsA};
-ghost use Rattle.sym_blocks.specs.Agree.{agrees};
+ghost use Rattle.block_check_def.specs.Agree.{agrees};
 ghost use Rattle.sym_run.specs.Seen.{tree_of_seen, SeenIsGiven};
-ghost use Rattle.sym_run.specs.Five.{is_plain, one_of, FiveAre, IsJoin, IsTurned};
+ghost use Rattle.sym_run.specs.Five.{is_put_together, id_of_five, FiveAre, IsJoin, IsTurnedId};
 
 use crate::known::{Five, flags_of, knows_bit, knows_byte, knows_five};
 use crate::seen::{Seen, half_of, is, is_unknown, same};
@@ -44,7 +44,7 @@ fn agree_join(terms: &Terms, s: Term, high: Term, low: Term, t: Term) -> bool
 fn agree_turned(terms: &Terms, s: Term, carry: Term, t: Term) -> bool
     requires s { IsGiven terms.now s }
     requires t { IsGiven terms.now t }
-    requires turned { IsTurned terms.now s carry }
+    requires turned { IsTurnedId terms.now s carry }
     ensures { result ≡ agrees (tree_in terms.now s) (tree_in terms.now t) }
 {
     let knows = knows_bit(terms, carry);
@@ -64,7 +64,7 @@ fn agree_byte(terms: &Terms, byte: Term, seen: Seen) -> bool
 fn agree_plain(terms: &Terms, s: Term, seen: Seen) -> bool
     requires s { IsGiven terms.now s }
     requires seen { SeenIsGiven terms.now seen }
-    requires plain { is_plain (tree_in terms.now s) ≡ true }
+    requires plain { is_put_together (tree_in terms.now s) ≡ true }
     ensures { result ≡ agrees (tree_in terms.now s) (tree_of_seen terms.now seen) }
 {
     made_terms_have_sorts();
@@ -146,7 +146,7 @@ fn is_bit_of(terms: &Terms, flag: Term, part: Part, byte: Term) -> bool
 
 // One of the five flags.
 fn flag_of(five: Five, part: Part) -> Term
-    ensures { result ≡ one_of five part }
+    ensures { result ≡ id_of_five five part }
 {
     match part {
         Part::S => five.s,

@@ -4,8 +4,8 @@
 ghost use Rattle.std.specs.Prelude.{◌≡◌, not, false, MatchOption};
 ghost use Rattle.sym_terms.specs.Term.{is_bit, is_byte};
 ghost use Rattle.sym_terms.specs.Trees.{tree_in, IsGiven, IsA};
-ghost use Rattle.sym_blocks.specs.Agree.{has_unknown};
-ghost use Rattle.sym_run.specs.Five.{is_flag_byte, FiveAre};
+ghost use Rattle.block_check_def.specs.Agree.{has_unknown};
+ghost use Rattle.sym_run.specs.Five.{is_byte_of_flags, FiveAre};
 
 use crate::seen::is_unknown;
 use sym_terms::{Head, Term, Terms, made_terms_have_sorts};
@@ -23,7 +23,7 @@ pub struct Five {
 /// The flags of a term that is a FlagByte.
 pub fn flags_of(terms: &Terms, term: Term) -> Option<Five>
     requires { IsGiven terms.now term }
-    ensures { MatchOption result (is_flag_byte (tree_in terms.now term) ≡ false) (FiveAre terms.now (tree_in terms.now term)) }
+    ensures { MatchOption result (is_byte_of_flags (tree_in terms.now term) ≡ false) (FiveAre terms.now (tree_in terms.now term)) }
 {
     match terms.head(term) {
         Head::FlagByte(s, z, ac, p, cy) => Some(Five { s, z, ac, p, cy }),

@@ -3,24 +3,24 @@
 ghost use Rattle.std.specs.Prelude.{◌≡◌, ◌+◌, ◌*◌, ◌≤◌, ℕ, [], Some, IfOk, IsSome, MatchOption, ◌↔◌};
 ghost use Rattle.cells.specs.Parts.{everything};
 ghost use Rattle.sym_terms.specs.Term.{Num};
-ghost use Rattle.sym_terms.specs.Trees.{tree_in, IsGiven, Grows};
-ghost use Rattle.sym_blocks.specs.Outcome.{Outcome as OutcomeTree};
-ghost use Rattle.sym_blocks.specs.Block80.{IsBlock, block80};
-ghost use Rattle.sym_blocks.specs.Walk86.{walk86};
-ghost use Rattle.sym_blocks.specs.Agree.{agrees};
+ghost use Rattle.sym_terms.specs.Trees.{tree_in, IsGiven, PoolGrows};
+ghost use Rattle.sym_block_def.specs.Outcome.{Outcome as OutcomeTree};
+ghost use Rattle.sym_block_def.specs.Block80.{MayRun, block80};
+ghost use Rattle.sym_block_def.specs.Walk86.{walk86};
+ghost use Rattle.block_check_def.specs.Agree.{agrees};
 ghost use Rattle.sym_micro.specs.Stands.{id_of_part};
-ghost use Rattle.sym_run.specs.Outcomes.{OutcomeStands, Comes};
+ghost use Rattle.sym_run.specs.Outcomes.{OutcomeStands, WalkComesTo};
 
 use crate::agreement::agree;
-use asm80_program::Program80;
+use crate::{Index86, run_text};
+use asm80_program_types::Program80;
 use cells::{Keep, Part};
 use std::alloc::{AllocError, Global};
 use std::marker::Model;
-use sym_blocks::Reason;
+use sym_block_def::Reason;
 use sym_micro::{Action, Exit, Held, Run, Way};
-use sym_run80::run_block;
+use sym_step80::run_block;
 use sym_terms::{Head, Term, Terms};
-use sym_walk::{Index86, run_text};
 use xlt_pool::Mark;
 
 /// How many nodes there may be: enough for one block on both sides.
@@ -149,8 +149,8 @@ impl Work {
     /// What a block of so many 8080 instructions does becomes the first outcome. None only where there was no room for a node more, as
     /// never after `new` or `reset`.
     pub fn run80(&mut self, program: &Program80, leader: u16, count: u32) -> Option<()>
-        requires { IsBlock program.now leader count }
-        ensures grows { Grows self.old.terms self.new.terms (24 * count + 32) }
+        requires { MayRun program.now leader count }
+        ensures grows { PoolGrows self.old.terms self.new.terms (24 * count + 32) }
         ensures stands { MatchOption result (self.new.terms.spare ≡ 0) (λ _. OutcomeStands self.new.terms self.new.first (block80 program.now leader count)) }
         ensures room { 24 * count + 32 ≤ self.old.terms.spare → IsSome result }
         ensures second { self.new.second ≡ self.old.second }
@@ -175,9 +175,9 @@ impl Work {
         leader: u16,
         count: u32,
     ) -> Option<Result<(), Reason>>
-        requires { IsBlock program.now leader count }
-        ensures grows { Grows self.old.terms self.new.terms (240 * count + 32) }
-        ensures stands { MatchOption result (self.new.terms.spare ≡ 0) (λ came. Comes self.new.terms self.new.second (walk86 program.now text.now self.old.keep leader count) came) }
+        requires { MayRun program.now leader count }
+        ensures grows { PoolGrows self.old.terms self.new.terms (240 * count + 32) }
+        ensures stands { MatchOption result (self.new.terms.spare ≡ 0) (λ came. WalkComesTo self.new.terms self.new.second (walk86 program.now text.now self.old.keep leader count) came) }
         ensures room { 240 * count + 32 ≤ self.old.terms.spare → IsSome result }
         ensures first { self.new.first ≡ self.old.first }
         ensures still { (x : OutcomeTree) → OutcomeStands self.old.terms self.old.first x → OutcomeStands self.new.terms self.new.first x }

@@ -15,16 +15,15 @@ use Rattle.i80.specs.declared.Goal.TheVariants.{At as ToInstr, Boot as ToBoot, B
 use Rattle.i80.specs.declared.Instr80.TheVariants.{Mov, Mvi, Lxi, Stax, Dad, Push, Pop, Jmp, Cif}
 use Rattle.i80.specs.declared.Src.TheVariants.{Mem}
 use Rattle.i80.specs.declared.Reg.TheVariants.{A as RegA}
-use Rattle.asm80_program.specs.Program.{Program, program_of}
-use Rattle.cpu80_steps.specs.State.{State80, junk_regs}
-use Rattle.cpu80_steps.specs.Step.{machine80}
-use Rattle.templates_plain.specs.Plain.{plain_statements}
+use Rattle.asm80_program_types.specs.Program.{Program, program_of}
+use Rattle.cpu80_tagged_def.specs.State.{State80, junk_regs}
+use Rattle.cpu80_tagged_def.specs.Step.{machine80}
+use Rattle.templates.specs.Plain.{plain_statements}
 use Rattle.sym_terms.specs.Term.{Num, StartSp}
-use Rattle.sym_blocks.specs.declared.reason.Reason.{Reason}
-use Rattle.sym_blocks.specs.Outcome.{Goto, One, held_at_start}
-use Rattle.sym_blocks.specs.Block80.{block80}
-use Rattle.sym_blocks.specs.BlockMatch.{Keeps, block_reason}
-use Rattle.sym_runs.specs.Steps.{RunsOn}
+use Rattle.sym_block_def.specs.Outcome.{Goto, One, held_at_start}
+use Rattle.sym_block_def.specs.Block80.{block80}
+use Rattle.block_check_def.specs.BlockMatch.{Keeps, block_reason}
+use Rattle.simulation_def.specs.Steps.{RunsOn}
 
 -- LXI H,6CH / LXI D,1ABH / MVI B,12 / MOVE: MOV A,M / STAX D / JMP MOVE, the copier's first lines
 copier : Program
@@ -68,11 +67,11 @@ unfolding stacked
 call_matches = refl
 
 -- a template matches no other instruction
-other_does_not : block_reason stacked (plain_statements copier) all_kept 0x103 1 ≡ Some Rattle.sym_blocks.specs.declared.reason.Reason.TheVariants.Exits
+other_does_not : block_reason stacked (plain_statements copier) all_kept 0x103 1 ≡ Some Rattle.sym_block_def.specs.declared.reason.Reason.TheVariants.Exits
 unfolding stacked copier
 other_does_not = refl
 
 -- PUSH PSW where no flag is known stores a byte of unknown flags under A
-push_stores : (mem : ℕ → Rattle.cells.specs.declared.Cell.Cell) → RunsOn (machine80 stacked) [] 1 0 (unknown_state mem 0x101) (record (unknown_state mem 0x102) { sp = 0xEFFC; mem = Rattle.cpu80_steps.specs.Memory.put (Rattle.cpu80_steps.specs.Memory.put mem 0xEFFC (PswCell unknown_flags)) 0xEFFD Junk })
+push_stores : (mem : ℕ → Rattle.cells.specs.declared.Cell.Cell) → RunsOn (machine80 stacked) [] 1 0 (unknown_state mem 0x101) (record (unknown_state mem 0x102) { sp = 0xEFFC; mem = Rattle.cpu80_tagged_def.specs.Memory.put (Rattle.cpu80_tagged_def.specs.Memory.put mem 0xEFFC (PswCell unknown_flags)) 0xEFFD Junk })
 unfolding stacked
-push_stores mem = (record (unknown_state mem 0x102) { sp = 0xEFFC; mem = Rattle.cpu80_steps.specs.Memory.put (Rattle.cpu80_steps.specs.Memory.put mem 0xEFFC (PswCell unknown_flags)) 0xEFFD Junk }, refl, refl)
+push_stores mem = (record (unknown_state mem 0x102) { sp = 0xEFFC; mem = Rattle.cpu80_tagged_def.specs.Memory.put (Rattle.cpu80_tagged_def.specs.Memory.put mem 0xEFFC (PswCell unknown_flags)) 0xEFFD Junk }, refl, refl)

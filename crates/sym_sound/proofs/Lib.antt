@@ -1,1 +1,3 @@
+pub mod Machine80
+pub mod Machine86
 mod Examples

@@ -6,14 +6,14 @@ use Rattle.cells.specs.Places.{same_place}
 use Rattle.cells.proofs.SamePlace.{same_place_is, same_place_refl}
 use Rattle.i80.specs.declared.Op.{Op}
 use Rattle.sym_terms.specs.Term.{Term, Num, Start, StartSp, Loaded8, Loaded16, Alu, Flag, Sum16, High, Low, Join, FlagByte, Bit, Turn, Turned, Adjust, Code, Unknown, same_bool, same_term}
-use Rattle.sym_terms.specs.Numbers.{part_number, part_of, op_number, op_of}
+use Rattle.sym_terms.specs.Numbers.{part_number, part_numbered, op_number, op_numbered}
 use Rattle.sym_terms.proofs.Codes.{part_of-part_number, op_of-op_number}
 
 same_part : (q q' : Part) → (part_number q == part_number q') ≡ true → q ≡ q'
-same_part q q' h = sym (part_of-part_number q) ∙ ap part_of (eqb-true (part_number q) (part_number q') h) ∙ part_of-part_number q'
+same_part q q' h = sym (part_of-part_number q) ∙ ap part_numbered (eqb-true (part_number q) (part_number q') h) ∙ part_of-part_number q'
 
 same_op : (q q' : Op) → (op_number q == op_number q') ≡ true → q ≡ q'
-same_op q q' h = sym (op_of-op_number q) ∙ ap op_of (eqb-true (op_number q) (op_number q') h) ∙ op_of-op_number q'
+same_op q q' h = sym (op_of-op_number q) ∙ ap op_numbered (eqb-true (op_number q) (op_number q') h) ∙ op_of-op_number q'
 
 same_bool-true : (b b' : Bool) → same_bool b b' ≡ true → b ≡ b'
 same_bool-true true true h = refl

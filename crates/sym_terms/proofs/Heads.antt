@@ -8,8 +8,8 @@ use Rattle.sym_terms.specs.declared.head.Head.{Head}
 use Rattle.sym_terms.specs.declared.head.Head.TheVariants.{Num as NumHead, Start as StartHead, StartSp as StartSpHead, Loaded8 as Loaded8Head, Loaded16 as Loaded16Head, Alu as AluHead, Flag as FlagHead, Sum16 as Sum16Head, High as HighHead, Low as LowHead, Join as JoinHead, FlagByte as FlagByteHead, Bit as BitHead, Turn as TurnHead, Turned as TurnedHead, Adjust as AdjustHead, Code as CodeHead, Unknown as UnknownHead}
 use Rattle.sym_terms.specs.Numbers.{kind_of}
 use Rattle.sym_terms.specs.Term.{Start, Alu, Flag, Bit, Unknown}
-use Rattle.sym_terms.specs.Heads.{operands, is_flag_byte, node_of, head_by, number_of, term_of}
-use Rattle.sym_terms.specs.Trees.{Entry, Tree, Rest, tree_of, tree_at, tree_of_head, flags_with, entry_of, IsTree, AreTrees}
+use Rattle.sym_terms.specs.Heads.{operands, is_flag_byte_head, node_of, head_by, number_of_id, term_of}
+use Rattle.sym_terms.specs.Trees.{Entry, Tree, Rest, term_of_entry, tree_at, tree_of_head, flags_with, entry_of, IsTree, AreTrees}
 use Rattle.sym_terms.specs.Forms.{HasRest}
 use Rattle.sym_terms.proofs.Codes.{part_of-part_number, op_of-op_number}
 use Rattle.sym_terms.proofs.Places.{get_from_cut}
@@ -21,14 +21,14 @@ entry_back es (StartHead part) rest r = ap (λ part. Tree (Start part)) (part_of
 entry_back es StartSpHead rest r = refl
 entry_back es (Loaded8Head k) rest r = refl
 entry_back es (Loaded16Head k) rest r = refl
-entry_back es (AluHead op a b c) rest r = ap (λ op. Tree (Alu op (tree_at es (number_of a)) (tree_at es (number_of b)) (tree_at es (number_of c)))) (op_of-op_number op)
-entry_back es (FlagHead part r') rest r = ap (λ part. Tree (Flag part (tree_at es (number_of r')))) (part_of-part_number part)
+entry_back es (AluHead op a b c) rest r = ap (λ op. Tree (Alu op (tree_at es (number_of_id a)) (tree_at es (number_of_id b)) (tree_at es (number_of_id c)))) (op_of-op_number op)
+entry_back es (FlagHead part r') rest r = ap (λ part. Tree (Flag part (tree_at es (number_of_id r')))) (part_of-part_number part)
 entry_back es (Sum16Head a b) rest r = refl
 entry_back es (HighHead w) rest r = refl
 entry_back es (LowHead w) rest r = refl
 entry_back es (JoinHead h l) rest r = refl
-entry_back es (FlagByteHead s z ac p cy) rest r = ap (λ x. Tree (flags_with (tree_at es (number_of s)) (tree_at es (number_of z)) x)) (get_or_from_slice_get es rest (Rest (tree_at es (number_of ac)) (tree_at es (number_of p)) (tree_at es (number_of cy))) (Tree Unknown) r)
-entry_back es (BitHead b part) rest r = ap (λ part. Tree (Bit (tree_at es (number_of b)) part)) (part_of-part_number part)
+entry_back es (FlagByteHead s z ac p cy) rest r = ap (λ x. Tree (flags_with (tree_at es (number_of_id s)) (tree_at es (number_of_id z)) x)) (get_or_from_slice_get es rest (Rest (tree_at es (number_of_id ac)) (tree_at es (number_of_id p)) (tree_at es (number_of_id cy))) (Tree Unknown) r)
+entry_back es (BitHead b part) rest r = ap (λ part. Tree (Bit (tree_at es (number_of_id b)) part)) (part_of-part_number part)
 entry_back es (TurnHead kind a c) rest r = refl
 entry_back es (TurnedHead c) rest r = refl
 entry_back es (AdjustHead a ac cy) rest r = refl
@@ -39,7 +39,7 @@ entry_back es (CodeHead Exit false) rest r = refl
 entry_back es UnknownHead rest r = refl
 
 -- and gives its head back
-pub head_back : (h : Head) (rest : ℕ) → is_flag_byte h ≡ false → head_by (kind_of (node_of h rest).op) (node_of h rest) ≡ h
+pub head_back : (h : Head) (rest : ℕ) → is_flag_byte_head h ≡ false → head_by (kind_of (node_of h rest).op) (node_of h rest) ≡ h
 head_back (NumHead n) rest f = refl
 head_back (StartHead part) rest f = ap StartHead (part_of-part_number part)
 head_back StartSpHead rest f = refl
@@ -66,9 +66,9 @@ head_back UnknownHead rest f = refl
 abbrev pub AreApart : List Entry → Type 0
 AreApart es = (i j : ℕ) (entry : Entry) → slice_get es i ≡ Some entry → slice_get es j ≡ Some entry → i ≡ j
 
-pub same_id : (es : List Entry) → AreApart es → (s t : TermId) → IsTree es s → IsTree es t → tree_at es (number_of s) ≡ tree_at es (number_of t) → s ≡ t
+pub same_id : (es : List Entry) → AreApart es → (s t : TermId) → IsTree es s → IsTree es t → tree_at es (number_of_id s) ≡ tree_at es (number_of_id t) → s ≡ t
 same_id es d s t p q e =
-    let same : number_of s ≡ number_of t = d (number_of s) (number_of t) (Tree (tree_at es (number_of t))) (p ∙ ap (λ x. Some (Tree x)) e) q in
+    let same : number_of_id s ≡ number_of_id t = d (number_of_id s) (number_of_id t) (Tree (tree_at es (number_of_id t))) (p ∙ ap (λ x. Some (Tree x)) e) q in
     ap term_of same
 
 pub same_heads : (es : List Entry) → AreApart es → (h g : Head) → AreTrees es (operands h) → AreTrees es (operands g) → tree_of_head es h ≡ tree_of_head es g → h ≡ g
@@ -144,11 +144,11 @@ same_heads es d h g p q e = absurd (cc)
 
 -- what stands in the first entries stands in all
 
-pub lift_tree_at : (es : List Entry) (k : ℕ) (t : TermId) → IsTree (take k es) t → tree_at (take k es) (number_of t) ≡ tree_at es (number_of t)
-lift_tree_at es k t h = sym (ap tree_of (get_or_from_slice_get es (number_of t) (Tree (tree_at (take k es) (number_of t))) (Tree Unknown) (get_from_cut es (Tree (tree_at (take k es) (number_of t))) k (number_of t) h)))
+pub lift_tree_at : (es : List Entry) (k : ℕ) (t : TermId) → IsTree (take k es) t → tree_at (take k es) (number_of_id t) ≡ tree_at es (number_of_id t)
+lift_tree_at es k t h = sym (ap term_of_entry (get_or_from_slice_get es (number_of_id t) (Tree (tree_at (take k es) (number_of_id t))) (Tree Unknown) (get_from_cut es (Tree (tree_at (take k es) (number_of_id t))) k (number_of_id t) h)))
 
 lift_tree : (es : List Entry) (k : ℕ) (t : TermId) → IsTree (take k es) t → IsTree es t
-lift_tree es k t h = get_from_cut es (Tree (tree_at (take k es) (number_of t))) k (number_of t) h ∙ ap (λ x. Some (Tree x)) (lift_tree_at es k t h)
+lift_tree es k t h = get_from_cut es (Tree (tree_at (take k es) (number_of_id t))) k (number_of_id t) h ∙ ap (λ x. Some (Tree x)) (lift_tree_at es k t h)
 
 pub lift_trees : (es : List Entry) (k : ℕ) (ts : List TermId) → AreTrees (take k es) ts → AreTrees es ts
 lift_trees es k [] h = tt
@@ -156,47 +156,47 @@ lift_trees es k (t ∷ ts) h = (lift_tree es k t h.0, lift_trees es k ts h.1)
 
 pub lift_head : (es : List Entry) (k : ℕ) (h : Head) → AreTrees (take k es) (operands h) → tree_of_head (take k es) h ≡ tree_of_head es h
 lift_head es k (AluHead op a b c) g =
-    let is_a : tree_at (take k es) (number_of a) ≡ tree_at es (number_of a) = lift_tree_at es k a g.0 in
-    let is_b : tree_at (take k es) (number_of b) ≡ tree_at es (number_of b) = lift_tree_at es k b g.1.0 in
-    let is_c : tree_at (take k es) (number_of c) ≡ tree_at es (number_of c) = lift_tree_at es k c g.1.1.0 in
+    let is_a : tree_at (take k es) (number_of_id a) ≡ tree_at es (number_of_id a) = lift_tree_at es k a g.0 in
+    let is_b : tree_at (take k es) (number_of_id b) ≡ tree_at es (number_of_id b) = lift_tree_at es k b g.1.0 in
+    let is_c : tree_at (take k es) (number_of_id c) ≡ tree_at es (number_of_id c) = lift_tree_at es k c g.1.1.0 in
     cc
 lift_head es k (FlagHead part r) g =
-    let is_r : tree_at (take k es) (number_of r) ≡ tree_at es (number_of r) = lift_tree_at es k r g.0 in
+    let is_r : tree_at (take k es) (number_of_id r) ≡ tree_at es (number_of_id r) = lift_tree_at es k r g.0 in
     cc
 lift_head es k (Sum16Head a b) g =
-    let is_a : tree_at (take k es) (number_of a) ≡ tree_at es (number_of a) = lift_tree_at es k a g.0 in
-    let is_b : tree_at (take k es) (number_of b) ≡ tree_at es (number_of b) = lift_tree_at es k b g.1.0 in
+    let is_a : tree_at (take k es) (number_of_id a) ≡ tree_at es (number_of_id a) = lift_tree_at es k a g.0 in
+    let is_b : tree_at (take k es) (number_of_id b) ≡ tree_at es (number_of_id b) = lift_tree_at es k b g.1.0 in
     cc
 lift_head es k (HighHead w) g =
-    let is_w : tree_at (take k es) (number_of w) ≡ tree_at es (number_of w) = lift_tree_at es k w g.0 in
+    let is_w : tree_at (take k es) (number_of_id w) ≡ tree_at es (number_of_id w) = lift_tree_at es k w g.0 in
     cc
 lift_head es k (LowHead w) g =
-    let is_w : tree_at (take k es) (number_of w) ≡ tree_at es (number_of w) = lift_tree_at es k w g.0 in
+    let is_w : tree_at (take k es) (number_of_id w) ≡ tree_at es (number_of_id w) = lift_tree_at es k w g.0 in
     cc
 lift_head es k (JoinHead h l) g =
-    let is_h : tree_at (take k es) (number_of h) ≡ tree_at es (number_of h) = lift_tree_at es k h g.0 in
-    let is_l : tree_at (take k es) (number_of l) ≡ tree_at es (number_of l) = lift_tree_at es k l g.1.0 in
+    let is_h : tree_at (take k es) (number_of_id h) ≡ tree_at es (number_of_id h) = lift_tree_at es k h g.0 in
+    let is_l : tree_at (take k es) (number_of_id l) ≡ tree_at es (number_of_id l) = lift_tree_at es k l g.1.0 in
     cc
 lift_head es k (FlagByteHead s z ac p cy) g =
-    let is_s : tree_at (take k es) (number_of s) ≡ tree_at es (number_of s) = lift_tree_at es k s g.0 in
-    let is_z : tree_at (take k es) (number_of z) ≡ tree_at es (number_of z) = lift_tree_at es k z g.1.0 in
-    let is_ac : tree_at (take k es) (number_of ac) ≡ tree_at es (number_of ac) = lift_tree_at es k ac g.1.1.0 in
-    let is_p : tree_at (take k es) (number_of p) ≡ tree_at es (number_of p) = lift_tree_at es k p g.1.1.1.0 in
-    let is_cy : tree_at (take k es) (number_of cy) ≡ tree_at es (number_of cy) = lift_tree_at es k cy g.1.1.1.1.0 in
+    let is_s : tree_at (take k es) (number_of_id s) ≡ tree_at es (number_of_id s) = lift_tree_at es k s g.0 in
+    let is_z : tree_at (take k es) (number_of_id z) ≡ tree_at es (number_of_id z) = lift_tree_at es k z g.1.0 in
+    let is_ac : tree_at (take k es) (number_of_id ac) ≡ tree_at es (number_of_id ac) = lift_tree_at es k ac g.1.1.0 in
+    let is_p : tree_at (take k es) (number_of_id p) ≡ tree_at es (number_of_id p) = lift_tree_at es k p g.1.1.1.0 in
+    let is_cy : tree_at (take k es) (number_of_id cy) ≡ tree_at es (number_of_id cy) = lift_tree_at es k cy g.1.1.1.1.0 in
     cc
 lift_head es k (BitHead b part) g =
-    let is_b : tree_at (take k es) (number_of b) ≡ tree_at es (number_of b) = lift_tree_at es k b g.0 in
+    let is_b : tree_at (take k es) (number_of_id b) ≡ tree_at es (number_of_id b) = lift_tree_at es k b g.0 in
     cc
 lift_head es k (TurnHead kind a c) g =
-    let is_a : tree_at (take k es) (number_of a) ≡ tree_at es (number_of a) = lift_tree_at es k a g.0 in
-    let is_c : tree_at (take k es) (number_of c) ≡ tree_at es (number_of c) = lift_tree_at es k c g.1.0 in
+    let is_a : tree_at (take k es) (number_of_id a) ≡ tree_at es (number_of_id a) = lift_tree_at es k a g.0 in
+    let is_c : tree_at (take k es) (number_of_id c) ≡ tree_at es (number_of_id c) = lift_tree_at es k c g.1.0 in
     cc
 lift_head es k (TurnedHead c) g =
-    let is_c : tree_at (take k es) (number_of c) ≡ tree_at es (number_of c) = lift_tree_at es k c g.0 in
+    let is_c : tree_at (take k es) (number_of_id c) ≡ tree_at es (number_of_id c) = lift_tree_at es k c g.0 in
     cc
 lift_head es k (AdjustHead a ac cy) g =
-    let is_a : tree_at (take k es) (number_of a) ≡ tree_at es (number_of a) = lift_tree_at es k a g.0 in
-    let is_ac : tree_at (take k es) (number_of ac) ≡ tree_at es (number_of ac) = lift_tree_at es k ac g.1.0 in
-    let is_cy : tree_at (take k es) (number_of cy) ≡ tree_at es (number_of cy) = lift_tree_at es k cy g.1.1.0 in
+    let is_a : tree_at (take k es) (number_of_id a) ≡ tree_at es (number_of_id a) = lift_tree_at es k a g.0 in
+    let is_ac : tree_at (take k es) (number_of_id ac) ≡ tree_at es (number_of_id ac) = lift_tree_at es k ac g.1.0 in
+    let is_cy : tree_at (take k es) (number_of_id cy) ≡ tree_at es (number_of_id cy) = lift_tree_at es k cy g.1.1.0 in
     cc
 lift_head es k h g = refl

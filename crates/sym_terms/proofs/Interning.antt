@@ -4,14 +4,14 @@ use Rattle.std.specs.List.{slice_get}
 use Rattle.std.proofs.lemmas.Option.{get_or_from_slice_get}
 use Rattle.xlt_pool.specs.declared.node.Node.{Node}
 use Rattle.xlt_pool.specs.declared.node.Id.{Id}
-use Rattle.xlt_pool.specs.Contents.{Contents, IsFound, IsAdded, IsRefused}
+use Rattle.xlt_pool.specs.Contents.{Contents, IsFound, IsAdded, HasNoRoom}
 use Rattle.sym_terms.specs.declared.head.Term.{Term as TermId}
 use Rattle.sym_terms.specs.Term.{Term, Num, Sum16, FlagByte, Unknown, is_adjusted}
-use Rattle.sym_terms.specs.Making.{IsMade}
+use Rattle.sym_terms.specs.Making.{IsTermMade}
 use Rattle.sym_terms.specs.declared.head.Head.{Head}
 use Rattle.sym_terms.specs.declared.head.Head.TheVariants.{FlagByte as FlagByteHead, Sum16 as Sum16Head}
-use Rattle.sym_terms.specs.Heads.{operands, is_flag_byte, node_of, marked, rest_node, number_of}
-use Rattle.sym_terms.specs.Trees.{Entry, Tree, Rest, tree_of, tree_in, MakesRest, tree_at, tree_of_head, AreTrees, AreGiven, entry_of, entries_of, StandsFor, Grows, Makes}
+use Rattle.sym_terms.specs.Heads.{operands, is_flag_byte_head, node_of, marked_node, rest_node, number_of_id}
+use Rattle.sym_terms.specs.Trees.{Entry, Tree, Rest, term_of_entry, tree_in, MakesRest, tree_at, tree_of_head, AreTrees, AreGiven, entry_of, entries_of, StandsFor, PoolGrows, Makes}
 use Rattle.sym_terms.specs.Forms.{HasRest, IsFormed, IsTermList}
 use Rattle.sym_terms.proofs.Places.{get_front, get_last}
 use Rattle.sym_terms.proofs.Entries.{entries_push, length-entries_of}
@@ -26,21 +26,21 @@ pub record IsOut (new : Contents) (entry : Entry) : Type 0 where
 
 pub record Interns (old new : Contents) (entry : Entry) (result : Option Id) : Type 0 where
   pub list : IsTermList new.nodes
-  pub grows : Grows old new 1
+  pub grows : PoolGrows old new 1
   pub gives : MatchOption result (IsOut new entry) (λ id. slice_get (entries_of new.nodes) id.0 ≡ Some entry)
   pub room : 1 ≤ old.spare → IsSome result
 
 -- an id stands for a term where that is its entry
-pub from_entry : (held : Contents) (t : TermId) (tree : Term) → slice_get (entries_of held.nodes) (number_of t) ≡ Some (Tree tree) → StandsFor held t tree
+pub from_entry : (held : Contents) (t : TermId) (tree : Term) → slice_get (entries_of held.nodes) (number_of_id t) ≡ Some (Tree tree) → StandsFor held t tree
 from_entry held t tree h =
-    let is : tree_in held t ≡ tree = ap tree_of (get_or_from_slice_get (entries_of held.nodes) (number_of t) (Tree tree) (Tree Unknown) h) in
+    let is : tree_in held t ≡ tree = ap term_of_entry (get_or_from_slice_get (entries_of held.nodes) (number_of_id t) (Tree tree) (Tree Unknown) h) in
     (h ∙ ap (λ x. Some (Tree x)) (sym is), is)
 
-pub to_entry : (held : Contents) (t : TermId) (tree : Term) → StandsFor held t tree → slice_get (entries_of held.nodes) (number_of t) ≡ Some (Tree tree)
+pub to_entry : (held : Contents) (t : TermId) (tree : Term) → StandsFor held t tree → slice_get (entries_of held.nodes) (number_of_id t) ≡ Some (Tree tree)
 to_entry held t tree h = h.0 ∙ ap (λ x. Some (Tree x)) h.1
 
 -- nothing joins
-pub still : (held : Contents) → Grows held held 0
+pub still : (held : Contents) → PoolGrows held held 0
 still held = record {
   added = [];
   nodes = sym (append-nil held.nodes);
@@ -49,7 +49,7 @@ still held = record {
   kept = λ t h. (h, refl);
 }
 
-pub more : (old new : Contents) (j k : ℕ) → j ≤ k → Grows old new j → Grows old new k
+pub more : (old new : Contents) (j k : ℕ) → j ≤ k → PoolGrows old new j → PoolGrows old new k
 more old new j k h g = record {
   added = g.added;
   nodes = g.nodes;
@@ -58,8 +58,8 @@ more old new j k h g = record {
   kept = g.kept;
 }
 
-pub interns : (old new : Contents) (n : Node) (result : Option Id) → IsTermList old.nodes → IsFormed (entries_of old.nodes) n → ((t : Term) → entry_of (entries_of old.nodes) n ≡ Tree t → IsMade t)
-    → MatchOption result (IsRefused old n new) (λ id. IsFound old n id.0 new ⊎ IsAdded old n id.0 new) → Interns old new (entry_of (entries_of old.nodes) n) result
+pub interns : (old new : Contents) (n : Node) (result : Option Id) → IsTermList old.nodes → IsFormed (entries_of old.nodes) n → ((t : Term) → entry_of (entries_of old.nodes) n ≡ Tree t → IsTermMade t)
+    → MatchOption result (HasNoRoom old n new) (λ id. IsFound old n id.0 new ⊎ IsAdded old n id.0 new) → Interns old new (entry_of (entries_of old.nodes) n) result
 interns old new n None list formed made r =
     subst (λ c. Interns old c (entry_of (entries_of old.nodes) n) None) (sym r.unchanged)
     (record {
@@ -83,7 +83,7 @@ interns old new n (Some id) list formed made (inr a) = record {
     nodes = a.nodes;
     few = omega arith;
     spare = let s : new.spare + 1 ≡ old.spare = a.spare in omega arith;
-    kept = λ t h. from_entry new t (tree_in old t) (ap (λ l. slice_get l (number_of t)) entries ∙ get_front (entries_of old.nodes) (entry_of (entries_of old.nodes) n ∷ []) (Tree (tree_in old t)) (number_of t) h);
+    kept = λ t h. from_entry new t (tree_in old t) (ap (λ l. slice_get l (number_of_id t)) entries ∙ get_front (entries_of old.nodes) (entry_of (entries_of old.nodes) n ∷ []) (Tree (tree_in old t)) (number_of_id t) h);
   };
   gives =
       let last : id.0 ≡ length (entries_of old.nodes) = a.last ∙ sym (length-entries_of old.nodes) in
@@ -102,7 +102,7 @@ makes old new tree None made i e =
     subst (λ m. Makes old new 1 tree m) (sym e)
     (record {
       grows = i.grows;
-      gives = record { full = i.gives.full; absent = λ t h. i.gives.absent (number_of t) (to_entry new t tree h) };
+      gives = record { full = i.gives.full; absent = λ t h. i.gives.absent (number_of_id t) (to_entry new t tree h) };
       room = i.room;
       terms = are_terms new i.list;
     })
@@ -115,51 +115,51 @@ makes old new tree (Some id) made i e =
       terms = are_terms new i.list;
     })
 
-pub no_rest : (es : List Entry) (h : Head) (r : ℕ) → is_flag_byte h ≡ false → HasRest es h r
+pub no_rest : (es : List Entry) (h : Head) (r : ℕ) → is_flag_byte_head h ≡ false → HasRest es h r
 no_rest es (FlagByteHead s z ac p cy) r plain = absurd (cc)
 no_rest es h r plain = tt
 
 -- the node of a head, marked
-pub interns_head : (old new : Contents) (h : Head) (further : ℕ) (m : Bool) (plain n : Node) (result : Option Id) → plain ≡ node_of h further → m ≡ is_adjusted (tree_of_head (entries_of old.nodes) h) → n ≡ marked m plain → IsTermList old.nodes → HasRest (entries_of old.nodes) h further → AreGiven old (operands h) → IsMade (tree_of_head (entries_of old.nodes) h)
-    → MatchOption result (IsRefused old n new) (λ id. IsFound old n id.0 new ⊎ IsAdded old n id.0 new) → Interns old new (Tree (tree_of_head (entries_of old.nodes) h)) result
+pub interns_head : (old new : Contents) (h : Head) (further : ℕ) (m : Bool) (plain n : Node) (result : Option Id) → plain ≡ node_of h further → m ≡ is_adjusted (tree_of_head (entries_of old.nodes) h) → n ≡ marked_node m plain → IsTermList old.nodes → HasRest (entries_of old.nodes) h further → AreGiven old (operands h) → IsTermMade (tree_of_head (entries_of old.nodes) h)
+    → MatchOption result (HasNoRoom old n new) (λ id. IsFound old n id.0 new ⊎ IsAdded old n id.0 new) → Interns old new (Tree (tree_of_head (entries_of old.nodes) h)) result
 interns_head old new h further m plain n result ep em en list rest given made r =
-    let e = en ∙ ap₂ marked em ep in
+    let e = en ∙ ap₂ marked_node em ep in
     let entry : entry_of (entries_of old.nodes) n ≡ Tree (tree_of_head (entries_of old.nodes) h) =
     ap (entry_of (entries_of old.nodes)) e
     ∙ entry_marked (entries_of old.nodes) (is_adjusted (tree_of_head (entries_of old.nodes) h)) h further
     ∙ entry_back (entries_of old.nodes) h further rest in
     subst (λ x. Interns old new x result) entry
     (interns old new n result list (inl (record { head = h; further = further; is = e; given = given; rest = rest }))
-    (λ t f. let both : Tree (tree_of_head (entries_of old.nodes) h) ≡ Tree t = sym entry ∙ f in let same : tree_of_head (entries_of old.nodes) h ≡ t = cc in subst IsMade same made)
+    (λ t f. let both : Tree (tree_of_head (entries_of old.nodes) h) ≡ Tree t = sym entry ∙ f in let same : tree_of_head (entries_of old.nodes) h ≡ t = cc in subst IsTermMade same made)
     r)
 
 -- the further node of a FlagByte
 pub interns_rest : (old new : Contents) (ac p cy : TermId) (n : Node) (result : Option Id) → n ≡ rest_node ac p cy → IsTermList old.nodes → AreGiven old (ac ∷ p ∷ cy ∷ [])
-    → MatchOption result (IsRefused old n new) (λ id. IsFound old n id.0 new ⊎ IsAdded old n id.0 new)
-    → Interns old new (Rest (tree_at (entries_of old.nodes) (number_of ac)) (tree_at (entries_of old.nodes) (number_of p)) (tree_at (entries_of old.nodes) (number_of cy))) result
+    → MatchOption result (HasNoRoom old n new) (λ id. IsFound old n id.0 new ⊎ IsAdded old n id.0 new)
+    → Interns old new (Rest (tree_at (entries_of old.nodes) (number_of_id ac)) (tree_at (entries_of old.nodes) (number_of_id p)) (tree_at (entries_of old.nodes) (number_of_id cy))) result
 interns_rest old new ac p cy n result e list given r =
-    let entry : entry_of (entries_of old.nodes) n ≡ Rest (tree_at (entries_of old.nodes) (number_of ac)) (tree_at (entries_of old.nodes) (number_of p)) (tree_at (entries_of old.nodes) (number_of cy)) = ap (entry_of (entries_of old.nodes)) e in
+    let entry : entry_of (entries_of old.nodes) n ≡ Rest (tree_at (entries_of old.nodes) (number_of_id ac)) (tree_at (entries_of old.nodes) (number_of_id p)) (tree_at (entries_of old.nodes) (number_of_id cy)) = ap (entry_of (entries_of old.nodes)) e in
     subst (λ x. Interns old new x result) entry
     (interns old new n result list (inr (record { ac = ac; p = p; cy = cy; is = e; given = given }))
-    (λ t f. let both : Rest (tree_at (entries_of old.nodes) (number_of ac)) (tree_at (entries_of old.nodes) (number_of p)) (tree_at (entries_of old.nodes) (number_of cy)) ≡ Tree t = sym entry ∙ f in absurd (cc))
+    (λ t f. let both : Rest (tree_at (entries_of old.nodes) (number_of_id ac)) (tree_at (entries_of old.nodes) (number_of_id p)) (tree_at (entries_of old.nodes) (number_of_id cy)) ≡ Tree t = sym entry ∙ f in absurd (cc))
     r)
 
 -- a FlagByte has a further node with its last three flags
 flag_byte_has_rest : (held : Contents) → IsTermList held.nodes → (t : TermId) (s z x y w : Term) → StandsFor held t (FlagByte s z x y w) → (r : ℕ) × (slice_get (entries_of held.nodes) r ≡ Some (Rest x y w))
 flag_byte_has_rest held list t s z x y w h =
     let entry = to_entry held t (FlagByte s z x y w) h in
-    let n = has_node held.nodes (number_of t) (Tree (FlagByte s z x y w)) entry in
-    let r = read held.nodes list (number_of t) n.0 (FlagByte s z x y w) n.1 entry in
+    let n = has_node held.nodes (number_of_id t) (Tree (FlagByte s z x y w)) entry in
+    let r = read held.nodes list (number_of_id t) n.0 (FlagByte s z x y w) n.1 entry in
     (r.node.further, by_head r.node.head r.node.further r.is r.node.rest)
   where
     by_head : (g : Head) (k : ℕ) → FlagByte s z x y w ≡ tree_of_head (entries_of held.nodes) g → HasRest (entries_of held.nodes) g k → slice_get (entries_of held.nodes) k ≡ Some (Rest x y w)
     by_head (FlagByteHead s' z' ac p cy) k e q =
-        let is_x : tree_at (entries_of held.nodes) (number_of ac) ≡ x = cc in
-        let is_y : tree_at (entries_of held.nodes) (number_of p) ≡ y = cc in
-        let is_w : tree_at (entries_of held.nodes) (number_of cy) ≡ w = cc in
+        let is_x : tree_at (entries_of held.nodes) (number_of_id ac) ≡ x = cc in
+        let is_y : tree_at (entries_of held.nodes) (number_of_id p) ≡ y = cc in
+        let is_w : tree_at (entries_of held.nodes) (number_of_id cy) ≡ w = cc in
         q
-        ∙ ap (λ v. Some (Rest v (tree_at (entries_of held.nodes) (number_of p)) (tree_at (entries_of held.nodes) (number_of cy)))) is_x
-        ∙ ap (λ v. Some (Rest x v (tree_at (entries_of held.nodes) (number_of cy)))) is_y
+        ∙ ap (λ v. Some (Rest v (tree_at (entries_of held.nodes) (number_of_id p)) (tree_at (entries_of held.nodes) (number_of_id cy)))) is_x
+        ∙ ap (λ v. Some (Rest x v (tree_at (entries_of held.nodes) (number_of_id cy)))) is_y
         ∙ ap (λ v. Some (Rest x y v)) is_w
     by_head g k e q = absurd (cc)
 
@@ -183,7 +183,7 @@ makes_rest old new x y w (Some id) i = record {
 
 -- one maker after another
 
-pub then_grows : (old mid new : Contents) (j k : ℕ) → Grows old mid j → Grows mid new k → Grows old new (j + k)
+pub then_grows : (old mid new : Contents) (j k : ℕ) → PoolGrows old mid j → PoolGrows mid new k → PoolGrows old new (j + k)
 then_grows old mid new j k g h = record {
   added = g.added ++ h.added;
   nodes = h.nodes ∙ ap (λ l. l ++ h.added) g.nodes ∙ append_assoc old.nodes g.added h.added;
@@ -198,7 +198,7 @@ then_grows old mid new j k g h = record {
   kept = λ t p. let a = g.kept t p in let b = h.kept t a.0 in (b.0, b.1 ∙ a.1);
 }
 
-pub then_makes : (old mid new : Contents) (tree : Term) (made : Option TermId) → Grows old mid 1 → Makes mid new 1 tree made → Makes old new 2 tree made
+pub then_makes : (old mid new : Contents) (tree : Term) (made : Option TermId) → PoolGrows old mid 1 → Makes mid new 1 tree made → Makes old new 2 tree made
 then_makes old mid new tree made g m = record {
   grows = then_grows old mid new 1 1 g m.grows;
   gives = m.gives;
@@ -220,6 +220,6 @@ no_sum old new a n m = record {
   where
     by_head : (g : Head) → Sum16 a (Num n) ≡ tree_of_head (entries_of new.nodes) g → AreTrees (entries_of new.nodes) (operands g) → ⊥
     by_head (Sum16Head x y) e q =
-        let is : tree_at (entries_of new.nodes) (number_of y) ≡ Num n = cc in
+        let is : tree_at (entries_of new.nodes) (number_of_id y) ≡ Num n = cc in
         m.gives.absent y (q.1.0, is)
     by_head g e q = absurd (cc)

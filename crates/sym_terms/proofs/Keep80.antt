@@ -10,10 +10,10 @@ use Rattle.cells.specs.declared.Part.{Part}
 use Rattle.cells.specs.declared.Part.TheVariants.{S, Z, Ac, P, Cy}
 use Rattle.i80.specs.declared.Op.{Op}
 use Rattle.i80.specs.declared.Op.TheVariants.{Add, Adc, Ana, Xra, Ora}
-use Rattle.base_arithmetic.specs.Arithmetic.{as_bit}
-use Rattle.base_arithmetic.specs.Operations.{flags_of, flags_in}
+use Rattle.base_arithmetic_def.specs.Arithmetic.{as_bit}
+use Rattle.base_arithmetic_def.specs.Operations.{flags_of, flags_in}
 use Rattle.sym_terms.specs.Term.{Term, Num, Start, Alu, Flag, Sum16, High, Low, Join, FlagByte, Bit, Turn, Turned, Adjust, Unknown, is_adjusted, is_open, shows_open, is_word, is_byte, is_bit, leaves_flag, is_flag, same_term}
-use Rattle.sym_terms.specs.Making.{IsMade, alu, flag, flag_of, carry_flag, half_carry_flag, is_logic, is_addition, sum16, sum_of, gathered, plus, high, low, join, bit, one_of, turn, adjust}
+use Rattle.sym_terms.specs.Making.{IsTermMade, alu, flag, flag_term_of, carry_flag, half_carry_flag, is_logic, is_addition, sum16, sum_of, regrouped, plus, high, low, join, bit, chosen_flag, turn, adjust}
 use Rattle.sym_terms.specs.Values80.{Value80, Byte, Word, OneBit, Result, Env80, Val80, word_by, bit_by, result_by, number80, flag_in, word_of}
 use Rattle.sym_terms.specs.Laws.{IsMadeAs, KeepValues}
 use Rattle.sym_terms.proofs.Equal.{same_term-true}
@@ -157,14 +157,14 @@ half_carry80 e (Adjust a ac cy) v l p = bit_is_unknown v (FlagIs e Ac (Adjust a 
 half_carry80 e Unknown v l p = bit_is_unknown v (FlagIs e Ac Unknown) p (λ o q. absurd q.2)
 half_carry80 e r v l p = absurd (cc)
 
-flag80 : (e : Env80) (part : Part) (r : Term) (v : Value80) → leaves_flag part r ≡ true → Val80 e (Flag part r) v → Val80 e (flag_of part r) v
+flag80 : (e : Env80) (part : Part) (r : Term) (v : Value80) → leaves_flag part r ≡ true → Val80 e (Flag part r) v → Val80 e (flag_term_of part r) v
 flag80 e Ac r v l p = half_carry80 e r v l p
 flag80 e Cy r v l p = carry80 e r v p
 flag80 e part r v l p = p
 
 keep_flag : (e : Env80) (part : Part) (r : Term) (v : Value80) → IsMadeAs (leaves_flag part) r → Val80 e (Flag part r) v → Val80 e (flag part r) v
 keep_flag e part r v m p =
-    unless_open e (is_open r) (flag_of part r) v (λ o. let s = some_bit (FlagIs e part r) v p in let q = s.1 in open_result e part r q.0 q.1 m o q.2)
+    unless_open e (is_open r) (flag_term_of part r) v (λ o. let s = some_bit (FlagIs e part r) v p in let q = s.1 in open_result e part r q.0 q.1 m o q.2)
     (flag80 e part r v m.1 p)
 
 -- a word and a number
@@ -176,7 +176,7 @@ plus80 e a m zero x y hm hn v ex ey =
     subst (λ c. Val80 e a (Word c y)) first (subst (λ c. Val80 e a (Word (NumCell (m / 256)) c)) second v)
 plus80 e a m (suc n) x y hm hn v ex ey = (m, suc n, hm, hn, v, (hn, refl, refl), ex, ey)
 
-gathered80 : (e : Env80) (a : Term) (m n : ℕ) (x y : Cell) → m < 0x10000 → n < 0x10000 → Val80 e a (word_of m) → x ≡ NumCell (((m + n) % 0x10000) / 256) → y ≡ NumCell (((m + n) % 0x10000) % 256) → Val80 e (gathered a n) (Word x y)
+gathered80 : (e : Env80) (a : Term) (m n : ℕ) (x y : Cell) → m < 0x10000 → n < 0x10000 → Val80 e a (word_of m) → x ≡ NumCell (((m + n) % 0x10000) / 256) → y ≡ NumCell (((m + n) % 0x10000) % 256) → Val80 e (regrouped a n) (Word x y)
 gathered80 e (Num k) m n x y hm hn v ex ey =
     let same : m ≡ k = word_number m k v.1 v.2 in
     let below : (k + n) % 0x10000 < 0x10000 = omega arith in
@@ -311,7 +311,7 @@ read_flags e s z ac p cy part (Word x y) q = absurd q
 read_flags e s z ac p cy part (OneBit o) q = (q.1.0, q.1.1, q.1.2, q.1.3, q.1.4, q.1.5, q.2 ∙ ap (λ x. flag_in (flags_in x) part) q.1.6)
 read_flags e s z ac p cy part (Result n f) q = absurd q
 
-one_of80 : (e : Env80) (s z ac p cy : Term) (part : Part) (v : Value80) → IsMade (FlagByte s z ac p cy) → is_flag part ≡ true → Val80 e (Bit (FlagByte s z ac p cy) part) v → Val80 e (one_of s z ac p cy part) v
+one_of80 : (e : Env80) (s z ac p cy : Term) (part : Part) (v : Value80) → IsTermMade (FlagByte s z ac p cy) → is_flag part ≡ true → Val80 e (Bit (FlagByte s z ac p cy) part) v → Val80 e (chosen_flag s z ac p cy part) v
 one_of80 e s z ac p cy S v m f q = let r = read_flags e s z ac p cy S v q in flag_term e s r.0.s v m.5 r.1 r.6
 one_of80 e s z ac p cy Z v m f q = let r = read_flags e s z ac p cy Z v q in flag_term e z r.0.z v m.6 r.2 r.6
 one_of80 e s z ac p cy Ac v m f q = let r = read_flags e s z ac p cy Ac v q in flag_term e ac r.0.ac v m.7 r.3 r.6

@@ -8,10 +8,10 @@ use Rattle.cells.specs.declared.Part.TheVariants.{S, Z, Ac, P, Cy}
 use Rattle.cells.specs.Bits.{has_bit}
 use Rattle.i80.specs.declared.Op.{Op}
 use Rattle.i80.specs.declared.Op.TheVariants.{Ana, Xra, Ora}
-use Rattle.base_arithmetic.specs.Arithmetic.{as_bit}
-use Rattle.base_arithmetic.specs.Operations.{flags_of}
+use Rattle.base_arithmetic_def.specs.Arithmetic.{as_bit}
+use Rattle.base_arithmetic_def.specs.Operations.{flags_of}
 use Rattle.sym_terms.specs.Term.{Term, Num, Alu, Flag, Sum16, High, Low, Join, FlagByte, Bit, Turn, Turned, Adjust, Unknown, is_open, is_byte, is_adjusted, same_term}
-use Rattle.sym_terms.specs.Making.{flag_of, carry_flag, half_carry_flag, is_logic, is_addition, sum_of, gathered, plus, high, low, join, bit, one_of}
+use Rattle.sym_terms.specs.Making.{flag_term_of, carry_flag, half_carry_flag, is_logic, is_addition, sum_of, regrouped, plus, high, low, join, bit, chosen_flag}
 use Rattle.sym_terms.specs.Values80.{flag_in}
 use Rattle.sym_terms.specs.Values86.{Value86, Number, Result, Env86, Val86, MayBe}
 use Rattle.sym_terms.specs.Laws.{IsMadeAs, KeepValues}
@@ -51,7 +51,7 @@ half_carry86 e (Alu op a b c) v p = by_op (is_addition op)
     by_op false = tt
 half_carry86 e r v p = tt
 
-flag86 : (e : Env86) (part : Part) (r : Term) (v : Value86) → Val86 e (Flag part r) v → Val86 e (flag_of part r) v
+flag86 : (e : Env86) (part : Part) (r : Term) (v : Value86) → Val86 e (Flag part r) v → Val86 e (flag_term_of part r) v
 flag86 e Ac r v p = half_carry86 e r v p
 flag86 e Cy r v p = carry86 e r v p
 flag86 e part r v p = p
@@ -61,7 +61,7 @@ plus86 : (e : Env86) (a : Term) (m n i : ℕ) → m < 0x10000 → n < 0x10000 �
 plus86 e a m zero i hm hn v q = let same : i ≡ m = omega arith in subst (λ j. Val86 e a (Number j)) (sym same) v
 plus86 e a m (suc n) i hm hn v q = (m, suc n, hm, hn, v, refl, q)
 
-gathered86 : (e : Env86) (a : Term) (n m i : ℕ) → m < 0x10000 → n < 0x10000 → Val86 e a (Number m) → i ≡ (m + n) % 0x10000 → Val86 e (gathered a n) (Number i)
+gathered86 : (e : Env86) (a : Term) (n m i : ℕ) → m < 0x10000 → n < 0x10000 → Val86 e a (Number m) → i ≡ (m + n) % 0x10000 → Val86 e (regrouped a n) (Number i)
 gathered86 e (Num k) n m i hm hn v q = q ∙ ap (λ j. (j + n) % 0x10000) v
 gathered86 e (Sum16 a (Num k)) n m i hm hn v q =
     let inner : v.1 ≡ k = v.5 in
@@ -145,7 +145,7 @@ some_bit e t b k i s q v =
     let is : as_bit b ≡ i = ap as_bit same ∙ sym q in
     subst (λ n. Val86 e t (Number n)) is v
 
-one_of86 : (e : Env86) (s z ac p cy : Term) (part : Part) (i : ℕ) → Val86 e (Bit (FlagByte s z ac p cy) part) (Number i) → Val86 e (one_of s z ac p cy part) (Number i)
+one_of86 : (e : Env86) (s z ac p cy : Term) (part : Part) (i : ℕ) → Val86 e (Bit (FlagByte s z ac p cy) part) (Number i) → Val86 e (chosen_flag s z ac p cy part) (Number i)
 one_of86 e s z ac p cy S i q = some_bit e s (has_bit q.0 7) q.1 i q.3 q.4 q.2.1
 one_of86 e s z ac p cy Z i q = some_bit e z (has_bit q.0 6) q.1 i q.3 q.4 q.2.2
 one_of86 e s z ac p cy Ac i q = some_bit e ac (has_bit q.0 4) q.1 i q.3 q.4 q.2.3
@@ -162,7 +162,7 @@ bit86 e b part v q = q
 pub keep86 : (e : Env86) → KeepValues Value86 (Val86 e)
 keep86 e = record {
   alu = λ op a b c v p q r. or_unknown e (is_open a || (is_open b || is_open c)) (Alu op a b c) v;
-  flag = λ part r v m p. or_unknown e (is_open r) (flag_of part r) v (flag86 e part r v p);
+  flag = λ part r v m p. or_unknown e (is_open r) (flag_term_of part r) v (flag86 e part r v p);
   sum16 = λ a b v m n p. or_unknown e (is_open a || is_open b) (sum_of a b) v (sum86 e a b v p);
   high = λ w v m. high86 e w v;
   low = λ w v m. low86 e w v;

@@ -6,23 +6,23 @@ use Rattle.sym_terms.specs.declared.head.Term.{Term as TermId}
 use Rattle.sym_terms.specs.declared.head.Head.{Head}
 use Rattle.sym_terms.specs.declared.head.Head.TheVariants.{Num as NumHead, Alu as AluHead, Flag as FlagHead, Sum16 as Sum16Head, High as HighHead, Low as LowHead, Join as JoinHead, FlagByte as FlagByteHead, Bit as BitHead, Turn as TurnHead, Turned as TurnedHead, Adjust as AdjustHead}
 use Rattle.sym_terms.specs.Term.{Term, Num, Sum16, High, Low, Join, FlagByte, is_open, is_word, is_adjusted, same_term, Unknown, Turn, Turned}
-use Rattle.sym_terms.specs.Making.{IsMade, gathered, plus, join, turn, turn_or_turned}
-use Rattle.sym_terms.specs.Heads.{operands, number_of, term_of}
-use Rattle.sym_terms.specs.Trees.{tree_of_head, entries_of, tree_in, StandsFor, IsGiven, AreGiven, Grows, Makes, MakesRest, AreTerms}
+use Rattle.sym_terms.specs.Making.{IsTermMade, regrouped, plus, join, turn, turn_or_turned}
+use Rattle.sym_terms.specs.Heads.{operands, number_of_id, term_of}
+use Rattle.sym_terms.specs.Trees.{tree_of_head, entries_of, tree_in, StandsFor, IsGiven, AreGiven, PoolGrows, Makes, MakesRest, AreTerms}
 use Rattle.sym_terms.proofs.Equal.{same_term-true, same_term_refl}
 use Rattle.sym_terms.proofs.Sorts.{gathered_made}
 use Rattle.sym_terms.proofs.Interning.{more, still}
 
 -- what is given stays, with its term
 
-pub same_tree : (old new : Contents) (count : ℕ) → Grows old new count → (t : TermId) → IsGiven old t → tree_in old t ≡ tree_in new t
+pub same_tree : (old new : Contents) (count : ℕ) → PoolGrows old new count → (t : TermId) → IsGiven old t → tree_in old t ≡ tree_in new t
 same_tree old new count grows t given = sym (grows.kept t given).1
 
-pub still_given : (old new : Contents) (count : ℕ) → Grows old new count → (ts : List TermId) → AreGiven old ts → AreGiven new ts
+pub still_given : (old new : Contents) (count : ℕ) → PoolGrows old new count → (ts : List TermId) → AreGiven old ts → AreGiven new ts
 still_given old new count grows [] given = tt
 still_given old new count grows (t ∷ ts) given = ((grows.kept t given.0).0, still_given old new count grows ts given.1)
 
-pub same_head : (old new : Contents) (count : ℕ) → Grows old new count → (h : Head) → AreGiven old (operands h) → tree_of_head (entries_of old.nodes) h ≡ tree_of_head (entries_of new.nodes) h
+pub same_head : (old new : Contents) (count : ℕ) → PoolGrows old new count → (h : Head) → AreGiven old (operands h) → tree_of_head (entries_of old.nodes) h ≡ tree_of_head (entries_of new.nodes) h
 same_head old new count grows (AluHead op a b c) given =
     let is_a : tree_in old a ≡ tree_in new a = same_tree old new count grows a given.0 in
     let is_b : tree_in old b ≡ tree_in new b = same_tree old new count grows b given.1.0 in
@@ -106,10 +106,10 @@ join_adjusted h l w w' eh el a =
     either false = refl
 
 -- a sum with a number, where neither word is open
-pub gathered_is_made : (a b : Term) (n : ℕ) → IsMade a → is_word a ≡ true → b ≡ Num n → n < 0x10000 → (is_open a || is_open b) ≡ false → IsMade (gathered a n)
+pub gathered_is_made : (a b : Term) (n : ℕ) → IsTermMade a → is_word a ≡ true → b ≡ Num n → n < 0x10000 → (is_open a || is_open b) ≡ false → IsTermMade (regrouped a n)
 gathered_is_made a b n made sort e below o =
     let o' : (is_open a || false) ≡ false = ap (λ x. is_open a || is_open x) (sym e) ∙ o in
-    (gathered_made a n below (made, sort) (ap (λ x. cond x Unknown (gathered a n)) o')).0
+    (gathered_made a n below (made, sort) (ap (λ x. cond x Unknown (regrouped a n)) o')).0
 
 pub makes_given : (held : Contents) (t : TermId) (tree : Term) → AreTerms held → StandsFor held t tree → Makes held held 1 tree (Some t)
 makes_given held t tree terms h = record {
@@ -121,14 +121,14 @@ makes_given held t tree terms h = record {
 
 -- ids by number
 
-pub same_ids : (s t : TermId) → (number_of s == number_of t) ≡ true → s ≡ t
-same_ids s t e = ap term_of (eqb-true (number_of s) (number_of t) e)
+pub same_ids : (s t : TermId) → (number_of_id s == number_of_id t) ≡ true → s ≡ t
+same_ids s t e = ap term_of (eqb-true (number_of_id s) (number_of_id t) e)
 
 -- different ids stand for different terms
-pub apart : (held : Contents) → AreTerms held → (s t : TermId) → IsGiven held s → IsGiven held t → (number_of s == number_of t) ≡ false → tree_in held t ≡ tree_in held s → ⊥
+pub apart : (held : Contents) → AreTerms held → (s t : TermId) → IsGiven held s → IsGiven held t → (number_of_id s == number_of_id t) ≡ false → tree_in held t ≡ tree_in held s → ⊥
 apart held terms s t gs gt e same =
     let ids : t ≡ s = terms.shared t s gt gs same in
-    let equal : (number_of s == number_of t) ≡ true = eq-eqb (number_of s) (number_of t) (ap number_of (sym ids)) in
+    let equal : (number_of_id s == number_of_id t) ≡ true = eq-eqb (number_of_id s) (number_of_id t) (ap number_of_id (sym ids)) in
     let differ : true ≡ false = sym equal ∙ e in
     cc
 
@@ -151,11 +151,11 @@ turn_open kind a c d o =
 
 -- a number is added to a word that is no number, and no sum with one
 
-pub gathered_sum : (old : Contents) (x : Term) (h : Head) (n : ℕ) → ((m : ℕ) → h ≡ NumHead m → ⊥) → gathered (Sum16 x (tree_of_head (entries_of old.nodes) h)) n ≡ plus (Sum16 x (tree_of_head (entries_of old.nodes) h)) n
+pub gathered_sum : (old : Contents) (x : Term) (h : Head) (n : ℕ) → ((m : ℕ) → h ≡ NumHead m → ⊥) → regrouped (Sum16 x (tree_of_head (entries_of old.nodes) h)) n ≡ plus (Sum16 x (tree_of_head (entries_of old.nodes) h)) n
 gathered_sum old x (NumHead m) n d = absurd (d m refl)
 gathered_sum old x h n d = refl
 
-pub gathered_plain : (old : Contents) (h : Head) (n : ℕ) → ((m : ℕ) → h ≡ NumHead m → ⊥) → ((a b : TermId) → h ≡ Sum16Head a b → ⊥) → gathered (tree_of_head (entries_of old.nodes) h) n ≡ plus (tree_of_head (entries_of old.nodes) h) n
+pub gathered_plain : (old : Contents) (h : Head) (n : ℕ) → ((m : ℕ) → h ≡ NumHead m → ⊥) → ((a b : TermId) → h ≡ Sum16Head a b → ⊥) → regrouped (tree_of_head (entries_of old.nodes) h) n ≡ plus (tree_of_head (entries_of old.nodes) h) n
 gathered_plain old (NumHead m) n d f = absurd (d m refl)
 gathered_plain old (Sum16Head a b) n d f = absurd (f a b refl)
 gathered_plain old h n d f = refl

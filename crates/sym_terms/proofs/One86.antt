@@ -7,10 +7,10 @@ use Rattle.cells.specs.declared.Part.TheVariants.{S, Z, Ac, P, Cy}
 use Rattle.cells.specs.Conditions.{flags_of_byte}
 use Rattle.i80.specs.declared.Op.{Op}
 use Rattle.i80.specs.declared.Op.TheVariants.{Add, Adc, Sub, Sbb, Ana, Xra, Ora, Cmp}
-use Rattle.base_arithmetic.specs.Arithmetic.{as_bit}
-use Rattle.base_arithmetic.specs.Operations.{flags_by, result_of, flags_of}
+use Rattle.base_arithmetic_def.specs.Arithmetic.{as_bit}
+use Rattle.base_arithmetic_def.specs.Operations.{flags_by, result_of, flags_of}
 use Rattle.sym_terms.specs.Term.{Term, Num, Start, StartSp, Loaded8, Loaded16, Alu, Flag, Sum16, High, Low, Join, FlagByte, Bit, Turn, Turned, Adjust, Code, Unknown, is_open, is_adjusted, leaves_flag, is_flag}
-use Rattle.sym_terms.specs.Making.{IsMade, flag, is_addition}
+use Rattle.sym_terms.specs.Making.{IsTermMade, flag, is_addition}
 use Rattle.sym_terms.specs.Values80.{flag_in, turn_result, turn_flags, turn_carry}
 use Rattle.sym_terms.specs.Values86.{Number, Result, Env86, LoadedByte, LoadedWord, Val86, number_by, result_by, MayBe}
 use Rattle.sym_terms.specs.Laws.{OneValue86}
@@ -90,7 +90,7 @@ flag_same : (part : Part) (f g : Flags) (i j : ℕ) → known_at f part → f �
 flag_same part f g i j k e p q =
     known_bit (flag_in f part) k.0 i k.1 p ∙ sym (known_bit (flag_in g part) k.0 j (ap (λ h. flag_in h part) (sym e) ∙ k.1) q)
 
-pub one86 : (e : Env86) (t : Term) → IsMade t → is_open t ≡ false → is_adjusted t ≡ false → OneValue86 (Val86 e t)
+pub one86 : (e : Env86) (t : Term) → IsTermMade t → is_open t ≡ false → is_adjusted t ≡ false → OneValue86 (Val86 e t)
 one86 e (Num n) m o u = one_number _ (λ i j p q. p ∙ sym q)
 one86 e (Start part) m o u = one_number _ (λ i j p q. p ∙ sym q)
 one86 e StartSp m o u = one_number _ (λ i j p q. p ∙ sym q)

@@ -4,14 +4,14 @@ use Rattle.std.specs.List.{slice_get}
 use Rattle.std.proofs.lemmas.Option.{slice_get_within}
 use Rattle.cells.specs.declared.Place.TheVariants.{At, Exit}
 use Rattle.xlt_pool.specs.declared.node.Node.{Node}
-use Rattle.xlt_pool.specs.Contents.{StandsAt}
+use Rattle.xlt_pool.specs.Contents.{NodeStandsAt}
 use Rattle.sym_terms.specs.declared.head.Term.{Term as TermId}
 use Rattle.sym_terms.specs.declared.head.Head.{Head}
 use Rattle.sym_terms.specs.declared.head.Head.TheVariants.{FlagByte as FlagByteHead, Code as CodeHead}
 use Rattle.sym_terms.specs.declared.numbers.Kind.TheVariants.{FlagByte as FlagByteKind}
 use Rattle.sym_terms.specs.Numbers.{kind_of}
 use Rattle.sym_terms.specs.Term.{Term, is_adjusted}
-use Rattle.sym_terms.specs.Heads.{operands, is_flag_byte, node_of, marked, head_by, number_of, term_of}
+use Rattle.sym_terms.specs.Heads.{operands, is_flag_byte_head, node_of, marked_node, head_by, number_of_id, term_of}
 use Rattle.sym_terms.specs.Trees.{Entry, Tree, Rest, tree_at, tree_of_head, AreTrees, entry_of, entries_of}
 use Rattle.sym_terms.specs.Forms.{HasRest, IsFormed, IsHeadNode, IsTermList}
 use Rattle.sym_terms.proofs.Entries.{length-entries_of}
@@ -24,7 +24,7 @@ entry_within nodes k entry h =
     let below : k < length (entries_of nodes) = slice_get_within (entries_of nodes) k entry h in
     omega (arith, length-entries_of nodes)
 
-plain_head : (h : Head) (r : ℕ) → (kind_of (node_of h r).op ≡ FlagByteKind → ⊥) → is_flag_byte h ≡ false
+plain_head : (h : Head) (r : ℕ) → (kind_of (node_of h r).op ≡ FlagByteKind → ⊥) → is_flag_byte_head h ≡ false
 plain_head (FlagByteHead s z ac p cy) r f = absurd (f refl)
 plain_head h r f = refl
 
@@ -43,22 +43,22 @@ read_plain nodes n p f =
     ∙ head_back p.head p.further (plain_head p.head p.further (λ q. f (kind_said (entries_of nodes) n p ∙ q)))
 
 -- the further node of a FlagByte gives its last three flags
-rest_is : (nodes : List Node) → IsTermList nodes → (rest : ℕ) (r : Node) (ac p cy : TermId) → StandsAt nodes rest r → slice_get (entries_of nodes) rest ≡ Some (Rest (tree_at (entries_of nodes) (number_of ac)) (tree_at (entries_of nodes) (number_of p)) (tree_at (entries_of nodes) (number_of cy)))
+rest_is : (nodes : List Node) → IsTermList nodes → (rest : ℕ) (r : Node) (ac p cy : TermId) → NodeStandsAt nodes rest r → slice_get (entries_of nodes) rest ≡ Some (Rest (tree_at (entries_of nodes) (number_of_id ac)) (tree_at (entries_of nodes) (number_of_id p)) (tree_at (entries_of nodes) (number_of_id cy)))
     → AreTrees (entries_of nodes) (ac ∷ p ∷ cy ∷ []) → (term_of r.a ≡ ac) × (term_of r.b ≡ p) × (term_of r.c ≡ cy)
 rest_is nodes list rest r ac p cy stands given trees = by_form (node_formed nodes list rest r stands)
   where
     es : List Entry
     es = entries_of nodes
 
-    entry : Some (entry_of es r) ≡ Some (Rest (tree_at es (number_of ac)) (tree_at es (number_of p)) (tree_at es (number_of cy)))
+    entry : Some (entry_of es r) ≡ Some (Rest (tree_at es (number_of_id ac)) (tree_at es (number_of_id p)) (tree_at es (number_of_id cy)))
     entry = sym (node_entry nodes list rest r stands) ∙ given
 
     by_form : IsFormed es r → (term_of r.a ≡ ac) × (term_of r.b ≡ p) × (term_of r.c ≡ cy)
     by_form (inl q) =
-        let differ : Some (Tree (tree_of_head es q.head)) ≡ Some (Rest (tree_at es (number_of ac)) (tree_at es (number_of p)) (tree_at es (number_of cy))) = sym (ap Some (head_entry es r q)) ∙ entry in
+        let differ : Some (Tree (tree_of_head es q.head)) ≡ Some (Rest (tree_at es (number_of_id ac)) (tree_at es (number_of_id p)) (tree_at es (number_of_id cy))) = sym (ap Some (head_entry es r q)) ∙ entry in
         absurd (cc)
     by_form (inr q) =
-        let same : Some (Rest (tree_at es (number_of q.ac)) (tree_at es (number_of q.p)) (tree_at es (number_of q.cy))) ≡ Some (Rest (tree_at es (number_of ac)) (tree_at es (number_of p)) (tree_at es (number_of cy))) = sym (ap Some (rest_entry es r q)) ∙ entry in (
+        let same : Some (Rest (tree_at es (number_of_id q.ac)) (tree_at es (number_of_id q.p)) (tree_at es (number_of_id q.cy))) ≡ Some (Rest (tree_at es (number_of_id ac)) (tree_at es (number_of_id p)) (tree_at es (number_of_id cy))) = sym (ap Some (rest_entry es r q)) ∙ entry in (
           ap (λ m. term_of m.a) q.is ∙ same_id es list.distinct q.ac ac q.given.0 trees.0 (cc),
           ap (λ m. term_of m.b) q.is ∙ same_id es list.distinct q.p p q.given.1.0 trees.1.0 (cc),
           ap (λ m. term_of m.c) q.is ∙ same_id es list.distinct q.cy cy q.given.1.1.0 trees.1.1.0 (cc),
@@ -68,22 +68,22 @@ rest_is nodes list rest r ac p cy stands given trees = by_form (node_formed node
 pub rest_within : (nodes : List Node) (n : Node) (p : IsHeadNode (entries_of nodes) n) → kind_of n.op ≡ FlagByteKind → n.c < length nodes
 rest_within nodes n p f = by_head p.head p.further (mark (entries_of nodes) n p) p.is (sym (kind_said (entries_of nodes) n p) ∙ f) p.rest
   where
-    by_head : (h : Head) (r : ℕ) (m : Bool) → n ≡ marked m (node_of h r) → kind_of (node_of h r).op ≡ FlagByteKind → HasRest (entries_of nodes) h r → n.c < length nodes
-    by_head (FlagByteHead s z ac p cy) r m e f q = subst (λ k. k < length nodes) (sym (ap (λ x. x.c) e ∙ c_marked m (node_of (FlagByteHead s z ac p cy) r))) (entry_within nodes r (Rest (tree_at (entries_of nodes) (number_of ac)) (tree_at (entries_of nodes) (number_of p)) (tree_at (entries_of nodes) (number_of cy))) q)
+    by_head : (h : Head) (r : ℕ) (m : Bool) → n ≡ marked_node m (node_of h r) → kind_of (node_of h r).op ≡ FlagByteKind → HasRest (entries_of nodes) h r → n.c < length nodes
+    by_head (FlagByteHead s z ac p cy) r m e f q = subst (λ k. k < length nodes) (sym (ap (λ x. x.c) e ∙ c_marked m (node_of (FlagByteHead s z ac p cy) r))) (entry_within nodes r (Rest (tree_at (entries_of nodes) (number_of_id ac)) (tree_at (entries_of nodes) (number_of_id p)) (tree_at (entries_of nodes) (number_of_id cy))) q)
     by_head (CodeHead (At a) high) r m e f q = absurd (cc)
     by_head (CodeHead Exit high) r m e f q = absurd (cc)
     by_head h r m e f q = absurd (cc)
 
-pub read_flags : (nodes : List Node) → IsTermList nodes → (n r : Node) (p : IsHeadNode (entries_of nodes) n) → kind_of n.op ≡ FlagByteKind → StandsAt nodes n.c r → FlagByteHead (term_of n.a) (term_of n.b) (term_of r.a) (term_of r.b) (term_of r.c) ≡ p.head
+pub read_flags : (nodes : List Node) → IsTermList nodes → (n r : Node) (p : IsHeadNode (entries_of nodes) n) → kind_of n.op ≡ FlagByteKind → NodeStandsAt nodes n.c r → FlagByteHead (term_of n.a) (term_of n.b) (term_of r.a) (term_of r.b) (term_of r.c) ≡ p.head
 read_flags nodes list n r p f stands = by_head p.head p.further (mark (entries_of nodes) n p) p.is (sym (kind_said (entries_of nodes) n p) ∙ f) p.given p.rest
   where
-    by_head : (h : Head) (k : ℕ) (m : Bool) → n ≡ marked m (node_of h k) → kind_of (node_of h k).op ≡ FlagByteKind → AreTrees (entries_of nodes) (operands h) → HasRest (entries_of nodes) h k
+    by_head : (h : Head) (k : ℕ) (m : Bool) → n ≡ marked_node m (node_of h k) → kind_of (node_of h k).op ≡ FlagByteKind → AreTrees (entries_of nodes) (operands h) → HasRest (entries_of nodes) h k
         → FlagByteHead (term_of n.a) (term_of n.b) (term_of r.a) (term_of r.b) (term_of r.c) ≡ h
     by_head (FlagByteHead s z ac p cy) k m e f g q =
         let is_s : term_of n.a ≡ s = ap term_of (ap (λ x. x.a) e ∙ a_marked m (node_of (FlagByteHead s z ac p cy) k)) in
         let is_z : term_of n.b ≡ z = ap term_of (ap (λ x. x.b) e ∙ b_marked m (node_of (FlagByteHead s z ac p cy) k)) in
         let further : n.c ≡ k = ap (λ x. x.c) e ∙ c_marked m (node_of (FlagByteHead s z ac p cy) k) in
-        let last = rest_is nodes list k r ac p cy (subst (λ j. StandsAt nodes j r) further stands) q g.1.1 in
+        let last = rest_is nodes list k r ac p cy (subst (λ j. NodeStandsAt nodes j r) further stands) q g.1.1 in
         ap (λ x. FlagByteHead x (term_of n.b) (term_of r.a) (term_of r.b) (term_of r.c)) is_s
         ∙ ap (λ x. FlagByteHead s x (term_of r.a) (term_of r.b) (term_of r.c)) is_z
         ∙ ap (λ x. FlagByteHead s z x (term_of r.b) (term_of r.c)) last.0

@@ -2,7 +2,7 @@
 use Rattle.std.proofs.Common.{◌≡◌, ℕ, ◌+◌, arith, ap}
 use Rattle.cells.specs.declared.Part.{Part}
 use Rattle.cells.specs.declared.Part.TheVariants.{S, Z, Ac, P, Cy}
-use Rattle.sym_terms.specs.Making.{one_of}
+use Rattle.sym_terms.specs.Making.{chosen_flag}
 use Rattle.sym_terms.specs.Term.{Term, Num, Start, StartSp, Loaded8, Loaded16, Alu, Flag, Sum16, High, Low, Join, FlagByte, Bit, Turn, Turned, Adjust, Code, Unknown}
 
 abbrev pub size : Term → ℕ
@@ -37,7 +37,7 @@ sum_is_larger a b c e = let s : size a ≡ 1 + (1 + size a + size b) + size c = 
 pub sum_is_larger_than : (a b : Term) → a ≡ Sum16 a b → ⊥
 sum_is_larger_than a b e = let s : size a ≡ 1 + size a + size b = ap size e in omega arith
 
-pub bit_is_larger : (s z ac p cy : Term) (part : Part) → one_of s z ac p cy part ≡ Bit (FlagByte s z ac p cy) part → ⊥
+pub bit_is_larger : (s z ac p cy : Term) (part : Part) → chosen_flag s z ac p cy part ≡ Bit (FlagByte s z ac p cy) part → ⊥
 bit_is_larger s z ac p cy S e = let h : size s ≡ 1 + (1 + size s + size z + size ac + size p + size cy) = ap size e in omega arith
 bit_is_larger s z ac p cy Z e = let h : size z ≡ 1 + (1 + size s + size z + size ac + size p + size cy) = ap size e in omega arith
 bit_is_larger s z ac p cy Ac e = let h : size ac ≡ 1 + (1 + size s + size z + size ac + size p + size cy) = ap size e in omega arith

@@ -5,7 +5,7 @@ use Rattle.std.proofs.lemmas.Bool.{ltb-true, lt-ltb}
 use Rattle.cells.specs.declared.Part.{Part}
 use Rattle.cells.specs.declared.Part.TheVariants.{S, Z, Ac, P, Cy}
 use Rattle.sym_terms.specs.Term.{Term, Num, Start, StartSp, Loaded16, Alu, Flag, Sum16, High, Low, Join, FlagByte, Bit, Turn, Turned, Adjust, Unknown, is_adjusted, is_flag, is_bit, is_byte, is_word, leaves_flag, is_open, is_open_itself, shows_open, same_term}
-use Rattle.sym_terms.specs.Making.{flag, flag_of, carry_flag, half_carry_flag, is_logic, is_addition, sum16, sum_of, gathered, plus, high, low, join, bit, one_of, IsMade}
+use Rattle.sym_terms.specs.Making.{flag, flag_term_of, carry_flag, half_carry_flag, is_logic, is_addition, sum16, sum_of, regrouped, plus, high, low, join, bit, chosen_flag, IsTermMade}
 use Rattle.sym_terms.specs.Laws.{IsMadeAs, MadeTermsHaveSorts}
 use Rattle.sym_terms.proofs.Size.{high_is_larger, low_is_larger, sum_is_larger, sum_is_larger_than, bit_is_larger}
 
@@ -20,7 +20,7 @@ closed true t u e differs = absurd (differs e)
 closed false t u e differs = refl
 
 -- the operand of a half that is left as it stands is not open
-pub high_closed : (w : Term) → IsMade w → is_word w ≡ true → high w ≡ High w → is_open w ≡ false
+pub high_closed : (w : Term) → IsTermMade w → is_word w ≡ true → high w ≡ High w → is_open w ≡ false
 high_closed (Num n) m s e = refl
 high_closed StartSp m s e = refl
 high_closed (Loaded16 k) m s e = refl
@@ -30,7 +30,7 @@ high_closed (Turned c) m s e = absurd (cc)
 high_closed Unknown m s e = absurd (cc)
 high_closed w m s e = absurd (cc)
 
-pub low_closed : (w : Term) → IsMade w → is_word w ≡ true → low w ≡ Low w → is_open w ≡ false
+pub low_closed : (w : Term) → IsTermMade w → is_word w ≡ true → low w ≡ Low w → is_open w ≡ false
 low_closed (Num n) m s e = refl
 low_closed StartSp m s e = refl
 low_closed (Loaded16 k) m s e = refl
@@ -50,7 +50,7 @@ bit_closed (Turned c) part h e o = absurd (cc)
 bit_closed Unknown part h e o = absurd (cc)
 bit_closed b part h e o = o
 
-pub open_shows : (t : Term) → IsMade t → is_open t ≡ shows_open t
+pub open_shows : (t : Term) → IsTermMade t → is_open t ≡ shows_open t
 open_shows (Alu op a b c) m = closed _ _ (Alu op a b c) m.6 (λ q. cc)
 open_shows (Flag part r) m = closed _ _ (Flag part r) m.2 (λ q. cc)
 open_shows (Sum16 a b) m = closed _ _ (Sum16 a b) m.4 (λ q. cc)
@@ -92,7 +92,7 @@ leaves_is_flag Cy (Turn kind a c) h = refl
 leaves_is_flag part (Turn kind a c) h = absurd (cc)
 leaves_is_flag part r h = absurd (cc)
 
-carry_made : (r : Term) → IsMade r → leaves_flag Cy r ≡ true → flag Cy r ≡ carry_flag r → IsMadeAs is_bit (carry_flag r)
+carry_made : (r : Term) → IsTermMade r → leaves_flag Cy r ≡ true → flag Cy r ≡ carry_flag r → IsMadeAs is_bit (carry_flag r)
 carry_made (Alu op a b c) m h e = by_op (is_logic op) refl
   where
     by_op : (x : Bool) → is_logic op ≡ x → IsMadeAs is_bit (cond x (Num 0) (Flag Cy (Alu op a b c)))
@@ -103,7 +103,7 @@ carry_made (Adjust a ac cy) m h e = ((m, refl, e), refl)
 carry_made Unknown m h e = absurd (cc)
 carry_made r m h e = absurd (cc)
 
-half_carry_made : (r : Term) → IsMade r → leaves_flag Ac r ≡ true → flag Ac r ≡ half_carry_flag r → IsMadeAs is_bit (half_carry_flag r)
+half_carry_made : (r : Term) → IsTermMade r → leaves_flag Ac r ≡ true → flag Ac r ≡ half_carry_flag r → IsMadeAs is_bit (half_carry_flag r)
 half_carry_made (Alu op a b c) m h e = by_op (is_addition op) refl
   where
     by_op : (x : Bool) → is_addition op ≡ x → IsMadeAs is_bit (cond x (Flag Ac (Alu op a b c)) Unknown)
@@ -111,7 +111,7 @@ half_carry_made (Alu op a b c) m h e = by_op (is_addition op) refl
     by_op false q = (tt, refl)
 half_carry_made r m h e = (tt, refl)
 
-flag_made : (part : Part) (r : Term) → IsMade r → leaves_flag part r ≡ true → is_flag part ≡ true → flag part r ≡ flag_of part r → IsMadeAs is_bit (flag_of part r)
+flag_made : (part : Part) (r : Term) → IsTermMade r → leaves_flag part r ≡ true → is_flag part ≡ true → flag part r ≡ flag_term_of part r → IsMadeAs is_bit (flag_term_of part r)
 flag_made S r m h f e = ((m, h, e), refl)
 flag_made Z r m h f e = ((m, h, e), refl)
 flag_made Ac r m h f e = half_carry_made r m h e
@@ -138,7 +138,7 @@ sum_again (Num k) m n e positive = absurd (cc)
 sum_again (Sum16 a (Num k)) m n e positive = absurd (no_sum_of_sum ((is_open a || false) || false) a ((k + m) % 0x10000) k m e)
 sum_again a m n e positive = ap (λ x. cond x Unknown (plus a n)) (closed (is_open a || false) (plus a m) (Sum16 a (Num m)) e (λ q. cc)) ∙ plus_is a n positive
 
-pub gathered_made : (a : Term) (n : ℕ) → n < 0x10000 → IsMadeAs is_word a → sum16 a (Num n) ≡ gathered a n → IsMadeAs is_word (gathered a n)
+pub gathered_made : (a : Term) (n : ℕ) → n < 0x10000 → IsMadeAs is_word a → sum16 a (Num n) ≡ regrouped a n → IsMadeAs is_word (regrouped a n)
 gathered_made (Num m) n h w e = let below : (m + n) % 0x10000 < 0x10000 = omega arith in (below, lt-ltb ((m + n) % 0x10000) 0x10000 below)
 gathered_made (Sum16 a (Num m)) n h w e =
     let below : (m + n) % 0x10000 < 0x10000 = omega arith in
@@ -187,7 +187,7 @@ join_made (Num h) (Num l) p q =
 join_made (High w) (Low w') p q = joined (same_term w w' && not (is_adjusted w)) w w' p q refl
 join_made h l p q = ((p.0, q.0, p.1, q.1, refl), refl)
 
-one_made : (s z ac p cy : Term) (part : Part) → IsMade (FlagByte s z ac p cy) → IsMadeAs is_bit (one_of s z ac p cy part)
+one_made : (s z ac p cy : Term) (part : Part) → IsTermMade (FlagByte s z ac p cy) → IsMadeAs is_bit (chosen_flag s z ac p cy part)
 one_made s z ac p cy S m = (m.0, m.5)
 one_made s z ac p cy Z m = (m.1, m.6)
 one_made s z ac p cy Ac m = (m.2, m.7)
@@ -206,7 +206,7 @@ sorts = record {
   bits_are_bytes = λ t m. (m.0, bit_is_byte t m.1);
   bytes_are_words = λ n below. (below, lt-ltb n 0x10000 below);
   alu = λ op a b c p q r. kept (IsMadeAs is_byte) (is_open a || (is_open b || is_open c)) (Alu op a b c) (tt, refl) (λ e. ((p.0, q.0, r.0, p.1, q.1, r.1, e), refl));
-  flag = λ part r p. kept (IsMadeAs is_bit) (is_open r) (flag_of part r) (tt, refl) (λ e. flag_made part r p.0 p.1 (leaves_is_flag part r p.1) e);
+  flag = λ part r p. kept (IsMadeAs is_bit) (is_open r) (flag_term_of part r) (tt, refl) (λ e. flag_made part r p.0 p.1 (leaves_is_flag part r p.1) e);
   sum16 = λ a b p q. kept (IsMadeAs is_word) (is_open a || is_open b) (sum_of a b) (tt, refl) (λ e. sum_made a b p q e);
   high = high_made;
   low = low_made;

@@ -9,10 +9,10 @@ use Rattle.sym_terms.specs.declared.head.Head.TheVariants.{Num as NumHead, Start
 use Rattle.sym_terms.specs.declared.numbers.Kind.{Kind}
 use Rattle.sym_terms.specs.declared.numbers.Kind.TheVariants.{Num as NumKind, Start as StartKind, StartSp as StartSpKind, Loaded8 as Loaded8Kind, Loaded16 as Loaded16Kind, Alu as AluKind, Flag as FlagKind, Sum16 as Sum16Kind, High as HighKind, Low as LowKind, Join as JoinKind, Bit as BitKind, Turn as TurnKind, Turned as TurnedKind, Adjust as AdjustKind, Code as CodeKind}
 use Rattle.sym_terms.specs.Making.{is_logic, is_addition}
-use Rattle.sym_terms.specs.Numbers.{part_number, part_of, op_number, op_of, bit_number, place_of}
+use Rattle.sym_terms.specs.Numbers.{part_number, part_numbered, op_number, op_numbered, bit_number, place_numbered}
 
-abbrev pub number_of : TermId → ℕ
-number_of t = t.0.0
+abbrev pub number_of_id : TermId → ℕ
+number_of_id t = t.0.0
 
 abbrev pub term_of : ℕ → TermId
 term_of id = record { 0 = record { 0 = id } }
@@ -31,9 +31,9 @@ operands (TurnedHead c) = c ∷ []
 operands (AdjustHead a ac cy) = a ∷ ac ∷ cy ∷ []
 operands h = []
 
-abbrev pub is_flag_byte : Head → Bool
-is_flag_byte (FlagByteHead s z ac p cy) = true
-is_flag_byte h = false
+abbrev pub is_flag_byte_head : Head → Bool
+is_flag_byte_head (FlagByteHead s z ac p cy) = true
+is_flag_byte_head h = false
 
 -- a node with a number and up to three operands
 abbrev pub node_with : ℕ → ℕ → ℕ → ℕ → ℕ → Node
@@ -51,47 +51,47 @@ node_of (StartHead part) rest = node_with 1 (part_number part) 0 0 0
 node_of StartSpHead rest = node_with 2 0 0 0 0
 node_of (Loaded8Head k) rest = node_with 3 k 0 0 0
 node_of (Loaded16Head k) rest = node_with 4 k 0 0 0
-node_of (AluHead op a b c) rest = node_with 5 (op_number op) (number_of a) (number_of b) (number_of c)
-node_of (FlagHead part r) rest = node_with 6 (part_number part) (number_of r) 0 0
-node_of (Sum16Head a b) rest = node_with 7 0 (number_of a) (number_of b) 0
-node_of (HighHead w) rest = node_with 8 0 (number_of w) 0 0
-node_of (LowHead w) rest = node_with 9 0 (number_of w) 0 0
-node_of (JoinHead h l) rest = node_with 10 0 (number_of h) (number_of l) 0
-node_of (FlagByteHead s z ac p cy) rest = node_with 11 0 (number_of s) (number_of z) rest
-node_of (BitHead b part) rest = node_with 13 (part_number part) (number_of b) 0 0
-node_of (TurnHead kind a c) rest = node_with 14 kind (number_of a) (number_of c) 0
-node_of (TurnedHead c) rest = node_with 15 0 (number_of c) 0 0
-node_of (AdjustHead a ac cy) rest = node_with 16 0 (number_of a) (number_of ac) (number_of cy)
+node_of (AluHead op a b c) rest = node_with 5 (op_number op) (number_of_id a) (number_of_id b) (number_of_id c)
+node_of (FlagHead part r) rest = node_with 6 (part_number part) (number_of_id r) 0 0
+node_of (Sum16Head a b) rest = node_with 7 0 (number_of_id a) (number_of_id b) 0
+node_of (HighHead w) rest = node_with 8 0 (number_of_id w) 0 0
+node_of (LowHead w) rest = node_with 9 0 (number_of_id w) 0 0
+node_of (JoinHead h l) rest = node_with 10 0 (number_of_id h) (number_of_id l) 0
+node_of (FlagByteHead s z ac p cy) rest = node_with 11 0 (number_of_id s) (number_of_id z) rest
+node_of (BitHead b part) rest = node_with 13 (part_number part) (number_of_id b) 0 0
+node_of (TurnHead kind a c) rest = node_with 14 kind (number_of_id a) (number_of_id c) 0
+node_of (TurnedHead c) rest = node_with 15 0 (number_of_id c) 0 0
+node_of (AdjustHead a ac cy) rest = node_with 16 0 (number_of_id a) (number_of_id ac) (number_of_id cy)
 node_of (CodeHead q high) rest = code_node q high
 node_of UnknownHead rest = node_with 18 0 0 0 0
 
 -- a node marked where an Adjust stands in its term
-abbrev pub marked : Bool → Node → Node
-marked true n = record { op = n.op + 32; num = n.num; a = n.a; b = n.b; c = n.c }
-marked false n = n
+abbrev pub marked_node : Bool → Node → Node
+marked_node true n = record { op = n.op + 32; num = n.num; a = n.a; b = n.b; c = n.c }
+marked_node false n = n
 
 -- the further node of a FlagByte, which is no term by itself and has no mark
 abbrev pub rest_node : TermId → TermId → TermId → Node
-rest_node ac p cy = node_with 12 0 (number_of ac) (number_of p) (number_of cy)
+rest_node ac p cy = node_with 12 0 (number_of_id ac) (number_of_id p) (number_of_id cy)
 
 -- the head of a node of any other kind
 abbrev pub head_by : Kind → Node → Head
 head_by NumKind n = NumHead n.num
-head_by StartKind n = StartHead (part_of n.num)
+head_by StartKind n = StartHead (part_numbered n.num)
 head_by StartSpKind n = StartSpHead
 head_by Loaded8Kind n = Loaded8Head n.num
 head_by Loaded16Kind n = Loaded16Head n.num
-head_by AluKind n = AluHead (op_of n.num) (term_of n.a) (term_of n.b) (term_of n.c)
-head_by FlagKind n = FlagHead (part_of n.num) (term_of n.a)
+head_by AluKind n = AluHead (op_numbered n.num) (term_of n.a) (term_of n.b) (term_of n.c)
+head_by FlagKind n = FlagHead (part_numbered n.num) (term_of n.a)
 head_by Sum16Kind n = Sum16Head (term_of n.a) (term_of n.b)
 head_by HighKind n = HighHead (term_of n.a)
 head_by LowKind n = LowHead (term_of n.a)
 head_by JoinKind n = JoinHead (term_of n.a) (term_of n.b)
-head_by BitKind n = BitHead (term_of n.a) (part_of n.num)
+head_by BitKind n = BitHead (term_of n.a) (part_numbered n.num)
 head_by TurnKind n = TurnHead n.num (term_of n.a) (term_of n.b)
 head_by TurnedKind n = TurnedHead (term_of n.a)
 head_by AdjustKind n = AdjustHead (term_of n.a) (term_of n.b) (term_of n.c)
-head_by CodeKind n = CodeHead (place_of n.b n.num) (n.a == 1)
+head_by CodeKind n = CodeHead (place_numbered n.b n.num) (n.a == 1)
 head_by kind n = UnknownHead
 
 -- tests of heads: one that is open, a logic operation, an addition

@@ -5,13 +5,13 @@ use Rattle.cells.specs.declared.Cell.{Cell}
 use Rattle.cells.specs.declared.Part.{Part}
 use Rattle.i80.specs.declared.Op.{Op}
 use Rattle.sym_terms.specs.Term.{Term, Num, Alu, Flag, Sum16, High, Low, Join, FlagByte, Bit, Turn, Turned, Adjust, is_flag, is_bit, is_byte, is_word, leaves_flag, is_open, is_adjusted, shows_open}
-use Rattle.sym_terms.specs.Making.{alu, flag, sum16, high, low, join, bit, turn, adjust, IsMade}
+use Rattle.sym_terms.specs.Making.{alu, flag, sum16, high, low, join, bit, turn, adjust, IsTermMade}
 use Rattle.sym_terms.specs.Values80.{Env80, Value80, Byte, Word, OneBit, Result, Val80}
 use Rattle.sym_terms.specs.Values86.{Env86, Value86, Number, Result as Result86, Val86}
 
 -- a term that is made, of a sort
 abbrev pub IsMadeAs : (Term → Bool) → Term → Type 0
-IsMadeAs sort t = IsMade t × (sort t ≡ true)
+IsMadeAs sort t = IsTermMade t × (sort t ≡ true)
 
 -- each value that an operation may have on operands of their sorts is one that the made term may have
 pub record KeepValues (V : Type 0) (Val : Term → V → Type 0) : Type 0 where
@@ -41,11 +41,11 @@ pub record MadeTermsKeepValues : Type 0 where
   pub on_8080 : (e : Env80) → KeepValues Value80 (Val80 e)
   pub on_8086 : (e : Env86) → KeepValues Value86 (Val86 e)
   pub one_on_8080 : (e : Env80) (t : Term) → OneValue80 (Val80 e t)
-  pub one_on_8086 : (e : Env86) (t : Term) → IsMade t → is_open t ≡ false → is_adjusted t ≡ false → OneValue86 (Val86 e t)
+  pub one_on_8086 : (e : Env86) (t : Term) → IsTermMade t → is_open t ≡ false → is_adjusted t ≡ false → OneValue86 (Val86 e t)
 
 -- what each maker makes is made, and of its sort; and what is open in a made term shows
 pub record MadeTermsHaveSorts : Type 0 where
-  pub open_shows : (t : Term) → IsMade t → is_open t ≡ shows_open t
+  pub open_shows : (t : Term) → IsTermMade t → is_open t ≡ shows_open t
   pub bits_are_bytes : (t : Term) → IsMadeAs is_bit t → IsMadeAs is_byte t
   pub bytes_are_words : (n : ℕ) → n < 0x10000 → IsMadeAs is_word (Num n)
   pub alu : (op : Op) (a b c : Term) → IsMadeAs is_byte a → IsMadeAs is_byte b → IsMadeAs is_bit c → IsMadeAs is_byte (alu op a b c)

@@ -31,26 +31,26 @@ abbrev pub half_carry_flag : Term → Term
 half_carry_flag (Alu op a b c) = cond (is_addition op) (Flag Ac (Alu op a b c)) Unknown
 half_carry_flag r = Unknown
 
-abbrev pub flag_of : Part → Term → Term
-flag_of Cy r = carry_flag r
-flag_of Ac r = half_carry_flag r
-flag_of part r = Flag part r
+abbrev pub flag_term_of : Part → Term → Term
+flag_term_of Cy r = carry_flag r
+flag_term_of Ac r = half_carry_flag r
+flag_term_of part r = Flag part r
 
 abbrev pub flag : Part → Term → Term
-flag part r = cond (is_open r) Unknown (flag_of part r)
+flag part r = cond (is_open r) Unknown (flag_term_of part r)
 
 -- numbers that are added are gathered, modulo 65,536, and 0 is left out
 abbrev pub plus : Term → ℕ → Term
 plus a zero = a
 plus a (suc n) = Sum16 a (Num (suc n))
 
-abbrev pub gathered : Term → ℕ → Term
-gathered (Num m) n = Num ((m + n) % 0x10000)
-gathered (Sum16 a (Num m)) n = plus a ((m + n) % 0x10000)
-gathered a n = plus a n
+abbrev pub regrouped : Term → ℕ → Term
+regrouped (Num m) n = Num ((m + n) % 0x10000)
+regrouped (Sum16 a (Num m)) n = plus a ((m + n) % 0x10000)
+regrouped a n = plus a n
 
 abbrev pub sum_of : Term → Term → Term
-sum_of a (Num n) = gathered a n
+sum_of a (Num n) = regrouped a n
 sum_of a b = Sum16 a b
 
 abbrev pub sum16 : Term → Term → Term
@@ -81,16 +81,16 @@ join (Num h) (Num l) = Num (256 * h + l)
 join (High w) (Low w') = cond (same_term w w' && not (is_adjusted w)) w (Join (High w) (Low w'))
 join h l = Join h l
 
-abbrev pub one_of : Term → Term → Term → Term → Term → Part → Term
-one_of s z ac p cy S = s
-one_of s z ac p cy Z = z
-one_of s z ac p cy Ac = ac
-one_of s z ac p cy P = p
-one_of s z ac p cy Cy = cy
-one_of s z ac p cy part = Unknown
+abbrev pub chosen_flag : Term → Term → Term → Term → Term → Part → Term
+chosen_flag s z ac p cy S = s
+chosen_flag s z ac p cy Z = z
+chosen_flag s z ac p cy Ac = ac
+chosen_flag s z ac p cy P = p
+chosen_flag s z ac p cy Cy = cy
+chosen_flag s z ac p cy part = Unknown
 
 abbrev pub bit : Term → Part → Term
-bit (FlagByte s z ac p cy) part = one_of s z ac p cy part
+bit (FlagByte s z ac p cy) part = chosen_flag s z ac p cy part
 bit Unknown part = Unknown
 bit b part = Bit b part
 
@@ -110,22 +110,22 @@ carry_of a b = flag Cy (alu Adc (high a) (high b) (flag Cy (alu Add (low a) (low
 
 -- A term that is made: its operands are made and of their sorts, and no equation applies to it, that is, making it of its operands
 -- gives the term itself.
-abbrev pub IsMade : Term → Type 0
-IsMade (Num n) = n < 0x10000
-IsMade (Start part) = Unit {0}
-IsMade StartSp = Unit {0}
-IsMade (Loaded8 k) = Unit {0}
-IsMade (Loaded16 k) = Unit {0}
-IsMade (Alu op a b c) = IsMade a × IsMade b × IsMade c × (is_byte a ≡ true) × (is_byte b ≡ true) × (is_bit c ≡ true) × (alu op a b c ≡ Alu op a b c)
-IsMade (Flag part r) = IsMade r × (leaves_flag part r ≡ true) × (flag part r ≡ Flag part r)
-IsMade (Sum16 a b) = IsMade a × IsMade b × (is_word a ≡ true) × (is_word b ≡ true) × (sum16 a b ≡ Sum16 a b)
-IsMade (High w) = IsMade w × (is_word w ≡ true) × (high w ≡ High w)
-IsMade (Low w) = IsMade w × (is_word w ≡ true) × (low w ≡ Low w)
-IsMade (Join h l) = IsMade h × IsMade l × (is_byte h ≡ true) × (is_byte l ≡ true) × (join h l ≡ Join h l)
-IsMade (FlagByte s z ac p cy) = IsMade s × IsMade z × IsMade ac × IsMade p × IsMade cy × (is_bit s ≡ true) × (is_bit z ≡ true) × (is_bit ac ≡ true) × (is_bit p ≡ true) × (is_bit cy ≡ true)
-IsMade (Bit b part) = IsMade b × (is_byte b ≡ true) × (is_flag part ≡ true) × (bit b part ≡ Bit b part)
-IsMade (Turn kind a c) = IsMade a × IsMade c × (kind < 4) × (is_byte a ≡ true) × (is_bit c ≡ true) × (turn kind a c ≡ Turn kind a c)
-IsMade (Turned c) = IsMade c × (is_bit c ≡ true)
-IsMade (Adjust a ac cy) = IsMade a × IsMade ac × IsMade cy × (is_byte a ≡ true) × (is_bit ac ≡ true) × (is_bit cy ≡ true) × (adjust a ac cy ≡ Adjust a ac cy)
-IsMade (Code q high) = Unit {0}
-IsMade Unknown = Unit {0}
+abbrev pub IsTermMade : Term → Type 0
+IsTermMade (Num n) = n < 0x10000
+IsTermMade (Start part) = Unit {0}
+IsTermMade StartSp = Unit {0}
+IsTermMade (Loaded8 k) = Unit {0}
+IsTermMade (Loaded16 k) = Unit {0}
+IsTermMade (Alu op a b c) = IsTermMade a × IsTermMade b × IsTermMade c × (is_byte a ≡ true) × (is_byte b ≡ true) × (is_bit c ≡ true) × (alu op a b c ≡ Alu op a b c)
+IsTermMade (Flag part r) = IsTermMade r × (leaves_flag part r ≡ true) × (flag part r ≡ Flag part r)
+IsTermMade (Sum16 a b) = IsTermMade a × IsTermMade b × (is_word a ≡ true) × (is_word b ≡ true) × (sum16 a b ≡ Sum16 a b)
+IsTermMade (High w) = IsTermMade w × (is_word w ≡ true) × (high w ≡ High w)
+IsTermMade (Low w) = IsTermMade w × (is_word w ≡ true) × (low w ≡ Low w)
+IsTermMade (Join h l) = IsTermMade h × IsTermMade l × (is_byte h ≡ true) × (is_byte l ≡ true) × (join h l ≡ Join h l)
+IsTermMade (FlagByte s z ac p cy) = IsTermMade s × IsTermMade z × IsTermMade ac × IsTermMade p × IsTermMade cy × (is_bit s ≡ true) × (is_bit z ≡ true) × (is_bit ac ≡ true) × (is_bit p ≡ true) × (is_bit cy ≡ true)
+IsTermMade (Bit b part) = IsTermMade b × (is_byte b ≡ true) × (is_flag part ≡ true) × (bit b part ≡ Bit b part)
+IsTermMade (Turn kind a c) = IsTermMade a × IsTermMade c × (kind < 4) × (is_byte a ≡ true) × (is_bit c ≡ true) × (turn kind a c ≡ Turn kind a c)
+IsTermMade (Turned c) = IsTermMade c × (is_bit c ≡ true)
+IsTermMade (Adjust a ac cy) = IsTermMade a × IsTermMade ac × IsTermMade cy × (is_byte a ≡ true) × (is_bit ac ≡ true) × (is_bit cy ≡ true) × (adjust a ac cy ≡ Adjust a ac cy)
+IsTermMade (Code q high) = Unit {0}
+IsTermMade Unknown = Unit {0}

@@ -23,8 +23,8 @@ part_number Ac = 9
 part_number P = 10
 part_number Cy = 11
 
-abbrev pub part_of : ℕ → Part
-part_of n = slice_index_or (A ∷ B ∷ C ∷ D ∷ E ∷ H ∷ L ∷ S ∷ Z ∷ Ac ∷ P ∷ Cy ∷ []) n A
+abbrev pub part_numbered : ℕ → Part
+part_numbered n = slice_index_or (A ∷ B ∷ C ∷ D ∷ E ∷ H ∷ L ∷ S ∷ Z ∷ Ac ∷ P ∷ Cy ∷ []) n A
 
 abbrev pub op_number : Op → ℕ
 op_number Add = 0
@@ -36,8 +36,8 @@ op_number Xra = 5
 op_number Ora = 6
 op_number Cmp = 7
 
-abbrev pub op_of : ℕ → Op
-op_of n = slice_index_or (Add ∷ Adc ∷ Sub ∷ Sbb ∷ Ana ∷ Xra ∷ Ora ∷ Cmp ∷ []) n Add
+abbrev pub op_numbered : ℕ → Op
+op_numbered n = slice_index_or (Add ∷ Adc ∷ Sub ∷ Sbb ∷ Ana ∷ Xra ∷ Ora ∷ Cmp ∷ []) n Add
 
 abbrev pub kind_number : Kind → ℕ
 kind_number Num = 0
@@ -60,12 +60,12 @@ kind_number Adjust = 16
 kind_number Code = 17
 kind_number Unknown = 18
 
-abbrev pub kinds : List Kind
-kinds = Num ∷ Start ∷ StartSp ∷ Loaded8 ∷ Loaded16 ∷ Alu ∷ Flag ∷ Sum16 ∷ High ∷ Low ∷ Join ∷ FlagByte ∷ Rest ∷ Bit ∷ Turn ∷ Turned ∷ Adjust ∷ Code ∷ Unknown ∷ []
+abbrev pub head_kinds : List Kind
+head_kinds = Num ∷ Start ∷ StartSp ∷ Loaded8 ∷ Loaded16 ∷ Alu ∷ Flag ∷ Sum16 ∷ High ∷ Low ∷ Join ∷ FlagByte ∷ Rest ∷ Bit ∷ Turn ∷ Turned ∷ Adjust ∷ Code ∷ Unknown ∷ []
 
 -- an `op` is the number of a kind, and 32 more where an Adjust stands in the term
 abbrev pub kind_of : ℕ → Kind
-kind_of op = slice_index_or kinds (op % 32) Unknown
+kind_of op = slice_index_or head_kinds (op % 32) Unknown
 
 abbrev pub says_adjusted : ℕ → Bool
 says_adjusted op = op / 32 == 1
@@ -75,5 +75,5 @@ bit_number true = 1
 bit_number false = 0
 
 -- an address, or EXIT where this number is not 0
-abbrev pub place_of : ℕ → ℕ → Place
-place_of zero_if_at address = cond (zero_if_at == 0) (At address) Exit
+abbrev pub place_numbered : ℕ → ℕ → Place
+place_numbered zero_if_at address = cond (zero_if_at == 0) (At address) Exit

@@ -10,24 +10,24 @@ use Rattle.sym_terms.specs.declared.numbers.Kind.{Kind}
 use Rattle.sym_terms.specs.declared.numbers.Kind.TheVariants.{FlagByte as FlagByteKind, Rest as RestKind}
 use Rattle.sym_terms.specs.Numbers.{kind_of}
 use Rattle.sym_terms.specs.Term.{Term, Num, Start, StartSp, Loaded8, Loaded16, Alu, Flag, Sum16, High, Low, Join, FlagByte, Bit, Turn, Turned, Adjust, Code, Unknown}
-use Rattle.sym_terms.specs.Making.{IsMade}
-use Rattle.sym_terms.specs.Heads.{head_by, number_of, operands}
+use Rattle.sym_terms.specs.Making.{IsTermMade}
+use Rattle.sym_terms.specs.Heads.{head_by, number_of_id, operands}
 
 -- what a node stands for: a term, or the last three flags of a FlagByte
 pub data Entry : Type 0 where
   Tree : (term : Term) → Entry
   Rest : (ac p cy : Term) → Entry
 
-abbrev pub tree_of : Entry → Term
-tree_of (Tree t) = t
-tree_of (Rest ac p cy) = Unknown
+abbrev pub term_of_entry : Entry → Term
+term_of_entry (Tree t) = t
+term_of_entry (Rest ac p cy) = Unknown
 
 abbrev pub tree_at : List Entry → ℕ → Term
-tree_at es id = tree_of (slice_index_or es id (Tree Unknown))
+tree_at es id = term_of_entry (slice_index_or es id (Tree Unknown))
 
 -- ids stand for terms
 abbrev pub IsTree : List Entry → TermId → Type 0
-IsTree es t = slice_get es (number_of t) ≡ Some (Tree (tree_at es (number_of t)))
+IsTree es t = slice_get es (number_of_id t) ≡ Some (Tree (tree_at es (number_of_id t)))
 
 abbrev pub AreTrees : List Entry → List TermId → Type 0
 AreTrees es [] = Unit {0}
@@ -40,17 +40,17 @@ tree_of_head es (StartHead part) = Start part
 tree_of_head es StartSpHead = StartSp
 tree_of_head es (Loaded8Head k) = Loaded8 k
 tree_of_head es (Loaded16Head k) = Loaded16 k
-tree_of_head es (AluHead op a b c) = Alu op (tree_at es (number_of a)) (tree_at es (number_of b)) (tree_at es (number_of c))
-tree_of_head es (FlagHead part r) = Flag part (tree_at es (number_of r))
-tree_of_head es (Sum16Head a b) = Sum16 (tree_at es (number_of a)) (tree_at es (number_of b))
-tree_of_head es (HighHead w) = High (tree_at es (number_of w))
-tree_of_head es (LowHead w) = Low (tree_at es (number_of w))
-tree_of_head es (JoinHead h l) = Join (tree_at es (number_of h)) (tree_at es (number_of l))
-tree_of_head es (FlagByteHead s z ac p cy) = FlagByte (tree_at es (number_of s)) (tree_at es (number_of z)) (tree_at es (number_of ac)) (tree_at es (number_of p)) (tree_at es (number_of cy))
-tree_of_head es (BitHead b part) = Bit (tree_at es (number_of b)) part
-tree_of_head es (TurnHead kind a c) = Turn kind (tree_at es (number_of a)) (tree_at es (number_of c))
-tree_of_head es (TurnedHead c) = Turned (tree_at es (number_of c))
-tree_of_head es (AdjustHead a ac cy) = Adjust (tree_at es (number_of a)) (tree_at es (number_of ac)) (tree_at es (number_of cy))
+tree_of_head es (AluHead op a b c) = Alu op (tree_at es (number_of_id a)) (tree_at es (number_of_id b)) (tree_at es (number_of_id c))
+tree_of_head es (FlagHead part r) = Flag part (tree_at es (number_of_id r))
+tree_of_head es (Sum16Head a b) = Sum16 (tree_at es (number_of_id a)) (tree_at es (number_of_id b))
+tree_of_head es (HighHead w) = High (tree_at es (number_of_id w))
+tree_of_head es (LowHead w) = Low (tree_at es (number_of_id w))
+tree_of_head es (JoinHead h l) = Join (tree_at es (number_of_id h)) (tree_at es (number_of_id l))
+tree_of_head es (FlagByteHead s z ac p cy) = FlagByte (tree_at es (number_of_id s)) (tree_at es (number_of_id z)) (tree_at es (number_of_id ac)) (tree_at es (number_of_id p)) (tree_at es (number_of_id cy))
+tree_of_head es (BitHead b part) = Bit (tree_at es (number_of_id b)) part
+tree_of_head es (TurnHead kind a c) = Turn kind (tree_at es (number_of_id a)) (tree_at es (number_of_id c))
+tree_of_head es (TurnedHead c) = Turned (tree_at es (number_of_id c))
+tree_of_head es (AdjustHead a ac cy) = Adjust (tree_at es (number_of_id a)) (tree_at es (number_of_id ac)) (tree_at es (number_of_id cy))
 tree_of_head es (CodeHead q high) = Code q high
 tree_of_head es UnknownHead = Unknown
 
@@ -74,12 +74,12 @@ entries_of nodes = fold (λ es n. es ++ entry_of es n ∷ []) [] nodes
 
 -- the FlagByte of five ids
 abbrev pub flag_byte_of : List Entry → List TermId → Term
-flag_byte_of es (s ∷ z ∷ ac ∷ p ∷ cy ∷ ts) = FlagByte (tree_at es (number_of s)) (tree_at es (number_of z)) (tree_at es (number_of ac)) (tree_at es (number_of p)) (tree_at es (number_of cy))
+flag_byte_of es (s ∷ z ∷ ac ∷ p ∷ cy ∷ ts) = FlagByte (tree_at es (number_of_id s)) (tree_at es (number_of_id z)) (tree_at es (number_of_id ac)) (tree_at es (number_of_id p)) (tree_at es (number_of_id cy))
 flag_byte_of es ts = Unknown
 
 -- the term of an id
 abbrev pub tree_in : Contents → TermId → Term
-tree_in held t = tree_at (entries_of held.nodes) (number_of t)
+tree_in held t = tree_at (entries_of held.nodes) (number_of_id t)
 
 -- ids are given: they stand for terms
 abbrev pub IsGiven : Contents → TermId → Type 0
@@ -105,12 +105,12 @@ pub record HasHead (held : Contents) (tree : Term) : Type 0 where
 
 -- the terms are made, no two ids stand for one term, and each term's operands are given
 pub record AreTerms (held : Contents) : Type 0 where
-  pub made : (t : TermId) → IsGiven held t → IsMade (tree_in held t)
+  pub made : (t : TermId) → IsGiven held t → IsTermMade (tree_in held t)
   pub shared : (s t : TermId) → IsGiven held s → IsGiven held t → tree_in held s ≡ tree_in held t → s ≡ t
   pub heads : (t : TermId) → IsGiven held t → HasHead held (tree_in held t)
 
 -- at most so many nodes join, and each id that was given keeps its term
-pub record Grows (old new : Contents) (count : ℕ) : Type 0 where
+pub record PoolGrows (old new : Contents) (count : ℕ) : Type 0 where
   pub added : List Node
   pub nodes : new.nodes ≡ old.nodes ++ added
   pub few : length added ≤ count
@@ -124,7 +124,7 @@ pub record HasNoRoomFor (held : Contents) (tree : Term) : Type 0 where
 
 -- The further node of a FlagByte. Where there is no room for it, there is none for a FlagByte with these last three flags.
 pub record MakesRest (old new : Contents) (ac p cy : Term) (made : Option Id) : Type 0 where
-  pub grows : Grows old new 1
+  pub grows : PoolGrows old new 1
   pub full : IsNone made → new.spare ≡ 0
   pub absent : IsNone made → (t : TermId) (s z : Term) → ¬ StandsFor new t (FlagByte s z ac p cy)
   pub gives : MatchOption made (Unit {0}) (λ id. slice_get (entries_of new.nodes) id.0 ≡ Some (Rest ac p cy))
@@ -134,7 +134,7 @@ pub record MakesRest (old new : Contents) (ac p cy : Term) (made : Option Id) : 
 -- A maker answers the id of a term, for which it adds at most so many nodes. There is none only where there is no room for it; with
 -- so much room there always is one.
 pub record Makes (old new : Contents) (count : ℕ) (tree : Term) (made : Option TermId) : Type 0 where
-  pub grows : Grows old new count
+  pub grows : PoolGrows old new count
   pub gives : MatchOption made (HasNoRoomFor new tree) (λ t. StandsFor new t tree)
   pub room : count ≤ old.spare → IsSome made
   pub terms : AreTerms new

@@ -2,7 +2,7 @@
 
 ghost use Rattle.std.specs.Prelude.{◌≡◌, ◌<◌, ◌≤◌, ◌||◌, Bool, true, false, cond, ℕ};
 ghost use Rattle.sym_terms.specs.Term.{Num, Start, StartSp, Loaded8, Loaded16, Sum16, Code, Unknown, is_open, is_byte, is_bit, is_word, is_flag, leaves_flag};
-ghost use Rattle.sym_terms.specs.Making.{IsMade, alu, flag, sum16, gathered, plus, high, low, half_of, join, bit, turn_or_turned, adjust};
+ghost use Rattle.sym_terms.specs.Making.{IsTermMade, alu, flag, sum16, regrouped, plus, high, low, half_of, join, bit, turn_or_turned, adjust};
 ghost use Rattle.sym_terms.specs.Heads.{opens, is_logic_head, is_addition_head};
 ghost use Rattle.sym_terms.specs.Trees.{tree_in, IsGiven, IsA, AreTerms, Makes};
 
@@ -118,8 +118,8 @@ impl Terms {
     // The sum of a word and a number; where the word is itself such a sum, the numbers are added.
     fn gathered(&mut self, a: Term, n: u16) -> Option<Term>
         requires given { IsGiven self.old a }
-        requires made { IsMade (gathered (tree_in self.old a) n) }
-        ensures { Makes self.old self.new 2 (gathered (tree_in self.old a) n) result }
+        requires made { IsTermMade (regrouped (tree_in self.old a) n) }
+        ensures { Makes self.old self.new 2 (regrouped (tree_in self.old a) n) result }
     {
         match self.head(a) {
             Head::Num(m) => self.number(m.wrapping_add(n)),
@@ -134,7 +134,7 @@ impl Terms {
     // A word and a number, of which 0 is left out.
     fn plus(&mut self, a: Term, n: u16) -> Option<Term>
         requires given { IsGiven self.old a }
-        requires made { IsMade (plus (tree_in self.old a) n) }
+        requires made { IsTermMade (plus (tree_in self.old a) n) }
         requires terms { AreTerms self.old }
         ensures { Makes self.old self.new 2 (plus (tree_in self.old a) n) result }
     {
@@ -263,7 +263,7 @@ impl Terms {
     fn is_open(&self, term: Term) -> bool
         requires { IsGiven self.now term }
         ensures open { result ≡ is_open (tree_in self.now term) }
-        ensures made { IsMade (tree_in self.now term) }
+        ensures made { IsTermMade (tree_in self.now term) }
         ensures terms { AreTerms self.now }
     {
         match self.head(term) {
@@ -276,8 +276,8 @@ impl Terms {
         requires a { IsGiven self.now a }
         requires b { IsGiven self.now b }
         ensures open { result ≡ (is_open (tree_in self.now a) || is_open (tree_in self.now b)) }
-        ensures a_made { IsMade (tree_in self.now a) }
-        ensures b_made { IsMade (tree_in self.now b) }
+        ensures a_made { IsTermMade (tree_in self.now a) }
+        ensures b_made { IsTermMade (tree_in self.now b) }
     {
         let a_open = self.is_open(a);
         let b_open = self.is_open(b);
@@ -289,9 +289,9 @@ impl Terms {
         requires b { IsGiven self.now b }
         requires c { IsGiven self.now c }
         ensures open { result ≡ (is_open (tree_in self.now a) || (is_open (tree_in self.now b) || is_open (tree_in self.now c))) }
-        ensures a_made { IsMade (tree_in self.now a) }
-        ensures b_made { IsMade (tree_in self.now b) }
-        ensures c_made { IsMade (tree_in self.now c) }
+        ensures a_made { IsTermMade (tree_in self.now a) }
+        ensures b_made { IsTermMade (tree_in self.now b) }
+        ensures c_made { IsTermMade (tree_in self.now c) }
     {
         let a_open = self.is_open(a);
         let others_open = self.either_open(b, c);

@@ -1,8 +1,8 @@
 // Heads as nodes, and nodes as heads.
 
 ghost use Rattle.std.specs.Prelude.{◌≡◌, ◌<◌};
-ghost use Rattle.sym_terms.specs.Heads.{node_of, marked, head_by, rest_node, node_with, code_node, term_of};
-ghost use Rattle.sym_terms.specs.Numbers.{kind_number, place_of};
+ghost use Rattle.sym_terms.specs.Heads.{node_of, marked_node, head_by, rest_node, node_with, code_node, term_of};
+ghost use Rattle.sym_terms.specs.Numbers.{kind_number, place_numbered};
 
 use crate::head::{Head, Term};
 use crate::numbers::{ADJUSTED, Kind, kind_number, op_number, op_of, part_number, part_of};
@@ -38,7 +38,7 @@ pub fn node_of(head: Head, rest: u32) -> Node
 /// A node marked where an Adjust stands in its term.
 pub fn marked(node: Node, adjusted: bool) -> Node
     requires { node.op < 32 }
-    ensures { result ≡ marked adjusted node }
+    ensures { result ≡ marked_node adjusted node }
 {
     if adjusted {
         Node {
@@ -106,7 +106,7 @@ pub fn head_by(kind: Kind, node: Node) -> Head
 }
 
 fn place_of(zero_if_at: u32, address: u16) -> Place
-    ensures { result ≡ place_of zero_if_at address }
+    ensures { result ≡ place_numbered zero_if_at address }
 {
     if zero_if_at == 0 {
         Place::At(address)

@@ -1,7 +1,7 @@
 // How a node says its term: a kind in `op`, with a number and up to three ids.
 
 ghost use Rattle.std.specs.Prelude.{◌≡◌, slice_index_or};
-ghost use Rattle.sym_terms.specs.Numbers.{part_number, part_of, op_number, op_of, kind_number, kind_of, says_adjusted};
+ghost use Rattle.sym_terms.specs.Numbers.{part_number, part_numbered, op_number, op_numbered, kind_number, kind_of, says_adjusted};
 
 use cells::{Part, Place};
 use i80::Op;
@@ -118,7 +118,7 @@ pub fn part_number(part: Part) -> u16
 }
 
 pub fn part_of(number: u16) -> Part
-    ensures { result ≡ part_of number }
+    ensures { result ≡ part_numbered number }
 {
     listed(&PARTS, number, Part::A)
 }
@@ -130,7 +130,7 @@ pub fn op_number(op: Op) -> u16
 }
 
 pub fn op_of(number: u16) -> Op
-    ensures { result ≡ op_of number }
+    ensures { result ≡ op_numbered number }
 {
     listed(&OPS, number, Op::Add)
 }

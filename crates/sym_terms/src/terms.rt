@@ -1,10 +1,10 @@
 // The terms: nodes in a pool.
 
 ghost use Rattle.std.specs.Prelude.{◌≡◌, ◌+◌, ◌-◌, ◌<◌, ◌≤◌, ℕ, Bool, false, [], All, IfOk, length, take};
-ghost use Rattle.xlt_pool.specs.Contents.{StandsAt};
-ghost use Rattle.sym_terms.specs.Making.{IsMade};
+ghost use Rattle.xlt_pool.specs.Contents.{NodeStandsAt};
+ghost use Rattle.sym_terms.specs.Making.{IsTermMade};
 ghost use Rattle.sym_terms.specs.Term.{FlagByte, is_bit, is_adjusted};
-ghost use Rattle.sym_terms.specs.Heads.{operands, is_flag_byte, number_of, term_of};
+ghost use Rattle.sym_terms.specs.Heads.{operands, is_flag_byte_head, number_of_id, term_of};
 ghost use Rattle.sym_terms.specs.Trees.{tree_of_head, entries_of, tree_in, flag_byte_of, StandsFor, IsGiven, AreGiven, IsA, AreTerms, Makes, MakesRest};
 ghost use Rattle.sym_terms.specs.Forms.{HasRest};
 
@@ -58,7 +58,7 @@ impl Terms {
         requires { mark.0 ≤ length self.old.nodes }
         ensures nodes { self.new.nodes ≡ take mark.0 self.old.nodes }
         ensures spare { self.new.spare ≡ self.old.spare + (length self.old.nodes - mark.0) }
-        ensures kept { (t : Term) → number_of t < mark.0 → IsGiven self.old t → StandsFor self.new t (tree_in self.old t) }
+        ensures kept { (t : Term) → number_of_id t < mark.0 → IsGiven self.old t → StandsFor self.new t (tree_in self.old t) }
         ensures terms { AreTerms self.new }
     {
         self.pool.reset(mark);
@@ -66,8 +66,8 @@ impl Terms {
 
     /// The node of a term.
     pub fn node(&self, term: Term) -> Node
-        requires { number_of term < length self.now.nodes }
-        ensures { StandsAt self.now.nodes (number_of term) result }
+        requires { number_of_id term < length self.now.nodes }
+        ensures { NodeStandsAt self.now.nodes (number_of_id term) result }
     {
         self.pool.node(term.0)
     }
@@ -157,9 +157,9 @@ impl Terms {
 
     /// The term of a head other than a FlagByte.
     pub(crate) fn keep(&mut self, head: Head) -> Option<Term>
-        requires plain { is_flag_byte head ≡ false }
+        requires plain { is_flag_byte_head head ≡ false }
         requires given { AreGiven self.old (operands head) }
-        requires made { IsMade (tree_of_head (entries_of self.old.nodes) head) }
+        requires made { IsTermMade (tree_of_head (entries_of self.old.nodes) head) }
         ensures { Makes self.old self.new 1 (tree_of_head (entries_of self.old.nodes) head) result }
     {
         let adjusted = self.adjusts(head);
@@ -170,7 +170,7 @@ impl Terms {
     fn keep_with(&mut self, head: Head, rest: Id, adjusted: bool) -> Option<Term>
         requires given { AreGiven self.old (operands head) }
         requires rest { HasRest (entries_of self.old.nodes) head rest.0 }
-        requires made { IsMade (tree_of_head (entries_of self.old.nodes) head) }
+        requires made { IsTermMade (tree_of_head (entries_of self.old.nodes) head) }
         requires adjusted { adjusted ≡ is_adjusted (tree_of_head (entries_of self.old.nodes) head) }
         ensures { Makes self.old self.new 1 (tree_of_head (entries_of self.old.nodes) head) result }
     {

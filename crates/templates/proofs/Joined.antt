@@ -5,15 +5,15 @@ use Rattle.std.specs.Prelude.{unwrap_or}
 use Rattle.std.proofs.Math.Seq.{take-append_seam, drop-append_seam}
 use Rattle.std.specs.List.{Contains}
 use Rattle.std.proofs.lemmas.List.Elements.{Contains-get_or, All-drop}
-use Rattle.asm86_lines.specs.declared.line.Label.TheVariants.{At}
-use Rattle.asm86_lines.specs.declared.line.Stmt86.{Stmt86}
-use Rattle.asm86_lines.specs.declared.line.Stmt86.TheVariants.{Mark}
-use Rattle.asm80_program.specs.declared.program.Placed.{Placed}
-use Rattle.asm80_program.specs.Program.{Program}
+use Rattle.asm86_line_types.specs.declared.line.Label.TheVariants.{At}
+use Rattle.asm86_line_types.specs.declared.line.Stmt86.{Stmt86}
+use Rattle.asm86_line_types.specs.declared.line.Stmt86.TheVariants.{Mark}
+use Rattle.asm80_program_types.specs.declared.program.Placed.{Placed}
+use Rattle.asm80_program_types.specs.Program.{Program}
 use Rattle.flow.specs.Blocks.{cut_from, extent, leader_of, blocks, leaders, block_at, BlocksCut}
 use Rattle.flow.specs.Solving.{Needs}
 use Rattle.flow.proofs.Cuts.{flat}
-use Rattle.templates.specs.Style.{Style, is_pair, knows_function, written, label_within, block_from, block_of, blocks_of}
+use Rattle.templates.specs.Style.{Style, is_pair, knows_function, written_in_style, label_within, block_from, block_in_style, blocks_of}
 use Rattle.templates.specs.Lean.{long_style}
 use Rattle.templates.specs.Jumps.{style_by}
 use Rattle.templates.specs.declared.places.Jumps.{Jumps}
@@ -23,27 +23,27 @@ no_label n j [] = refl
 no_label n j (x ∷ xs) = refl
 
 -- the text of a block from an instruction on: what stands for it, and the text from the next one on
-split_one : (n : Needs) (j : Jumps) (first known last next : Bool) (x : Placed) (rest after : List Placed) → rest ≡ x ∷ after → last ≡ is_pair (long_style n) x after → next ≡ knows_function known x.instr → block_from (style_by n j) first known rest ≡ written (style_by n j) first last known x ++ block_from (style_by n j) last next after
+split_one : (n : Needs) (j : Jumps) (first known last next : Bool) (x : Placed) (rest after : List Placed) → rest ≡ x ∷ after → last ≡ is_pair (long_style n) x after → next ≡ knows_function known x.instr → block_from (style_by n j) first known rest ≡ written_in_style (style_by n j) first last known x ++ block_from (style_by n j) last next after
 split_one n j first known last next x rest after r l k =
     let s = style_by n j in
     ap (block_from s first known) r
-    ∙ ap (λ ls. written s first (is_pair s x after) known x ++ (ls ++ block_from s (is_pair s x after) (knows_function known x.instr) after)) (no_label n j after)
-    ∙ ap (λ b. written s first b known x ++ block_from s b (knows_function known x.instr) after) (sym l)
-    ∙ ap (λ b. written s first last known x ++ block_from s last b after) (sym k)
+    ∙ ap (λ ls. written_in_style s first (is_pair s x after) known x ++ (ls ++ block_from s (is_pair s x after) (knows_function known x.instr) after)) (no_label n j after)
+    ∙ ap (λ b. written_in_style s first b known x ++ block_from s b (knows_function known x.instr) after) (sym l)
+    ∙ ap (λ b. written_in_style s first last known x ++ block_from s last b after) (sym k)
 
-pub put_one : (n : Needs) (j : Jumps) (text new whole : List Stmt86) (first known last next : Bool) (x : Placed) (rest after : List Placed) → rest ≡ x ∷ after → last ≡ is_pair (long_style n) x after → next ≡ knows_function known x.instr → new ≡ text ++ written (style_by n j) first last known x → text ++ block_from (style_by n j) first known rest ≡ whole → new ++ block_from (style_by n j) last next after ≡ whole
+pub put_one : (n : Needs) (j : Jumps) (text new whole : List Stmt86) (first known last next : Bool) (x : Placed) (rest after : List Placed) → rest ≡ x ∷ after → last ≡ is_pair (long_style n) x after → next ≡ knows_function known x.instr → new ≡ text ++ written_in_style (style_by n j) first last known x → text ++ block_from (style_by n j) first known rest ≡ whole → new ++ block_from (style_by n j) last next after ≡ whole
 put_one n j text new whole first known last next x rest after r l k put so_far =
     let s = style_by n j in
     ap (λ t. t ++ block_from s last next after) put
-    ∙ append_assoc text (written s first last known x) (block_from s last next after)
+    ∙ append_assoc text (written_in_style s first last known x) (block_from s last next after)
     ∙ ap (λ b. text ++ b) (sym (split_one n j first known last next x rest after r l k))
     ∙ so_far
 
 -- a block's label and its instructions are the block
-pub put_label : (s : Style) (text marked new : List Stmt86) (x : Placed) (block rest : List Placed) → block ≡ x ∷ rest → marked ≡ text ++ Mark (At x.at) ∷ [] → new ≡ marked ++ block_from s false false block → new ≡ text ++ block_of s block
+pub put_label : (s : Style) (text marked new : List Stmt86) (x : Placed) (block rest : List Placed) → block ≡ x ∷ rest → marked ≡ text ++ Mark (At x.at) ∷ [] → new ≡ marked ++ block_from s false false block → new ≡ text ++ block_in_style s block
 put_label s text marked new x block rest b m e =
-    let whole : Mark (At x.at) ∷ block_from s false false block ≡ block_of s block =
-    subst (λ ys. Mark (At x.at) ∷ block_from s false false ys ≡ block_of s ys) (sym b) refl
+    let whole : Mark (At x.at) ∷ block_from s false false block ≡ block_in_style s block =
+    subst (λ ys. Mark (At x.at) ∷ block_from s false false ys ≡ block_in_style s ys) (sym b) refl
     in
     e
     ∙ ap (λ t. t ++ block_from s false false block) m
@@ -99,10 +99,10 @@ next_block p law k count found rest lt r c f =
     }
 
 -- a block more
-pub put_next : (s : Style) (bs : List (List Placed)) (k : ℕ) (text new whole : List Stmt86) → drop k bs ≡ get_or bs k [] ∷ drop (k + 1) bs → new ≡ text ++ block_of s (get_or bs k []) → text ++ blocks_of s (drop k bs) ≡ whole → new ++ blocks_of s (drop (k + 1) bs) ≡ whole
+pub put_next : (s : Style) (bs : List (List Placed)) (k : ℕ) (text new whole : List Stmt86) → drop k bs ≡ get_or bs k [] ∷ drop (k + 1) bs → new ≡ text ++ block_in_style s (get_or bs k []) → text ++ blocks_of s (drop k bs) ≡ whole → new ++ blocks_of s (drop (k + 1) bs) ≡ whole
 put_next s bs k text new whole next put so_far =
     ap (λ t. t ++ blocks_of s (drop (k + 1) bs)) put
-    ∙ append_assoc text (block_of s (get_or bs k [])) (blocks_of s (drop (k + 1) bs))
+    ∙ append_assoc text (block_in_style s (get_or bs k [])) (blocks_of s (drop (k + 1) bs))
     ∙ ap (λ ds. text ++ blocks_of s ds) (sym next)
     ∙ so_far
 

@@ -1,8 +1,8 @@
 -- A text's lines, from the last one to the first.
 use Rattle.std.proofs.Common.{◌≡◌, ℕ, zero, suc, ◌+◌, ◌-◌, ◌<◌, ◌≤◌, List, [], ◌∷◌, length, take, drop, get_or, refl, subst, arith}
-use Rattle.asm86_lines.specs.declared.line.Line86.{Line86}
-use Rattle.asm86_lines.specs.Layout.{size_of, sizes_of}
-use Rattle.asm86_lines.specs.Image.{statements}
+use Rattle.asm86_line_types.specs.declared.line.Line86.{Line86}
+use Rattle.asm86_line_types.specs.Layout.{size_of, sizes_of}
+use Rattle.asm86_line_types.specs.Image.{statements}
 
 size_next : (lines : List Line86) (k : ℕ) (d : Line86) → k < length lines → sizes_of (statements (take (suc k) lines)) ≡ sizes_of (statements (take k lines)) + size_of (get_or lines k d).stmt
 size_next [] k d lt = absurd (omega (arith, lt))

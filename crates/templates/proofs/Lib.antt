@@ -1,3 +1,5 @@
+mod Numbering
+pub mod NumberedLines
 mod OneText
 mod Trims
 mod Laid

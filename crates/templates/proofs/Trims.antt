@@ -1,6 +1,6 @@
 -- Statements without the last one.
 use Rattle.std.proofs.Common.{◌≡◌, List, [], ◌∷◌, ◌++◌, refl, ap}
-use Rattle.asm86_lines.specs.declared.line.Stmt86.{Stmt86}
+use Rattle.asm86_line_types.specs.declared.line.Stmt86.{Stmt86}
 use Rattle.templates.specs.Style.{without_last}
 
 pub without_last-added : (xs : List Stmt86) (x : Stmt86) → without_last (xs ++ x ∷ []) ≡ xs

@@ -4,15 +4,15 @@ use Rattle.cells.specs.declared.Part.TheVariants.{B, L, S, Z, Ac, P}
 use Rattle.cells.specs.Parts.{Parts, has}
 use Rattle.i80.specs.declared.Instr80.{Instr80}
 use Rattle.i80.specs.declared.Instr80.TheVariants.{Jif}
-use Rattle.asm86_lines.specs.declared.line.Label.TheVariants.{Skip}
-use Rattle.asm86_lines.specs.declared.line.Stmt86.{Stmt86}
-use Rattle.asm86_lines.specs.declared.line.Line86.{Line86}
-use Rattle.asm86_lines.specs.Layout.{place_of}
-use Rattle.asm80_program.specs.declared.program.Placed.{Placed}
-use Rattle.asm80_program.specs.Program.{Program}
+use Rattle.asm86_line_types.specs.declared.line.Label.TheVariants.{Skip}
+use Rattle.asm86_line_types.specs.declared.line.Stmt86.{Stmt86}
+use Rattle.asm86_line_types.specs.declared.line.Line86.{Line86}
+use Rattle.asm86_line_types.specs.Layout.{place_of}
+use Rattle.asm80_program_types.specs.declared.program.Placed.{Placed}
+use Rattle.asm80_program_types.specs.Program.{Program}
 use Rattle.flow.specs.Blocks.{end_of}
 use Rattle.flow.specs.Solving.{Needs, AreAllNeeds}
-use Rattle.templates_plain.specs.Template.{label_of}
+use Rattle.templates.specs.Template.{label_of_goal}
 use Rattle.templates.specs.Style.{Style, styled_statements, styled}
 
 -- the save rule: INX, DCX and DAD save where one of S Z AC P is needed behind them
@@ -32,11 +32,11 @@ long_style n = record { all_labels = false; saves = saves_by_need n; pairs = tru
 
 -- The jump rule, by the distances of that layout. A long conditional jump has 5 bytes, and its own label stands at its end. A short one
 -- reaches a target at or behind that end with at most 127 bytes between them, and a target at or before its beginning with at most 126.
-abbrev pub reaches : ℕ → ℕ → Bool
-reaches end target = (nat_le end target && nat_le (target - end) 127) || (nat_le (target + 5) end && nat_le (end - 5 - target) 126)
+abbrev pub may_be_short : ℕ → ℕ → Bool
+may_be_short end target = (nat_le end target && nat_le (target - end) 127) || (nat_le (target + 5) end && nat_le (end - 5 - target) 126)
 
 abbrev pub reaches_in : List Stmt86 → Placed → Instr80 → Bool
-reaches_in long x (Jif on goal) = reaches (place_of long (Skip x.at)) (place_of long (label_of goal))
+reaches_in long x (Jif on goal) = may_be_short (place_of long (Skip x.at)) (place_of long (label_of_goal goal))
 reaches_in long x i = false
 
 abbrev pub lean_style : Needs → Program → Style

@@ -4,12 +4,12 @@ use Rattle.i80.specs.declared.Goal.{Goal}
 use Rattle.i80.specs.declared.Goal.TheVariants.{At as AtGoal, Boot, Bdos}
 use Rattle.i80.specs.declared.Instr80.{Instr80}
 use Rattle.i80.specs.declared.Instr80.TheVariants.{Jif}
-use Rattle.asm86_lines.specs.declared.line.Label.{Label}
-use Rattle.asm86_lines.specs.declared.line.Label.TheVariants.{At, Skip, Sys, End}
-use Rattle.asm86_lines.specs.declared.line.Stmt86.{Stmt86}
-use Rattle.asm86_lines.specs.Layout.{offset_from}
-use Rattle.asm80_program.specs.declared.program.Placed.{Placed}
-use Rattle.templates.specs.Lean.{reaches}
+use Rattle.asm86_line_types.specs.declared.line.Label.{Label}
+use Rattle.asm86_line_types.specs.declared.line.Label.TheVariants.{At, Skip, Sys, End}
+use Rattle.asm86_line_types.specs.declared.line.Stmt86.{Stmt86}
+use Rattle.asm86_line_types.specs.Layout.{offset_from}
+use Rattle.asm80_program_types.specs.declared.program.Placed.{Placed}
+use Rattle.templates.specs.Lean.{may_be_short}
 use Rattle.templates.specs.declared.places.Places.{Places}
 
 -- the offset of a label in statements that begin at a place, and 0 where it does not stand there
@@ -31,5 +31,5 @@ target_in t Bdos = t.sys
 
 -- the jump rule by the tables: the instruction's own label stands at the end of its long jump
 abbrev pub reaches_by : Places → Placed → Instr80 → Bool
-reaches_by t x (Jif on goal) = reaches (slice_index t.skips.items x.at) (target_in t goal)
+reaches_by t x (Jif on goal) = may_be_short (slice_index t.skips.items x.at) (target_in t goal)
 reaches_by t x i = false

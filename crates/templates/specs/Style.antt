@@ -17,16 +17,16 @@ use Rattle.i80.specs.Columns.{defs80}
 use Rattle.i86.specs.declared.Jump.{Jump}
 use Rattle.i86.specs.declared.Jump.TheVariants.{Jb, Jnb, Jz, Jnz, Js, Jns, Jp, Jnp}
 use Rattle.i86.specs.declared.Instr86.TheVariants.{Int224}
-use Rattle.asm86_lines.specs.declared.line.Label.TheVariants.{At}
-use Rattle.asm86_lines.specs.declared.line.Stmt86.{Stmt86}
-use Rattle.asm86_lines.specs.declared.line.Stmt86.TheVariants.{Cseg, Dseg, Mark, Run, Jcc}
-use Rattle.asm86_lines.specs.declared.line.Line86.{Line86}
-use Rattle.asm80_program.specs.declared.program.Placed.{Placed}
-use Rattle.asm80_program.specs.Program.{Program}
+use Rattle.asm86_line_types.specs.declared.line.Label.TheVariants.{At}
+use Rattle.asm86_line_types.specs.declared.line.Stmt86.{Stmt86}
+use Rattle.asm86_line_types.specs.declared.line.Stmt86.TheVariants.{Cseg, Dseg, Mark, Run, Jcc}
+use Rattle.asm86_line_types.specs.declared.line.Line86.{Line86}
+use Rattle.asm80_program_types.specs.declared.program.Placed.{Placed}
+use Rattle.asm80_program_types.specs.Program.{Program}
 use Rattle.flow.specs.Saves.{is_word_sum}
 use Rattle.flow.specs.Blocks.{cut_from}
-use Rattle.templates_plain.specs.Template.{template, label_of}
-use Rattle.templates_plain.specs.Plain.{prologue, runtime, data_from, ending, numbered}
+use Rattle.templates.specs.Template.{template, label_of_goal}
+use Rattle.templates.specs.Plain.{prologue, runtime, data_from, ending, numbered_from}
 
 -- Whether each instruction has its label, or the first of a block alone; which INX, DCX and DAD save the flags; whether a SAHF and the
 -- LAHF that follows it in the block are left out; which CALL 5 may be INT 224 where the function is known; and which conditional jumps
@@ -92,12 +92,12 @@ without_last_if false xs = xs
 
 -- The statements of an instruction: whether its LAHF is left out, and its SAHF, and whether C is known before it
 abbrev pub written_as : Style → Bool → Bool → Bool → Placed → Instr80 → List Stmt86
-written_as s first last c x (Jif on goal) = cond (s.shortens x) (Jcc (jump_if on) (label_of goal) ∷ []) (template (Jif on goal) x.at (s.saves x))
+written_as s first last c x (Jif on goal) = cond (s.shortens x) (Jcc (jump_if on) (label_of_goal goal) ∷ []) (template (Jif on goal) x.at (s.saves x))
 written_as s first last c x (Call Bdos) = cond (c && s.directs x) (Run Int224 ∷ []) (template (Call Bdos) x.at (s.saves x))
 written_as s first last c x i = without_first_if first (without_last_if last (template i x.at (s.saves x)))
 
-abbrev pub written : Style → Bool → Bool → Bool → Placed → List Stmt86
-written s first last c x = written_as s first last c x x.instr
+abbrev pub written_in_style : Style → Bool → Bool → Bool → Placed → List Stmt86
+written_in_style s first last c x = written_as s first last c x x.instr
 
 -- the label of an instruction that is not the first of its block
 abbrev pub label_within : Style → List Placed → List Stmt86
@@ -108,19 +108,19 @@ label_within s (x ∷ xs) = cond s.all_labels (Mark (At x.at) ∷ []) []
 abbrev pub block_from : Style → Bool → Bool → List Placed → List Stmt86
 block_from s first c [] = []
 block_from s first c (x ∷ xs) =
-    written s first (is_pair s x xs) c x ++ (label_within s xs ++ block_from s (is_pair s x xs) (knows_function c x.instr) xs)
+    written_in_style s first (is_pair s x xs) c x ++ (label_within s xs ++ block_from s (is_pair s x xs) (knows_function c x.instr) xs)
 
-abbrev pub block_of : Style → List Placed → List Stmt86
-block_of s [] = []
-block_of s (x ∷ xs) = Mark (At x.at) ∷ block_from s false false (x ∷ xs)
+abbrev pub block_in_style : Style → List Placed → List Stmt86
+block_in_style s [] = []
+block_in_style s (x ∷ xs) = Mark (At x.at) ∷ block_from s false false (x ∷ xs)
 
 abbrev pub blocks_of : Style → List (List Placed) → List Stmt86
 blocks_of s [] = []
-blocks_of s (b ∷ bs) = block_of s b ++ blocks_of s bs
+blocks_of s (b ∷ bs) = block_in_style s b ++ blocks_of s bs
 
 -- the whole text, between the prologue and the data as the plain text has them
 abbrev pub styled_statements : Style → Program → List Stmt86
 styled_statements s p = Cseg ∷ (prologue p.top ++ (blocks_of s (cut_from p 0 p.instrs) ++ (runtime ++ (Dseg ∷ (data_from 0 p.cells ++ ending p.top)))))
 
 abbrev pub styled : Style → Program → List Line86
-styled s p = numbered 1 (styled_statements s p)
+styled s p = numbered_from 1 (styled_statements s p)

@@ -1,19 +1,19 @@
 // The blocks of a program, one after the other.
 ghost use Rattle.std.specs.Prelude.{◌≡◌, ◌+◌, ◌*◌, ◌^◌, ◌<◌, ◌≤◌, ◌++◌, length, false, All, IsTrue, OnOk};
 ghost use Rattle.flow.specs.Blocks.{cut_from};
-ghost use Rattle.flow.specs.Cut.{IsWhole};
+ghost use Rattle.flow.specs.Cut.{EndsInMemory};
 ghost use Rattle.flow.specs.Solving.{Needs, AreAllNeeds};
-ghost use Rattle.templates.specs.Style.{block_from, block_of, blocks_of};
+ghost use Rattle.templates.specs.Style.{block_from, block_in_style, blocks_of};
 ghost use Rattle.templates.specs.Jumps.{style_by};
 
+use crate::Text;
 use crate::places::Jumps;
 use crate::rules::{is_pair, knows_function};
 use crate::written::{Context, put_written};
-use asm80_program::{Placed, Program80};
-use asm86_lines::{Label, Stmt86};
+use asm80_program_types::{Placed, Program80};
+use asm86_line_types::{Label, Stmt86};
 use flow::{Graph, blocks_cut_the_program};
 use std::alloc::AllocError;
-use templates_plain::Text;
 
 // The instructions of a block: 12 statements each at most.
 fn put_instrs(
@@ -24,7 +24,7 @@ fn put_instrs(
 ) -> Result<(), AllocError>
     requires room { length text.old + 12 * length block.now < 2 ^ 20 }
     requires solved { IsTrue graph.now.is_solved }
-    requires whole { All IsWhole block.now }
+    requires whole { All EndsInMemory block.now }
     ensures value { (n : Needs) → AreAllNeeds graph.now.program n → OnOk result (text.new ≡ text.old ++ block_from (style_by n jumps.now) false false block.now) }
     ensures most { OnOk result (length text.new ≤ length text.old + 12 * length block.now) }
 {
@@ -50,8 +50,8 @@ fn put_block(
 ) -> Result<(), AllocError>
     requires room { length text.old + 13 * length block.now < 2 ^ 20 }
     requires solved { IsTrue graph.now.is_solved }
-    requires whole { All IsWhole block.now }
-    ensures value { (n : Needs) → AreAllNeeds graph.now.program n → OnOk result (text.new ≡ text.old ++ block_of (style_by n jumps.now) block.now) }
+    requires whole { All EndsInMemory block.now }
+    ensures value { (n : Needs) → AreAllNeeds graph.now.program n → OnOk result (text.new ≡ text.old ++ block_in_style (style_by n jumps.now) block.now) }
     ensures most { OnOk result (length text.new ≤ length text.old + 13 * length block.now) }
 {
     match block.split_first() {

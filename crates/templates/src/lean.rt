@@ -7,11 +7,11 @@ ghost use Rattle.templates.specs.Jumps.{style_by};
 
 use crate::blocks::put_blocks;
 use crate::places::{Jumps, Places};
-use asm80_program::Program80;
-use asm86_lines::{Line86, Stmt86};
+use crate::{Text, ending, prologue, put_data, runtime};
+use asm80_program_types::Program80;
+use asm86_line_types::{Line86, Stmt86};
 use flow::Graph;
 use std::alloc::{AllocError, Global};
-use templates_plain::{Text, ending, prologue, put_data, runtime};
 
 // All statements of the text.
 fn put_program(

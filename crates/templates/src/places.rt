@@ -1,12 +1,12 @@
 // Where the labels of a text stand, and which conditional jumps are short by it.
 ghost use Rattle.std.specs.Prelude.{◌≡◌, ◌+◌, ◌^◌, ◌<◌, ℕ, List, [], ◌∷◌, length, slice_index, IfOk};
-ghost use Rattle.asm86_lines.specs.declared.line.Stmt86.{Stmt86};
-ghost use Rattle.asm86_lines.specs.Layout.{size_of};
-ghost use Rattle.asm86_lines.specs.Image.{statements};
-ghost use Rattle.templates.specs.Lean.{reaches};
+ghost use Rattle.asm86_line_types.specs.declared.line.Stmt86.{Stmt86};
+ghost use Rattle.asm86_line_types.specs.Layout.{size_of};
+ghost use Rattle.asm86_line_types.specs.Image.{statements};
+ghost use Rattle.templates.specs.Lean.{may_be_short};
 
-use asm80_program::Placed;
-use asm86_lines::{Label, Line86, Stmt86, code_size, statement_size};
+use asm80_program_types::Placed;
+use asm86_line_types::{Label, Line86, Stmt86, code_size, statement_size};
 use i80::{Goal, Instr80};
 use std::alloc::{AllocError, Global};
 
@@ -111,7 +111,7 @@ impl Places {
 // The jump rule: a short jump in place of a long one of 5 bytes reaches a target at or behind its end with at most 127 bytes
 // between, and a target at or before its beginning with at most 126.
 fn reaches(end: u32, target: u32) -> bool
-    ensures { result ≡ reaches end target }
+    ensures { result ≡ may_be_short end target }
 {
     if target >= end {
         target - end <= 127

@@ -2,12 +2,12 @@
 ghost use Rattle.std.specs.Prelude.{◌≡◌, All, IsTrue};
 ghost use Rattle.i80.specs.Columns.{is_well_formed};
 ghost use Rattle.flow.specs.Blocks.{end_of};
-ghost use Rattle.flow.specs.Cut.{IsWhole};
+ghost use Rattle.flow.specs.Cut.{EndsInMemory};
 ghost use Rattle.flow.specs.Solving.{Needs, AreAllNeeds};
 ghost use Rattle.templates.specs.Style.{ends_by_sahf, begins_by_lahf, is_pair, knows_function};
 ghost use Rattle.templates.specs.Lean.{has_saved_flag, saves_by_need, loses_nothing, long_style};
 
-use asm80_program::Placed;
+use asm80_program_types::Placed;
 use cells::{Keep, Part};
 use flow::{Graph, needs_are_closed};
 use i80::{Instr80, Pair, Reg, Src, StackPair, Word};
@@ -15,7 +15,7 @@ use i80::{Instr80, Pair, Reg, Src, StackPair, Word};
 // The parts that are needed behind an instruction.
 fn needed_behind(graph: &Graph, placed: &Placed) -> Keep
     requires solved { IsTrue graph.now.is_solved }
-    requires whole { IsWhole placed.now }
+    requires whole { EndsInMemory placed.now }
     ensures { (n : Needs) → AreAllNeeds graph.now.program n → result ≡ n.at (end_of placed.now) }
 {
     needs_are_closed();
@@ -36,7 +36,7 @@ fn has_saved_flag(need: Keep) -> bool
 /// needed behind.
 pub fn saves(graph: &Graph, placed: &Placed) -> bool
     requires solved { IsTrue graph.now.is_solved }
-    requires whole { IsWhole placed.now }
+    requires whole { EndsInMemory placed.now }
     ensures { (n : Needs) → AreAllNeeds graph.now.program n → result ≡ saves_by_need n placed.now }
 {
     has_saved_flag(needed_behind(graph, placed))
@@ -46,7 +46,7 @@ pub fn saves(graph: &Graph, placed: &Placed) -> bool
 /// them, is not called where neither B nor L is needed behind.
 pub fn loses_nothing(graph: &Graph, placed: &Placed) -> bool
     requires solved { IsTrue graph.now.is_solved }
-    requires whole { IsWhole placed.now }
+    requires whole { EndsInMemory placed.now }
     ensures { (n : Needs) → AreAllNeeds graph.now.program n → result ≡ loses_nothing n placed.now }
 {
     let need = needed_behind(graph, placed);
@@ -72,8 +72,8 @@ fn begins_by_lahf(save: bool, instr: Instr80) -> bool
 /// The pair rule: a SAHF and the LAHF that follows it in the block are both left out.
 pub fn is_pair(graph: &Graph, placed: &Placed, rest: &[Placed]) -> bool
     requires solved { IsTrue graph.now.is_solved }
-    requires whole { IsWhole placed.now }
-    requires rest { All IsWhole rest.now }
+    requires whole { EndsInMemory placed.now }
+    requires rest { All EndsInMemory rest.now }
     ensures { (n : Needs) → AreAllNeeds graph.now.program n → result ≡ is_pair (long_style n) placed.now rest.now }
 {
     match rest.first() {

@@ -1,20 +1,20 @@
 // The statements of an instruction, in a text that leaves out what it may.
 ghost use Rattle.std.specs.Prelude.{◌≡◌, ◌+◌, ◌^◌, ◌<◌, ◌≤◌, ◌++◌, length, IsTrue, OnOk};
-ghost use Rattle.flow.specs.Cut.{IsWhole};
+ghost use Rattle.flow.specs.Cut.{EndsInMemory};
 ghost use Rattle.flow.specs.Solving.{Needs, AreAllNeeds};
-ghost use Rattle.templates.specs.Style.{jump_if, without_first_if, without_last_if, written};
+ghost use Rattle.templates.specs.Style.{jump_if, without_first_if, without_last_if, written_in_style};
 ghost use Rattle.templates.specs.Jumps.{style_by};
 
 use crate::places::Jumps;
 use crate::rules::{loses_nothing, saves};
-use asm80_program::Placed;
-use asm86_lines::{Jump, Stmt86};
+use crate::{Text, label_of, template};
+use asm80_program_types::Placed;
+use asm86_line_types::{Jump, Stmt86};
 use cells::Cond;
 use flow::Graph;
 use i80::{Goal, Instr80};
 use i86::Instr86;
 use std::alloc::AllocError;
-use templates_plain::{Text, label_of, template};
 
 /// What stands before and behind an instruction in its block: whether its first statement, a LAHF, is left out, and its last, a SAHF,
 /// and whether C is known to hold a number other than 0.
@@ -69,8 +69,8 @@ pub fn put_written(
 ) -> Result<(), AllocError>
     requires room { length text.old < 2 ^ 20 }
     requires solved { IsTrue graph.now.is_solved }
-    requires whole { IsWhole placed.now }
-    ensures value { (n : Needs) → AreAllNeeds graph.now.program n → OnOk result (text.new ≡ text.old ++ written (style_by n jumps.now) context.first context.last context.known placed.now) }
+    requires whole { EndsInMemory placed.now }
+    ensures value { (n : Needs) → AreAllNeeds graph.now.program n → OnOk result (text.new ≡ text.old ++ written_in_style (style_by n jumps.now) context.first context.last context.known placed.now) }
     ensures most { OnOk result (length text.new ≤ length text.old + 12) }
 {
     let whole = template(placed.instr, placed.at, saves(graph, placed));

@@ -1,8 +1,7 @@
-// The types and calls of the values and tables, the source language, texts, both machines, the host and the program, laws aside: each
-// reached by the crate and the name that it has there, and called once with ample memory. One program goes through all of them: it
-// prints the letter A and ends. The 8080 over plain bytes and the crates of disks, needs and terms have tests of their own. Then sources
-// and texts in pieces, and a disk that is copied on; what words are read as, and what each command does, is tried by the cases of
-// `cases_cmd`.
+// Tests of the types and calls that other programs may use, each reached by the crate and the name that it has there, and called once with
+// ample memory, so that none answers "out of memory"; laws and the untagged 8080 aside. One program, which prints the letter A, goes
+// through all of them. Then sources and texts in pieces, read and written by a host that gives and takes one byte at a time too, and the
+// file copier of the CP/M 2.2 Operating System Manual, section 5.4, on each machine and on both, with the disk that it leaves.
 #![tactic(auto)]
 
 #[cfg(test)]

@@ -2,15 +2,15 @@
 use Rattle.std.proofs.Common.{◌≡◌, ℕ, List, refl, ap, subst}
 use Rattle.std.specs.Prelude.{Bool, true, false, Option, Some, None, option_map, option_and_then, if◌then◌else◌, nat_le, ◌&&◌}
 use Rattle.std.proofs.lemmas.Bool.{and_parts, leb-true}
-use Rattle.asm80_program.specs.Program.{is_top}
-use Rattle.cmd_words.specs.declared.table.CommandName.{CommandName}
-use Rattle.cmd_words.specs.declared.table.CommandName.TheVariants as named
-use Rattle.cmd_words.specs.Table.{Word}
-use Rattle.cmd_words.specs.Values.{top_among, top_value, number_in, count_within, count_value, file_name}
-use Rattle.cmd_words.specs.Given.{Gathered, Names, NoName, OneName, TwoNames, MoreNames}
-use Rattle.cmd_words.specs.Words.{Translate, Check, Flags, Run80, Both, Sample, Command, Translates, Checks, ListsFlags, Runs80, Runs86, RunsBoth, MakesSample, IsCommand, command_of, translate_of, check_of, flags_command_of, run80_of, run86_of, both_of, sample_of, run_options_of, flag_of, one_file, two_files, count_and_file, top_of, choice_of, text_or}
-use Rattle.cmd_texts.specs.Samples.{IsCount}
-use Rattle.xlt_app.specs.Top.{IsAsked}
+use Rattle.asm80_program_types.specs.Program.{is_top}
+use Rattle.cmd_arguments.specs.declared.table.CommandName.{CommandName}
+use Rattle.cmd_arguments.specs.declared.table.CommandName.TheVariants as named
+use Rattle.cmd_arguments.specs.Table.{Word}
+use Rattle.cmd_arguments.specs.Values.{top_among, top_value, number_in, count_within, count_value, file_name}
+use Rattle.cmd_arguments.specs.Given.{Gathered, Names, NoName, OneName, TwoNames, MoreNames}
+use Rattle.cmd_arguments.specs.Words.{Translate, Check, Flags, Run80, Both, Sample, Command, Translates, Checks, ListsFlags, Runs80, Runs86, RunsBoth, MakesSample, IsCommand, command_of, translate_of, check_of, flags_command_of, run80_of, run86_of, both_of, sample_of, run_options_of, flag_of, one_file, two_files, count_and_file, top_of, choice_of, text_or}
+use Rattle.cmd_sample.specs.Samples.{IsCount}
+use Rattle.xlt_app.specs.Top.{HasLawfulValues}
 
 if_some : (b : Bool) (x y : ℕ) → (if b then Some x else None) ≡ Some y → (b ≡ true) × (x ≡ y)
 if_some true x y e = (refl, cc)
@@ -136,15 +136,15 @@ sample_count g c e =
 
 -- ---- each command
 
-asked_by_name : (name : CommandName) (g : Gathered) (c : Command) → command_of name g ≡ Some c → IsAsked c
-asked_by_name named.Translate g c e = let h = mapped (translate_of g) Translates c e in subst IsAsked h.2 (translate_top g h.0 h.1)
-asked_by_name named.Check g c e = let h = mapped (check_of g) Checks c e in subst IsAsked h.2 (check_top g h.0 h.1)
-asked_by_name named.Flags g c e = let h = mapped (flags_command_of g) ListsFlags c e in subst IsAsked h.2 (flags_top g h.0 h.1)
-asked_by_name named.Run80 g c e = let h = mapped (run80_of g) Runs80 c e in subst IsAsked h.2 (run80_top g h.0 h.1)
-asked_by_name named.Run86 g c e = let h = mapped (run86_of g) Runs86 c e in subst IsAsked h.2 tt
-asked_by_name named.Both g c e = let h = mapped (both_of g) RunsBoth c e in subst IsAsked h.2 (both_top g h.0 h.1)
-asked_by_name named.Sample g c e = let h = mapped (sample_of g) MakesSample c e in subst IsAsked h.2 (sample_count g h.0 h.1)
+asked_by_name : (name : CommandName) (g : Gathered) (c : Command) → command_of name g ≡ Some c → HasLawfulValues c
+asked_by_name named.Translate g c e = let h = mapped (translate_of g) Translates c e in subst HasLawfulValues h.2 (translate_top g h.0 h.1)
+asked_by_name named.Check g c e = let h = mapped (check_of g) Checks c e in subst HasLawfulValues h.2 (check_top g h.0 h.1)
+asked_by_name named.Flags g c e = let h = mapped (flags_command_of g) ListsFlags c e in subst HasLawfulValues h.2 (flags_top g h.0 h.1)
+asked_by_name named.Run80 g c e = let h = mapped (run80_of g) Runs80 c e in subst HasLawfulValues h.2 (run80_top g h.0 h.1)
+asked_by_name named.Run86 g c e = let h = mapped (run86_of g) Runs86 c e in subst HasLawfulValues h.2 tt
+asked_by_name named.Both g c e = let h = mapped (both_of g) RunsBoth c e in subst HasLawfulValues h.2 (both_top g h.0 h.1)
+asked_by_name named.Sample g c e = let h = mapped (sample_of g) MakesSample c e in subst HasLawfulValues h.2 (sample_count g h.0 h.1)
 
 -- so the work of each command that words are may be done
-pub words_ask : (words : List Word) (c : Command) → IsCommand words c → IsAsked c
+pub words_ask : (words : List Word) (c : Command) → IsCommand words c → HasLawfulValues c
 words_ask words c is = asked_by_name is.name is.given c is.command

@@ -1,32 +1,31 @@
 -- What a command's answer is among the clauses of the program: words are one command at most.
-use Rattle.std.proofs.Common.{◌≡◌, ℕ, List, Option, Some, None, inl, refl, sym, ◌∙◌, subst, arith}
-use Rattle.host.specs.Host.{HostState, SameFiles, OnlyReads}
-use Rattle.asm86_lines.specs.Image.{image_of}
-use Rattle.asm86_lines.specs.Written.{text_of}
-use Rattle.cmd_words.specs.Words.{Translate, Check, Command, Translates, Checks, ListsFlags, Runs80, Runs86, RunsBoth, MakesSample, IsCommand, IsNoCommand}
-use Rattle.cmd_inputs.specs.declared.stop.Stop.TheVariants.{OutOfMemory}
-use Rattle.cmd_inputs.specs.Said.{IsRefusedWords, SaysLast, Closes, said, unsaid}
-use Rattle.cmd_inputs.specs.Lines.{memory_line}
-use Rattle.cmd_inputs.specs.Files.{no_memory}
-use Rattle.cmd_texts.specs.Translates as translation
+use Rattle.std.proofs.Common.{◌≡◌, ℕ, List, Option, Some, None, inl, inr, refl, sym, ◌∙◌, subst, arith}
+use Rattle.host.specs.Host.{HostState, SameFiles}
+use Rattle.host.proofs.HostLemmas.{OnlyReads-refl}
+use Rattle.asm86_line_types.specs.Image.{image_of}
+use Rattle.asm86_line_types.specs.Written.{written_text}
+use Rattle.cmd_arguments.specs.Words.{Translate, Check, Command, Translates, Checks, ListsFlags, Runs80, Runs86, RunsBoth, MakesSample, IsCommand, IsNoCommand}
+use Rattle.cmd_common.specs.declared.stop.Stop.TheVariants.{OutOfMemory}
+use Rattle.cmd_common.specs.Said.{IsRefusedWords, SaysLast, Closes, said, unsaid}
+use Rattle.cmd_common.specs.Lines.{memory_line}
+use Rattle.cmd_translate.specs.Translates as translation
 use Rattle.cmd_check.specs.Checks as checking
-use Rattle.cmd_texts.specs.Samples as making
-use Rattle.cmd_texts.specs.Listing as listing
-use Rattle.cmd_run80.specs.Runs80 as source
-use Rattle.cmd_run86.specs.Runs86 as text
-use Rattle.cmd_run80.specs.Keeping.{DiskAlone}
-use Rattle.cmd_both.specs.Gives as both
-use Rattle.cmd_both.specs.Loads as both_loads
-use Rattle.xlt_app.specs.Top.{Headline, CheckedHeadline, IsStatus, refused as words_are_refused, no_memory as words_want_memory, Outcomes, Answers}
+use Rattle.cmd_sample.specs.Samples as making
+use Rattle.cmd_flags.specs.Listing as listing
+use Rattle.cmd_runs.specs.Keeping.{DiskAlone}
+use Rattle.cmd_runs.specs.Kinds as running_one
+use Rattle.cmd_runs.specs.Works as running
+use Rattle.cmd_both.specs.Loads as running_both
+use Rattle.xlt_app.specs.Top.{Headline, CheckedHeadline, IsStatus, refused as words_are_refused, no_memory as words_want_memory, Outcomes, CommandAnswers}
 use Rattle.xlt_app.proofs.Statuses.{never_0, of_5, of_words, of_answer}
 
 -- ---- the headlines
 
-headline_by : (c : Translate) (old new : HostState) (status : ℕ) → translation.Gives c old new status → status ≡ 0 → Headline c old new
+headline_by : (c : Translate) (old new : HostState) (status : ℕ) → translation.TranslateGives c old new status → status ≡ 0 → Headline c old new
 headline_by c old new _ (translation.translated p lines a w s l f) e = record {
   source = a.bytes;
   program = p;
-  text = text_of lines;
+  text = written_text lines;
   image = s.image;
   given = a.file.0;
   is_source = a.source;
@@ -45,7 +44,7 @@ headline_by c old new _ (translation.no_memory_to_write p lines a w s) e = absur
 headline_by c old new _ (translation.no_memory_to_say p lines a w f s) e = absurd (omega (arith, e))
 headline_by c old new _ (translation.too_long l s) e = absurd (omega (arith, e))
 
-checked_by : (c : Check) (old new : HostState) (status : ℕ) → checking.Gives c old new status → status ≡ 0 → CheckedHeadline c old
+checked_by : (c : Check) (old new : HostState) (status : ℕ) → checking.CheckGives c old new status → status ≡ 0 → CheckedHeadline c old
 checked_by c old new status (checking.shown mid line h d) e = record {
   source = h.loads.source;
   program = h.program;
@@ -54,7 +53,7 @@ checked_by c old new status (checking.shown mid line h d) e = record {
   source_given = h.loads.reads.source_file.0;
   is_source = h.loads.is_source;
   text_given = h.loads.reads.text_file.0;
-  has_image = record { lines = h.lines; reads = h.loads.gives; assembled = record { assembles = h.loads.stands.assembles; is = refl } };
+  has_image = record { lines = h.lines; reads = h.loads.gives; assembled = record { assembles = h.loads.stands.made.assembles; is = refl } };
   reader = h.loads.stands.reader;
   same = h.shown.same;
 }
@@ -86,19 +85,15 @@ alone : (old new : HostState) (name : Option (List ℕ)) → SameFiles old new �
 alone old new None same = same
 alone old new (Some name) same = λ other ne. same other
 
--- nothing was done
-untouched : (h : HostState) → OnlyReads h h
-untouched h = record { files = λ name. refl; said = refl; writes = refl; reads = omega arith }
-
 module _ (words : List (List ℕ)) (old new : HostState) (status : ℕ) where
-  pub by_command : OneCommand → (c : Command) → IsCommand words c → Answers c old new status → Outcomes words old new status
+  pub by_command : OneCommand → (c : Command) → IsCommand words c → CommandAnswers c old new status → Outcomes words old new status
   by_command one c is answers =
       let of = of_answer c old new status answers in
       record {
         number = of.number;
         no_command = λ none. absurd (none c is);
         words_refused = λ e. absurd (of.other e);
-        answered = λ d h. subst (λ k. Answers k old new status) (one words c d is h) answers;
+        answered = λ d h. subst (λ k. CommandAnswers k old new status) (one words c d is h) answers;
       }
 
   pub by_no_command : IsNoCommand words → IsRefusedWords old new status → Outcomes words old new status
@@ -122,38 +117,39 @@ module _ (words : List (List ℕ)) (old new : HostState) (status : ℕ) where
     same = says.only.files
 
     -- any command may want memory
-    wanting : (c : Command) → Answers c old new status
+    wanting : (c : Command) → CommandAnswers c old new status
     wanting (Translates c) = record {
-      gives = subst (translation.Gives c old new) (sym is_5) (translation.no_memory (record { mid = old; reads = untouched old; says = says }));
+      gives = subst (translation.TranslateGives c old new) (sym is_5) (translation.no_memory (record { mid = old; reads = OnlyReads-refl old; says = says }));
       completes = λ none bytes told other. absurd (other is_5);
     }
     wanting (Checks c) = record {
-      gives = checking.stopped old OutOfMemory (checking.out_of_memory (untouched old)) closes;
+      gives = checking.stopped old OutOfMemory (checking.out_of_memory (OnlyReads-refl old)) closes;
       completes = λ none s t a b. inl is_5;
+      own = λ none s t a b w. inr is_5;
       files = same;
     }
     wanting (ListsFlags c) = record {
-      gives = listing.stopped old OutOfMemory (listing.no_memory (untouched old)) closes;
+      gives = listing.stopped old OutOfMemory (listing.no_memory (OnlyReads-refl old)) closes;
       completes = λ none bytes told other. absurd (other is_5);
       files = same;
     }
     wanting (Runs80 c) = record {
-      gives = source.stopped old OutOfMemory (source.unloaded (untouched old) (source.no_source no_memory)) closes;
+      gives = running.stopped old OutOfMemory (running.unloaded (OnlyReads-refl old) running_one.no_memory) closes;
       completes = λ none bytes given told supply. inl is_5;
       files = alone old new c.run.out_disk same;
     }
     wanting (Runs86 c) = record {
-      gives = text.stopped old OutOfMemory (text.unloaded (untouched old) text.no_memory) closes;
+      gives = running.stopped old OutOfMemory (running.unloaded (OnlyReads-refl old) running_one.no_memory) closes;
       completes = λ none bytes given told supply. inl is_5;
       files = alone old new c.run.out_disk same;
     }
     wanting (RunsBoth c) = record {
-      gives = both.stopped old OutOfMemory (both.unloaded (untouched old) both_loads.no_memory) closes;
+      gives = running.stopped old OutOfMemory (running.unloaded (OnlyReads-refl old) running_both.no_memory) closes;
       completes = λ none bytes given told supply. inl is_5;
       files = alone old new c.run.out_disk same;
     }
     wanting (MakesSample c) = record {
-      gives = subst (making.Gives c old new) (sym is_5) (making.no_memory says);
+      gives = subst (making.SampleGives c old new) (sym is_5) (making.no_memory says);
       completes = λ none other. absurd (other is_5);
     }
 

@@ -1,26 +1,27 @@
 -- Each command answers one of the program's statuses, and 2 never.
 use Rattle.std.proofs.Common.{◌≡◌, ℕ, List, refl, sym, ◌∙◌, subst, arith}
-use Rattle.std.specs.Prelude.{Result, Ok, Err}
+use Rattle.std.specs.Prelude.{Option, Result, Ok, Err}
 use Rattle.host.specs.declared.HostFault.{HostFault}
 use Rattle.host.specs.declared.HostFault.TheVariants.{Failed, Memory}
 use Rattle.host.specs.Host.{HostState}
-use Rattle.cmd_words.specs.Words.{Translate, Check, Flags, Run80, Run86, Both, Sample, Command, Translates, Checks, ListsFlags, Runs80, Runs86, RunsBoth, MakesSample}
-use Rattle.cmd_inputs.specs.declared.stop.Stop.{Stop}
-use Rattle.cmd_inputs.specs.declared.stop.Stop.TheVariants.{SourceLine, SourceProgram, ReadFailed, WriteFailed, OutOfMemory, LeftProfile, StepLimit, NotShown, InputEnded, TextLine, ShortJump, NoInstruction, StackSegment, OddCall, BadDisk, NoDrive, CodeTooLarge, FileTooLong}
-use Rattle.cmd_inputs.specs.Lines.{status_of, ended_line, both_line}
-use Rattle.cmd_inputs.specs.Said.{IsDone, whole, failed, no_memory, Closes, said, unsaid}
+use Rattle.cmd_arguments.specs.Words.{Translate, Check, Flags, Sample, Command, Translates, Checks, ListsFlags, Runs80, Runs86, RunsBoth, MakesSample}
+use Rattle.cmd_common.specs.declared.stop.Stop.{Stop}
+use Rattle.cmd_common.specs.declared.stop.Stop.TheVariants.{SourceLine, SourceProgram, ReadFailed, WriteFailed, OutOfMemory, LeftProfile, StepLimit, NotShown, InputEnded, TextLine, ShortJump, NoInstruction, StackSegment, OddCall, BadDisk, NoDrive, CodeTooLarge, FileTooLong}
+use Rattle.cmd_common.specs.Lines.{status_of}
+use Rattle.cmd_common.specs.Said.{IsDone, whole, failed, no_memory, Closes, said, unsaid}
 use Rattle.std.specs.List.{concat}
-use Rattle.cmd_run80.specs.Ends.{unsaid_status}
-use Rattle.cmd_run80.specs.Lasts.{EndsBy}
-use Rattle.cmd_both.specs.Lasts.{EndsBy as BothEndBy}
-use Rattle.cmd_texts.specs.Translates as translation
+use Rattle.cmd_runs.specs.Ends.{unsaid_status}
+use Rattle.cmd_runs.specs.Lasts.{steps_line, SaysEnd}
+use Rattle.cmd_runs.specs.Works as running
+use Rattle.cmd_runs.specs.Works.{RunWork, WorkGives, came_by}
+use Rattle.cmd_run80.specs.Runs80.{work80}
+use Rattle.cmd_run86.specs.Runs86.{work86}
+use Rattle.cmd_both.specs.Runs.{work_both}
+use Rattle.cmd_translate.specs.Translates as translation
 use Rattle.cmd_check.specs.Checks as checking
-use Rattle.cmd_texts.specs.Listing as listing
-use Rattle.cmd_run80.specs.Runs80 as source
-use Rattle.cmd_run86.specs.Runs86 as text
-use Rattle.cmd_texts.specs.Samples as making
-use Rattle.cmd_both.specs.Gives as both
-use Rattle.xlt_app.specs.Top.{IsStatus, Answers}
+use Rattle.cmd_flags.specs.Listing as listing
+use Rattle.cmd_sample.specs.Samples as making
+use Rattle.xlt_app.specs.Top.{IsStatus, CommandAnswers}
 
 -- a status that is not that of refused words
 pub record IsOfCommand (status : ℕ) : Type 0 where
@@ -133,7 +134,7 @@ of_unsaid Memory = of_5
 
 -- ---- the commands
 
-of_translation : (c : Translate) (old new : HostState) (status : ℕ) → translation.Gives c old new status → IsOfCommand status
+of_translation : (c : Translate) (old new : HostState) (status : ℕ) → translation.TranslateGives c old new status → IsOfCommand status
 of_translation c old new _ (translation.translated p lines a w s l f) = of_0
 of_translation c old new _ (translation.refused line rule r l) = of_1
 of_translation c old new _ (translation.too_large size x l) = of_13
@@ -145,38 +146,24 @@ of_translation c old new _ (translation.no_memory_to_write p lines a w s) = of_5
 of_translation c old new _ (translation.no_memory_to_say p lines a w f s) = of_5
 of_translation c old new _ (translation.too_long l s) = of_14
 
-of_checking : (c : Check) (old new : HostState) (status : ℕ) → checking.Gives c old new status → IsOfCommand status
+of_checking : (c : Check) (old new : HostState) (status : ℕ) → checking.CheckGives c old new status → IsOfCommand status
 of_checking c old new status (checking.shown mid line h d) = of_done line mid new status d
 of_checking c old new status (checking.stopped mid stop s k) = of_closes stop mid new status k
 
-of_listing : (c : Flags) (old new : HostState) (status : ℕ) → listing.Gives c old new status → IsOfCommand status
+of_listing : (c : Flags) (old new : HostState) (status : ℕ) → listing.FlagsGive c old new status → IsOfCommand status
 of_listing c old new status (listing.reported mid lines h d) = of_done (concat lines) mid new status d
 of_listing c old new status (listing.stopped mid stop s k) = of_closes stop mid new status k
 
-of_ending : (came : Result ℕ Stop) (old new : HostState) (status : ℕ) → EndsBy came old new status → IsOfCommand status
-of_ending (Ok steps) old new status e = of_done (ended_line steps) old new status e
-of_ending (Err stop) old new status e = of_closes stop old new status e
+of_ending : (second : Option ℕ) (came : Result ℕ Stop) (old new : HostState) (status : ℕ) → SaysEnd second came old new status → IsOfCommand status
+of_ending second (Ok steps) old new status e = of_done (steps_line second steps) old new status e
+of_ending second (Err stop) old new status e = of_closes stop old new status e
 
-of_run80 : (c : Run80) (old new : HostState) (status : ℕ) → source.Gives c old new status → IsOfCommand status
-of_run80 c old new status (source.ran kept came h e) = of_ending came kept new status e
-of_run80 c old new status (source.unsaid fault e k) = subst IsOfCommand (sym e) (of_unsaid fault)
-of_run80 c old new status (source.stopped mid stop s k) = of_closes stop mid new status k
+of_work : (w : RunWork) (old new : HostState) (status : ℕ) → WorkGives w old new status → IsOfCommand status
+of_work w old new status (running.ran kept m h e) = of_ending m.second (came_by w m) kept new status e
+of_work w old new status (running.unsaid fault e k) = subst IsOfCommand (sym e) (of_unsaid fault)
+of_work w old new status (running.stopped mid stop s k) = of_closes stop mid new status k
 
-of_run86 : (c : Run86) (old new : HostState) (status : ℕ) → text.Gives c old new status → IsOfCommand status
-of_run86 c old new status (text.ran kept came h e) = of_ending came kept new status e
-of_run86 c old new status (text.unsaid fault e k) = subst IsOfCommand (sym e) (of_unsaid fault)
-of_run86 c old new status (text.stopped mid stop s k) = of_closes stop mid new status k
-
-of_both_ending : (came : Result ℕ Stop) (steps86 : ℕ) (old new : HostState) (status : ℕ) → BothEndBy came steps86 old new status → IsOfCommand status
-of_both_ending (Ok steps80) steps86 old new status e = of_done (both_line steps80 steps86) old new status e
-of_both_ending (Err stop) steps86 old new status e = of_closes stop old new status e
-
-of_both : (c : Both) (old new : HostState) (status : ℕ) → both.Gives c old new status → IsOfCommand status
-of_both c old new status (both.ran kept came steps86 h e) = of_both_ending came steps86 kept new status e
-of_both c old new status (both.unsaid fault e k) = subst IsOfCommand (sym e) (of_unsaid fault)
-of_both c old new status (both.stopped mid stop s k) = of_closes stop mid new status k
-
-of_making : (c : Sample) (old new : HostState) (status : ℕ) → making.Gives c old new status → IsOfCommand status
+of_making : (c : Sample) (old new : HostState) (status : ℕ) → making.SampleGives c old new status → IsOfCommand status
 of_making c old new _ (making.made line is w s f) = of_0
 of_making c old new _ (making.unwritten w s) = of_4
 of_making c old new _ (making.unsaid line is w f s) = of_4
@@ -184,11 +171,11 @@ of_making c old new _ (making.no_memory l) = of_5
 of_making c old new _ (making.no_memory_to_write w s) = of_5
 of_making c old new _ (making.no_memory_to_say line is w f s) = of_5
 
-pub of_answer : (c : Command) (old new : HostState) (status : ℕ) → Answers c old new status → IsOfCommand status
+pub of_answer : (c : Command) (old new : HostState) (status : ℕ) → CommandAnswers c old new status → IsOfCommand status
 of_answer (Translates c) old new status a = of_translation c old new status a.gives
 of_answer (Checks c) old new status a = of_checking c old new status a.gives
 of_answer (ListsFlags c) old new status a = of_listing c old new status a.gives
-of_answer (Runs80 c) old new status a = of_run80 c old new status a.gives
-of_answer (Runs86 c) old new status a = of_run86 c old new status a.gives
-of_answer (RunsBoth c) old new status a = of_both c old new status a.gives
+of_answer (Runs80 c) old new status a = of_work (work80 c) old new status a.gives
+of_answer (Runs86 c) old new status a = of_work (work86 c) old new status a.gives
+of_answer (RunsBoth c) old new status a = of_work (work_both c) old new status a.gives
 of_answer (MakesSample c) old new status a = of_making c old new status a.gives

@@ -1,21 +1,30 @@
-// The program `xlt`: which command its words are, and what that comes to.
+// The program as one call: which command its words are, and what that comes to. Here stand the headlines of the whole.
+//
+// Proved of `xlt`, for every list of words and every host, and it returns for every input. Clause `headline`: where the words are the
+// command `translate` and it answers 0, the bytes of the source (where the host tells them) are the source of a program, the output holds a
+// text that has an image, and program and image are `Same` (`Headline`). Clause `checked_headline`: the same of `check` and the text that
+// it was given (`CheckedHeadline`). Clause `outcomes` (`Outcomes`): words that are no command, and no others, are refused; each command
+// answers as its crate says (each way to a status with its cause, what is said and what becomes of files; and which status it is where no
+// call of the host failed and memory suffices); no other number is answered.
 #![tactic(auto)]
 
 ghost use Rattle.std.specs.Prelude.{◌≡◌, map};
 ghost use Rattle.std.specs.String.{string_bytes};
-ghost use Rattle.cmd_words.specs.ReadCommands.{command_read};
-ghost use Rattle.cmd_words.specs.Words.{Translate, Check, Translates, Checks, IsCommand};
-ghost use Rattle.xlt_app.specs.Top.{Headline, CheckedHeadline, Outcomes, Answers, IsAsked};
+ghost use Rattle.cmd_arguments.specs.ReadCommands.{command_read};
+ghost use Rattle.cmd_arguments.specs.Words.{Translate, Check, Translates, Checks, IsCommand};
+ghost use Rattle.xlt_app.specs.Top.{Headline, CheckedHeadline, Outcomes, CommandAnswers, HasLawfulValues};
 
+use cmd_arguments::{Command, read_words, words_are_one_command};
 use cmd_both::both;
 use cmd_check::check;
-pub use cmd_files::{write_bytes, write_out};
-use cmd_inputs::{Stop, say_stop, words_refused};
+use cmd_common::{Stop, say_stop, words_refused};
+use cmd_flags::flags;
 use cmd_run80::run80;
 use cmd_run86::run86;
-use cmd_texts::{flags, sample, translate};
-use cmd_words::{Command, read_words, words_are_one_command};
+use cmd_sample::sample;
+use cmd_translate::translate;
 use host::Host;
+pub use host_files::{write_bytes, write_out};
 use std::alloc::{AllocError, Global};
 
 /// What the program does with the words after its name: it answers the status that the process ends with. The files of the
@@ -37,8 +46,8 @@ pub fn xlt<H: Host>(alloc: Global, words: Vec<String>, host: &mut H) -> u8
 
 // The status of a command.
 fn answer<H: Host>(alloc: Global, host: &mut H, command: &Command<'_>) -> u8
-    requires { IsAsked (command_read command.now) }
-    ensures { Answers (command_read command.now) (H.state host.old) (H.state host.new) result }
+    requires { HasLawfulValues (command_read command.now) }
+    ensures { CommandAnswers (command_read command.now) (H.state host.old) (H.state host.new) result }
 {
     match command {
         Command::Translate(command) => translate(alloc, host, command),

@@ -1,19 +1,19 @@
 -- What is shown matches, and so means the same; and the one thing that is found of a match is that it is shown.
 use Rattle.std.proofs.Common.{◌≡◌, ℕ, List, length, Option, Some, None, refl, subst}
-use Rattle.asm86_lines.specs.declared.line.Line86.{Line86}
-use Rattle.asm86_lines.specs.Image.{Assembles, image_of, statements}
-use Rattle.asm80_program.specs.Program.{Program, IsProgram}
+use Rattle.asm86_line_types.specs.declared.line.Line86.{Line86}
+use Rattle.asm86_line_types.specs.Image.{Assembles, image_of, statements}
+use Rattle.asm80_program_types.specs.Program.{Program, IsProgram}
 use Rattle.flow.specs.Blocks.{blocks}
 use Rattle.flow.specs.Solving.{Needs, AreAllNeeds}
-use Rattle.sym_blocks.specs.declared.reason.Reason.{Reason}
-use Rattle.sym_blocks.specs.BlockMatch.{Keeps}
-use Rattle.sym_blocks.specs.Sorts.{StatementsAreCoded}
-use Rattle.sym_runs.specs.Matches.{Matches, DataAreCoded, Finds, opening, runtime, cells, blocks as by_blocks}
-use Rattle.sym_runs.specs.Needed.{needed_by}
-use Rattle.xlt_translation.specs.Names.{Same, IsMatch}
-use Rattle.xlt_validation.specs.declared.finding.Finding.{Finding}
-use Rattle.xlt_validation.specs.declared.finding.Finding.TheVariants.{Shown}
-use Rattle.xlt_validation.specs.Findings.{IsFinding, OneFinding}
+use Rattle.sym_block_def.specs.declared.reason.Reason.{Reason}
+use Rattle.block_check_def.specs.BlockMatch.{Keeps}
+use Rattle.sym_block_def.specs.Sorts.{StatementsAreCoded}
+use Rattle.simulation_def.specs.Matches.{Matches, DataAreCoded, Finds, opening, runtime, cells, blocks as by_blocks}
+use Rattle.simulation_def.specs.Needed.{needed_by}
+use Rattle.templates_same_law.specs.Names.{Same, IsMatch}
+use Rattle.text_check.specs.declared.finding.Finding.{Finding}
+use Rattle.text_check.specs.declared.finding.Finding.TheVariants.{Shown}
+use Rattle.text_check.specs.Findings.{IsFinding, OneFinding}
 use Rattle.xlt_core.specs.Validation.{ShownIsSame}
 
 no_reason : (x : ℕ × Reason) → Some x ≡ None → ⊥

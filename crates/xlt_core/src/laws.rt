@@ -1,19 +1,19 @@
 // What is found of the texts that a program is translated to.
 ghost use Rattle.std.specs.Prelude.{◌≡◌, List, length};
-ghost use Rattle.asm80_program.specs.Program.{Program, IsProgram};
-ghost use Rattle.asm86_lines.specs.declared.line.Line86.{Line86};
+ghost use Rattle.asm80_program_types.specs.Program.{Program, IsProgram};
+ghost use Rattle.asm86_line_types.specs.declared.line.Line86.{Line86};
 ghost use Rattle.flow.specs.Blocks.{blocks};
 ghost use Rattle.flow.specs.Solving.{Needs, AreAllNeeds};
-ghost use Rattle.sym_runs.specs.Needed.{needed_by};
-ghost use Rattle.xlt_translation.specs.declared.translation.Mode.{Mode};
-ghost use Rattle.xlt_translation.specs.Translation.{IsText, CodeFits};
-ghost use Rattle.xlt_translation.specs.Names.{IsMatch};
-ghost use Rattle.xlt_validation.specs.declared.finding.Finding.{Finding};
-ghost use Rattle.xlt_validation.specs.declared.finding.Finding.TheVariants.{Shown};
-ghost use Rattle.xlt_validation.specs.Findings.{IsFinding};
+ghost use Rattle.simulation_def.specs.Needed.{needed_by};
+ghost use Rattle.templates.specs.declared.translation.Mode.{Mode};
+ghost use Rattle.templates.specs.Translation.{IsText, CodeFits};
+ghost use Rattle.templates_same_law.specs.Names.{IsMatch};
+ghost use Rattle.text_check.specs.declared.finding.Finding.{Finding};
+ghost use Rattle.text_check.specs.declared.finding.Finding.TheVariants.{Shown};
+ghost use Rattle.text_check.specs.Findings.{IsFinding};
 
-use xlt_translation::modes_match;
-use xlt_validation::findings_are_one;
+use templates_same_law::modes_match;
+use text_check::findings_are_one;
 
 /// A law: where its code fits, a program's text matches the program, block by block and with what is needed kept, in either mode; so
 /// whatever is found of it is that all blocks are shown.

@@ -1,4 +1,7 @@
-// The program: its words, real files and the standard output, handed to `xlt`.
+// The program that is run: `main` hands the words after its name, the host of real files and the standard output to `xlt`, and ends with
+// the status that it answers.
+//
+// `main` has no contract of its own: what is proved of the program stands in `xlt_app`.
 #![tactic(auto)]
 
 use host::RealHost;

@@ -3,7 +3,7 @@ use Rattle.std.proofs.Common.{◌≡◌, ℕ, ◌<◌, ◌==◌, ◌&&◌, Bool,
 use Rattle.std.proofs.lemmas.Bool.{and_from, and_parts, eqb-true, eq-eqb}
 use Rattle.std.proofs.lemmas.Option.{slice_get-get_or, get_or_from_slice_get}
 use Rattle.xlt_pool.specs.declared.node.Node.{Node}
-use Rattle.xlt_pool.specs.Contents.{StandsAt}
+use Rattle.xlt_pool.specs.Contents.{NodeStandsAt}
 
 abbrev pub is_same : Node → Node → Bool
 is_same x y = (x.op == y.op) && ((x.num == y.num) && ((x.a == y.a) && ((x.b == y.b) && (x.c == y.c))))
@@ -35,11 +35,11 @@ is_same_refl x =
     (and_from (x.a == x.a) _ (eq-eqb x.a x.a refl) (and_from (x.b == x.b) (x.c == x.c) (eq-eqb x.b x.b refl) (eq-eqb x.c x.c refl))))
 
 -- a node that is found equal stands at its place
-pub stands_at : (nodes : List Node) (place : ℕ) (d node : Node) → place < length nodes → is_same (get_or nodes place d) node ≡ true → StandsAt nodes place node
+pub stands_at : (nodes : List Node) (place : ℕ) (d node : Node) → place < length nodes → is_same (get_or nodes place d) node ≡ true → NodeStandsAt nodes place node
 stands_at nodes place d node h same = slice_get-get_or nodes place d h ∙ ap Some (is_same-true (get_or nodes place d) node same)
 
 -- one that is found different does not
-pub stands_not_at : (nodes : List Node) (place : ℕ) (d node : Node) → is_same (get_or nodes place d) node ≡ false → StandsAt nodes place node → ⊥
+pub stands_not_at : (nodes : List Node) (place : ℕ) (d node : Node) → is_same (get_or nodes place d) node ≡ false → NodeStandsAt nodes place node → ⊥
 stands_not_at nodes place d node other stands =
     let is : get_or nodes place d ≡ node = get_or_from_slice_get nodes place node d stands in
     let both : true ≡ false = sym (is_same_refl node) ∙ ap (λ x. is_same x node) (sym is) ∙ other in

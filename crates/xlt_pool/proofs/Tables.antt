@@ -6,7 +6,7 @@ use Rattle.std.proofs.lemmas.Bool.{cases_eq, cases_lt}
 use Rattle.std.proofs.lemmas.List.Sums.{sum_by-set}
 use Rattle.std.proofs.lemmas.Option.{slice_get_within}
 use Rattle.xlt_pool.specs.declared.node.Node.{Node}
-use Rattle.xlt_pool.specs.Contents.{StandsAt, IsAbsent, AreDistinct}
+use Rattle.xlt_pool.specs.Contents.{NodeStandsAt, IsAbsent, AreDistinct}
 use Rattle.xlt_pool.specs.Table.{HasId, IsReached, IsTable, IsFreeFor, home_of}
 use Rattle.xlt_pool.proofs.Places.{get_front, get_push}
 use Rattle.xlt_pool.proofs.Slots.{slot_after_write, slot_within, other_slot, still_reached, if_empty, none_is_empty, slot_is_met}
@@ -18,11 +18,11 @@ distinct_with nodes node distinct absent i j x at_i at_j =
     (λ old.
     ⊎_elim
     (λ old'. distinct i j x old old')
-    (λ new'. absurd (absent i (subst (λ y. StandsAt nodes i y) (sym new'.1) old)))
+    (λ new'. absurd (absent i (subst (λ y. NodeStandsAt nodes i y) (sym new'.1) old)))
     (get_push nodes x node j at_j))
     (λ new.
     ⊎_elim
-    (λ old'. absurd (absent j (subst (λ y. StandsAt nodes j y) (sym new.1) old')))
+    (λ old'. absurd (absent j (subst (λ y. NodeStandsAt nodes j y) (sym new.1) old')))
     (λ new'. new.0 ∙ sym new'.0)
     (get_push nodes x node j at_j))
     (get_push nodes x node i at_i)
@@ -71,7 +71,7 @@ table_with nodes slots node at t free within empty room = record {
         let below : id < length nodes = t.held k id f in
         omega arith
 
-    was : (id : ℕ) (x : Node) → StandsAt nodes id x → IsReached slots' size (home_of x size) id
+    was : (id : ℕ) (x : Node) → NodeStandsAt nodes id x → IsReached slots' size (home_of x size) id
     was id x stands = still_reached slots size (home_of x size) id at (Some (length nodes)) (t.reached id x stands) (λ j _. nothing_there j)
 
     last : IsReached slots' size (home_of node size) (length nodes)
@@ -117,7 +117,7 @@ table_without nodes slots node at t stands within = record {
 
 -- what a search has passed so far: slots whose ids are of other nodes
 abbrev pub Passed : List Node → List (Option ℕ) → Node → ℕ → Type 0
-Passed nodes slots node distance = (k : ℕ) → k < distance → (id : ℕ) × HasId slots ((home_of node (length slots) + k) % length slots) id × (StandsAt nodes id node → ⊥)
+Passed nodes slots node distance = (k : ℕ) → k < distance → (id : ℕ) × HasId slots ((home_of node (length slots) + k) % length slots) id × (NodeStandsAt nodes id node → ⊥)
 
 -- a search that meets an empty slot has shown that the node is not there
 pub free_after : (nodes : List Node) (slots : List (Option ℕ)) (node : Node) (distance at : ℕ) → IsTable nodes slots → Passed nodes slots node distance → at ≡ (home_of node (length slots) + distance) % length slots → get_or slots at None ≡ None → IsFreeFor nodes slots node at
@@ -129,7 +129,7 @@ free_after nodes slots node distance at t passed ends empty = record {
       let p = passed r.distance sooner in
       let both : Some p.0 ≡ Some id = sym p.1 ∙ r.stands in
       let is : p.0 ≡ id = cc in
-      p.2 (subst (λ k. StandsAt nodes k node) (sym is) stands))
+      p.2 (subst (λ k. NodeStandsAt nodes k node) (sym is) stands))
       (λ later.
       ⊎_elim
       (λ here. nothing_there id (subst (λ k. HasId slots ((home_of node (length slots) + k) % length slots) id) here r.stands))
@@ -162,10 +162,10 @@ search_ends nodes slots node distance t passed round =
     omega arith
 
 -- the search for the last node finds its id
-pub last_is_found : (nodes : List Node) (slots : List (Option ℕ)) (node : Node) (last at : ℕ) → AreDistinct nodes → StandsAt nodes last node → MatchOption (get_or slots at None) (IsFreeFor nodes slots node at) (λ id. StandsAt nodes id node) → HasId slots at last
+pub last_is_found : (nodes : List Node) (slots : List (Option ℕ)) (node : Node) (last at : ℕ) → AreDistinct nodes → NodeStandsAt nodes last node → MatchOption (get_or slots at None) (IsFreeFor nodes slots node at) (λ id. NodeStandsAt nodes id node) → HasId slots at last
 last_is_found nodes slots node last at distinct stands found = by_slot (get_or slots at None) found
   where
-    by_slot : (slot : Option ℕ) → MatchOption slot (IsFreeFor nodes slots node at) (λ id. StandsAt nodes id node) → slot ≡ Some last
+    by_slot : (slot : Option ℕ) → MatchOption slot (IsFreeFor nodes slots node at) (λ id. NodeStandsAt nodes id node) → slot ≡ Some last
     by_slot None free = absurd (free.absent last stands)
     by_slot (Some id) here = ap Some (distinct id last node here stands)
 

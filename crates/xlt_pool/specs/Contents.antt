@@ -7,20 +7,20 @@ pub record Contents : Type 0 where
   pub spare : ℕ
 
 -- the node stands at this place of the list
-abbrev pub StandsAt : List Node → ℕ → Node → Type 0
-StandsAt nodes place node = slice_get nodes place ≡ Some node
+abbrev pub NodeStandsAt : List Node → ℕ → Node → Type 0
+NodeStandsAt nodes place node = slice_get nodes place ≡ Some node
 
 -- the node stands nowhere in the list
 abbrev pub IsAbsent : List Node → Node → Type 0
-IsAbsent nodes node = (place : ℕ) → ¬ StandsAt nodes place node
+IsAbsent nodes node = (place : ℕ) → ¬ NodeStandsAt nodes place node
 
 -- no node stands at two places
 abbrev pub AreDistinct : List Node → Type 0
-AreDistinct nodes = (i j : ℕ) (node : Node) → StandsAt nodes i node → StandsAt nodes j node → i ≡ j
+AreDistinct nodes = (i j : ℕ) (node : Node) → NodeStandsAt nodes i node → NodeStandsAt nodes j node → i ≡ j
 
 -- a node that is asked for is held, at this place
 pub record IsFound (old : Contents) (node : Node) (place : ℕ) (new : Contents) : Type 0 where
-  pub stands : StandsAt old.nodes place node
+  pub stands : NodeStandsAt old.nodes place node
   pub unchanged : new ≡ old
 
 -- it is new, and goes last
@@ -31,7 +31,7 @@ pub record IsAdded (old : Contents) (node : Node) (place : ℕ) (new : Contents)
   pub spare : new.spare + 1 ≡ old.spare
 
 -- it is new, and there is no room
-pub record IsRefused (old : Contents) (node : Node) (new : Contents) : Type 0 where
+pub record HasNoRoom (old : Contents) (node : Node) (new : Contents) : Type 0 where
   pub absent : IsAbsent old.nodes node
   pub full : old.spare ≡ 0
   pub unchanged : new ≡ old

@@ -2,7 +2,7 @@
 -- there were taken when it came. Slots are counted round the end of the table.
 use Rattle.std.specs.Prelude.{◌≡◌, ℕ, ◌+◌, ◌*◌, ◌/◌, ◌%◌, ◌^◌, ◌<◌, List, length, Option, Some, None, is_none, count_by, slice_index_or}
 use Rattle.xlt_pool.specs.declared.node.Node.{Node}
-use Rattle.xlt_pool.specs.Contents.{StandsAt, IsAbsent, AreDistinct}
+use Rattle.xlt_pool.specs.Contents.{NodeStandsAt, IsAbsent, AreDistinct}
 
 -- one field mixed into a hash, in 64 bits
 abbrev pub mixed : ℕ → ℕ → ℕ
@@ -25,7 +25,7 @@ pub record IsReached (slots : List (Option ℕ)) (size home id : ℕ) : Type 0 w
 -- the table of these nodes; one slot more than they need is empty, so that every search ends
 pub record IsTable (nodes : List Node) (slots : List (Option ℕ)) : Type 0 where
   pub distinct : AreDistinct nodes
-  pub reached : (id : ℕ) (node : Node) → StandsAt nodes id node → IsReached slots (length slots) (home_of node (length slots)) id
+  pub reached : (id : ℕ) (node : Node) → NodeStandsAt nodes id node → IsReached slots (length slots) (home_of node (length slots)) id
   pub held : (k id : ℕ) → HasId slots k id → id < length nodes
   pub once : (j k id : ℕ) → HasId slots j id → HasId slots k id → j ≡ k
   pub empty : count_by is_none slots + length nodes ≡ length slots

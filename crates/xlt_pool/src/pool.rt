@@ -1,7 +1,7 @@
 // The pool: a list of nodes, and a table that finds each of them.
 
 ghost use Rattle.std.specs.Prelude.{◌≡◌, ◌≢◌, ◌+◌, ◌-◌, ◌*◌, ◌<◌, ◌≤◌, ◌⊎◌, [], ◌∷◌, ◌++◌, None, IfOk, MatchOption, length, take};
-ghost use Rattle.xlt_pool.specs.Contents.{StandsAt, AreDistinct, IsFound, IsAdded, IsRefused};
+ghost use Rattle.xlt_pool.specs.Contents.{NodeStandsAt, AreDistinct, IsFound, IsAdded, HasNoRoom};
 ghost use Rattle.xlt_pool.specs.Table.{IsTable};
 
 use crate::node::{Id, Mark, Node};
@@ -47,7 +47,7 @@ impl Pool {
     /// The id of a node, which joins the pool if it is new; None where it is new and there is no room. It takes no memory.
     pub fn intern(&mut self, node: Node) -> Option<Id>
         ensures distinct { AreDistinct self.new.nodes }
-        ensures place { MatchOption result (IsRefused self.old node self.new) (λ id. IsFound self.old node id.0 self.new ⊎ IsAdded self.old node id.0 self.new) }
+        ensures place { MatchOption result (HasNoRoom self.old node self.new) (λ id. IsFound self.old node id.0 self.new ⊎ IsAdded self.old node id.0 self.new) }
     {
         let slot = slot_of(&self.nodes, &self.slots, node);
         if let Some(id) = self.slots[slot] {
@@ -66,7 +66,7 @@ impl Pool {
     pub fn node(&self, id: Id) -> Node
         requires { id.0 < length self.now.nodes }
         ensures distinct { AreDistinct self.now.nodes }
-        ensures node { StandsAt self.now.nodes id.0 result }
+        ensures node { NodeStandsAt self.now.nodes id.0 result }
     {
         self.nodes[id.0 as usize]
     }

@@ -2,7 +2,7 @@
 // the end to the first, until it meets the node's id or an empty slot.
 
 ghost use Rattle.std.specs.Prelude.{◌≡◌, ◌<◌, None, MatchOption, length, slice_index_or};
-ghost use Rattle.xlt_pool.specs.Contents.{StandsAt};
+ghost use Rattle.xlt_pool.specs.Contents.{NodeStandsAt};
 ghost use Rattle.xlt_pool.specs.Table.{IsTable, IsFreeFor, mixed, home_of};
 
 use crate::node::Node;
@@ -11,7 +11,7 @@ use crate::node::Node;
 pub fn slot_of(nodes: &[Node], slots: &[Option<u32>], node: Node) -> usize
     requires { IsTable nodes.now slots.now }
     ensures within { result < length slots.now }
-    ensures slot { MatchOption (slice_index_or slots.now result None) (IsFreeFor nodes.now slots.now node result) (λ id. StandsAt nodes.now id node) }
+    ensures slot { MatchOption (slice_index_or slots.now result None) (IsFreeFor nodes.now slots.now node result) (λ id. NodeStandsAt nodes.now id node) }
 {
     let home = home(node, slots.len());
     for distance in 0..slots.len() {

@@ -1,8 +1,8 @@
 use Rattle.std.proofs.Common.{map, subst}
 use Rattle.std.specs.Prelude.{MatchOption}
 use Rattle.std.specs.String.{string_bytes}
-use Rattle.cmd_words.specs.ReadCommands.{command_read}
-use Rattle.cmd_words.specs.Words.{IsCommand, IsNoCommand}
+use Rattle.cmd_arguments.specs.ReadCommands.{command_read}
+use Rattle.cmd_arguments.specs.Words.{IsCommand, IsNoCommand}
 use Rattle.xlt_app.specs.Top.{Outcomes}
 use Rattle.xlt_app.proofs.Asked.{words_ask}
 use Rattle.xlt_app.proofs.Outcomes.{by_command, by_no_command, by_memory, has_headline, has_checked}

@@ -1,7 +1,7 @@
 use Rattle.std.proofs.Common.{◌≡◌, All, map, take}
 use Rattle.std.specs.List.{flat_map}
-use Rattle.asm80_tokens.specs.Tree.{operand_of}
-use Rattle.asm80_source.specs.Items.{cells_of_byte}
+use Rattle.asm80_statement_types.specs.Tree.{operand_of}
+use Rattle.asm80_source_def.specs.Items.{cells_of_byte}
 use Rattle.asm80_operands.specs.Forms.{HoldsByte}
 use Rattle.asm80_operands.specs.Settings.{setting_of}
 use Rattle.asm80_operands.proofs.data.cells_of_bytes.Given as goal

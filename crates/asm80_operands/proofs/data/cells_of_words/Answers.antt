@@ -4,9 +4,9 @@ use Rattle.std.proofs.lemmas.List.{map_more, flat_map_more}
 use Rattle.std.proofs.lemmas.List.Elements.{All-append}
 use Rattle.std.specs.List.{flat_map}
 use Rattle.cells.specs.declared.Cell.{Cell}
-use Rattle.asm80_tokens.specs.declared.arg.Arg.{Arg}
-use Rattle.asm80_tokens.specs.Tree.{operand_of}
-use Rattle.asm80_source.specs.Items.{cells_of_word}
+use Rattle.asm80_statement_types.specs.declared.arg.Arg.{Arg}
+use Rattle.asm80_statement_types.specs.Tree.{operand_of}
+use Rattle.asm80_source_def.specs.Items.{cells_of_word}
 use Rattle.asm80_operands.specs.Forms.{HoldsByte}
 use Rattle.asm80_operands.specs.Settings.{setting_of}
 use Rattle.asm80_operands.proofs.data.cells_of_words.Goals as goal

@@ -2,7 +2,7 @@ use Rattle.std.proofs.Common.{◌<◌, ◌^◌, All, ℕ, List, get_or, arith}
 use Rattle.std.proofs.Math.Facts.{Fits-lt-pow}
 use Rattle.std.proofs.lemmas.List.Elements.{All-map, All-from_get_or}
 use Rattle.cells.specs.declared.Cell.TheVariants.{Num}
-use Rattle.asm80_source.specs.Items.{numbers}
+use Rattle.asm80_source_def.specs.Items.{numbers}
 use Rattle.asm80_operands.specs.Forms.{HoldsByte}
 use Rattle.asm80_operands.proofs.data.push_numbers.Goals as goal
 

@@ -1,5 +1,5 @@
 use Rattle.std.proofs.Common.{◌≡◌, ◌++◌, take}
-use Rattle.asm80_source.specs.Items.{numbers}
+use Rattle.asm80_source_def.specs.Items.{numbers}
 use Rattle.asm80_operands.proofs.data.push_numbers.Given as goal
 
 abbrev pub invariant-loop-byte : goal.invariant-loop-byte

@@ -6,7 +6,7 @@ use Rattle.asm80_text.proofs.Several.{collected_lawful}
 use Rattle.asm80_text.proofs.parts.parts_of.Goals as goal
 
 pub returns-clause-parts : goal.returns-clause-parts
-returns-clause-parts c = map_from_collect _ c.collect.ensures.ran (YieldsList-from_slice_split _ is_bang c.args.tokens.now c.split.ensures.rest c.split.ensures.done c.split.ensures.closure (λ x r q k. search (rules, tests)))
+returns-clause-parts g c = map_from_collect _ c.collect.ensures.ran (YieldsList-from_slice_split _ is_bang c.args.tokens.now c.split.ensures.rest c.split.ensures.done c.split.ensures.closure (λ x r q k. search (rules, tests)))
 
 pub returns-clause-lawful : goal.returns-clause-lawful
-returns-clause-lawful c = collected_lawful c.args.tokens.now c.collect.result c.requires (returns-clause-parts c)
+returns-clause-lawful g c = collected_lawful g.N.Notation.spelling c.args.tokens.now c.collect.result c.requires (returns-clause-parts g c)

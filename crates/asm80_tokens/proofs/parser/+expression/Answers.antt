@@ -3,7 +3,7 @@ use Rattle.std.proofs.lemmas.Result.{err_from_is_err_and}
 use Rattle.asm80_tokens.proofs.Chain.{spells_shorter, begins_shorter}
 use Rattle.asm80_tokens.proofs.Cases.{digits_read, number_read, here_read, name_read, register_read, parens_read, signed_never, added, taken_off, tighter_read, tighter_never, unsigned_read, unsigned_never, chain_starts, chain_never, chain_goes_on, chain_breaks, chain_ends, gives_on, fails_on}
 use Rattle.asm80_tokens.proofs.Inverted.{row_read, row_fails}
-use Rattle.asm80_tokens.specs.contracts.expr.Two.{the_type}
+use Rattle.asm80_statement_types.specs.contracts.expr.Two.{the_type}
 use denote.Enum.Bare.{same_true}
 use Rattle.asm80_tokens.proofs.parser.+expression.Goals as goal
 

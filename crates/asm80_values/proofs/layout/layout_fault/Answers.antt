@@ -1,6 +1,6 @@
 use Rattle.std.proofs.Common.{◌≡◌, true, sym, ap, ◌∙◌}
 use Rattle.std.specs.Option.{option_or}
-use Rattle.asm80_source.specs.Items.{starts_in, starts_at}
+use Rattle.asm80_source_def.specs.Items.{starts_in, starts_at}
 use Rattle.asm80_values.proofs.layout.layout_fault.Goals as goal
 use Rattle.asm80_values.proofs.Breaches.{no_start, faults_same}
 

@@ -1,5 +1,5 @@
 use Rattle.std.proofs.Common.{◌≡◌, ◌++◌, take}
-use Rattle.asm80_source.specs.Items.{laid_from}
+use Rattle.asm80_source_def.specs.Items.{laid_from}
 use Rattle.asm80_values.proofs.program.push_cells.Given as goal
 
 abbrev pub invariant-loop-k : goal.invariant-loop-k

@@ -1,5 +1,5 @@
 use Rattle.std.proofs.Common.{ap, sym, ◌∙◌}
-use Rattle.asm80_source.specs.Walk.{row_operation, size_by}
+use Rattle.asm80_source_def.specs.Walk.{row_operation, size_by}
 use Rattle.asm80_values.proofs.second_walk.item_with.Goals as goal
 use Rattle.asm80_values.proofs.Rows.{form_fills}
 

@@ -1,10 +1,10 @@
 use Rattle.std.proofs.Common.{◌≡◌, ◌+◌, List, [], ◌++◌, drop, map, Option, sym, ap, subst, ◌∙◌, arith, append-nil}
 use Rattle.std.specs.Option.{option_to_list}
 use Rattle.std.proofs.lemmas.Result.{err_from_is_err_and}
-use Rattle.asm80_tokens.specs.Tree.{statement_of}
-use Rattle.asm80_walk.specs.declared.walked.Taken.{Taken}
-use Rattle.asm80_source.specs.Names.{Name}
-use Rattle.asm80_source.specs.Walk.{walked}
+use Rattle.asm80_statement_types.specs.Tree.{statement_of}
+use Rattle.asm80_first_walk.specs.declared.walked.Taken.{Taken}
+use Rattle.asm80_source_def.specs.Names.{Name}
+use Rattle.asm80_source_def.specs.Walk.{walked}
 use Rattle.asm80_values.specs.declared.item.Item.{Item}
 use Rattle.asm80_values.proofs.second_walk.items_of.Goals as goal
 use Rattle.asm80_values.proofs.second_walk.items_of.Goals.{in-Some+in_ok-push, in_default}

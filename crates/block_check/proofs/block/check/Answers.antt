@@ -1,10 +1,10 @@
 use Rattle.std.proofs.Common.{◌≡◌, Some, ap, sym, subst}
-use Rattle.asm80_program.specs.Program.{Program}
+use Rattle.asm80_program_types.specs.Program.{Program}
 use Rattle.flow.specs.Blocks.{block_at}
-use Rattle.sym_blocks.specs.Block80.{IsBlock, block80}
-use Rattle.sym_blocks.specs.Walk86.{walk86}
-use Rattle.sym_blocks.specs.BlockMatch.{block_reason}
-use Rattle.sym_runs.specs.Needed.{needed_by}
+use Rattle.sym_block_def.specs.Block80.{MayRun, block80}
+use Rattle.sym_block_def.specs.Walk86.{walk86}
+use Rattle.block_check_def.specs.BlockMatch.{block_reason}
+use Rattle.simulation_def.specs.Needed.{needed_by}
 use Rattle.block_check.specs.Kept.{KeepsNeeds}
 use Rattle.block_check.specs.Comparing.{HoldsOutcomes, AfterShown, verdict_of}
 use Rattle.block_check.proofs.Needed.{leader_block, needed_keeps}
@@ -18,7 +18,7 @@ check_kept-requires-clause-block c =
     let found : block_at p c.args.leader ≡ Some b.0 = b.1 in
     let here = c.in-Some.ensures in
     let same : b.0 ≡ c.in-Some.count = cc in
-    subst (λ n. IsBlock p c.args.leader n) same b.2
+    subst (λ n. MayRun p c.args.leader n) same b.2
 
 pub unreachable-requires : goal.unreachable-requires
 unreachable-requires c =

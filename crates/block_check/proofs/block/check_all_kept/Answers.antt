@@ -1,5 +1,5 @@
 use Rattle.std.proofs.Common.{refl}
-use Rattle.sym_runs.specs.Ones.{all_kept}
+use Rattle.simulation_def.specs.Ones.{all_kept}
 use Rattle.block_check.proofs.Found.{one_is_block}
 use Rattle.block_check.proofs.block.check_all_kept.Goals as goal
 

@@ -1,14 +1,14 @@
 use Rattle.std.proofs.Common.{◌≡◌, ◌∙◌, Result, Ok, Err, ap, subst}
 use Rattle.cells.specs.Parts.{Parts}
-use Rattle.sym_blocks.specs.declared.reason.Reason.{Reason}
-use Rattle.sym_blocks.specs.Outcome.{Outcome}
-use Rattle.sym_blocks.specs.Block80.{block80}
-use Rattle.sym_blocks.specs.Walk86.{walk86}
-use Rattle.sym_blocks.specs.BlockMatch.{kept_by_exit}
+use Rattle.sym_block_def.specs.declared.reason.Reason.{Reason}
+use Rattle.sym_block_def.specs.Outcome.{Outcome}
+use Rattle.sym_block_def.specs.Block80.{block80}
+use Rattle.sym_block_def.specs.Walk86.{walk86}
+use Rattle.block_check_def.specs.BlockMatch.{kept_by_exit}
 use Rattle.sym_micro.specs.Exits.{tree_of_exit}
-use Rattle.sym_run.specs.Outcomes.{OutcomeStands, Comes}
+use Rattle.sym_run.specs.Outcomes.{OutcomeStands, WalkComesTo}
 use Rattle.block_check.specs.Kept.{wanted_parts, lost_of, kept_behind}
-use Rattle.block_check.specs.Comparing.{HoldsOutcomes, first_of, second_of, reason_by, verdict_of}
+use Rattle.block_check.specs.Comparing.{HoldsOutcomes, first_outcome, second_of, reason_by, verdict_of}
 use Rattle.block_check.proofs.Found.{are_ready, found, after_shown, reason_found}
 use Rattle.block_check.proofs.block.check_kept.Goals as goal
 
@@ -33,9 +33,9 @@ returns-in-Some-Ok-clause-verdict c = λ k h.
     let exit : c.exit-exit.result ≡ w.first.exit = cc in
     let kept : wanted_parts c.kept_by_exit-wanted.result ≡ kept_by_exit k (tree_of_exit w.terms w.first.exit) = rw (← exit) (c.kept_by_exit-wanted.ensures w.terms k h) in
     let back : c.kept_behind-back.result ≡ kept_behind k (tree_of_exit w.terms w.first.exit) = rw (← exit) (c.kept_behind-back.ensures w.terms k h) in
-    let same : reason_by (wanted_parts c.kept_by_exit-wanted.result) (lost_of c.kept_behind-back.result) (first_of w) (second_of w) ≡ reason_by (kept_by_exit k (tree_of_exit w.terms w.first.exit)) (lost_of (kept_behind k (tree_of_exit w.terms w.first.exit))) (first_of w) (second_of w) = λ i. reason_by (kept i) (lost_of (back i)) (first_of w) (second_of w) in
+    let same : reason_by (wanted_parts c.kept_by_exit-wanted.result) (lost_of c.kept_behind-back.result) (first_outcome w) (second_of w) ≡ reason_by (kept_by_exit k (tree_of_exit w.terms w.first.exit)) (lost_of (kept_behind k (tree_of_exit w.terms w.first.exit))) (first_outcome w) (second_of w) = λ i. reason_by (kept i) (lost_of (back i)) (first_outcome w) (second_of w) in
     c.verdict_of.ensures
-    ∙ ap verdict_of (c.reason_of.ensures ∙ (same ∙ found w k x (walk (k.at c.args.leader)) first (subst (λ held. Comes w.terms w.second (walk held) (Ok tt)) keep came)))
+    ∙ ap verdict_of (c.reason_of.ensures ∙ (same ∙ found w k x (walk (k.at c.args.leader)) first (subst (λ held. WalkComesTo w.terms w.second (walk held) (Ok tt)) keep came)))
 
 pub returns-in-Some-Ok-clause-outcomes : goal.returns-in-Some-Ok-clause-outcomes
 returns-in-Some-Ok-clause-outcomes c = λ k h.
@@ -48,7 +48,7 @@ returns-in-Some-Ok-clause-outcomes c = λ k h.
     let keep : c.run80.new.self.keep ≡ k.at c.args.leader = cc in
     after_shown c.verdict_of.result (HoldsOutcomes w x (walk (k.at c.args.leader))) (record {
       first = first;
-      second = subst (λ held. Comes w.terms w.second (walk held) (Ok tt)) keep came;
+      second = subst (λ held. WalkComesTo w.terms w.second (walk held) (Ok tt)) keep came;
     })
 
 pub returns-in-Some-Err-clause-verdict : goal.returns-in-Some-Err-clause-verdict
@@ -59,4 +59,4 @@ returns-in-Some-Err-clause-verdict c = λ k h.
     let came = rw c.in-Some-Err.field-0-is at c.in-Some-Err.ensures.stands in
     let at : c.kept_from.result ≡ k.at c.args.leader = c.kept_from.ensures k h in
     let keep : c.run80.new.self.keep ≡ k.at c.args.leader = cc in
-    reason_found w.terms w.second k x (walk (k.at c.args.leader)) c.in-Some-Err.reason (subst (λ held. Comes w.terms w.second (walk held) (Err c.in-Some-Err.reason)) keep came)
+    reason_found w.terms w.second k x (walk (k.at c.args.leader)) c.in-Some-Err.reason (subst (λ held. WalkComesTo w.terms w.second (walk held) (Err c.in-Some-Err.reason)) keep came)

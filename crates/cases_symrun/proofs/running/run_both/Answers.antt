@@ -1,5 +1,5 @@
-use Rattle.sym_blocks.specs.Block80.{block80}
-use Rattle.sym_blocks.specs.Walk86.{walk86}
+use Rattle.sym_block_def.specs.Block80.{block80}
+use Rattle.sym_block_def.specs.Walk86.{walk86}
 use Rattle.cases_symrun.proofs.Given.{is_run}
 use Rattle.cases_symrun.proofs.running.run_both.Goals as goal
 

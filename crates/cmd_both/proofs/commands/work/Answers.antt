@@ -1,21 +1,20 @@
 use Rattle.std.proofs.Common.{◌≡◌, sym, subst}
-use Rattle.std.proofs.lemmas.Result.{IfOk-weaker, IfErr-weaker}
-use Rattle.host.specs.Host.{HostState}
-use Rattle.cmd_words.specs.ReadCommands.{both_read}
-use Rattle.cmd_inputs.proofs.Told.{judged}
-use Rattle.cmd_both.specs.Lasts.{came_of, steps_of}
-use Rattle.cmd_both.specs.Loads.{HasLoaded}
-use Rattle.cmd_both.specs.Gives.{HasCome, IsHalted}
-use Rattle.cmd_both.proofs.Running.{unloaded_halts}
+use Rattle.cmd_arguments.specs.ReadCommands.{both_read}
+use Rattle.cmd_common.proofs.Told.{judged}
+use Rattle.cmd_runs.specs.Works.{WorkHalts}
+use Rattle.cmd_runs.proofs.Working.{unloaded_halts, begun_has, begun_halts}
+use Rattle.cmd_both.specs.Loads.{AreToRun}
+use Rattle.cmd_both.specs.Runs.{work_both}
 use Rattle.cmd_both.proofs.commands.work.Goals as goal
 
 pub returns-in_err-loaded-clause-halted : goal.returns-in_err-loaded-clause-halted
 returns-in_err-loaded-clause-halted g c =
-    let command = both_read c.args.command.now in
+    let w = work_both (both_read c.args.command.now) in
     let old = g.H.Host.state c.args.host.now in
     let new = g.H.Host.state c.load.new.host in
-    judged c.from_residual.result (λ h. h ≡ c.in_err-loaded.field-0.0) (IsHalted command old new) c.from_residual.ensures.1
-    (λ h is. subst (IsHalted command old new) (sym is) (unloaded_halts command old new c.in_err-loaded.field-0.0 c.in_err-loaded.ensures.only c.in_err-loaded.ensures.stopped))
+    let halt = c.in_err-loaded.field-0.0 in
+    judged c.from_residual.result (λ h. h ≡ halt) (WorkHalts w old new) c.from_residual.ensures.1
+    (λ h is. subst (WorkHalts w old new) (sym is) (unloaded_halts w old new halt c.in_err-loaded.ensures.only c.in_err-loaded.ensures.stopped))
 
 pub returns-clause-came : goal.returns-clause-came
 returns-clause-came g c =
@@ -25,7 +24,7 @@ returns-clause-came g c =
     let new = g.H.Host.state c.run_loaded.new.host in
     let l = c.in_ok-loaded.loaded in
     let e = c.in_ok-loaded.ensures in
-    IfOk-weaker c.run_loaded.result (λ last. (begin : HostState) → HasLoaded command begin l.program l.image l.devices start → HasCome command begin new (came_of last) (steps_of last)) (λ last. HasCome command old new (came_of last) (steps_of last)) (λ last h. h old (record { loads = e.loaded; reads = e.only; counted = e.counted })) c.run_loaded.ensures.came
+    begun_has (work_both command) (λ begin. AreToRun command begin l.program l.image l.devices) old start new (record { stands = e.loaded; reads = e.only; counted = e.counted }) c.run_loaded.result c.run_loaded.ensures.came
 
 pub returns-clause-halted : goal.returns-clause-halted
 returns-clause-halted g c =
@@ -35,4 +34,4 @@ returns-clause-halted g c =
     let new = g.H.Host.state c.run_loaded.new.host in
     let l = c.in_ok-loaded.loaded in
     let e = c.in_ok-loaded.ensures in
-    IfErr-weaker c.run_loaded.result (λ halt. (begin : HostState) → HasLoaded command begin l.program l.image l.devices start → IsHalted command begin new halt) (IsHalted command old new) (λ halt h. h old (record { loads = e.loaded; reads = e.only; counted = e.counted })) c.run_loaded.ensures.halted
+    begun_halts (work_both command) (λ begin. AreToRun command begin l.program l.image l.devices) old start new (record { stands = e.loaded; reads = e.only; counted = e.counted }) c.run_loaded.result c.run_loaded.ensures.halted

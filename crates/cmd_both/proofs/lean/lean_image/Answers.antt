@@ -1,9 +1,9 @@
 use Rattle.std.proofs.Common.{sym, subst}
 use Rattle.std.proofs.lemmas.Result.{err_from_is_err_and}
 use Rattle.i86.specs.Decode.{HasReader}
-use Rattle.asm86_lines.specs.Image.{Image, Assembles, IsImage}
-use Rattle.xlt_translation.specs.Names.{Same}
-use Rattle.xlt_translation.specs.declared.translation.Mode.TheVariants.{Lean}
+use Rattle.asm86_line_types.specs.Image.{Image, Assembles, IsImage}
+use Rattle.templates_same_law.specs.Names.{Same}
+use Rattle.templates.specs.declared.translation.Mode.TheVariants.{Lean}
 use Rattle.cmd_both.specs.Loads.{no_room}
 use Rattle.cmd_both.proofs.lean.lean_image.Goals as goal
 

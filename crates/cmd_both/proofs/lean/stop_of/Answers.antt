@@ -1,6 +1,6 @@
 use Rattle.std.proofs.Common.{subst}
-use Rattle.xlt_translation.specs.declared.translation.Mode.TheVariants.{Lean}
-use Rattle.xlt_translation.specs.Translation.{HasNoText}
+use Rattle.templates.specs.declared.translation.Mode.TheVariants.{Lean}
+use Rattle.templates.specs.Translation.{HasNoText}
 use Rattle.cmd_both.specs.Loads.{is_large, no_room}
 use Rattle.cmd_both.proofs.lean.stop_of.Goals as goal
 

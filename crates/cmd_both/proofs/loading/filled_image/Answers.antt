@@ -1,6 +1,6 @@
 use Rattle.std.proofs.Common.{◌≡◌, subst, sym}
-use Rattle.cmd_inputs.specs.declared.stop.Stop.TheVariants.{OutOfMemory}
-use Rattle.cmd_inputs.proofs.Told.{judged}
+use Rattle.cmd_common.specs.declared.stop.Stop.TheVariants.{OutOfMemory}
+use Rattle.cmd_common.proofs.Told.{judged}
 use Rattle.cmd_both.specs.Loads.{LeanStops, no_room}
 use Rattle.cmd_both.proofs.loading.filled_image.Goals as goal
 

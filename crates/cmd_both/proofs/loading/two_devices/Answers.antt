@@ -1,6 +1,6 @@
 use Rattle.std.proofs.Common.{subst}
-use Rattle.cmd_run80.specs.Supplies.{Given, given_of, HasDisk}
-use Rattle.cmd_run80.proofs.Disks.{one_supply}
+use Rattle.cmd_runs.specs.Supplies.{Given, given_of, HasDisk}
+use Rattle.cmd_runs.proofs.Disks.{one_supply}
 use Rattle.cmd_both.proofs.loading.two_devices.Goals as goal
 
 -- both sets of devices are of the same bytes

@@ -1,10 +1,10 @@
 use Rattle.std.proofs.Common.{ℕ, List, length, ◌<◌, ◌∙◌, sym, subst}
 use Rattle.std.specs.String.{string_bytes}
-use Rattle.cmd_words.specs.ReadCommands.{check_read}
-use Rattle.cmd_inputs.specs.Said.{IsDone}
-use Rattle.cmd_inputs.proofs.Told.{done_files}
+use Rattle.cmd_arguments.specs.ReadCommands.{check_read}
+use Rattle.cmd_common.specs.Said.{IsDone}
+use Rattle.cmd_common.proofs.Told.{done_files}
 use Rattle.cmd_check.specs.Checks.{shown, stopped}
-use Rattle.cmd_inputs.proofs.Said.{closes_files}
+use Rattle.cmd_common.proofs.Said.{closes_files}
 use Rattle.cmd_check.proofs.Loading.{line_some, stop_reads}
 use Rattle.cmd_check.proofs.checking.carry_out.Goals as goal
 

@@ -1,10 +1,13 @@
-use Rattle.std.proofs.Common.{◌≡◌, sym, subst}
-use Rattle.cmd_words.specs.ReadCommands.{check_read}
-use Rattle.cmd_inputs.specs.Files.{text_limit}
-use Rattle.cmd_inputs.specs.Sources.{SourceGives}
-use Rattle.cmd_inputs.specs.Texts.{BytesGiveLines}
-use Rattle.cmd_inputs.proofs.Told.{judged}
-use Rattle.cmd_check.specs.Checks.{HasOneImage, ImageStops, Stops, no_source, no_text, refused}
+use Rattle.std.proofs.Common.{◌≡◌, List, sym, subst}
+use Rattle.asm86_line_types.specs.declared.line.Line86.{Line86}
+use Rattle.asm86_line_types.specs.Image.{IsImage}
+use Rattle.cmd_arguments.specs.ReadCommands.{check_read}
+use Rattle.cmd_common.specs.Files.{text_limit}
+use Rattle.asm80_text.specs.Intel.{intel_reading}
+use Rattle.cmd_common.specs.Sources.{SourceGives}
+use Rattle.cmd_common.specs.Texts.{BytesGiveLines, HasOneImage}
+use Rattle.cmd_common.proofs.Told.{judged}
+use Rattle.cmd_check.specs.Checks.{Loads, Stops, no_source, no_text, refused}
 use Rattle.cmd_check.proofs.Loading.{reads_before, stops_before, both_read, lines_stop, image_stop}
 use Rattle.cmd_check.proofs.inputs.load.Goals as goal
 
@@ -41,7 +44,7 @@ returns-in_err-program-clause-stopped g c =
     let stop = c.in_err-program.field-0.0 in
     let reads = both_read command old mid new first.read.bytes second.read.bytes first.only first.counted first.read.file second.only second.counted second.read.file in
     judged c.from_residual-in_err-program.result (λ s. s ≡ stop) (Stops command old new) c.from_residual-in_err-program.ensures.1
-    (λ s is. subst (Stops command old new) (sym is) (refused first.read.bytes second.read.bytes reads (subst (SourceGives first.read.bytes command.top) c.in_err-program.was first.read.gives)))
+    (λ s is. subst (Stops command old new) (sym is) (refused first.read.bytes second.read.bytes reads (subst (SourceGives intel_reading first.read.bytes command.top) c.in_err-program.was first.read.gives)))
 
 -- a line of the text is refused
 pub returns-in_err-lines-clause-stopped : goal.returns-in_err-lines-clause-stopped
@@ -56,25 +59,24 @@ returns-in_err-lines-clause-stopped g c =
     let reads = both_read command old mid new first.read.bytes second.read.bytes first.only first.counted first.read.file second.only second.counted second.read.file in
     judged c.from_residual-in_err-lines.result (λ s. s ≡ stop) (Stops command old new) c.from_residual-in_err-lines.ensures.1
     (λ s is. subst (Stops command old new) (sym is)
-    (lines_stop command old new first.read.bytes second.read.bytes reads c.in_ok-program.program (subst (SourceGives first.read.bytes command.top) c.in_ok-program.was first.read.gives) stop
+    (lines_stop command old new first.read.bytes second.read.bytes reads c.in_ok-program.program (subst (SourceGives intel_reading first.read.bytes command.top) c.in_ok-program.was first.read.gives) stop
     (subst (BytesGiveLines second.read.bytes) c.in_err-lines.was second.read.gives)))
 
 -- its lines have no image
-pub returns-in_err-see_image-clause-stopped : goal.returns-in_err-see_image-clause-stopped
-returns-in_err-see_image-clause-stopped g c =
+pub returns-in_err-loaded-clause-stopped : goal.returns-in_err-loaded-clause-stopped
+returns-in_err-loaded-clause-stopped g c =
     let command = check_read c.args.command.now in
     let old = g.H.Host.state c.args.host.now in
     let mid = g.H.Host.state c.read_source.new.host in
     let new = g.H.Host.state c.read_text.new.host in
     let first = c.in_ok-source.ensures in
     let second = c.in_ok-text.ensures in
-    let stop = c.in_err-see_image.field-0.0 in
+    let stop = c.in_err-loaded.field-0.0 in
     let reads = both_read command old mid new first.read.bytes second.read.bytes first.only first.counted first.read.file second.only second.counted second.read.file in
-    judged c.from_residual-in_err-see_image.result (λ s. s ≡ stop) (Stops command old new) c.from_residual-in_err-see_image.ensures.1
+    judged c.from_residual-in_err-loaded.result (λ s. s ≡ stop) (Stops command old new) c.from_residual-in_err-loaded.ensures.1
     (λ s is. subst (Stops command old new) (sym is)
-    (image_stop command old new first.read.bytes second.read.bytes reads c.in_ok-program.program (subst (SourceGives first.read.bytes command.top) c.in_ok-program.was first.read.gives)
-    c.in_ok-lines.lines.items (subst (BytesGiveLines second.read.bytes) c.in_ok-lines.was second.read.gives) stop
-    (subst (λ l. ImageStops l stop) c.as_slice.ensures.value c.in_err-see_image.ensures.stopped)))
+    (image_stop command old new first.read.bytes second.read.bytes reads c.in_ok-program.program (subst (SourceGives intel_reading first.read.bytes command.top) c.in_ok-program.was first.read.gives)
+    c.in_ok-lines.lines.items (subst (BytesGiveLines second.read.bytes) c.in_ok-lines.was second.read.gives) stop c.in_err-loaded.ensures.stopped))
 
 pub returns-clause-loaded : goal.returns-clause-loaded
 returns-clause-loaded g c =
@@ -84,11 +86,19 @@ returns-clause-loaded g c =
     let new = g.H.Host.state c.read_text.new.host in
     let first = c.in_ok-source.ensures in
     let second = c.in_ok-text.ensures in
-    record {
+    let lines = c.in_ok-lines.lines.items in
+    let text = c.in_ok-loaded.ensures in
+    subst (Loads command old new c.in_ok-program.program) (sym text.lines)
+    (record {
       source = first.read.bytes;
       text = second.read.bytes;
       reads = both_read command old mid new first.read.bytes second.read.bytes first.only first.counted first.read.file second.only second.counted second.read.file;
-      is_source = subst (SourceGives first.read.bytes command.top) c.in_ok-program.was first.read.gives;
+      is_source = subst (SourceGives intel_reading first.read.bytes command.top) c.in_ok-program.was first.read.gives;
       gives = subst (BytesGiveLines second.read.bytes) c.in_ok-lines.was second.read.gives;
-      stands = subst HasOneImage c.as_slice.ensures.value c.in_ok-see_image.ensures.stands;
-    }
+      stands = subst (HasOneImage lines) text.image.made.is text.image;
+    })
+
+pub returns-clause-image : goal.returns-clause-image
+returns-clause-image g c =
+    let text = c.in_ok-loaded.ensures in
+    subst (λ (l : List Line86). IsImage l c.in_ok-loaded.loaded.image) (sym text.lines) text.image.made

@@ -1,9 +1,30 @@
-use Rattle.cmd_words.specs.ReadCommands.{run86_read}
-use Rattle.cmd_run86.proofs.Completing86.{completes86}
+use Rattle.cmd_arguments.specs.ReadCommands.{run86_read}
+use Rattle.cmd_runs.proofs.Working.{gives, gives_alone}
+use Rattle.cmd_runs.proofs.OneRun.{one_stays}
+use Rattle.cmd_runs.proofs.OneOutcome.{one_completes}
+use Rattle.cmd_run86.specs.Runs86.{kind86, work86}
+use Rattle.cmd_run86.proofs.Laws86.{laws86}
 use Rattle.cmd_run86.proofs.run_text.run86.Goals as goal
+
+pub returns-clause-gives : goal.returns-clause-gives
+returns-clause-gives g c =
+    let old = g.H.Host.state c.args.host.now in
+    let mid = g.H.Host.state c.work-worked.new.host in
+    let new = g.H.Host.state c.close_work.new.host in
+    gives (work86 (run86_read c.args.command.now)) old mid new c.close_work.result c.work-worked.result c.work-worked.ensures.came c.work-worked.ensures.halted c.close_work.ensures
+
+pub returns-clause-files : goal.returns-clause-files
+returns-clause-files g c =
+    let kind = kind86 (run86_read c.args.command.now) in
+    let old = g.H.Host.state c.args.host.now in
+    let new = g.H.Host.state c.close_work.new.host in
+    gives_alone (work86 (run86_read c.args.command.now)) (one_stays kind) old new c.close_work.result (returns-clause-gives g c)
 
 pub returns-clause-completes : goal.returns-clause-completes
 returns-clause-completes g c =
+    let kind = kind86 (run86_read c.args.command.now) in
     let old = g.H.Host.state c.args.host.now in
-    let new = g.H.Host.state c.carry_out.new.host in
-    completes86 c.text_has_one_reading.ensures c.images_exclude_refusals.ensures.one_image c.images_exclude_refusals.ensures.one_refusal c.images_exclude_refusals.ensures.not_both (record { told = c.disks_read_back.ensures.told; taken = c.disks_read_back.ensures.taken }) (run86_read c.args.command.now) old new c.carry_out.result c.carry_out.ensures.gives
+    let new = g.H.Host.state c.close_work.new.host in
+    let law = c.images_exclude_refusals.ensures in
+    let disks = c.disks_read_back.ensures in
+    one_completes kind (laws86 c.text_has_one_reading.ensures law.one_image law.one_refusal law.not_both (run86_read c.args.command.now)) (record { told = disks.told; taken = disks.taken }) old new c.close_work.result (returns-clause-gives g c)

@@ -1,7 +1,7 @@
 use Rattle.std.proofs.Common.{◌≡◌, ℕ, ◌≤◌, Bool, true, false, nat_lt, refl, sym, ◌∙◌, get_or, arith}
 use Rattle.std.proofs.lemmas.Bool.Decides.{nat_tests}
 use Rattle.std.proofs.lemmas.List.{get_or_past}
-use Rattle.cpu80_steps.specs.Memory.{is_closed}
+use Rattle.cpu80_tagged_def.specs.Memory.{is_closed}
 use Rattle.cpu80_tagged.proofs.Starts.{closed_past}
 use Rattle.cpu80_tagged.proofs.start.closed_cells.Goals as goal
 

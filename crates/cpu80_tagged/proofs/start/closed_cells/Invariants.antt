@@ -1,5 +1,5 @@
 use Rattle.std.proofs.Common.{◌≡◌, ℕ, ◌<◌, true, length, get_or}
-use Rattle.cpu80_steps.specs.Memory.{is_closed}
+use Rattle.cpu80_tagged_def.specs.Memory.{is_closed}
 use Rattle.cpu80_tagged.proofs.start.closed_cells.Given as goal
 
 abbrev pub invariant-loop-at : goal.invariant-loop-at

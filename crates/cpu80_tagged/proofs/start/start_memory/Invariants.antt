@@ -1,4 +1,4 @@
-use Rattle.cpu80_steps.specs.Start.{start_cell80}
+use Rattle.cpu80_tagged_def.specs.Start.{start_cell80}
 use Rattle.cpu80_tagged.proofs.Starts.{Filled}
 use Rattle.cpu80_tagged.proofs.start.start_memory.Given as goal
 

@@ -1,5 +1,5 @@
 use Rattle.std.proofs.Common.{◌∙◌}
-use Rattle.asm80_program.proofs.Marks.{found_one}
+use Rattle.asm80_program_types.proofs.Marks.{found_one}
 use Rattle.flow.proofs.cut.mark.Goals as goal
 
 pub returns-in-Some : goal.returns-in-Some

@@ -1,5 +1,5 @@
 use Rattle.flow.specs.Blocks.{target_placed}
-use Rattle.asm80_program.proofs.Marks.{found_more}
+use Rattle.asm80_program_types.proofs.Marks.{found_more}
 use Rattle.flow.proofs.cut.mark_targets.Goals as goal
 
 pub loop-placed-preserved : goal.loop-placed-preserved

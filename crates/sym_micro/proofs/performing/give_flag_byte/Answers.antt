@@ -1,5 +1,5 @@
 use Rattle.std.proofs.Common.{◌≡◌, subst, sym, Some, le_refl}
-use Rattle.sym_blocks.specs.Block80.{flag_byte}
+use Rattle.sym_block_def.specs.Block80.{flag_byte}
 use Rattle.sym_micro.specs.Machine.{with_byte}
 use Rattle.sym_micro.specs.Stands.{trees_of_held, machine_of, GoesOn}
 use Rattle.sym_micro.proofs.Sorted.{flag_byte_sorted}

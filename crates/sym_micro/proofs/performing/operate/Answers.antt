@@ -1,7 +1,7 @@
 use Rattle.std.proofs.Common.{◌≡◌, subst, sym, le_refl}
 use Rattle.sym_terms.specs.Making.{alu}
 use Rattle.sym_terms.specs.Trees.{tree_in}
-use Rattle.sym_blocks.specs.Block80.{operation, carry_in}
+use Rattle.sym_block_def.specs.Block80.{operation, carry_in}
 use Rattle.sym_micro.specs.Machine.{byte_in}
 use Rattle.sym_micro.specs.Stands.{machine_of, GoesOn}
 use Rattle.sym_micro.proofs.Sorted.{byte_sorted, operated_sorted}

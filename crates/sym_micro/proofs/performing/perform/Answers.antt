@@ -1,32 +1,21 @@
-use Rattle.std.proofs.Common.{◌≡◌, subst, sym}
-use Rattle.sym_micro.specs.declared.micro.Micro.{Micro}
-use Rattle.sym_micro.specs.declared.micro.Micro.TheVariants.{Byte}
-use Rattle.sym_micro.specs.declared.micro.ByteSlot.TheVariants.{A}
-use Rattle.sym_micro.specs.declared.micro.ByteValue.TheVariants.{Of}
-use Rattle.sym_micro.specs.Machine.{micros, weights, all_moves}
-use Rattle.sym_micro.specs.Stands.{machine_of, GoesOn}
-use Rattle.sym_micro.proofs.OneByOne.{goes_on_at, fails_at, ends_at}
+use Rattle.std.proofs.Common.{◌≡◌, ap}
+use Rattle.sym_micro.specs.Machine.{as80, as86, micros, weights, all_moves}
+use Rattle.sym_micro.specs.Stands.{machine_of}
+use Rattle.sym_micro.proofs.Ready.{goes_on_as}
 use Rattle.sym_micro.proofs.performing.perform.Goals as goal
 
--- what stands behind the last one
-other : Micro
-other = Byte A (Of A)
-
-pub returns-in_err-perform_one : goal.returns-in_err-perform_one
-unfolding other
-returns-in_err-perform_one c =
-    let old = c.args.terms.now in
-    let new = c.perform_one.new.terms in
-    let r = c.args.run.now in
-    let s = c.perform_one.new.run in
+pub returns-clause-on_80 : goal.returns-clause-on_80
+returns-clause-on_80 c =
+    let m0 = machine_of c.args.terms.now c.args.run.now in
     let steps = c.args.steps.now in
-    subst (λ x. GoesOn old new r s (weights steps) (all_moves steps) (λ m. m ≡ micros (machine_of old r) steps) x) (sym c.from_residual.ensures)
-    (fails_at old c.loop-step.terms new r c.loop-step.run s steps c.loop-step.step-index other c.loop-step-test.true c.loop-step.invariant c.in_err-perform_one.ensures)
+    goes_on_as c.args.terms.now c.perform_each.new.terms c.args.run.now c.perform_each.new.run (weights steps) 24 (all_moves steps) 2
+    (λ m. m ≡ micros m0 steps) (λ m. as80 m ≡ as80 (micros m0 steps))
+    c.perform_each.result c.requires.light c.requires.few c.perform_each.ensures (λ m e. ap as80 e)
 
-pub loop-step-preserved : goal.loop-step-preserved
-unfolding other
-loop-step-preserved c =
-    goes_on_at c.args.terms.now c.loop-step.terms c.perform_one.new.terms c.args.run.now c.loop-step.run c.perform_one.new.run c.args.steps.now c.loop-step.step-index other c.loop-step-test.true c.loop-step.invariant c.in_ok-perform_one.ensures
-
-pub returns : goal.returns
-returns c = ends_at c.args.terms.now c.loop-step.terms c.args.run.now c.loop-step.run c.args.steps.now c.loop-step.step-index c.loop-step-test.false c.loop-step.invariant
+pub returns-clause-on_86 : goal.returns-clause-on_86
+returns-clause-on_86 c =
+    let m0 = machine_of c.args.terms.now c.args.run.now in
+    let steps = c.args.steps.now in
+    goes_on_as c.args.terms.now c.perform_each.new.terms c.args.run.now c.perform_each.new.run (weights steps) 24 (all_moves steps) 2
+    (λ m. m ≡ micros m0 steps) (λ m. as86 m ≡ as86 (micros m0 steps))
+    c.perform_each.result c.requires.light c.requires.few c.perform_each.ensures (λ m e. ap as86 e)

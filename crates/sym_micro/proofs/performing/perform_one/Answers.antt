@@ -20,6 +20,11 @@ returns-in-Flag c =
     subst (λ (step : Micro). GoesOn c.args.terms.now c.give_flag.new.terms c.args.run.now c.give_flag.new.run (weight step) (moves step) (λ m. m ≡ micro (machine_of c.args.terms.now c.args.run.now) step) c.give_flag.result)
     (sym c.in-Flag.is) c.give_flag.ensures
 
+pub returns-in-Flags : goal.returns-in-Flags
+returns-in-Flags c =
+    subst (λ (step : Micro). GoesOn c.args.terms.now c.give_flags.new.terms c.args.run.now c.give_flags.new.run (weight step) (moves step) (λ m. m ≡ micro (machine_of c.args.terms.now c.args.run.now) step) c.give_flags.result)
+    (sym c.in-Flags.is) c.give_flags.ensures
+
 pub returns-in-Put : goal.returns-in-Put
 returns-in-Put c =
     subst (λ (step : Micro). GoesOn c.args.terms.now c.put.new.terms c.args.run.now c.put.new.run (weight step) (moves step) (λ m. m ≡ micro (machine_of c.args.terms.now c.args.run.now) step) c.put.result)

@@ -1,5 +1,5 @@
 use Rattle.std.proofs.Common.{◌≡◌}
-use Rattle.sym_blocks.specs.Symbolic86.{start86}
+use Rattle.sym_block_def.specs.Symbolic86.{start86}
 use Rattle.sym_micro.specs.Machine.{as86}
 use Rattle.sym_micro.proofs.Ready.{began}
 use Rattle.sym_micro.proofs.starting.begin.Goals as goal

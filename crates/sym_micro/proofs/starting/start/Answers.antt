@@ -2,13 +2,15 @@
 use Rattle.std.proofs.Common.{◌≡◌, ◌∙◌, List, [], ◌∷◌, ap, subst, lit≤}
 use Rattle.cells.specs.declared.Part.TheVariants.{A as PartA, B as PartB, C as PartC, D as PartD, E as PartE, H as PartH, L as PartL, S as PartS, Z as PartZ, Ac as PartAc, P as PartP, Cy as PartCy}
 use Rattle.cells.specs.Parts.{Parts, has}
-use Rattle.sym_blocks.specs.Symbolic86.{start86}
+use Rattle.i80.specs.declared.Reg.TheVariants.{A, B, C, D, E, H, L}
+use Rattle.i80.specs.declared.Pair.TheVariants.{Sp}
+use Rattle.sym_block_def.specs.Symbolic86.{start86}
 use Rattle.sym_micro.specs.declared.micro.Micro.{Micro}
 use Rattle.sym_micro.specs.declared.micro.Micro.TheVariants.{Byte, Word, Flag, Put}
-use Rattle.sym_micro.specs.declared.micro.ByteSlot.TheVariants.{A, B, C, D, E, H, L}
+use Rattle.sym_micro.specs.declared.micro.ByteSlot.TheVariants.{Of80 as Byte80}
 use Rattle.sym_micro.specs.declared.micro.FlagSlot.TheVariants.{S, Z, Ac, P, Cy}
 use Rattle.sym_micro.specs.declared.micro.WordSlot.TheVariants.{W}
-use Rattle.sym_micro.specs.declared.micro.Wide.TheVariants.{Sp}
+use Rattle.sym_micro.specs.declared.micro.Wide.TheVariants.{Of80 as Wide80}
 use Rattle.sym_micro.specs.declared.micro.ByteValue.TheVariants.{Start as StartByte}
 use Rattle.sym_micro.specs.declared.micro.FlagValue.TheVariants.{Start as StartFlag}
 use Rattle.sym_micro.specs.declared.micro.WordValue.TheVariants.{StartSp}
@@ -19,28 +21,28 @@ use Rattle.sym_micro.proofs.starting.start.Goals as goal
 
 abbrev starting : Parts → List Micro
 starting keep =
-    Byte A (StartByte (has keep PartA) PartA)
-    ∷ (Byte B (StartByte (has keep PartB) PartB)
-    ∷ (Byte C (StartByte (has keep PartC) PartC)
-    ∷ (Byte D (StartByte (has keep PartD) PartD)
-    ∷ (Byte E (StartByte (has keep PartE) PartE)
-    ∷ (Byte H (StartByte (has keep PartH) PartH)
-    ∷ (Byte L (StartByte (has keep PartL) PartL)
+    Byte (Byte80 A) (StartByte (has keep PartA) PartA)
+    ∷ (Byte (Byte80 B) (StartByte (has keep PartB) PartB)
+    ∷ (Byte (Byte80 C) (StartByte (has keep PartC) PartC)
+    ∷ (Byte (Byte80 D) (StartByte (has keep PartD) PartD)
+    ∷ (Byte (Byte80 E) (StartByte (has keep PartE) PartE)
+    ∷ (Byte (Byte80 H) (StartByte (has keep PartH) PartH)
+    ∷ (Byte (Byte80 L) (StartByte (has keep PartL) PartL)
     ∷ (Flag S (StartFlag (has keep PartS))
     ∷ (Flag Z (StartFlag (has keep PartZ))
     ∷ (Flag Ac (StartFlag (has keep PartAc))
     ∷ (Flag P (StartFlag (has keep PartP))
-    ∷ (Flag Cy (StartFlag (has keep PartCy)) ∷ (Word W StartSp ∷ (Put Sp W ∷ [])))))))))))))
+    ∷ (Flag Cy (StartFlag (has keep PartCy)) ∷ (Word W StartSp ∷ (Put (Wide80 Sp) W ∷ [])))))))))))))
 
 pub returns : goal.returns
 returns c =
     let old = c.args.terms.now in
-    let new = c.perform.new.terms in
+    let new = c.perform_each.new.terms in
     let r = c.args.run.now in
-    let s = c.perform.new.run in
+    let s = c.perform_each.new.run in
     let steps = starting c.args.keep in
-    let performed : GoesOn old new r s (weights steps) (all_moves steps) (λ m. m ≡ micros (machine_of old r) steps) c.perform.result =
-    subst (λ l. GoesOn old new r s (weights l) (all_moves l) (λ m. m ≡ micros (machine_of old r) l) c.perform.result)
+    let performed : GoesOn old new r s (weights steps) (all_moves steps) (λ m. m ≡ micros (machine_of old r) steps) c.perform_each.result =
+    subst (λ l. GoesOn old new r s (weights l) (all_moves l) (λ m. m ≡ micros (machine_of old r) l) c.perform_each.result)
     (λ i.
     c.start_byte.ensures i
     ∷ (c.start_byte-2.ensures i
@@ -51,8 +53,8 @@ returns c =
     ∷ (c.start_byte-7.ensures i
     ∷ (c.start_flag.ensures i
     ∷ (c.start_flag-2.ensures i
-    ∷ (c.start_flag-3.ensures i ∷ (c.start_flag-4.ensures i ∷ (c.start_flag-5.ensures i ∷ (Word W StartSp ∷ (Put Sp W ∷ []))))))))))))))
-    c.perform.ensures
+    ∷ (c.start_flag-3.ensures i ∷ (c.start_flag-4.ensures i ∷ (c.start_flag-5.ensures i ∷ (Word W StartSp ∷ (Put (Wide80 Sp) W ∷ []))))))))))))))
+    c.perform_each.ensures
     in
-    goes_on_as old new r s 15 15 0 0 (λ m. m ≡ micros (machine_of old r) steps) (λ m. as86 m ≡ start86 c.args.keep) c.perform.result (lit≤ tt) (lit≤ tt) performed
+    goes_on_as old new r s 15 15 0 0 (λ m. m ≡ micros (machine_of old r) steps) (λ m. as86 m ≡ start86 c.args.keep) c.perform_each.result (lit≤ tt) (lit≤ tt) performed
     (λ m e. ap as86 e ∙ ap (λ k. as86 (micros k steps)) c.requires.machine)

@@ -3,7 +3,7 @@ use Rattle.sym_terms.specs.Term.{Loaded16}
 use Rattle.sym_terms.specs.Making.{high, low}
 use Rattle.sym_terms.specs.Trees.{tree_in}
 use Rattle.sym_terms.proofs.Interning.{then_grows}
-use Rattle.sym_blocks.specs.Outcome.{ByTerms}
+use Rattle.sym_block_def.specs.Outcome.{ByTerms}
 use Rattle.sym_micro.specs.Exits.{FindsWay}
 use Rattle.sym_micro.proofs.Found.{no_way, way_of_terms}
 use Rattle.sym_micro.proofs.ways.return_way.Goals as goal

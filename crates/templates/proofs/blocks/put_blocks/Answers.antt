@@ -3,10 +3,10 @@ use Rattle.std.proofs.lemmas.Bool.{and_parts, leb-true}
 use Rattle.std.specs.Prelude.{◌==◌, ◌%◌, nat_le, ◌&&◌}
 use Rattle.std.proofs.lemmas.List.Elements.{All-drop}
 use Rattle.flow.specs.Blocks.{cut_from}
-use Rattle.flow.specs.Cut.{IsWhole}
+use Rattle.flow.specs.Cut.{EndsInMemory}
 use Rattle.flow.specs.Solving.{AreAllNeeds}
 use Rattle.flow.proofs.Cuts.{flat-cut}
-use Rattle.templates.specs.Style.{block_of}
+use Rattle.templates.specs.Style.{block_in_style}
 use Rattle.templates.specs.Jumps.{style_by}
 use Rattle.templates.proofs.Joined.{next_found, put_next}
 use Rattle.templates.proofs.blocks.put_blocks.Goals as goal
@@ -34,7 +34,7 @@ loop-leader-preserved c =
     record {
       rest = c.split_at.ensures.back ∙ next.behind;
       so_far = λ n all. put_next (style_by n c.args.jumps.now) (cut_from p 0 p.instrs) c.loop-leader.leader-index c.loop-leader.text c.put_block.new.text _ next.next
-          (c.in_ok-put_block.ensures.value n (subst (λ q. AreAllNeeds q n) (sym c.requires.program) all) ∙ ap (λ b. c.loop-leader.text ++ block_of (style_by n c.args.jumps.now) b) (c.split_at.ensures.front ∙ next.block)) (c.loop-leader.invariant.so_far n all);
-      whole = subst (All IsWhole) (sym c.split_at.ensures.back) (All-drop IsWhole c.unwrap_or-count.result c.loop-leader.rest.now c.loop-leader.invariant.whole);
+          (c.in_ok-put_block.ensures.value n (subst (λ q. AreAllNeeds q n) (sym c.requires.program) all) ∙ ap (λ b. c.loop-leader.text ++ block_in_style (style_by n c.args.jumps.now) b) (c.split_at.ensures.front ∙ next.block)) (c.loop-leader.invariant.so_far n all);
+      whole = subst (All EndsInMemory) (sym c.split_at.ensures.back) (All-drop EndsInMemory c.unwrap_or-count.result c.loop-leader.rest.now c.loop-leader.invariant.whole);
       most = let more = c.in_ok-put_block.ensures.most in let front = c.split_at.ensures.front_len in let back = c.split_at.ensures.back_len in let before = c.loop-leader.invariant.most in omega (arith, more, front, back, before);
     }

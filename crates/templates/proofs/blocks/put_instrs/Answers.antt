@@ -1,5 +1,5 @@
 use Rattle.std.proofs.Common.{arith}
-use Rattle.flow.specs.Cut.{IsWhole}
+use Rattle.flow.specs.Cut.{EndsInMemory}
 use Rattle.templates.proofs.Joined.{put_one, all_behind}
 use Rattle.templates.proofs.blocks.put_instrs.Goals as goal
 
@@ -7,6 +7,6 @@ pub loop-placed-preserved : goal.loop-placed-preserved
 loop-placed-preserved c = record {
   so_far = λ n all. put_one n c.args.jumps.now c.loop-placed.text c.put_written.new.text _ c.loop-placed.first c.loop-placed.known c.is_pair-last.result c.knows_function-known.result c.in-Some.placed.now c.loop-placed.rest.now c.in-Some.after.now
       c.in-Some.ensures.cases.0 (c.is_pair-last.ensures n all) c.knows_function-known.ensures (c.in_ok-put_written.ensures.value n all) (c.loop-placed.invariant.so_far n all);
-  whole = all_behind IsWhole c.in-Some.placed.now c.loop-placed.rest.now c.in-Some.after.now c.in-Some.ensures.cases.0 c.loop-placed.invariant.whole;
+  whole = all_behind EndsInMemory c.in-Some.placed.now c.loop-placed.rest.now c.in-Some.after.now c.in-Some.ensures.cases.0 c.loop-placed.invariant.whole;
   most = let more = c.in_ok-put_written.ensures.most in let left = c.in-Some.ensures.cases.1 in let before = c.loop-placed.invariant.most in omega (arith, more, left, before);
 }

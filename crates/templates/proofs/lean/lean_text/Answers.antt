@@ -1,6 +1,6 @@
 use Rattle.std.proofs.Common.{subst, ◌∙◌}
 use Rattle.std.proofs.lemmas.Result.{IfOk-weaker}
-use Rattle.asm86_lines.specs.Image.{statements}
+use Rattle.asm86_line_types.specs.Image.{statements}
 use Rattle.flow.specs.Solving.{HasNeeds}
 use Rattle.templates.specs.Places.{ArePlaces}
 use Rattle.templates.proofs.Reaching.{lean_by_long}

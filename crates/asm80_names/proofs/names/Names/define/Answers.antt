@@ -1,10 +1,10 @@
 use Rattle.std.proofs.Common.{ap, sym, subst, map, ◌||◌, ◌∙◌}
 use Rattle.std.specs.List.{IsDistinct}
 use Rattle.std.specs.Map.{keys_of}
-use Rattle.asm80_tokens.specs.contracts.name.Name80PartialEq.TheImpl.{eq-value}
-use Rattle.asm80_source.specs.Names.{Name, clashes, overflows, defined}
+use Rattle.asm80_statement_types.specs.contracts.name.Name80PartialEq.TheImpl.{eq-value}
+use Rattle.asm80_source_def.specs.Names.{Name, clashes, overflows, defined}
 use Rattle.asm80_names.specs.declared.names.Entry.{Entry}
-use Rattle.asm80_names.specs.Entries.{name_of}
+use Rattle.asm80_names.specs.Entries.{name_of_entry}
 use Rattle.asm80_names.proofs.Definitions.{not_made, made}
 use Rattle.asm80_names.proofs.Keys.{key_flips}
 use Rattle.asm80_names.proofs.names.Names.define.Goals as goal
@@ -17,10 +17,10 @@ returns-then-is_refused-clause-made c =
 pub returns-clause-made : goal.returns-clause-made
 returns-clause-made c =
     let v : Entry = record { kind = c.args.kind; meaning = c.args.meaning } in
-    let n : Name = name_of (c.args.name, v) in
+    let n : Name = name_of_entry (c.args.name, v) in
     let es = c.self.inside.entries.entries in
     let e = c.in_ok-insert.ensures.entries in
     let taken = ap (λ ns. clashes ns n || overflows ns n) c.self.view_is ∙ sym (c.is_refused.ensures c.args.meaning) ∙ c.if-is_refused.false in
-    ap (map name_of) e
+    ap (map name_of_entry) e
     ∙ made (eq-value).it key_flips es c.args.name v taken (subst (λ xs. IsDistinct (eq-value).it (keys_of xs)) e c.in_ok-insert.ensures.unique)
     ∙ ap (λ ns. defined ns n) c.self.view_is

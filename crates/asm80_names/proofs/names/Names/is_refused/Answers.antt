@@ -1,5 +1,5 @@
 use Rattle.std.proofs.Common.{◌≡◌, false, sym, ◌∙◌}
-use Rattle.asm80_source.specs.Names.{Name, clashes}
+use Rattle.asm80_source_def.specs.Names.{Name, clashes}
 use Rattle.asm80_names.proofs.names.Names.is_refused.Goals as goal
 
 pub returns-else-clashes : goal.returns-else-clashes

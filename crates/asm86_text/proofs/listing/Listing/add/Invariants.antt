@@ -1,11 +1,11 @@
 use Rattle.std.proofs.Common.{◌≡◌, ◌++◌, take}
 use Rattle.asm86_text.specs.Reader.{IsListed}
-use Rattle.asm86_text.specs.Stream.{numbered}
+use Rattle.asm86_text.specs.Stream.{lines_of_number}
 use Rattle.asm86_text.proofs.listing.Listing.add.Given as goal
 
 abbrev pub invariant-loop-stmt : goal.invariant-loop-stmt
 invariant-loop-stmt l = record {
   listed : IsListed l.self;
-  lines : l.self.lines.items ≡ l.fn.self.lines.items ++ numbered l.number (take l.stmt-index l.stmts);
+  lines : l.self.lines.items ≡ l.fn.self.lines.items ++ lines_of_number l.number (take l.stmt-index l.stmts);
   number : l.self.number ≡ l.fn.self.number;
 }

@@ -1,35 +1,35 @@
 use Rattle.std.proofs.Common.{◌≡◌, List, refl, ap}
 use Rattle.cells.specs.declared.Cell.{Cell}
 use Rattle.dialogue.specs.Run.{Ran}
-use Rattle.cpu80_steps.specs.State.{State80}
-use Rattle.cpu80_steps.specs.Step.{step80}
-use Rattle.cpu80_effects.specs.Draft.{memory_of, state_of as draft_state}
-use Rattle.cpu80_tagged.specs.State.{state_of}
+use Rattle.cpu80_tagged_def.specs.State.{State80}
+use Rattle.cpu80_tagged_def.specs.Step.{step80}
+use Rattle.cpu80_tagged_step.specs.Draft.{memory_of, state_of_draft as draft_state}
+use Rattle.cpu80_tagged.specs.State.{tagged_state}
 use Rattle.cpu80_tagged.proofs.Steps.{ran_answer, ran_place, asked_waits, runs_on, waiting_step}
 use Rattle.cpu80_tagged.proofs.processor.Cpu80.run.Goals as goal
 
 pub returns-in-Ran-clause-machine : goal.returns-in-Ran-clause-machine
 returns-in-Ran-clause-machine c =
     let p = c.args.program.now in
-    let start : State80 = record (state_of c.args.self.now) { mem = memory_of c.as_slice-2.result.now } in
+    let start : State80 = record (tagged_state c.args.self.now) { mem = memory_of c.as_slice-2.result.now } in
     let ran : Ran (draft_state c.step-outcome.new.self) ≡ step80 p start = ran_answer p start (draft_state c.step-outcome.new.self) c.step-outcome.result c.in-Ok.turn c.in-Ok.is c.in-Ran.is c.step-outcome.ensures.answer in
     runs_on p c.args.self.now.closed.items _ c.requires.machine.closed refl c.requires.runs (ran_place p start (draft_state c.step-outcome.new.self) ran)
 
 pub returns-in-Asked-clause-step : goal.returns-in-Asked-clause-step
 returns-in-Asked-clause-step c =
     let p = c.args.program.now in
-    let start : State80 = record (state_of c.args.self.now) { mem = memory_of c.as_slice-2.result.now } in
-    let same : start ≡ state_of c.args.self.now = ap (λ (m : List Cell). record (state_of c.args.self.now) { mem = memory_of m }) c.as_slice-2.ensures.value in
-    let waits = asked_waits p (state_of c.args.self.now) start (draft_state c.step-outcome.new.self) c.step-outcome.result c.in-Ok.turn c.in-Asked.question c.in-Asked.back same c.in-Ok.is c.in-Asked.is c.step-outcome.ensures.answer c.step-outcome.ensures.asking in
-    waiting_step p (state_of c.args.self.now) c.in-Asked.question c.in-Asked.back waits
+    let start : State80 = record (tagged_state c.args.self.now) { mem = memory_of c.as_slice-2.result.now } in
+    let same : start ≡ tagged_state c.args.self.now = ap (λ (m : List Cell). record (tagged_state c.args.self.now) { mem = memory_of m }) c.as_slice-2.ensures.value in
+    let waits = asked_waits p (tagged_state c.args.self.now) start (draft_state c.step-outcome.new.self) c.step-outcome.result c.in-Ok.turn c.in-Asked.question c.in-Asked.back same c.in-Ok.is c.in-Asked.is c.step-outcome.ensures.answer c.step-outcome.ensures.asking in
+    waiting_step p (tagged_state c.args.self.now) c.in-Asked.question c.in-Asked.back waits
 
 pub returns-in-Asked-clause-machine : goal.returns-in-Asked-clause-machine
 returns-in-Asked-clause-machine c =
     let p = c.args.program.now in
-    let start : State80 = record (state_of c.args.self.now) { mem = memory_of c.as_slice-2.result.now } in
-    let same : start ≡ state_of c.args.self.now = ap (λ (m : List Cell). record (state_of c.args.self.now) { mem = memory_of m }) c.as_slice-2.ensures.value in
+    let start : State80 = record (tagged_state c.args.self.now) { mem = memory_of c.as_slice-2.result.now } in
+    let same : start ≡ tagged_state c.args.self.now = ap (λ (m : List Cell). record (tagged_state c.args.self.now) { mem = memory_of m }) c.as_slice-2.ensures.value in
     record {
       closed = c.requires.machine.closed;
       place = c.requires.machine.place;
-      phase = asked_waits p (state_of c.args.self.now) start (draft_state c.step-outcome.new.self) c.step-outcome.result c.in-Ok.turn c.in-Asked.question c.in-Asked.back same c.in-Ok.is c.in-Asked.is c.step-outcome.ensures.answer c.step-outcome.ensures.asking;
+      phase = asked_waits p (tagged_state c.args.self.now) start (draft_state c.step-outcome.new.self) c.step-outcome.result c.in-Ok.turn c.in-Asked.question c.in-Asked.back same c.in-Ok.is c.in-Asked.is c.step-outcome.ensures.answer c.step-outcome.ensures.asking;
     }

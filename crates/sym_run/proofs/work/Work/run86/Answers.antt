@@ -2,11 +2,11 @@
 use Rattle.std.proofs.Common.{◌≡◌, ◌+◌, ◌*◌, ◌≤◌, length, Result, Ok, Err, refl, sym, subst}
 use Rattle.cells.specs.Parts.{Parts}
 use Rattle.xlt_pool.specs.Contents.{Contents}
-use Rattle.sym_terms.specs.Trees.{Grows}
-use Rattle.sym_blocks.specs.declared.reason.Reason.{Reason}
-use Rattle.sym_blocks.specs.Outcome.{Outcome}
-use Rattle.sym_blocks.specs.Walk86.{walk86}
-use Rattle.sym_walk.specs.Ends.{EndStands}
+use Rattle.sym_terms.specs.Trees.{PoolGrows}
+use Rattle.sym_block_def.specs.declared.reason.Reason.{Reason}
+use Rattle.sym_block_def.specs.Outcome.{Outcome}
+use Rattle.sym_block_def.specs.Walk86.{walk86}
+use Rattle.sym_run.specs.Ends.{EndStands}
 use Rattle.sym_run.specs.Outcomes.{OutcomeStands}
 use Rattle.sym_run.proofs.Still.{stands_still, whole_still}
 use Rattle.sym_run.proofs.Coming.{ids_of, comes_to_end, comes_to_reason}
@@ -15,7 +15,7 @@ use Rattle.sym_run.proofs.work.Work.run86.Goals as goal
 pub returns-in_err-end-clause-grows : goal.returns-in_err-end-clause-grows
 returns-in_err-end-clause-grows c =
     let terms : c.self-inside.inside.0.0 ≡ c.args.self.now.terms = cc in
-    subst (λ t. Grows t c.run_text.new.terms (240 * c.args.count + 32)) terms c.run_text.ensures.grows
+    subst (λ t. PoolGrows t c.run_text.new.terms (240 * c.args.count + 32)) terms c.run_text.ensures.grows
 
 pub returns-in_err-end-clause-stands : goal.returns-in_err-end-clause-stands
 returns-in_err-end-clause-stands c = rw c.from_residual.ensures c.in_err-end.ensures.gives
@@ -28,7 +28,7 @@ returns-in_err-end-clause-room c =
 pub returns-in-Ok-clause-grows : goal.returns-in-Ok-clause-grows
 returns-in-Ok-clause-grows c =
     let terms : c.self-inside.inside.0.0 ≡ c.args.self.now.terms = cc in
-    subst (λ t. Grows t c.run_text.new.terms (240 * c.args.count + 32)) terms c.run_text.ensures.grows
+    subst (λ t. PoolGrows t c.run_text.new.terms (240 * c.args.count + 32)) terms c.run_text.ensures.grows
 
 pub returns-in-Ok-clause-room : goal.returns-in-Ok-clause-room
 returns-in-Ok-clause-room c = λ _. refl
@@ -36,7 +36,7 @@ returns-in-Ok-clause-room c = λ _. refl
 pub returns-in-Err-clause-grows : goal.returns-in-Err-clause-grows
 returns-in-Err-clause-grows c =
     let terms : c.self-inside.inside.0.0 ≡ c.args.self.now.terms = cc in
-    subst (λ t. Grows t c.run_text.new.terms (240 * c.args.count + 32)) terms c.run_text.ensures.grows
+    subst (λ t. PoolGrows t c.run_text.new.terms (240 * c.args.count + 32)) terms c.run_text.ensures.grows
 
 pub returns-in-Err-clause-room : goal.returns-in-Err-clause-room
 returns-in-Err-clause-room c = λ _. refl
@@ -47,7 +47,7 @@ returns-in_err-end-clause-still c =
     let n = 240 * c.args.count + 32 in
     let terms : c.self-inside.inside.0.0 ≡ c.args.self.now.terms = cc in
     let first : c.args.self.now.first ≡ c.self-inside.inside.0.1.0 = cc in
-    let grows : Grows c.args.self.now.terms new n = subst (λ t. Grows t new n) terms c.run_text.ensures.grows in
+    let grows : PoolGrows c.args.self.now.terms new n = subst (λ t. PoolGrows t new n) terms c.run_text.ensures.grows in
     λ x h. subst (λ ids. OutcomeStands new ids x) first (stands_still c.args.self.now.terms new n grows c.args.self.now.first x h)
 
 pub returns-in-Ok-clause-stands : goal.returns-in-Ok-clause-stands
@@ -65,7 +65,7 @@ returns-in-Ok-clause-still c =
     let n = 240 * c.args.count + 32 in
     let terms : c.self-inside.inside.0.0 ≡ c.args.self.now.terms = cc in
     let first : c.args.self.now.first ≡ c.self-inside.inside.0.1.0 = cc in
-    let grows : Grows c.args.self.now.terms new n = subst (λ t. Grows t new n) terms c.run_text.ensures.grows in
+    let grows : PoolGrows c.args.self.now.terms new n = subst (λ t. PoolGrows t new n) terms c.run_text.ensures.grows in
     λ x h. subst (λ ids. OutcomeStands new ids x) first (stands_still c.args.self.now.terms new n grows c.args.self.now.first x h)
 
 pub returns-in-Err-clause-stands : goal.returns-in-Err-clause-stands
@@ -85,7 +85,7 @@ returns-in-Err-clause-still c =
     let n = 240 * c.args.count + 32 in
     let terms : c.self-inside.inside.0.0 ≡ c.args.self.now.terms = cc in
     let first : c.args.self.now.first ≡ c.self-inside.inside.0.1.0 = cc in
-    let grows : Grows c.args.self.now.terms new n = subst (λ t. Grows t new n) terms c.run_text.ensures.grows in
+    let grows : PoolGrows c.args.self.now.terms new n = subst (λ t. PoolGrows t new n) terms c.run_text.ensures.grows in
     λ x h. subst (λ ids. OutcomeStands new ids x) first (stands_still c.args.self.now.terms new n grows c.args.self.now.first x h)
 
 pub returns-in_err-end-clause-first : goal.returns-in_err-end-clause-first

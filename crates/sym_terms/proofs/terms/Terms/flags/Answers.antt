@@ -1,7 +1,7 @@
 use Rattle.std.proofs.Common.{◌∙◌, ap, subst, sym, Some, ◌∷◌, []}
 use Rattle.sym_terms.specs.declared.head.Head.{Head}
 use Rattle.sym_terms.specs.declared.head.Head.TheVariants.{FlagByte as FlagByteHead}
-use Rattle.sym_terms.specs.Making.{IsMade}
+use Rattle.sym_terms.specs.Making.{IsTermMade}
 use Rattle.sym_terms.specs.Term.{FlagByte}
 use Rattle.sym_terms.specs.Trees.{Rest, tree_in, tree_of_head, entries_of, Makes}
 use Rattle.sym_terms.proofs.Sorts.{sorts}
@@ -43,7 +43,7 @@ keep_with-requires-clause-made c =
     (made c.args.ac c.requires.ac.given, c.requires.ac.of_sort)
     (made c.args.p c.requires.p.given, c.requires.p.of_sort)
     (made c.args.cy c.requires.cy.given, c.requires.cy.of_sort)).0 in
-    subst IsMade (same_head old c.keep_rest.new.self 1 c.in_ok-rest.ensures.grows head (c.requires.s.given, (c.requires.z.given, (c.requires.ac.given, (c.requires.p.given, (c.requires.cy.given, tt)))))) before
+    subst IsTermMade (same_head old c.keep_rest.new.self 1 c.in_ok-rest.ensures.grows head (c.requires.s.given, (c.requires.z.given, (c.requires.ac.given, (c.requires.p.given, (c.requires.cy.given, tt)))))) before
 
 pub returns : goal.returns
 returns c =

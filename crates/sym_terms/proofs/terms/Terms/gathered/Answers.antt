@@ -1,5 +1,5 @@
 use Rattle.std.proofs.Common.{◌≡◌, ◌∙◌, ap, subst, sym}
-use Rattle.sym_terms.specs.Making.{IsMade, gathered, plus}
+use Rattle.sym_terms.specs.Making.{IsTermMade, regrouped, plus}
 use Rattle.sym_terms.specs.Term.{Sum16}
 use Rattle.sym_terms.specs.Trees.{tree_in, Makes}
 use Rattle.sym_terms.proofs.Making.{gathered_sum, gathered_plain}
@@ -10,18 +10,18 @@ plus-requires-in_default-head c =
     let held = c.args.self.now in
     let word = tree_in held c.in-Sum16.word in
     let is = c.in-Sum16.ensures.tree ∙ ap (λ t. Sum16 word t) c.head-in-Sum16.ensures.tree in
-    let same : gathered (tree_in held c.args.a) c.args.n ≡ plus (tree_in held c.args.a) c.args.n =
-    ap (λ t. gathered t c.args.n) is ∙ gathered_sum held word c.head-in-Sum16.result c.args.n c.in_default-head.not-Num ∙ ap (λ t. plus t c.args.n) (sym is)
+    let same : regrouped (tree_in held c.args.a) c.args.n ≡ plus (tree_in held c.args.a) c.args.n =
+    ap (λ t. regrouped t c.args.n) is ∙ gathered_sum held word c.head-in-Sum16.result c.args.n c.in_default-head.not-Num ∙ ap (λ t. plus t c.args.n) (sym is)
     in
-    record { given = c.requires.given; made = subst IsMade same c.requires.made; terms = c.in-Sum16.ensures.terms }
+    record { given = c.requires.given; made = subst IsTermMade same c.requires.made; terms = c.in-Sum16.ensures.terms }
 
 pub returns-in_default-head : goal.returns-in_default-head
 returns-in_default-head c =
     let held = c.args.self.now in
     let word = tree_in held c.in-Sum16.word in
     let is = c.in-Sum16.ensures.tree ∙ ap (λ t. Sum16 word t) c.head-in-Sum16.ensures.tree in
-    let same : gathered (tree_in held c.args.a) c.args.n ≡ plus (tree_in held c.args.a) c.args.n =
-    ap (λ t. gathered t c.args.n) is ∙ gathered_sum held word c.head-in-Sum16.result c.args.n c.in_default-head.not-Num ∙ ap (λ t. plus t c.args.n) (sym is)
+    let same : regrouped (tree_in held c.args.a) c.args.n ≡ plus (tree_in held c.args.a) c.args.n =
+    ap (λ t. regrouped t c.args.n) is ∙ gathered_sum held word c.head-in-Sum16.result c.args.n c.in_default-head.not-Num ∙ ap (λ t. plus t c.args.n) (sym is)
     in
     subst (λ t. Makes held c.plus-in_default-head.new.self 2 t c.plus-in_default-head.result) (sym same) c.plus-in_default-head.ensures
 
@@ -29,7 +29,7 @@ pub returns-in_default : goal.returns-in_default
 returns-in_default c =
     let held = c.args.self.now in
     let is = c.head.ensures.tree in
-    let same : gathered (tree_in held c.args.a) c.args.n ≡ plus (tree_in held c.args.a) c.args.n =
-    ap (λ t. gathered t c.args.n) is ∙ gathered_plain held c.head.result c.args.n c.in_default.not-Num c.in_default.not-Sum16 ∙ ap (λ t. plus t c.args.n) (sym is)
+    let same : regrouped (tree_in held c.args.a) c.args.n ≡ plus (tree_in held c.args.a) c.args.n =
+    ap (λ t. regrouped t c.args.n) is ∙ gathered_plain held c.head.result c.args.n c.in_default.not-Num c.in_default.not-Sum16 ∙ ap (λ t. plus t c.args.n) (sym is)
     in
     subst (λ t. Makes held c.plus-in_default.new.self 2 t c.plus-in_default.result) (sym same) c.plus-in_default.ensures

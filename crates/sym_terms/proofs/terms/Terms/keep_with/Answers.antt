@@ -1,7 +1,7 @@
 use Rattle.std.proofs.Common.{◌<◌, ◌∙◌, ap, subst, sym, refl, Some, None}
 use Rattle.xlt_pool.specs.Contents.{Contents}
 use Rattle.sym_terms.specs.Term.{is_adjusted}
-use Rattle.sym_terms.specs.Making.{IsMade}
+use Rattle.sym_terms.specs.Making.{IsTermMade}
 use Rattle.sym_terms.specs.Heads.{operands}
 use Rattle.sym_terms.specs.Trees.{Tree, tree_of_head, entries_of, AreGiven, Makes}
 use Rattle.sym_terms.specs.Forms.{HasRest}
@@ -19,7 +19,7 @@ returns-in_err-id c =
     let head = c.args.head in
     let given : AreGiven pool (operands head) = subst (λ (v : Contents). AreGiven v (operands head)) (sym c.self.view_is) c.requires.given in
     let rest : HasRest (entries_of pool.nodes) head c.args.rest.0 = subst (λ (v : Contents). HasRest (entries_of v.nodes) head c.args.rest.0) (sym c.self.view_is) c.requires.rest in
-    let made : IsMade (tree_of_head (entries_of pool.nodes) head) = subst (λ (v : Contents). IsMade (tree_of_head (entries_of v.nodes) head)) (sym c.self.view_is) c.requires.made in
+    let made : IsTermMade (tree_of_head (entries_of pool.nodes) head) = subst (λ (v : Contents). IsTermMade (tree_of_head (entries_of v.nodes) head)) (sym c.self.view_is) c.requires.made in
     let adjusted = c.requires.adjusted ∙ ap (λ (v : Contents). is_adjusted (tree_of_head (entries_of v.nodes) head)) (sym c.self.view_is) in
     let i : Interns pool new (Tree (tree_of_head (entries_of pool.nodes) head)) None = interns_head pool new head c.args.rest.0 c.args.adjusted c.node_of-node.result c.marked.result None c.node_of-node.ensures adjusted c.marked.ensures c.self.invariant rest given made c.in_err-id.ensures.place in
     subst (λ (v : Contents). Makes v new 1 (tree_of_head (entries_of v.nodes) head) c.from_residual.result) c.self.view_is
@@ -32,7 +32,7 @@ invariant_of-self-2 c =
     let head = c.args.head in
     let given : AreGiven pool (operands head) = subst (λ (v : Contents). AreGiven v (operands head)) (sym c.self.view_is) c.requires.given in
     let rest : HasRest (entries_of pool.nodes) head c.args.rest.0 = subst (λ (v : Contents). HasRest (entries_of v.nodes) head c.args.rest.0) (sym c.self.view_is) c.requires.rest in
-    let made : IsMade (tree_of_head (entries_of pool.nodes) head) = subst (λ (v : Contents). IsMade (tree_of_head (entries_of v.nodes) head)) (sym c.self.view_is) c.requires.made in
+    let made : IsTermMade (tree_of_head (entries_of pool.nodes) head) = subst (λ (v : Contents). IsTermMade (tree_of_head (entries_of v.nodes) head)) (sym c.self.view_is) c.requires.made in
     let adjusted = c.requires.adjusted ∙ ap (λ (v : Contents). is_adjusted (tree_of_head (entries_of v.nodes) head)) (sym c.self.view_is) in
     let i : Interns pool new (Tree (tree_of_head (entries_of pool.nodes) head)) (Some c.in_ok-id.id) = interns_head pool new head c.args.rest.0 c.args.adjusted c.node_of-node.result c.marked.result (Some c.in_ok-id.id) c.node_of-node.ensures adjusted c.marked.ensures c.self.invariant rest given made c.in_ok-id.ensures.place in
     i.list
@@ -44,7 +44,7 @@ returns c =
     let head = c.args.head in
     let given : AreGiven pool (operands head) = subst (λ (v : Contents). AreGiven v (operands head)) (sym c.self.view_is) c.requires.given in
     let rest : HasRest (entries_of pool.nodes) head c.args.rest.0 = subst (λ (v : Contents). HasRest (entries_of v.nodes) head c.args.rest.0) (sym c.self.view_is) c.requires.rest in
-    let made : IsMade (tree_of_head (entries_of pool.nodes) head) = subst (λ (v : Contents). IsMade (tree_of_head (entries_of v.nodes) head)) (sym c.self.view_is) c.requires.made in
+    let made : IsTermMade (tree_of_head (entries_of pool.nodes) head) = subst (λ (v : Contents). IsTermMade (tree_of_head (entries_of v.nodes) head)) (sym c.self.view_is) c.requires.made in
     let adjusted = c.requires.adjusted ∙ ap (λ (v : Contents). is_adjusted (tree_of_head (entries_of v.nodes) head)) (sym c.self.view_is) in
     let i : Interns pool new (Tree (tree_of_head (entries_of pool.nodes) head)) (Some c.in_ok-id.id) = interns_head pool new head c.args.rest.0 c.args.adjusted c.node_of-node.result c.marked.result (Some c.in_ok-id.id) c.node_of-node.ensures adjusted c.marked.ensures c.self.invariant rest given made c.in_ok-id.ensures.place in
     subst (λ (v : Contents). Makes v new 1 (tree_of_head (entries_of v.nodes) head) (Some (record { 0 = c.in_ok-id.id }))) c.self.view_is

@@ -1,5 +1,5 @@
 use Rattle.std.proofs.Common.{◌≡◌, ◌∙◌, ◌<◌, ap₂, subst, sym, None, arith}
-use Rattle.sym_terms.specs.Making.{IsMade, plus}
+use Rattle.sym_terms.specs.Making.{IsTermMade, plus}
 use Rattle.sym_terms.specs.Term.{Sum16}
 use Rattle.sym_terms.specs.Trees.{tree_in, Makes}
 use Rattle.sym_terms.proofs.Sorts.{plus_is}
@@ -31,7 +31,7 @@ keep-requires-clause-made c =
     let trees : Sum16 (tree_in mid c.args.a) (tree_in mid c.in_ok-number.number) ≡ plus a n =
     ap₂ Sum16 (m.grows.kept c.args.a c.requires.given).1 m.gives.1 ∙ sym (plus_is a n positive)
     in
-    subst IsMade (sym trees) c.requires.made
+    subst IsTermMade (sym trees) c.requires.made
 
 pub returns : goal.returns
 returns c =

@@ -1,7 +1,7 @@
 use Rattle.std.proofs.Common.{◌≡◌, ◌+◌, ◌-◌, arith, sym, subst, get_or, drop}
-use Rattle.asm86_lines.specs.declared.line.Stmt86.TheVariants.{Cseg}
-use Rattle.asm86_lines.specs.Layout.{size_of}
-use Rattle.asm86_lines.specs.Image.{statements}
+use Rattle.asm86_line_types.specs.declared.line.Stmt86.TheVariants.{Cseg}
+use Rattle.asm86_line_types.specs.Layout.{size_of}
+use Rattle.asm86_line_types.specs.Image.{statements}
 use Rattle.templates.specs.Places.{ArePlaces}
 use Rattle.templates.proofs.Laid.{size_before, one_before}
 use Rattle.templates.proofs.places.Places.of.Goals as goal

@@ -1,6 +1,6 @@
 use Rattle.std.proofs.Common.{◌≡◌, ◌≤◌, length, take, drop}
-use Rattle.asm86_lines.specs.Layout.{sizes_of}
-use Rattle.asm86_lines.specs.Image.{statements}
+use Rattle.asm86_line_types.specs.Layout.{sizes_of}
+use Rattle.asm86_line_types.specs.Image.{statements}
 use Rattle.templates.specs.Places.{ArePlaces}
 use Rattle.templates.proofs.places.Places.of.Given as goal
 

@@ -1,7 +1,7 @@
 use Rattle.std.proofs.Common.{◌≡◌, ℕ, ◌+◌, ◌<◌, ◌≤◌, ◌∷◌, [], length, None, Some, Option, ap, sym, ◌∙◌, subst, arith, length-append, get_or, MatchOption}
 use Rattle.std.specs.Vec.{vec_len}
 use Rattle.std.proofs.lemmas.List.{get_or_default}
-use Rattle.xlt_pool.specs.Contents.{StandsAt}
+use Rattle.xlt_pool.specs.Contents.{NodeStandsAt}
 use Rattle.xlt_pool.specs.Table.{IsFreeFor}
 use Rattle.xlt_pool.proofs.Tables.{distinct_with, table_with, set_at_slot}
 use Rattle.xlt_pool.proofs.pool.Pool.intern.Goals as goal
@@ -16,7 +16,7 @@ invariant_of-self c =
     let node = c.args.node in
     let at = c.slot_of-slot.result in
     let within : at < length slots = rw c.deref-2.ensures.value at c.slot_of-slot.ensures.within in
-    let found : MatchOption (get_or slots at None) (IsFreeFor nodes slots node at) (λ id. StandsAt nodes id node) = rw (c.deref.ensures.value, c.deref-2.ensures.value) at c.slot_of-slot.ensures.slot in
+    let found : MatchOption (get_or slots at None) (IsFreeFor nodes slots node at) (λ id. NodeStandsAt nodes id node) = rw (c.deref.ensures.value, c.deref-2.ensures.value) at c.slot_of-slot.ensures.slot in
     let read : get_or slots at c.index.result.now ≡ get_or slots at None = get_or_default slots at c.index.result.now None within in
     let empty : get_or slots at None ≡ None = sym read ∙ sym c.index.ensures ∙ c.in_default.is in
     let free : IsFreeFor nodes slots node at = when_none _ _ (get_or slots at None) empty found in
@@ -42,7 +42,7 @@ returns-clause-distinct c =
     let slots = c.self.inside.slots.items in
     let at = c.slot_of-slot.result in
     let within : at < length slots = rw c.deref-2.ensures.value at c.slot_of-slot.ensures.within in
-    let found : MatchOption (get_or slots at None) (IsFreeFor nodes slots c.args.node at) (λ id. StandsAt nodes id c.args.node) = rw (c.deref.ensures.value, c.deref-2.ensures.value) at c.slot_of-slot.ensures.slot in
+    let found : MatchOption (get_or slots at None) (IsFreeFor nodes slots c.args.node at) (λ id. NodeStandsAt nodes id c.args.node) = rw (c.deref.ensures.value, c.deref-2.ensures.value) at c.slot_of-slot.ensures.slot in
     let read : get_or slots at c.index.result.now ≡ get_or slots at None = get_or_default slots at c.index.result.now None within in
     let empty : get_or slots at None ≡ None = sym read ∙ sym c.index.ensures ∙ c.in_default.is in
     let free : IsFreeFor nodes slots c.args.node at = when_none _ _ (get_or slots at None) empty found in

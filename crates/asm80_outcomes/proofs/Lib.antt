@@ -1,7 +1,0 @@
-mod InOrder
-mod Values
-mod Walked
-mod Forms
-mod Existing
-mod LineTokens
-mod StreamRanges

@@ -1,0 +1,11 @@
+mod InOrder
+mod Values
+mod Walked
+mod Forms
+mod Existing
+mod LineTokens
+mod StreamRanges
+mod Lines80
+mod Sources80
+mod Streams80
+mod Tokens80

@@ -1,6 +1,0 @@
-use Rattle.std.proofs.Common.{refl}
-use Rattle.asm80_text.proofs.Steps.{after_none}
-use Rattle.asm80_text.proofs.reader.Lines.new.Goals as goal
-
-pub returns : goal.returns
-returns c = after_none _ c.in_ok-with_capacity.ensures.items c.new.ensures refl refl refl

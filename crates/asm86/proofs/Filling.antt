@@ -1,0 +1,76 @@
+-- What is known of the cells while statements are left.
+use Rattle.std.proofs.Common.{◌≡◌, ℕ, ◌+◌, ◌<◌, ◌&&◌, ◌||◌, true, not, List, [], ◌∷◌, ◌++◌, length, drop, get_or, refl, sym, ap, ◌∙◌}
+use Rattle.std.proofs.lemmas.List.{drop_more}
+use Rattle.std.proofs.lemmas.List.Sums.{fold-append}
+use Rattle.std.specs.List.{fold}
+use Rattle.std.proofs.lemmas.Bool.{and_parts}
+use Rattle.asm86_line_types.specs.declared.line.Label.{Label}
+use Rattle.asm86_line_types.specs.declared.line.Value16.TheVariants.{Num, Offset}
+use Rattle.asm86_line_types.specs.declared.line.Stmt86.{Stmt86}
+use Rattle.asm86_line_types.specs.declared.line.Stmt86.TheVariants.{Cseg, Dseg, Org, Rb, Db, Dw, Mark, Run, MovOffset, Jmp, Jmps, Jcc, Call, EndText}
+use Rattle.asm86_line_types.specs.declared.line.Line86.{Line86}
+use Rattle.asm86_line_types.specs.Order.{Reading, at_start, may_stand, reading_after, in_order, ends_text, has_no_statement}
+use Rattle.asm86_line_types.specs.Image.{statements, put_cell, cells_from}
+
+-- the data address after a statement
+abbrev pub address_after : ℕ → Stmt86 → ℕ
+address_after at x = (reading_after (record at_start { at = at }) x).at
+
+address_is : (r : Reading) (x : Stmt86) → (reading_after r x).at ≡ address_after r.at x
+address_is r Cseg = refl
+address_is r Dseg = refl
+address_is r (Org w) = refl
+address_is r (Rb w) = refl
+address_is r (Db n) = refl
+address_is r (Dw v) = refl
+address_is r (Mark k) = refl
+address_is r (Run i) = refl
+address_is r (MovOffset q k) = refl
+address_is r (Jmp k) = refl
+address_is r (Jmps k) = refl
+address_is r (Jcc j k) = refl
+address_is r (Call k) = refl
+address_is r EndText = refl
+
+cells_first : (off : Label → ℕ) (at : ℕ) (x : Stmt86) (xs : List Stmt86) → cells_from off at (x ∷ xs) ≡ cells_from off at (x ∷ []) ++ cells_from off (address_after at x) xs
+cells_first off at Cseg xs = refl
+cells_first off at Dseg xs = refl
+cells_first off at (Org w) xs = refl
+cells_first off at (Rb w) xs = refl
+cells_first off at (Db n) xs = refl
+cells_first off at (Dw (Num w)) xs = refl
+cells_first off at (Dw (Offset k)) xs = refl
+cells_first off at (Mark k) xs = refl
+cells_first off at (Run i) xs = refl
+cells_first off at (MovOffset q k) xs = refl
+cells_first off at (Jmp k) xs = refl
+cells_first off at (Jmps k) xs = refl
+cells_first off at (Jcc j k) xs = refl
+cells_first off at (Call k) xs = refl
+cells_first off at EndText xs = refl
+
+-- statements that are left stand in order, from a reading at this data address
+pub record StandsFrom (at : ℕ) (xs : List Stmt86) : Type 0 where
+  pub reading : Reading
+  pub address : reading.at ≡ at
+  pub order : in_order reading xs ≡ true
+
+pub stands_rest : (at : ℕ) (x : Stmt86) (xs : List Stmt86) → StandsFrom at (x ∷ xs) → StandsFrom (address_after at x) xs
+stands_rest at x xs h =
+    let rest = and_parts (may_stand h.reading x) ((not (ends_text x) || has_no_statement xs) && in_order (reading_after h.reading x) xs) h.order in
+    record {
+      reading = reading_after h.reading x;
+      address = address_is h.reading x ∙ ap (λ n. address_after n x) h.address;
+      order = (and_parts (not (ends_text x) || has_no_statement xs) (in_order (reading_after h.reading x) xs) rest.1).1;
+    }
+
+pub filled_rest : (off : Label → ℕ) (at : ℕ) (x : Stmt86) (xs : List Stmt86) (cells more whole : List (ℕ × ℕ)) → fold put_cell cells (cells_from off at (x ∷ xs)) ≡ whole → more ≡ fold put_cell cells (cells_from off at (x ∷ [])) → fold put_cell more (cells_from off (address_after at x) xs) ≡ whole
+filled_rest off at x xs cells more whole h e =
+    ap (λ cs. fold put_cell cs (cells_from off (address_after at x) xs)) e
+    ∙ sym (fold-append put_cell cells (cells_from off at (x ∷ [])) (cells_from off (address_after at x) xs))
+    ∙ ap (fold put_cell cells) (sym (cells_first off at x xs))
+    ∙ h
+
+-- the statements that are left at a place
+pub left : (lines : List Line86) (i : ℕ) (d : Line86) → i < length lines → statements (drop i lines) ≡ (get_or lines i d).stmt ∷ statements (drop (i + 1) lines)
+left lines i d lt = ap statements (drop_more lines i d lt)

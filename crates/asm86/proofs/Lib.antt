@@ -1,0 +1,11 @@
+pub mod Labels
+pub mod Texts
+pub mod Laid
+pub mod Faults
+pub mod Filling
+pub mod Exclusion
+pub mod Made
+pub mod Decided86
+pub mod HavingImages
+pub mod Texts86
+pub mod Tokens86

@@ -1,0 +1,27 @@
+use Rattle.std.proofs.Common.{◌+◌, drop, get_or, sym, ap, subst, ◌∙◌, arith}
+use Rattle.std.specs.List.{fold}
+use Rattle.asm86_line_types.specs.declared.line.Stmt86.TheVariants.{Cseg}
+use Rattle.asm86_line_types.specs.Image.{statements, put_cell, cells_from, by_address}
+use Rattle.asm86.specs.Places.{label_place}
+use Rattle.asm86.proofs.Filling.{StandsFrom, stands_rest, filled_rest, left}
+use Rattle.asm86.proofs.data.data_cells.Goals as goal
+
+pub loop-line-preserved : goal.loop-line-preserved
+loop-line-preserved c =
+    let lines = c.args.lines.now in
+    let i = c.loop-line.line-index in
+    let off = label_place c.args.offsets.now in
+    let x = (get_or lines i (record { line = 0; stmt = Cseg })).stmt in
+    let rest = statements (drop (i + 1) lines) in
+    let e = left lines i (record { line = 0; stmt = Cseg }) c.loop-line-test.true in
+    let next = c.in_ok-at.ensures.next in
+    let near = c.in_ok-at.ensures.near in
+    record {
+      stands = subst (λ n. StandsFrom n rest) (sym next) (stands_rest c.loop-line.at x rest (subst (StandsFrom c.loop-line.at) e c.loop-line.invariant.stands));
+      far = omega (arith, near);
+      cells =
+          ap (λ n. fold put_cell c.put.new.cells.entries (cells_from off n rest)) next
+          ∙ filled_rest off c.loop-line.at x rest c.loop-line.cells.entries c.put.new.cells.entries (by_address (cells_from off 0 (statements lines)))
+          (ap (λ xs. fold put_cell c.loop-line.cells.entries (cells_from off c.loop-line.at xs)) (sym e) ∙ c.loop-line.invariant.cells)
+          c.in_ok-at.ensures.cells;
+    }

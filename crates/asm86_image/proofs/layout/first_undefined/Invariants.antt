@@ -1,6 +1,0 @@
-use Rattle.asm86_lines.specs.Image.{statements, UsesDefined}
-use Rattle.asm86_image.proofs.Laid.{up_to}
-use Rattle.asm86_image.proofs.layout.first_undefined.Given as goal
-
-abbrev pub invariant-loop-line : goal.invariant-loop-line
-invariant-loop-line l = UsesDefined (statements l.lines) (up_to l.lines l.line-index)

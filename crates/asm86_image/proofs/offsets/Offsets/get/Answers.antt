@@ -1,7 +1,0 @@
-use Rattle.std.proofs.Common.{◌∙◌, ap}
-use Rattle.asm86_lines.specs.Image.{offset_in}
-use Rattle.asm86_lines.proofs.Labels.{lookup_is}
-use Rattle.asm86_image.proofs.offsets.Offsets.get.Goals as goal
-
-pub returns : goal.returns
-returns c = c.copied.ensures ∙ c.get.ensures.value ∙ lookup_is c.args.label c.self.inside.map.entries ∙ ap (λ xs. offset_in xs c.args.label) c.self.view_is

@@ -1,5 +1,0 @@
-pub mod Lines
-pub mod Replies
-pub mod Talk
-pub mod Turns
-pub mod Advance

@@ -1,0 +1,28 @@
+use Rattle.std.proofs.Common.{◌≡◌, ap, sym, ◌∙◌, map, inl, inr}
+use Rattle.std.specs.String.{string_bytes}
+use Rattle.clap.specs.Words.{app_of, fault_of, found_of, is_simple, is_simple_and_free, kind_of, matches_of, rows_of}
+use Rattle.cmd_arguments.specs.Asked.{clap_command}
+use Rattle.cmd_arguments.proofs.Answered.{faulty_words, short_words, taken_words}
+use Rattle.cmd_arguments.proofs.Rules.{asked_free, asked_simple}
+use Rattle.cmd_arguments.proofs.given.Given.of_words.Goals as goal
+
+pub returns-then-has_short : goal.returns-then-has_short
+returns-then-has_short c = short_words c.args.command (map string_bytes c.args.words.now) (sym c.has_short.ensures ∙ c.if-has_short.true)
+
+pub returns-in-Ok : goal.returns-in-Ok
+returns-in-Ok c =
+    let words = map string_bytes c.args.words.now in
+    let is : app_of c.in_ok-asked.asked ≡ clap_command c.args.command = c.in_ok-asked.ensures in
+    let rows = c.in-Ok.ensures.matches (ap is_simple is ∙ asked_simple c.args.command) in
+    let clean = c.in-Ok.ensures.kinds (ap is_simple_and_free is ∙ asked_free c.args.command) in
+    taken_words c.args.command words (rows_of (found_of c.in-Ok.matches)) _ (sym c.has_short.ensures ∙ c.if-has_short.false) (ap (λ a. fault_of a words) (sym is) ∙ clean) (rows.0 ∙ ap (λ a. matches_of a words) is) c.of_matches.ensures
+
+pub returns : goal.returns
+returns c =
+    let words = map string_bytes c.args.words.now in
+    let is : app_of c.in_ok-asked.asked ≡ clap_command c.args.command = c.in_ok-asked.ensures in
+    let faults = c.in-Err.ensures.kinds (ap is_simple_and_free is ∙ asked_free c.args.command) in
+    elim faults [
+      | inl memory ↦ absurd (c.in_default.not-OutOfMemory (c.kind.ensures ∙ memory))
+      | inr among ↦ faulty_words c.args.command words (kind_of c.in-Err.error) (app_of c.in_ok-asked.asked) is (sym c.has_short.ensures ∙ c.if-has_short.false) among
+    ]

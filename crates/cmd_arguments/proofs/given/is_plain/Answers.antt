@@ -1,0 +1,10 @@
+use Rattle.std.proofs.Common.{codes, ◌∙◌, ap}
+use Rattle.clap.specs.Words.{found_of, one_text}
+use Rattle.cmd_arguments.proofs.Rows.{flag_told}
+use Rattle.cmd_arguments.proofs.given.is_plain.Goals as goal
+
+pub returns : goal.returns
+returns c =
+    let f = found_of c.args.matches.now in
+    let id = ap (one_text f) c.name.ensures in
+    flag_told f (codes "plain") c.get_flag.result (λ e. c.get_flag.ensures.none (id ∙ e)) (λ e. c.get_flag.ensures.value (id ∙ e)) (λ e. c.get_flag.ensures.other (id ∙ e))

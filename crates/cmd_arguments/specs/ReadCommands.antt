@@ -1,0 +1,46 @@
+-- What the code's commands stand for.
+use Rattle.std.specs.Prelude.{option_copied}
+use Rattle.cmd_arguments.specs.declared.command.Command.{Command as ReadCommand}
+use Rattle.cmd_arguments.specs.declared.command.Command.TheVariants as read
+use Rattle.cmd_arguments.specs.declared.command.Translate.{Translate as ReadTranslate}
+use Rattle.cmd_arguments.specs.declared.command.Check.{Check as ReadCheck}
+use Rattle.cmd_arguments.specs.declared.command.Flags.{Flags as ReadFlags}
+use Rattle.cmd_arguments.specs.declared.command.Run80.{Run80 as ReadRun80}
+use Rattle.cmd_arguments.specs.declared.command.Run86.{Run86 as ReadRun86}
+use Rattle.cmd_arguments.specs.declared.command.Both.{Both as ReadBoth}
+use Rattle.cmd_arguments.specs.declared.command.Sample.{Sample as ReadSample}
+use Rattle.cmd_arguments.specs.declared.command.RunOptions.{RunOptions as ReadRunOptions}
+use Rattle.cmd_arguments.specs.Words.{Translate, Check, Flags, RunOptions, Run80, Run86, Both, Sample, Command, Translates, Checks, ListsFlags, Runs80, Runs86, RunsBoth, MakesSample}
+
+abbrev pub translate_read : ReadTranslate → Translate
+translate_read c = record { input = c.input.now; output = c.output.now; plain = c.plain; top = c.top }
+
+abbrev pub check_read : ReadCheck → Check
+check_read c = record { source = c.source.now; text = c.text.now; top = c.top }
+
+abbrev pub flags_read : ReadFlags → Flags
+flags_read c = record { source = c.source.now; top = c.top }
+
+abbrev pub run_options_read : ReadRunOptions → RunOptions
+run_options_read r = record { input = option_copied r.input; disk = option_copied r.disk; ports = option_copied r.ports; out_disk = option_copied r.out_disk; page = r.page; steps = r.steps }
+
+abbrev pub run80_read : ReadRun80 → Run80
+run80_read c = record { source = c.source.now; top = c.top; run = run_options_read c.run }
+
+abbrev pub run86_read : ReadRun86 → Run86
+run86_read c = record { text = c.text.now; choice = c.choice; run = run_options_read c.run }
+
+abbrev pub both_read : ReadBoth → Both
+both_read c = record { source = c.source.now; top = c.top; choice = c.choice; run = run_options_read c.run }
+
+abbrev pub sample_read : ReadSample → Sample
+sample_read c = record { count = c.count; output = c.output.now }
+
+abbrev pub command_read : ReadCommand → Command
+command_read (read.Translate c) = Translates (translate_read c)
+command_read (read.Check c) = Checks (check_read c)
+command_read (read.Flags c) = ListsFlags (flags_read c)
+command_read (read.Run80 c) = Runs80 (run80_read c)
+command_read (read.Run86 c) = Runs86 (run86_read c)
+command_read (read.Both c) = RunsBoth (both_read c)
+command_read (read.Sample c) = MakesSample (sample_read c)

@@ -1,0 +1,306 @@
+//! The commands with their values.
+
+ghost use Rattle.std.specs.Prelude.{◌≡◌, ℕ, List, Some, map, option_copied, option_map, IfOk, MatchOption};
+ghost use Rattle.std.specs.String.{string_bytes};
+ghost use Rattle.cmd_arguments.specs.Read.{count_and_file_of, files_of, input_of, names_read, option_read};
+ghost use Rattle.cmd_arguments.specs.ReadCommands.{both_read, check_read, command_read, flags_read, run80_read, run86_read, run_options_read, sample_read, translate_read};
+ghost use Rattle.cmd_arguments.specs.Words.{both_of, check_of, choice_of, command_of, count_and_file, flags_command_of, flag_of, input_file, one_file, page_of, run80_of, run86_of, run_options_of, sample_of, steps_of, text_or, top_of, translate_of, two_files, Command as CommandValue, IsCommand, IsNoCommand};
+
+use crate::given::{Given, Names};
+use crate::items::first_word;
+use crate::table::CommandName;
+use crate::values::{choice_value, count_value, file_name, steps_value, top_value};
+use dialogue::Page;
+use std::alloc::{AllocError, Global};
+
+/// A command with its values.
+#[derive(Drop)]
+pub enum Command<'a> {
+    Translate(Translate<'a>),
+    Check(Check<'a>),
+    Flags(Flags<'a>),
+    Run80(Run80<'a>),
+    Run86(Run86<'a>),
+    Both(Both<'a>),
+    Sample(Sample<'a>),
+}
+
+/// `translate IN OUT [--plain] [--top H]`: a source's file, the file for its text, whether it is to be the plain one, and the top of
+/// the program area.
+#[derive(Clone, Copy)]
+pub struct Translate<'a> {
+    pub input: &'a str,
+    pub output: &'a str,
+    pub plain: bool,
+    pub top: u16,
+}
+
+/// `check IN TEXT [--top H]`: a source's file, the file of a text, and the top of the program area.
+#[derive(Clone, Copy)]
+pub struct Check<'a> {
+    pub source: &'a str,
+    pub text: &'a str,
+    pub top: u16,
+}
+
+/// `flags IN [--top H]`: a source's file, and the top of the program area.
+#[derive(Clone, Copy)]
+pub struct Flags<'a> {
+    pub source: &'a str,
+    pub top: u16,
+}
+
+/// `run80 IN [--top H]` and run options: a source's file, and the top of the program area.
+#[derive(Drop)]
+pub struct Run80<'a> {
+    pub source: &'a str,
+    pub top: u16,
+    pub run: RunOptions<'a>,
+}
+
+/// `run86 TEXT [--choice H]` and run options: a text's file, and the choice that fills what is unknown.
+#[derive(Drop)]
+pub struct Run86<'a> {
+    pub text: &'a str,
+    pub choice: u128,
+    pub run: RunOptions<'a>,
+}
+
+/// `both IN [--top H] [--choice H]` and run options: a source's file, the top of the program area, and the choice that fills what
+/// is unknown to the 8086.
+#[derive(Drop)]
+pub struct Both<'a> {
+    pub source: &'a str,
+    pub top: u16,
+    pub choice: u128,
+    pub run: RunOptions<'a>,
+}
+
+/// `sample K OUT`: how many routines the made source has, 1 to 500, and the file for it.
+#[derive(Clone, Copy)]
+pub struct Sample<'a> {
+    pub count: u32,
+    pub output: &'a str,
+}
+
+/// `[--input F] [--disk F] [--ports F] [--out-disk F] [--tail T] [--steps N]`: the files of the console's input, of the disk and of
+/// the ports' bytes, and the file for the disk at the end, if there are such; the start page, and the most instructions that run.
+#[derive(Drop)]
+pub struct RunOptions<'a> {
+    pub input: Option<&'a str>,
+    pub disk: Option<&'a str>,
+    pub ports: Option<&'a str>,
+    pub out_disk: Option<&'a str>,
+    pub page: Page,
+    pub steps: u32,
+}
+
+impl<'a> Names<'a> {
+    fn one_file(self) -> Option<&'a str>
+        ensures { option_copied result ≡ one_file (names_read self.entry) }
+    {
+        match self {
+            Names::One(name) => file_name(name),
+            Names::Zero | Names::Two(_, _) | Names::More => None,
+        }
+    }
+
+    fn two_files(self) -> Option<(&'a str, &'a str)>
+        ensures { files_of result ≡ two_files (names_read self.entry) }
+    {
+        match self {
+            Names::Two(first, second) => Some((file_name(first)?, file_name(second)?)),
+            Names::Zero | Names::One(_) | Names::More => None,
+        }
+    }
+
+    // A number of routines, and then a file.
+    fn count_and_file(self) -> Option<(u32, &'a str)>
+        ensures { count_and_file_of result ≡ count_and_file (names_read self.entry) }
+    {
+        match self {
+            Names::Two(first, second) => Some((count_value(first)?, file_name(second)?)),
+            Names::Zero | Names::One(_) | Names::More => None,
+        }
+    }
+}
+
+// The text of an option.
+fn text_or<'a>(text: Option<&'a str>, default: &'static str) -> &'a str
+    ensures { text_or default.now (option_read text.entry) ≡ Some result.now }
+{
+    match text {
+        None => default,
+        Some(text) => text,
+    }
+}
+
+// A file that a run reads or writes, if there is one.
+fn input_file<'a>(text: Option<&'a str>) -> Option<Option<&'a str>>
+    ensures { input_of result ≡ input_file (option_read text.entry) }
+{
+    match text {
+        None => Some(None),
+        Some(text) => Some(Some(file_name(text)?)),
+    }
+}
+
+impl<'a> Given<'a> {
+    fn top(&self) -> Option<u16>
+        ensures { result ≡ top_of self.now }
+    {
+        top_value(text_or(self.top, "F000"))
+    }
+
+    fn choice(&self) -> Option<u128>
+        ensures { result ≡ choice_of self.now }
+    {
+        choice_value(text_or(self.choice, "0"))
+    }
+
+    fn steps(&self) -> Option<u32>
+        ensures { result ≡ steps_of self.now }
+    {
+        steps_value(text_or(self.steps, "1000000"))
+    }
+
+    fn page(&self) -> Option<Page>
+        ensures { result ≡ page_of self.now }
+    {
+        Page::of_tail(text_or(self.tail, "").as_bytes())
+    }
+
+    // Whether the flag stands.
+    fn plain(&self) -> bool
+        ensures { flag_of self.now.plain ≡ Some result }
+    {
+        self.plain
+    }
+
+    fn run_options(&self) -> Option<RunOptions<'a>>
+        ensures { option_map run_options_read result ≡ run_options_of self.now }
+    {
+        let input = input_file(self.input)?;
+        let disk = input_file(self.disk)?;
+        let ports = input_file(self.ports)?;
+        let out_disk = input_file(self.out_disk)?;
+        let page = self.page()?;
+        let steps = self.steps()?;
+        Some(RunOptions {
+            input,
+            disk,
+            ports,
+            out_disk,
+            page,
+            steps,
+        })
+    }
+
+    fn translate(&self) -> Option<Translate<'a>>
+        ensures { option_map translate_read result ≡ translate_of self.now }
+    {
+        let plain = self.plain();
+        let (input, output) = self.names.two_files()?;
+        let top = self.top()?;
+        Some(Translate {
+            input,
+            output,
+            plain,
+            top,
+        })
+    }
+
+    fn check(&self) -> Option<Check<'a>>
+        ensures { option_map check_read result ≡ check_of self.now }
+    {
+        let (source, text) = self.names.two_files()?;
+        let top = self.top()?;
+        Some(Check { source, text, top })
+    }
+
+    fn flags(&self) -> Option<Flags<'a>>
+        ensures { option_map flags_read result ≡ flags_command_of self.now }
+    {
+        let source = self.names.one_file()?;
+        let top = self.top()?;
+        Some(Flags { source, top })
+    }
+
+    fn run80(&self) -> Option<Run80<'a>>
+        ensures { option_map run80_read result ≡ run80_of self.now }
+    {
+        let source = self.names.one_file()?;
+        let top = self.top()?;
+        let run = self.run_options()?;
+        Some(Run80 { source, top, run })
+    }
+
+    fn run86(&self) -> Option<Run86<'a>>
+        ensures { option_map run86_read result ≡ run86_of self.now }
+    {
+        let text = self.names.one_file()?;
+        let choice = self.choice()?;
+        let run = self.run_options()?;
+        Some(Run86 { text, choice, run })
+    }
+
+    fn both(&self) -> Option<Both<'a>>
+        ensures { option_map both_read result ≡ both_of self.now }
+    {
+        let source = self.names.one_file()?;
+        let top = self.top()?;
+        let choice = self.choice()?;
+        let run = self.run_options()?;
+        Some(Both {
+            source,
+            top,
+            choice,
+            run,
+        })
+    }
+
+    fn sample(&self) -> Option<Sample<'a>>
+        ensures { option_map sample_read result ≡ sample_of self.now }
+    {
+        let (count, output) = self.names.count_and_file()?;
+        Some(Sample { count, output })
+    }
+
+    // The command of a name.
+    fn command(&self, name: CommandName) -> Option<Command<'a>>
+        ensures { option_map command_read result ≡ command_of name self.now }
+    {
+        match name {
+            CommandName::Translate => Some(Command::Translate(self.translate()?)),
+            CommandName::Check => Some(Command::Check(self.check()?)),
+            CommandName::Flags => Some(Command::Flags(self.flags()?)),
+            CommandName::Run80 => Some(Command::Run80(self.run80()?)),
+            CommandName::Run86 => Some(Command::Run86(self.run86()?)),
+            CommandName::Both => Some(Command::Both(self.both()?)),
+            CommandName::Sample => Some(Command::Sample(self.sample()?)),
+        }
+    }
+}
+
+/// The command that the words are; None where they are no command.
+pub fn read_words<'a>(alloc: Global, words: &'a [String]) -> Result<Option<Command<'a>>, AllocError>
+    ensures { IfOk result (λ read. MatchOption read (IsNoCommand (map string_bytes words.now))
+        (λ command. IsCommand (map string_bytes words.now) (command_read command))) }
+{
+    let Some((first, rest)) = first_word(words) else {
+        return Ok(None);
+    };
+    let Some(name) = CommandName::of_word(first) else {
+        return Ok(None);
+    };
+    match Given::of_words(alloc, name, rest) {
+        Ok(Some(given)) => Ok(given.command(name)),
+        Ok(None) => Ok(None),
+        Err(error) => Err(error),
+    }
+}
+
+/// Words are one command at most.
+pub fn words_are_one_command()
+    ensures { (words : List (List ℕ)) (c d : CommandValue) → IsCommand words c → IsCommand words d → c ≡ d }
+{}

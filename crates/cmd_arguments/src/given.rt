@@ -1,0 +1,125 @@
+//! The names and options behind a command's word, gathered.
+
+ghost use Rattle.std.specs.Prelude.{◌≡◌, [], codes, IfOk, MatchOption, map, option_map, unwrap_or};
+ghost use Rattle.std.specs.String.{string_bytes};
+ghost use Rattle.clap.specs.Words.{first_of, found_of, rows_of};
+ghost use Rattle.cmd_arguments.specs.Asked.{GiveNoCommand};
+ghost use Rattle.cmd_arguments.specs.Given.{names, AreSorted};
+ghost use Rattle.cmd_arguments.specs.Read.{names_read, IsFlag, IsGivenIn};
+
+use crate::asking::{NAMES, asked};
+use crate::items::has_short;
+use crate::table::{CommandName, OptionName};
+use clap::ArgMatches;
+use clap::error::ErrorKind;
+use std::alloc::{AllocError, Global};
+use std::marker::Model;
+
+/// No name, one, two, or more.
+#[derive(Clone, Copy)]
+pub enum Names<'a> {
+    Zero,
+    One(&'a str),
+    Two(&'a str, &'a str),
+    More,
+}
+
+/// What the words behind a command's word give, where no option stands twice: the names, each option's text, and whether the flag
+/// stands.
+#[derive(Drop)]
+pub struct Given<'a> {
+    pub names: Names<'a>,
+    pub top: Option<&'a str>,
+    pub choice: Option<&'a str>,
+    pub input: Option<&'a str>,
+    pub disk: Option<&'a str>,
+    pub ports: Option<&'a str>,
+    pub out_disk: Option<&'a str>,
+    pub tail: Option<&'a str>,
+    pub steps: Option<&'a str>,
+    pub plain: bool,
+}
+
+impl<'a> Model for Given<'a> {
+    ghost use Rattle.cmd_arguments.specs.Given.{Gathered};
+    ghost use Rattle.cmd_arguments.specs.Read.{flag_read, names_read, option_read};
+
+    ghost Value = { Gathered };
+
+    ghost view = { λ g. record {
+      names = names_read g.names;
+      top = option_read g.top;
+      choice = option_read g.choice;
+      input = option_read g.input;
+      disk = option_read g.disk;
+      ports = option_read g.ports;
+      out_disk = option_read g.out_disk;
+      tail = option_read g.tail;
+      steps = option_read g.steps;
+      plain = flag_read g.plain;
+    } };
+}
+
+impl<'a> Names<'a> {
+    fn of_texts(texts: Option<&[&'a str]>) -> Names<'a>
+        ensures { names_read result ≡ names (unwrap_or (option_map (λ s. map (λ v. v.now) s.now) texts.entry) []) }
+    {
+        let Some(texts) = texts else {
+            return Names::Zero;
+        };
+        match texts {
+            [] => Names::Zero,
+            [name] => Names::One(*name),
+            [first, second] => Names::Two(*first, *second),
+            _ => Names::More,
+        }
+    }
+}
+
+impl<'a> Given<'a> {
+    /// What the words behind a command's word give; None where they give no command. `clap` reads them. A word of one hyphen and
+    /// something else is refused before: `clap` reads it as characters, and no clause says that a word's bytes are such.
+    pub fn of_words(
+        alloc: Global,
+        command: CommandName,
+        words: &'a [String],
+    ) -> Result<Option<Given<'a>>, AllocError>
+        ensures { IfOk result (λ read. MatchOption read (GiveNoCommand command (map string_bytes words.now))
+            (λ given. AreSorted command (map string_bytes words.now) given)) }
+    {
+        if has_short(words) {
+            return Ok(None);
+        }
+        let asked = asked(alloc, command)?;
+        match asked.try_get_matches_from(words) {
+            Ok(matches) => Ok(Some(Given::of_matches(&matches))),
+            Err(error) => match error.kind() {
+                ErrorKind::OutOfMemory => Err(AllocError),
+                _ => Ok(None),
+            },
+        }
+    }
+
+    fn of_matches(matches: &ArgMatches<'a>) -> Given<'a>
+        ensures { IsGivenIn (rows_of (found_of matches.now)) result }
+    {
+        Given {
+            names: Names::of_texts(matches.get_raw(NAMES)),
+            top: matches.get_str(OptionName::Top.name()),
+            choice: matches.get_str(OptionName::Choice.name()),
+            input: matches.get_str(OptionName::Input.name()),
+            disk: matches.get_str(OptionName::Disk.name()),
+            ports: matches.get_str(OptionName::Ports.name()),
+            out_disk: matches.get_str(OptionName::OutDisk.name()),
+            tail: matches.get_str(OptionName::Tail.name()),
+            steps: matches.get_str(OptionName::Steps.name()),
+            plain: is_plain(matches),
+        }
+    }
+}
+
+fn is_plain(matches: &ArgMatches<'_>) -> bool
+    ensures { IsFlag (first_of (codes "plain") (rows_of (found_of matches.now))) result }
+{
+    matches.get_flag(OptionName::Plain.name())
+}

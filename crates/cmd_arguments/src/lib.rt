@@ -1,0 +1,19 @@
+// The words of the command line, read through the kit's `clap`: one command with its values, or none.
+//
+// Proved: `read_words` gives the command that the words are, with its values (`IsCommand`), None exactly where they are no command
+// (`IsNoCommand`), and otherwise only want of memory: names, options and flags in any order, each option once at most, values in their
+// ranges. Words of one hyphen and something else are refused before `clap` reads them. Law `words_are_one_command`: words are one command
+// at most. Seven commands are read: `translate` (plain or not), `check`, `flags`, `run80`, `run86`, `both` and `sample`.
+#![tactic(auto)]
+
+mod asking;
+mod command;
+mod given;
+mod items;
+mod table;
+mod values;
+
+pub use command::{
+    Both, Check, Command, Flags, Run80, Run86, RunOptions, Sample, Translate, read_words,
+    words_are_one_command,
+};

@@ -1,0 +1,116 @@
+//! The table of the commands.
+
+ghost use Rattle.std.specs.Prelude.{◌≡◌};
+ghost use Rattle.cmd_arguments.specs.Table.{command_named, command_word, commands, flag_words, long_name, options_of};
+
+/// A command's name.
+#[derive(Clone, Copy)]
+pub enum CommandName {
+    Translate,
+    Check,
+    Flags,
+    Run80,
+    Run86,
+    Both,
+    Sample,
+}
+
+/// An option's name, or a flag's.
+#[derive(Clone, Copy)]
+pub enum OptionName {
+    Top,
+    Choice,
+    Input,
+    Disk,
+    Ports,
+    OutDisk,
+    Tail,
+    Steps,
+    Plain,
+}
+
+const COMMANDS: [CommandName; 7] = [
+    CommandName::Translate,
+    CommandName::Check,
+    CommandName::Flags,
+    CommandName::Run80,
+    CommandName::Run86,
+    CommandName::Both,
+    CommandName::Sample,
+];
+
+impl CommandName {
+    /// The command of a word.
+    pub fn of_word(word: &str) -> Option<CommandName>
+        ensures { result ≡ command_named word.now }
+    {
+        COMMANDS
+            .iter()
+            .copied()
+            .find(|command| command.word() == word)
+    }
+
+    /// The word that is the command's name.
+    pub fn word<'a>(self) -> &'a str
+        ensures { result.now ≡ command_word self }
+    {
+        match self {
+            CommandName::Translate => "translate",
+            CommandName::Check => "check",
+            CommandName::Flags => "flags",
+            CommandName::Run80 => "run80",
+            CommandName::Run86 => "run86",
+            CommandName::Both => "both",
+            CommandName::Sample => "sample",
+        }
+    }
+
+    /// The options with a value that the command takes.
+    pub fn options(self) -> &'static [OptionName]
+        ensures { result.now ≡ options_of self }
+    {
+        use OptionName::*;
+
+        match self {
+            CommandName::Translate | CommandName::Check | CommandName::Flags => &[Top],
+            CommandName::Run80 => &[Top, Input, Disk, Ports, OutDisk, Tail, Steps],
+            CommandName::Run86 => &[Choice, Input, Disk, Ports, OutDisk, Tail, Steps],
+            CommandName::Both => &[Top, Choice, Input, Disk, Ports, OutDisk, Tail, Steps],
+            CommandName::Sample => &[],
+        }
+    }
+
+    /// The flags that the command takes.
+    pub fn flags(self) -> &'static [OptionName]
+        ensures { result.now ≡ flag_words self }
+    {
+        match self {
+            CommandName::Translate => &[OptionName::Plain],
+            CommandName::Check
+            | CommandName::Flags
+            | CommandName::Run80
+            | CommandName::Run86
+            | CommandName::Both
+            | CommandName::Sample => &[],
+        }
+    }
+}
+
+impl OptionName {
+    /// The name, which stands behind two hyphens in the option's word.
+    pub fn name<'a>(self) -> &'a str
+        ensures { result.now ≡ long_name self }
+    {
+        match self {
+            OptionName::Top => "top",
+            OptionName::Choice => "choice",
+            OptionName::Input => "input",
+            OptionName::Disk => "disk",
+            OptionName::Ports => "ports",
+            OptionName::OutDisk => "out-disk",
+            OptionName::Tail => "tail",
+            OptionName::Steps => "steps",
+            OptionName::Plain => "plain",
+        }
+    }
+}

@@ -1,0 +1,5 @@
+pub mod Giving
+pub mod Told
+pub mod Said
+pub mod Lines
+pub mod WriteEnds

@@ -1,0 +1,7 @@
+use Rattle.std.proofs.Common.{subst, Err}
+use Rattle.asm86_text.specs.Reader.{FinishesText}
+use Rattle.cmd_common.specs.Texts.{breaks}
+use Rattle.cmd_common.proofs.text.TextLines.lines.Goals as goal
+
+pub returns-in-Line-clause-read : goal.returns-in-Line-clause-read
+returns-in-Line-clause-read c = λ bytes after. breaks (subst (λ f. FinishesText bytes (Err f)) c.in-Line.is (c.in-Err.ensures.outcome bytes after))

@@ -1,0 +1,6 @@
+pub mod Files
+pub mod Sources
+pub mod Texts
+pub mod Lines
+pub mod Said
+pub mod Writing

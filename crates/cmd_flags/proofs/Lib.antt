@@ -1,0 +1,2 @@
+pub mod Finish
+pub mod Gathering

@@ -1,0 +1,80 @@
+// The lines that tell the flags to be saved.
+ghost use Rattle.std.specs.Prelude.{◌≡◌, ◌++◌, codes, map, IfOk, OnOk};
+ghost use Rattle.std.specs.Fmt.{decimal};
+ghost use Rattle.std.specs.String.{string_bytes};
+ghost use Rattle.cmd_flags.specs.Report.{letter_if, letters, save_text, save_line, report_lines, AreLines};
+
+use crate::savings::{Saving, saved_among, saves_any, savings_of};
+use asm80_program_types::Program80;
+use cells::{Keep, Part};
+use cmd_common::{saves_line, word_digits};
+use std::alloc::{AllocError, Global};
+
+/// The lines of a program's report.
+pub fn report_of(alloc: Global, program: &Program80) -> Result<Vec<String>, AllocError>
+    ensures { IfOk result (λ lines. AreLines program.now (map string_bytes lines.items)) }
+{
+    let savings = savings_of(alloc, program)?;
+    lines_of(alloc, savings.as_slice())
+}
+
+// The lines of the instructions that may have to save flags, and the last line, which counts them.
+fn lines_of(alloc: Global, savings: &[Saving]) -> Result<Vec<String>, AllocError>
+    ensures { IfOk result (λ lines. map string_bytes lines.items ≡ report_lines savings.now) }
+{
+    let mut lines = Vec::new(alloc);
+    for saving in savings {
+        lines.push(save_line(alloc, saving)?)?;
+    }
+    lines.push(saves_line(alloc, saved_among(savings), savings.len())?)?;
+    Ok(lines)
+}
+
+// The line of one of them.
+fn save_line(alloc: Global, saving: &Saving) -> Result<String, AllocError>
+    ensures { IfOk result (λ line. string_bytes line ≡ save_line saving.now) }
+{
+    let place = word_digits(alloc, saving.at)?;
+    let text = save_text(alloc, saving.keep)?;
+    place_line(alloc, place.as_str(), saving.line, text.as_str())
+}
+
+// The same by the digits of its address and what it saves.
+fn place_line(alloc: Global, place: &str, line: u32, text: &str) -> Result<String, AllocError>
+    ensures { IfOk result (λ said. string_bytes said
+        ≡ place.now ++ (codes " line " ++ (decimal line ++ (codes " " ++ (text.now ++ codes "\n"))))) }
+{
+    format!(in alloc; "{place} line {line} {text}\n")
+}
+
+// What an instruction saves.
+fn save_text(alloc: Global, keep: Keep) -> Result<String, AllocError>
+    ensures { IfOk result (λ text. string_bytes text ≡ save_text keep) }
+{
+    if !saves_any(keep) {
+        return String::from_str(alloc, "no save");
+    }
+    let mut text = String::from_str(alloc, "save ")?;
+    push_letters(&mut text, keep)?;
+    Ok(text)
+}
+
+// The letters of the flags that are saved.
+fn push_letters(text: &mut String, keep: Keep) -> Result<(), AllocError>
+    ensures { OnOk result (string_bytes text.new ≡ string_bytes text.old ++ letters keep) }
+{
+    push_letter(text, keep.has(Part::S), "S")?;
+    push_letter(text, keep.has(Part::Z), "Z")?;
+    push_letter(text, keep.has(Part::Ac), "A")?;
+    push_letter(text, keep.has(Part::P), "P")
+}
+
+fn push_letter(text: &mut String, is_saved: bool, letter: &str) -> Result<(), AllocError>
+    ensures { OnOk result (string_bytes text.new ≡ string_bytes text.old ++ letter_if is_saved letter.now) }
+{
+    if is_saved {
+        text.push_str(letter)
+    } else {
+        Ok(())
+    }
+}

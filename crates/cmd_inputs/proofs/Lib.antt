@@ -1,4 +1,0 @@
-pub mod Giving
-pub mod Told
-pub mod Said
-pub mod Lines

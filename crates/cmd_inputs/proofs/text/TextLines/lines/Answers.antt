@@ -1,7 +1,0 @@
-use Rattle.std.proofs.Common.{subst, Err}
-use Rattle.asm86_text.specs.Reader.{Finishes}
-use Rattle.cmd_inputs.specs.Texts.{breaks}
-use Rattle.cmd_inputs.proofs.text.TextLines.lines.Goals as goal
-
-pub returns-in-Line-clause-read : goal.returns-in-Line-clause-read
-returns-in-Line-clause-read c = λ bytes after. breaks (subst (λ f. Finishes bytes (Err f)) c.in-Line.is (c.in-Err.ensures.outcome bytes after))

@@ -1,5 +1,0 @@
-pub mod Files
-pub mod Sources
-pub mod Texts
-pub mod Lines
-pub mod Said

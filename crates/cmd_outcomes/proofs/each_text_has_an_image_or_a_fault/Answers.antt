@@ -1,5 +1,0 @@
-use Rattle.cmd_outcomes.proofs.Decided86.{decided}
-use Rattle.cmd_outcomes.proofs.each_text_has_an_image_or_a_fault.Goals as goal
-
-pub returns : goal.returns
-returns c = decided

@@ -1,0 +1,9 @@
+pub mod Ends
+pub mod Supplies
+pub mod Keeping
+pub mod Lasts
+pub mod Settings
+pub mod Kinds
+pub mod Works
+pub mod Finishing
+pub mod Outcomes

@@ -1,0 +1,61 @@
+// Why a command's run did not come to status 0, and whether a line says so.
+ghost use Rattle.std.specs.Prelude.{◌≡◌};
+ghost use Rattle.cmd_runs.specs.Ends.{unsaid_status};
+
+use cmd_common::Stop;
+use emulators::TalkFault;
+use host::HostFault;
+use std::alloc::AllocError;
+
+/// Why a command ends early.
+#[derive(Clone, Copy)]
+pub enum Halt<'a> {
+    /// The line of the stop is said.
+    By(Stop<'a>),
+    /// A line of the run was not said whole, for this fault of the host, and nothing more is.
+    Unsaid(HostFault),
+}
+
+impl<'a> From<Stop<'a>> for Halt<'a> {
+    ghost use Rattle.cmd_runs.specs.declared.halt.Halt.TheVariants.{By};
+
+    ghost from_gives = { λ stop halt. halt ≡ By stop };
+
+    fn from(stop: Stop<'a>) -> Halt<'a> {
+        Halt::By(stop)
+    }
+}
+
+impl<'a> From<TalkFault> for Halt<'a> {
+    ghost use Rattle.cmd_runs.specs.Ends.{halt_of_talk};
+
+    ghost from_gives = { λ fault halt. halt ≡ halt_of_talk fault };
+
+    fn from(fault: TalkFault) -> Halt<'a> {
+        match fault {
+            TalkFault::Unsaid(fault) => Halt::Unsaid(fault),
+            TalkFault::Memory => Halt::By(Stop::OutOfMemory),
+        }
+    }
+}
+
+impl<'a> From<AllocError> for Halt<'a> {
+    ghost use Rattle.cmd_runs.specs.declared.halt.Halt.TheVariants.{By};
+    ghost use Rattle.cmd_common.specs.declared.stop.Stop.TheVariants.{OutOfMemory};
+
+    ghost from_gives = { λ _ halt. halt ≡ By OutOfMemory };
+
+    fn from(_error: AllocError) -> Halt<'a> {
+        Halt::By(Stop::OutOfMemory)
+    }
+}
+
+/// The status where a line of the run was not said whole.
+pub fn unsaid_status(fault: HostFault) -> u8
+    ensures { result ≡ unsaid_status fault }
+{
+    match fault {
+        HostFault::Failed => 4,
+        HostFault::Memory => 5,
+    }
+}

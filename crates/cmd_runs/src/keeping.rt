@@ -1,0 +1,63 @@
+// The disk that is left after a run.
+ghost use Rattle.std.specs.Prelude.{◌≡◌, IfErr, OnOk, option_copied};
+ghost use Rattle.host.specs.Host.{OnlyWrites};
+ghost use Rattle.cmd_runs.specs.Keeping.{is_disk_kept, kept_disk_name, HasKeptDisk, KeepsDisk, DiskWriteStops, DiskKeepStops};
+
+use bdos_small::Disk;
+use cmd_common::Stop;
+use emulators::{RunEnd, Why};
+use host::{Host, HostFault};
+use host_files::write_bytes;
+use std::alloc::Global;
+
+// Whether the disk is written after a run that came to this.
+fn is_disk_kept(end: RunEnd) -> bool
+    ensures { result ≡ is_disk_kept end }
+{
+    match end {
+        RunEnd::Ended | RunEnd::StepLimit | RunEnd::InputEnded => true,
+        RunEnd::Stopped(why) => matches!(why, Why::Left(_, _)),
+        RunEnd::NoDrive(_) => false,
+    }
+}
+
+/// The name of the file for the disk after a run that came to this, if it is written.
+pub fn kept_disk_name<'a>(name: Option<&'a str>, end: RunEnd) -> Option<&'a str>
+    ensures { option_copied result ≡ kept_disk_name (option_copied name.entry) end }
+{
+    if is_disk_kept(end) { name } else { None }
+}
+
+/// Writes the disk's file under a name, if there is one.
+pub fn keep_disk<'a, H: Host>(
+    alloc: Global,
+    host: &mut H,
+    name: Option<&'a str>,
+    disk: &Disk,
+) -> Result<(), Stop<'a>>
+    ensures kept { OnOk result (KeepsDisk (option_copied name.entry) disk.now (H.state host.old) (H.state host.new)) }
+    ensures stopped { IfErr result (DiskKeepStops (option_copied name.entry) disk.now (H.state host.old) (H.state host.new)) }
+{
+    match name {
+        None => Ok(()),
+        Some(name) => write_disk(alloc, host, name, disk),
+    }
+}
+
+// Writes the disk's file under a name. All memory is taken before the file is begun.
+fn write_disk<'a, H: Host>(
+    alloc: Global,
+    host: &mut H,
+    name: &str,
+    disk: &Disk,
+) -> Result<(), Stop<'a>>
+    ensures kept { OnOk result (HasKeptDisk name.now disk.now (H.state host.old) (H.state host.new)) }
+    ensures stopped { IfErr result (DiskWriteStops name.now disk.now (H.state host.old) (H.state host.new)) }
+{
+    let bytes = disk.write(alloc)?;
+    match write_bytes(host, name, bytes.as_slice()) {
+        Ok(()) => Ok(()),
+        Err(HostFault::Failed) => Err(Stop::WriteFailed),
+        Err(HostFault::Memory) => Err(Stop::OutOfMemory),
+    }
+}

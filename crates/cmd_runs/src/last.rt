@@ -1,0 +1,66 @@
+// What is said last of runs that were made.
+ghost use Rattle.std.specs.Prelude.{◌≡◌, IfOk};
+ghost use Rattle.std.specs.String.{string_bytes};
+ghost use Rattle.cmd_runs.specs.Lasts.{steps_line, closing_line, IsLastMade, SaysEnd};
+
+use cmd_common::{Stop, both_line, ended_line, say_done, say_made};
+use host::Host;
+use std::alloc::{AllocError, Global};
+
+/// What is said last of a command's runs: what the run by which its status goes came to, the number of instructions that ran or why it
+/// stopped; how many instructions of a second machine ran after it, if there was one; and the line.
+#[derive(Drop)]
+pub struct Last<'a> {
+    pub came: Result<u64, Stop<'a>>,
+    pub second: Option<u64>,
+    pub line: String,
+}
+
+/// What is said last of runs that came to this. Here its memory is taken.
+pub fn last_of<'a>(
+    alloc: Global,
+    came: Result<u64, Stop<'a>>,
+    second: Option<u64>,
+) -> Result<Last<'a>, AllocError>
+    ensures made { IfOk result IsLastMade }
+    ensures came { IfOk result (λ last. last.came ≡ came.entry) }
+    ensures second { IfOk result (λ last. last.second ≡ second) }
+{
+    let line = closing_line(alloc, came, second)?;
+    Ok(Last { came, second, line })
+}
+
+// Its line.
+fn closing_line(
+    alloc: Global,
+    came: Result<u64, Stop<'_>>,
+    second: Option<u64>,
+) -> Result<String, AllocError>
+    ensures { IfOk result (λ line. string_bytes line ≡ closing_line second came.entry) }
+{
+    match came {
+        Ok(steps) => steps_line(alloc, steps, second),
+        Err(stop) => stop.line(alloc),
+    }
+}
+
+// The line of a run that ended.
+fn steps_line(alloc: Global, steps: u64, second: Option<u64>) -> Result<String, AllocError>
+    ensures { IfOk result (λ line. string_bytes line ≡ steps_line second steps) }
+{
+    match second {
+        None => ended_line(alloc, steps),
+        Some(more) => both_line(alloc, steps, more),
+    }
+}
+
+/// Says it, and answers the status.
+pub fn say_end<H: Host>(host: &mut H, last: Last<'_>) -> u8
+    requires { IsLastMade last }
+    ensures { SaysEnd last.entry.second last.entry.came (H.state host.old) (H.state host.new) result }
+{
+    match last.came {
+        Ok(_) => say_done(host, last.line.as_str()),
+        Err(stop) => say_made(host, stop, last.line.as_str()),
+    }
+}

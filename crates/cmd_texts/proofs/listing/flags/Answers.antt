@@ -1,9 +1,0 @@
-use Rattle.cmd_words.specs.ReadCommands.{flags_read}
-use Rattle.cmd_texts.proofs.Finish.{decides}
-use Rattle.cmd_texts.proofs.listing.flags.Goals as goal
-
-pub returns-clause-completes : goal.returns-clause-completes
-returns-clause-completes g c = λ none bytes told memory.
-    decides (record { program = c.source_has_one_outcome.ensures.program; refusal = c.source_has_one_outcome.ensures.refusal; apart = c.source_has_one_outcome.ensures.apart })
-    (flags_read c.args.command.now) (g.H.Host.state c.args.host.now) (g.H.Host.state c.carry_out.new.host)
-    none bytes told c.carry_out.result memory c.carry_out.ensures.gives

@@ -1,0 +1,2 @@
+pub mod TranslateFinish
+pub mod TranslateWorking

@@ -1,0 +1,74 @@
+use Rattle.std.proofs.Common.{◌≡◌, ap, sym, subst}
+use Rattle.asm86_line_types.specs.Written.{written_text}
+use Rattle.asm80_text.specs.Intel.{intel_reading}
+use Rattle.asm80_source_def.specs.Source.{IsSource}
+use Rattle.cmd_arguments.specs.ReadCommands.{translate_read}
+use Rattle.cmd_common.specs.Sources.{SourceGives}
+use Rattle.templates.specs.Translation.{IsText}
+use Rattle.cmd_translate.specs.TranslateWork.{TextStops, StopsBy, unread}
+use Rattle.cmd_common.proofs.Told.{judged}
+use Rattle.cmd_translate.proofs.TranslateWorking.{source_stop, text_stop, write_stop, works}
+use Rattle.cmd_translate.proofs.translation.work.Goals as goal
+
+pub returns-in_err-source-clause-stopped : goal.returns-in_err-source-clause-stopped
+returns-in_err-source-clause-stopped g c =
+    let command = translate_read c.args.command.now in
+    let old = g.H.Host.state c.args.host.now in
+    let new = g.H.Host.state c.read_source.new.host in
+    judged c.from_residual.result (λ s. s ≡ c.in_err-source.field-0.0) (StopsBy command old new) c.from_residual.ensures.1
+    (λ s is. subst (StopsBy command old new) (sym is) (unread c.in_err-source.ensures.stopped c.in_err-source.ensures.only))
+
+-- the bytes are no source
+pub returns-in_err-program-clause-stopped : goal.returns-in_err-program-clause-stopped
+returns-in_err-program-clause-stopped g c =
+    let command = translate_read c.args.command.now in
+    let old = g.H.Host.state c.args.host.now in
+    let new = g.H.Host.state c.read_source.new.host in
+    let file = c.in_ok-source.ensures in
+    let bytes = file.read.bytes in
+    judged c.from_residual-in_err-program.result (λ s. s ≡ c.in_err-program.field-0.0) (StopsBy command old new) c.from_residual-in_err-program.ensures.1
+    (λ s is. subst (StopsBy command old new) (sym is)
+    (source_stop command old new new bytes file.read.file file.only file.counted c.in_err-program.field-0.0 (subst (SourceGives intel_reading bytes command.top) c.in_err-program.was file.read.gives)))
+
+-- their program has no text
+pub returns-in_err-text-clause-stopped : goal.returns-in_err-text-clause-stopped
+returns-in_err-text-clause-stopped g c =
+    let command = translate_read c.args.command.now in
+    let old = g.H.Host.state c.args.host.now in
+    let new = g.H.Host.state c.read_source.new.host in
+    let file = c.in_ok-source.ensures in
+    let bytes = file.read.bytes in
+    judged c.from_residual-in_err-text.result (λ s. s ≡ c.in_err-text.field-0.0) (StopsBy command old new) c.from_residual-in_err-text.ensures.1
+    (λ s is. subst (StopsBy command old new) (sym is)
+    (text_stop command old new new bytes file.read.file file.only file.counted c.in_ok-program.program (subst (SourceGives intel_reading bytes command.top) c.in_ok-program.was file.read.gives)
+    c.in_err-text.field-0.0 (subst (λ m. TextStops m c.in_ok-program.program c.in_err-text.field-0.0) c.mode_of.ensures c.in_err-text.ensures.stopped)))
+
+pub returns-in_err-write_text-clause-stopped : goal.returns-in_err-write_text-clause-stopped
+returns-in_err-write_text-clause-stopped g c =
+    let command = translate_read c.args.command.now in
+    let old = g.H.Host.state c.args.host.now in
+    let mid = g.H.Host.state c.read_source.new.host in
+    let new = g.H.Host.state c.write_text.new.host in
+    let file = c.in_ok-source.ensures in
+    let bytes = file.read.bytes in
+    let p = c.in_ok-program.program in
+    let source : IsSource intel_reading bytes command.top p = subst (SourceGives intel_reading bytes command.top) c.in_ok-program.was file.read.gives in
+    let write = c.in_err-write_text in
+    judged c.from_residual-in_err-write_text.result (λ s. s ≡ write.field-0.0) (StopsBy command old new) c.from_residual-in_err-write_text.ensures.1
+    (λ s is. subst (StopsBy command old new) (sym is)
+    (write_stop command old mid new bytes file.read.file file.only file.counted p c.in_ok-text.text.lines.items source (subst (λ m. IsText m p c.in_ok-text.text.lines.items) c.mode_of.ensures c.in_ok-text.ensures.text) c.in_ok-text.ensures.fits
+    (written_text c.as_slice.result.now) (ap written_text c.as_slice.ensures.value) write.field-0.0 write.ensures.stopped))
+
+pub returns-clause-worked : goal.returns-clause-worked
+returns-clause-worked g c =
+    let command = translate_read c.args.command.now in
+    let old = g.H.Host.state c.args.host.now in
+    let mid = g.H.Host.state c.read_source.new.host in
+    let new = g.H.Host.state c.write_text.new.host in
+    let file = c.in_ok-source.ensures in
+    let bytes = file.read.bytes in
+    let p = c.in_ok-program.program in
+    let source : IsSource intel_reading bytes command.top p = subst (SourceGives intel_reading bytes command.top) c.in_ok-program.was file.read.gives in
+    let write = c.in_ok-write_text in
+    works command old mid new bytes file.read.file file.only file.counted p c.in_ok-text.text.lines.items source (subst (λ m. IsText m p c.in_ok-text.text.lines.items) c.mode_of.ensures c.in_ok-text.ensures.text) c.in_ok-text.ensures.fits
+    (written_text c.as_slice.result.now) (ap written_text c.as_slice.ensures.value) write.ensures.only write.ensures.written write.ensures.counted _ c.in_ok-text.ensures.line

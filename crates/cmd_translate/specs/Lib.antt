@@ -1,0 +1,2 @@
+pub mod TranslateWork
+pub mod Translates

@@ -1,0 +1,130 @@
+// The work of `translate`: the source in, its text out.
+ghost use Rattle.std.specs.Prelude.{◌≡◌, ◌^◌, ◌<◌, true, IfOk, IfErr, OnOk, length, vec_len};
+ghost use Rattle.std.specs.String.{string_bytes};
+ghost use Rattle.host.specs.Host.{SameFaults, OnlyWrites, Rewrites, WriteFailed};
+ghost use Rattle.asm86_line_types.specs.Written.{written_text};
+ghost use Rattle.asm80_program_types.specs.Program.{Program, is_top};
+ghost use Rattle.templates.specs.declared.translation.Mode.{Mode};
+ghost use Rattle.templates.specs.Translation.{IsText, CodeFits, HasNoText};
+ghost use Rattle.cmd_arguments.specs.ReadCommands.{translate_read};
+ghost use Rattle.cmd_common.specs.declared.stop.Stop.TheVariants.{OutOfMemory};
+ghost use Rattle.cmd_translate.specs.Translates.{mode_of, line_of_text, TranslateGives, Completes};
+ghost use Rattle.cmd_common.specs.Writing.{WriteStops};
+ghost use Rattle.cmd_translate.specs.TranslateWork.{TextStops, Works, StopsBy};
+
+use asm80_program_types::Program80;
+use asm80_text::Lines;
+use asm80_values::source_has_one_outcome;
+use asm86_line_types::{Line86, code_size};
+use cmd_arguments::Translate;
+use cmd_common::{Stop, read_source, say_done, say_stop, stop_of_write, translated_line};
+use host::Host;
+use host_files::write_out;
+use std::alloc::{AllocError, Global};
+use templates::{CoreFault, Mode};
+use templates_same_law::own_texts_are_same;
+
+// The text of a program, and the line that says how much it is.
+#[derive(Drop)]
+struct Text {
+    lines: Vec<Line86>,
+    line: String,
+}
+
+/// Translates the source of a command to its text, the plain one where the words ask for it and else the lean one, says what came
+/// of it, and answers the status. The command's top is one that a program area may have.
+pub fn translate<H: Host>(alloc: Global, host: &mut H, command: &Translate<'_>) -> u8
+    requires { is_top command.now.top ≡ true }
+    ensures gives { TranslateGives (translate_read command.now) (H.state host.old) (H.state host.new) result }
+    ensures completes { Completes (translate_read command.now) (H.state host.old) (H.state host.new) result }
+{
+    own_texts_are_same();
+    source_has_one_outcome::<Lines>();
+    match work(alloc, host, command) {
+        Ok(line) => say_done(host, line.as_str()),
+        Err(stop) => say_stop(alloc, host, stop),
+    }
+}
+
+// The work up to the last line, which is the answer where the text was written. All memory is taken before the output is
+// touched.
+fn work<'a, H: Host>(
+    alloc: Global,
+    host: &mut H,
+    command: &Translate<'a>,
+) -> Result<String, Stop<'a>>
+    requires { is_top command.now.top ≡ true }
+    ensures worked { IfOk result (λ line. Works (translate_read command.now) (H.state host.old) (H.state host.new) (string_bytes line)) }
+    ensures stopped { IfErr result (StopsBy (translate_read command.now) (H.state host.old) (H.state host.new)) }
+{
+    let source = read_source(alloc, host, command.input, command.top)?;
+    let program = source?;
+    let text = text_of_program(alloc, &program, mode_of(command.plain))?;
+    write_text(host, command.output, text.lines.as_slice())?;
+    Ok(text.line)
+}
+
+// The mode that the words ask for.
+fn mode_of(plain: bool) -> Mode
+    ensures { result ≡ mode_of plain }
+{
+    if plain { Mode::Plain } else { Mode::Lean }
+}
+
+// The text of a program, with its line.
+fn text_of_program<'a>(alloc: Global, program: &Program80, mode: Mode) -> Result<Text, Stop<'a>>
+    ensures text { IfOk result (λ t. IsText mode program.now t.lines.items) }
+    ensures fits { IfOk result (λ t. CodeFits t.lines.items) }
+    ensures line { IfOk result (λ t. string_bytes t.line ≡ line_of_text program.now t.lines.items) }
+    ensures stopped { IfErr result (TextStops mode program.now) }
+{
+    let lines = lines_of(alloc, program, mode)?;
+    let line = line_of(alloc, program, lines.as_slice())?;
+    Ok(Text { lines, line })
+}
+
+// The lines of the text, whose code fits.
+fn lines_of<'a>(alloc: Global, program: &Program80, mode: Mode) -> Result<Vec<Line86>, Stop<'a>>
+    ensures text { IfOk result (λ lines. IsText mode program.now lines.items) }
+    ensures fits { IfOk result (λ lines. CodeFits lines.items) }
+    ensures few { IfOk result (λ lines. vec_len lines < 2 ^ 20) }
+    ensures stopped { IfErr result (TextStops mode program.now) }
+{
+    match templates::translate(alloc, program, mode) {
+        Ok(lines) => Ok(lines),
+        Err(fault) => Err(stop_of(fault)),
+    }
+}
+
+// Why there is no text.
+fn stop_of<'a>(fault: CoreFault) -> Stop<'a>
+    ensures { (mode : Mode) (p : Program) → HasNoText mode p fault → TextStops mode p result }
+{
+    match fault {
+        CoreFault::CodeTooLarge(size) => Stop::CodeTooLarge(size),
+        CoreFault::Memory => Stop::OutOfMemory,
+    }
+}
+
+// The line of a program's text.
+fn line_of(alloc: Global, program: &Program80, lines: &[Line86]) -> Result<String, AllocError>
+    requires few { length lines.now < 2 ^ 20 }
+    ensures { IfOk result (λ line. string_bytes line ≡ line_of_text program.now lines.now) }
+{
+    let instructions = program.instrs().len();
+    let cells = program.cells().len();
+    translated_line(alloc, instructions, cells, code_size(lines))
+}
+
+// Writes the text of lines to a file.
+fn write_text<'a, H: Host>(host: &mut H, name: &str, lines: &[Line86]) -> Result<(), Stop<'a>>
+    ensures only { OnlyWrites (H.state host.old) (H.state host.new) name.now }
+    ensures written { OnOk result (Rewrites (H.state host.old) (H.state host.new) name.now (written_text lines.now)) }
+    ensures counted { OnOk result (SameFaults (H.state host.old) (H.state host.new)) }
+    ensures stopped { IfErr result (WriteStops name.now (written_text lines.now) (H.state host.old) (H.state host.new)) }
+{
+    match write_out(host, name, lines) {
+        Ok(()) => Ok(()),
+        Err(fault) => Err(stop_of_write(fault)),
+    }
+}

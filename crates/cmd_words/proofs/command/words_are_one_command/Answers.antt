@@ -1,5 +1,0 @@
-use Rattle.cmd_words.proofs.Commands.{one_command}
-use Rattle.cmd_words.proofs.command.words_are_one_command.Goals as goal
-
-pub returns : goal.returns
-returns c = one_command

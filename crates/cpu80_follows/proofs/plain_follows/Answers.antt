@@ -1,5 +1,0 @@
-use Rattle.cpu80_follows.proofs.Following.{follows}
-use Rattle.cpu80_follows.proofs.plain_follows.Goals as goal
-
-pub returns : goal.returns
-returns c = follows c.who_sees_more_asks_the_same.ensures

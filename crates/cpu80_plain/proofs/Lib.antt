@@ -1,3 +1,0 @@
-mod Asking
-mod Starts
-mod Called

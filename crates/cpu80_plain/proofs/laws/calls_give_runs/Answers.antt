@@ -1,5 +1,0 @@
-use Rattle.cpu80_plain.proofs.Called.{calls_give_runs as the_law}
-use Rattle.cpu80_plain.proofs.laws.calls_give_runs.Goals as goal
-
-pub returns : goal.returns
-returns c = the_law

@@ -1,5 +1,0 @@
-pub mod State
-pub mod Back
-pub mod Standing
-pub mod Calls
-pub mod Histories

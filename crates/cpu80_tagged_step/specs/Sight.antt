@@ -1,0 +1,22 @@
+-- What a call sees of memory, by a test of which cells are closed.
+use Rattle.std.specs.Prelude.{ℕ, ◌+◌, ◌==◌, ◌&&◌, ◌||◌, not, Bool, true, cond, List, Option, None, slice_index_or}
+use Rattle.cells.specs.declared.Cell.{Cell}
+use Rattle.dialogue.specs.Shape.{Seen}
+use Rattle.cpu80_tagged_def.specs.State.{num_of, wrap}
+use Rattle.cpu80_tagged_def.specs.Call.{is_just_below}
+
+-- a cell that the call may read holds a number, and is neither closed nor just below SP
+abbrev pub byte_over : (ℕ → Bool) → (ℕ → Cell) → ℕ → ℕ → Option ℕ
+byte_over closed mem sp a = cond (is_just_below sp a || closed a) None (num_of (mem a))
+
+-- one that it may write is neither closed, nor just below SP, nor of the word at 6, nor of a return that is popped
+abbrev pub writable_over : (ℕ → Bool) → ℕ → Bool → ℕ → Bool
+writable_over closed sp is_popped a =
+    not (is_just_below sp a || ((closed a || (a == 6 || a == 7)) || (is_popped && (a == sp || a == wrap (sp + 1)))))
+
+abbrev pub seen_over : (ℕ → Bool) → (ℕ → Cell) → ℕ → Bool → Seen
+seen_over closed mem sp is_popped = record { byte = byte_over closed mem sp; writable = writable_over closed sp is_popped }
+
+-- the test that a list of closed cells is; past its end all are closed
+abbrev pub closed_in : List Bool → ℕ → Bool
+closed_in closed a = slice_index_or closed a true

@@ -1,0 +1,4 @@
+mod Asking
+mod Starts
+mod Told
+mod Called

@@ -1,0 +1,5 @@
+use Rattle.cpu80_untagged_def.specs.Step.{program_fetch}
+use Rattle.cpu80_untagged.proofs.plain.Plain80.reply.Goals as goal
+
+pub returns-clause-machine : goal.returns-clause-machine
+returns-clause-machine c p of = c.reply.ensures.machine (program_fetch p) of

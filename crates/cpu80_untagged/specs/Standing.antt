@@ -1,0 +1,46 @@
+-- How a machine stands between its calls.
+use Rattle.std.specs.Prelude.{◌≡◌, ℕ, Option, Some, None}
+use Rattle.dialogue.specs.declared.request.Event.{Event}
+use Rattle.dialogue.specs.declared.request.Event.TheVariants.{Call, In, Out, End}
+use Rattle.cells.specs.declared.Place.TheVariants.{At}
+use Rattle.i80.specs.declared.Instr80.{Instr80}
+use Rattle.i80.specs.declared.Instr80.TheVariants.{Jmp, Jif}
+use Rattle.dialogue.specs.Shape.{request_of}
+use Rattle.dialogue.specs.ByteMemory.{seen_by}
+use Rattle.cpu80_untagged_def.specs.State.{UntaggedState}
+use Rattle.cpu80_untagged_def.specs.Call.{Return, popped_return}
+use Rattle.cpu80_untagged.specs.State.{untagged_state}
+use Rattle.cpu80_untagged.specs.Back.{back_of}
+use Rattle.cpu80_untagged.specs.declared.machine.Pending.{Pending}
+use Rattle.cpu80_untagged.specs.declared.machine.Pending.TheVariants.{Nothing, Answer, Byte, Taking, Ending}
+use Rattle.cpu80_untagged.specs.declared.machine.Untagged80.{Untagged80}
+
+-- the state, and what the machine has said last if that is still open: what it asks while it asks, and the end once the program
+-- has ended
+pub record Standing : Type 0 where
+  pub state : UntaggedState
+  pub said : Option Event
+
+abbrev pub said_by : Pending → (ℕ → ℕ) → Option Event
+said_by Nothing mem = None
+said_by (Answer shape back) mem = Some (Call (request_of shape (seen_by mem)))
+said_by (Byte port back) mem = Some (In port)
+said_by (Taking port byte back) mem = Some (Out port byte)
+said_by Ending mem = Some End
+
+abbrev pub standing : Untagged80 → Standing
+standing c = record { state = untagged_state c.processor; said = said_by c.pending (untagged_state c.processor).mem }
+
+-- where the machine asks, it keeps the return that is expected, and the state `t` is still the state `s`
+abbrev pub Keeps : Option Return → UntaggedState → UntaggedState → Pending → Type 0
+Keeps expected s t Nothing = Unit {0}
+Keeps expected s t (Answer shape back) = (expected ≡ Some (back_of back)) × (t ≡ s)
+Keeps expected s t (Byte port back) = (expected ≡ Some (back_of back)) × (t ≡ s)
+Keeps expected s t (Taking port byte back) = (expected ≡ Some (back_of back)) × (t ≡ s)
+Keeps expected s t Ending = Unit {0}
+
+-- where an instruction goes on if it asks; `next` is the address after it
+abbrev pub goes_on_at : UntaggedState → ℕ → Instr80 → Option Return
+goes_on_at u next (Jmp t) = Some (popped_return u)
+goes_on_at u next (Jif c t) = Some (popped_return u)
+goes_on_at u next i = Some (record { place = At next; sp = u.sp })

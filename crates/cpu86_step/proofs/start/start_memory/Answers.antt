@@ -1,0 +1,13 @@
+use Rattle.std.proofs.Common.{ap, ◌∙◌}
+use Rattle.cpu86_def.specs.Start.{put_cells}
+use Rattle.cpu86_step.specs.State.{memory_of_86}
+use Rattle.cpu86_step.proofs.Writes.{put_cells_more}
+use Rattle.cpu86_step.proofs.start.start_memory.Goals as goal
+
+pub loop-at-init : goal.loop-at-init
+loop-at-init c = ap (λ m. put_cells m c.args.cells.now) c.in_ok-memory.ensures
+
+pub loop-at-preserved : goal.loop-at-preserved
+loop-at-preserved c =
+    put_cells_more (memory_of_86 c.loop-at.memory) (memory_of_86 c.set.new.self) c.args.cells.now c.loop-at.at-index (0, 0) c.loop-at-test.true c.set.ensures
+    ∙ c.loop-at.invariant

@@ -1,0 +1,51 @@
+use Rattle.std.proofs.Common.{◌≡◌, ℕ, List, [], sym, ap, ◌∙◌, subst}
+use Rattle.std.specs.Prelude.{IfErr}
+use Rattle.std.proofs.lemmas.Result.{IfOk-weaker}
+use Rattle.dialogue.specs.declared.request.Reply.{Reply}
+use Rattle.cpu80_tagged_def.specs.Start.{start80}
+use Rattle.cpu80_tagged_def.specs.Step.{machine80}
+use Rattle.cpu80_tagged.specs.State.{tagged_state}
+use Rattle.host.proofs.HostLemmas.{SameFaults-refl}
+use Rattle.emulator_loop.specs.declared.fault.TalkFault.TheVariants.{Memory}
+use Rattle.emulator_loop.specs.Talk.{SeenRun, SaysRun, IsCutOff}
+use Rattle.emulator_loop.specs.Turns.{no_past}
+use Rattle.emulator_loop.proofs.OneRun.{one_run}
+use Rattle.emulator_loop.proofs.Exact.{says_none}
+use Rattle.emulator_loop.proofs.Said.{on_fault}
+use Rattle.emulators.specs.Courses.{why80, course80, course80_from}
+use Rattle.emulators.proofs.commands.run_80.Goals as goal
+
+pub returns-in_err-machine-clause-cut : goal.returns-in_err-machine-clause-cut
+returns-in_err-machine-clause-cut g c =
+    let p = c.args.program.now in
+    let page = c.args.page.now in
+    let limit = c.args.limit in
+    let host = g.H.Host.state c.args.host.now in
+    on_fault c.from_residual.result (λ h. h ≡ Memory) (IsCutOff (course80 p page) c.args.devices.now limit c.args.prefix.now host host) c.from_residual.ensures.1
+    (λ h is. subst (IsCutOff (course80 p page) c.args.devices.now limit c.args.prefix.now host host) (sym is)
+    (says_none (course80 p page) (one_run (machine80 p) [] why80 (start80 p page)) c.args.devices.now limit c.args.prefix.now host, SameFaults-refl host))
+
+pub returns-clause-cut : goal.returns-clause-cut
+returns-clause-cut g c =
+    let m = c.in_ok-machine.machine in
+    let p = c.args.program.now in
+    let page = c.args.page.now in
+    let limit = c.args.limit in
+    let old = g.H.Host.state c.args.host.now in
+    let new = g.H.Host.state c.converse.new.host in
+    let first : List Reply → ℕ → SeenRun = course80_from m.program.now (tagged_state m.cpu) no_past in
+    let is : first ≡ course80 p page = ap (λ q. course80_from q (tagged_state m.cpu) no_past) c.in_ok-machine.ensures.program ∙ ap (λ s. course80_from p s no_past) c.in_ok-machine.ensures.start in
+    subst (λ course. IfErr c.converse.result (IsCutOff course c.args.devices.now limit c.args.prefix.now old new)) is c.converse.ensures.cut
+
+pub returns-clause-run : goal.returns-clause-run
+returns-clause-run g c =
+    let m = c.in_ok-machine.machine in
+    let p = c.args.program.now in
+    let page = c.args.page.now in
+    let limit = c.args.limit in
+    let old = g.H.Host.state c.args.host.now in
+    let new = g.H.Host.state c.converse.new.host in
+    let first : List Reply → ℕ → SeenRun = course80_from m.program.now (tagged_state m.cpu) no_past in
+    let is : first ≡ course80 p page = ap (λ q. course80_from q (tagged_state m.cpu) no_past) c.in_ok-machine.ensures.program ∙ ap (λ s. course80_from p s no_past) c.in_ok-machine.ensures.start in
+    let left = c.converse.new.devices in
+    IfOk-weaker c.converse.result (λ o. SaysRun first c.args.devices.now limit c.args.prefix.now o left old new) (λ o. SaysRun (course80 p page) c.args.devices.now limit c.args.prefix.now o left old new) (λ o h. subst (λ course. SaysRun course c.args.devices.now limit c.args.prefix.now o left old new) is h) c.converse.ensures.run

@@ -1,0 +1,33 @@
+use Rattle.std.proofs.Common.{subst, ap}
+use Rattle.cpu80_tagged.specs.State.{tagged_state}
+use Rattle.cpu80_tagged.specs.Machine.{IsEventAsked}
+use Rattle.emulators.specs.Courses.{course80_from}
+use Rattle.emulators.proofs.Machine80.{ended80, left80, stayed80, still80, asked80}
+use Rattle.emulators.proofs.running80.Running80Emulator.turn.Goals as goal
+
+pub returns-in-Some-clause-turn : goal.returns-in-Some-clause-turn
+returns-in-Some-clause-turn c =
+    let p = c.args.self.now.program.now in
+    let s = tagged_state c.args.self.now.cpu in
+    let t = tagged_state c.step.new.self in
+    let asked = subst (IsEventAsked p c.step.new.self) c.in-Some.is (c.in_ok-event-in-Asked.ensures.asked p c.step.ensures.machine) in
+    asked80 p s t c.in-Some.event (stayed80 p s t (λ e y. course80_from p s) c.in-Asked.ensures.step) asked.1.asked
+
+pub returns-in-Ended-clause-turn : goal.returns-in-Ended-clause-turn
+returns-in-Ended-clause-turn c =
+    let p = c.args.self.now.program.now in
+    let s = tagged_state c.args.self.now.cpu in
+    ended80 p s (tagged_state c.step.new.self) (λ e y. course80_from p s) c.in-Ended.ensures.step
+
+pub returns-in-Left-clause-turn : goal.returns-in-Left-clause-turn
+returns-in-Left-clause-turn c =
+    let p = c.args.self.now.program.now in
+    let s = tagged_state c.args.self.now.cpu in
+    left80 p s (tagged_state c.step.new.self) (λ e y. course80_from p s) c.in-Left.rule c.place.result c.in-Left.ensures.step c.place.ensures
+
+pub returns-in-Left-clause-still : goal.returns-in-Left-clause-still
+returns-in-Left-clause-still c =
+    let p = c.args.self.now.program.now in
+    let s = tagged_state c.args.self.now.cpu in
+    let t = tagged_state c.step.new.self in
+    ap (course80_from p) (still80 p s t (λ e y. course80_from p s) c.in-Left.rule c.in-Left.ensures.step)

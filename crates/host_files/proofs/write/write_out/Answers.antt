@@ -1,0 +1,60 @@
+use Rattle.std.proofs.Common.{◌++◌, drop, ◌∙◌, ◌+◌, arith}
+use Rattle.std.proofs.lemmas.Grind.{common_steps}
+use Rattle.std.proofs.lemmas.Result.{IfErr-weaker, on_err_weaker}
+use Rattle.host.specs.Host.{WriteFault}
+use Rattle.host.proofs.HostLemmas.{OnlyWrites-trans, fault_after, handed_on}
+use Rattle.asm86_line_types.specs.declared.line.Line86.{Line86}
+use Rattle.asm86_line_types.specs.declared.line.Stmt86.TheVariants.{Cseg}
+use Rattle.asm86_line_types.specs.Written.{written_text}
+use Rattle.host_files.proofs.Fills.{on_err}
+use Rattle.host_files.proofs.Waits.{Waits, Waits-more, Waits-fault, Waits-line}
+use Rattle.host_files.proofs.write.write_out.Goals as goal
+
+-- what an index past the end would give
+abbrev any_line : Line86
+any_line = record { line = 0; stmt = Cseg }
+
+-- a fault at a line
+pub returns-in_err-add-clause-fault : goal.returns-in_err-add-clause-fault
+returns-in_err-add-clause-fault g c =
+    let lines = c.args.lines.now in
+    let i = c.loop-line.line-index in
+    let piece = c.loop-line.waiting in
+    let line = c.as_slice.result.now in
+    let waits = Waits-line piece line lines i any_line c.loop-line-test.true (c.as_slice.ensures.value ∙ c.write_line.ensures.value) c.loop-line.invariant.waits in
+    on_err c.from_residual-in_err-add.result (Waits-fault (g.H.Host.state c.add.new.host) (piece ++ line) (written_text (drop (i + 1) lines)) waits c.in_err-add.ensures.fault)
+
+-- one more line
+pub loop-line-preserved : goal.loop-line-preserved
+loop-line-preserved g c =
+    let lines = c.args.lines.now in
+    let i = c.loop-line.line-index in
+    let piece = c.loop-line.waiting in
+    let line = c.as_slice.result.now in
+    let waits = Waits-line piece line lines i any_line c.loop-line-test.true (c.as_slice.ensures.value ∙ c.write_line.ensures.value) c.loop-line.invariant.waits in
+    let added = c.in_ok-add.ensures.ok in
+    record {
+      room = c.in_ok-add.ensures.room;
+      only = OnlyWrites-trans c.loop-line.invariant.only c.add.ensures.only;
+      counted = grind (arith, common_steps, c.in_ok-add.ensures.counted);
+      waits = Waits-more (g.H.Host.state c.add.new.host) (piece ++ line) (written_text (drop (i + 1) lines)) c.add.new.piece added.0 waits added.1 added.2;
+    }
+
+-- a fault at the last piece
+pub returns-clause-fault : goal.returns-clause-fault
+returns-clause-fault g c =
+    let rest = written_text (drop c.loop-line.line-index c.args.lines.now) in
+    let piece = c.as_slice-2.result.now in
+    let waits : Waits (g.H.Host.state c.args.host.now) (g.H.Host.state c.loop-line.host) c.args.name.now (written_text c.args.lines.now) (piece ++ rest) = rw c.as_slice-2.ensures c.loop-line.invariant.waits in
+    on_err_weaker c.append_all.result (Waits-fault (g.H.Host.state c.append_all.new.host) piece rest waits) c.append_all.ensures.fault
+
+pub returns-in_err-add-clause-failed : goal.returns-in_err-add-clause-failed
+returns-in_err-add-clause-failed g c =
+    handed_on (g.H.Host.state c.args.host.now) (g.H.Host.state c.loop-line.host) (g.H.Host.state c.add.new.host) c.from_residual-in_err-add.result c.in_err-add.field-0.0 c.from_residual-in_err-add.ensures.1 c.loop-line.invariant.counted c.in_err-add.ensures.failed
+
+pub returns-clause-failed : goal.returns-clause-failed
+returns-clause-failed g c =
+    let old = g.H.Host.state c.args.host.now in
+    let mid = g.H.Host.state c.loop-line.host in
+    let new = g.H.Host.state c.append_all.new.host in
+    IfErr-weaker c.append_all.result (WriteFault mid new) (WriteFault old new) (λ fault h. fault_after old mid new fault c.loop-line.invariant.counted h) c.append_all.ensures.failed

@@ -1,5 +1,0 @@
-use Rattle.own_texts.proofs.LeanText.{lean_reach}
-use Rattle.own_texts.proofs.lean_jumps_reach.Goals as goal
-
-pub returns : goal.returns
-returns c n p is = lean_reach n p is (c.blocks_cut_the_program.ensures p is)

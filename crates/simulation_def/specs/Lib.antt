@@ -1,0 +1,13 @@
+pub mod Steps
+pub mod States
+pub mod Runs80
+pub mod Runs86
+pub mod Runtime
+pub mod Linked
+pub mod Cuts
+pub mod Matches
+pub mod Ones
+pub mod Needed
+pub mod BlockCuts
+pub mod BlockRuns
+pub mod Same

@@ -1,0 +1,6 @@
+pub mod Laws
+pub mod Linked
+pub mod Replayed
+pub mod Environments
+pub mod Matching
+pub mod Linking

@@ -1,0 +1,6 @@
+pub mod Outcome
+pub mod Block80
+pub mod Symbolic86
+pub mod Walk86
+pub mod Stands
+pub mod Sorts

@@ -1,8 +1,0 @@
-pub mod Outcome
-pub mod Block80
-pub mod Symbolic86
-pub mod Walk86
-pub mod Agree
-pub mod Stands
-pub mod BlockMatch
-pub mod Sorts

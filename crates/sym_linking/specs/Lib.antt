@@ -1,5 +1,0 @@
-pub mod Linked
-pub mod Replayed
-pub mod Environments
-pub mod Matching
-pub mod Linking

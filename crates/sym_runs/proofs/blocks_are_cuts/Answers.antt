@@ -1,5 +1,0 @@
-use Rattle.sym_runs.proofs.Cutting.{blocks_cut}
-use Rattle.sym_runs.proofs.blocks_are_cuts.Goals as goal
-
-pub returns : goal.returns
-returns c = λ p is. blocks_cut p is (c.blocks_cut_the_program.ensures p is) (c.blocks_may_run.ensures p is)

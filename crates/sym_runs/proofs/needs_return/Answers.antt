@@ -1,5 +1,0 @@
-use Rattle.sym_runs.proofs.Cutting.{returns as needs_kept}
-use Rattle.sym_runs.proofs.needs_return.Goals as goal
-
-pub returns : goal.returns
-returns c = λ p n are. needs_kept p n (c.needs_are_closed.ensures p) are

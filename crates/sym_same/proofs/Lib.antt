@@ -1,5 +1,0 @@
-mod FollowBlocks
-mod Opening
-mod Memory
-mod Following
-mod Examples

@@ -1,0 +1,13 @@
+pub mod Values
+pub mod Replaying
+pub mod Writing
+pub mod Denoting
+pub mod Answering
+pub mod Holding
+pub mod Computing
+pub mod Moves
+pub mod Sums
+pub mod Rows
+pub mod Leaving
+pub mod Standing
+pub mod Blocks

@@ -1,0 +1,16 @@
+pub mod Standing
+pub mod Words
+pub mod Values
+pub mod Replaying
+pub mod Writing
+pub mod Denoting
+pub mod Words86
+pub mod Alu86
+pub mod Counts86
+pub mod Rows86
+pub mod Positions
+pub mod Stepping
+pub mod Walking
+pub mod Walks
+pub mod Sound
+pub mod Runtime

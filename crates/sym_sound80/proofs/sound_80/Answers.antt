@@ -1,5 +1,0 @@
-use Rattle.sym_sound80.proofs.Blocks.{blocks_run}
-use Rattle.sym_sound80.proofs.sound_80.Goals as goal
-
-pub returns : goal.returns
-returns c = blocks_run c.made_terms_keep_values.ensures c.made_terms_have_sorts.ensures c.steps_keep_sorts.ensures

@@ -1,5 +1,0 @@
-mod BothWays
-mod Ending
-mod Steps
-mod Addresses
-mod Labels

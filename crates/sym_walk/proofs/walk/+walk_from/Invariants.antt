@@ -1,4 +1,0 @@
-use Rattle.sym_walk.proofs.walk.+walk_from.Given as goal
-
-abbrev pub decreases-walk_from : goal.decreases-walk_from
-decreases-walk_from l = l.room

@@ -1,3 +1,0 @@
-pub mod Around
-pub mod Ends
-pub mod Places

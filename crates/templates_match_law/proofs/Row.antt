@@ -1,0 +1,50 @@
+-- What is to be shown of one instruction, and its operands.
+use Rattle.std.proofs.Common.{◌≡◌, ℕ, Bool, true, false, refl, ◌∙◌}
+use Rattle.std.proofs.lemmas.Bool.{or_right}
+use Rattle.cells.specs.declared.Part.{Part}
+use Rattle.cells.specs.declared.Part.TheVariants.{H, L}
+use Rattle.cells.specs.Parts.{Parts, has, only, union}
+use Rattle.cells.proofs.Unions.{has_union}
+use Rattle.i80.specs.declared.Reg.{Reg as Register}
+use Rattle.i80.specs.declared.Reg.TheVariants.{A as RegA}
+use Rattle.i80.specs.declared.Pair.TheVariants.{H as PairH}
+use Rattle.i80.specs.declared.Instr80.{Instr80}
+use Rattle.i80.specs.Columns.{part_of_reg, pair, uses80, defs80}
+use Rattle.i86.specs.declared.Reg16.TheVariants.{Bx}
+use Rattle.templates.specs.Template.{template}
+use Rattle.sym_block_def.specs.Block80.{Symbolic80, pair_term, effect80}
+use Rattle.sym_block_def.specs.Symbolic86.{Symbolic86, reg16_term}
+use Rattle.sym_block_def.specs.Sorts.{AreSorted80, AreSorted86}
+use Rattle.block_check_def.specs.Agree.{agrees}
+use Rattle.templates_match_law.specs.Meeting.{Among, Agree}
+use Rattle.templates_match_law.specs.Rows.{all_passed}
+use Rattle.templates_match_law.proofs.Terms.{or_first}
+use Rattle.templates_match_law.proofs.Words.{words_agree}
+use Rattle.templates_match_law.proofs.Moves.{Adding, pair_meets}
+
+-- an instruction uses parts that are agreed on
+abbrev pub Given : Parts → Instr80 → Type 0
+Given before i = (q : Part) → Among (uses80 i) q → Among before q
+
+-- behind it the states agree on those and on what it defines
+abbrev pub Row : Parts → Symbolic80 → Symbolic86 → Instr80 → ℕ → Bool → Type 0
+Row before s t i at save = Agree (Adding (Among before) (defs80 i)) (effect80 s i) (all_passed t (template i at save))
+
+pub in_first : (a b : Parts) (q : Part) → Among a q → Among (union a b) q
+in_first a b q c = has_union a b q ∙ or_first (has a q) (has b q) c
+
+pub in_second : (a b : Parts) (q : Part) → Among b q → Among (union a b) q
+in_second a b q c = has_union a b q ∙ or_right (has a q) (has b q) c
+
+pub itself : (r : Register) → Among (only (part_of_reg r)) (part_of_reg r)
+itself RegA = refl
+itself r = refl
+
+-- the address in HL
+pub address : (before : Parts) (s : Symbolic80) (t : Symbolic86) → AreSorted80 s → AreSorted86 t → Agree (Among before) s t → Among before H → Among before L → agrees (pair_term s PairH) (reg16_term t Bx) ≡ true
+address before s t x y a kh kl = words_agree _ _ (pair_meets PairH s t x y a of_hl)
+  where
+    of_hl : (q : Part) → Among (pair PairH) q → Among before q
+    of_hl H c = kh
+    of_hl L c = kl
+    of_hl q c = absurd (let e : false ≡ true = c in cc)

@@ -1,9 +1,0 @@
--- The statements of lines are those that were numbered.
-use Rattle.std.proofs.Common.{◌≡◌, ℕ, ◌+◌, List, [], ◌∷◌, refl, ap}
-use Rattle.asm86_lines.specs.declared.line.Stmt86.{Stmt86}
-use Rattle.asm86_lines.specs.Image.{statements}
-use Rattle.templates_plain.specs.Plain.{numbered}
-
-pub statements-numbered : (n : ℕ) (xs : List Stmt86) → statements (numbered n xs) ≡ xs
-statements-numbered n [] = refl
-statements-numbered n (x ∷ xs) = ap (λ ys. x ∷ ys) (statements-numbered (n + 1) xs)

@@ -1,2 +1,0 @@
-pub mod Template
-pub mod Plain

@@ -1,0 +1,4 @@
+pub mod Beginning
+mod Styles
+mod Matching
+pub mod OneText

@@ -1,0 +1,19 @@
+use Rattle.std.proofs.Common.{List, subst}
+use Rattle.asm86_line_types.specs.declared.line.Stmt86.{Stmt86}
+use Rattle.flow.specs.Solving.{HasNeeds}
+use Rattle.text_check.specs.Findings.{HasFrame, Lacks}
+use Rattle.text_check.proofs.Found.{is_lacking, is_found}
+use Rattle.text_check.proofs.validation.validate_in.Goals as goal
+
+pub returns-in-Some-clause-finding : goal.returns-in-Some-clause-finding
+returns-in-Some-clause-finding c = λ lines same.
+    let p = c.args.program.now in
+    is_lacking p c.args.text.now c.args.image.now lines same (subst HasNeeds c.requires.program c.needs_are_sets.ensures) c.in-Some.reason
+    (subst (λ (xs : List Stmt86). Lacks p xs c.args.image.now c.in-Some.reason) c.statements.ensures c.in-Some.ensures)
+
+pub returns-in-None-clause-finding : goal.returns-in-None-clause-finding
+returns-in-None-clause-finding c = λ lines same.
+    let p = c.args.program.now in
+    is_found p c.args.text.now c.args.image.now lines same (subst HasNeeds c.requires.program c.needs_are_sets.ensures) c.first_not_shown.result c.finding_of.result
+    (subst (λ (xs : List Stmt86). HasFrame p xs c.args.image.now) c.statements.ensures c.in-None.ensures)
+    c.first_not_shown.ensures.reason c.finding_of.ensures.reason c.finding_of.ensures.counts

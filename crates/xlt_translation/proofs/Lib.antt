@@ -1,3 +1,0 @@
-mod Styles
-mod Matching
-pub mod OneText
