@@ -1,4 +1,3 @@
-pub mod Labels
 pub mod Texts
 pub mod Laid
 pub mod Faults

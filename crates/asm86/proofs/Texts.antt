@@ -5,9 +5,9 @@ use Rattle.asm86_line_types.specs.declared.line.Stmt86.{Stmt86}
 use Rattle.asm86_line_types.specs.declared.line.Stmt86.TheVariants.{Mark}
 use Rattle.asm86_line_types.specs.Layout.{same_label, size_of, sizes_of, marked, is_label, marks, offset_from, offset_of, place_of, bytes_at, code_from}
 use Rattle.asm86_line_types.specs.Image.{offset_in, count_marks, IsDefinedOnce, AllDefined, UsesDefined, used_in, short_reaches, AllReach, labels_before, labels_from}
+use Rattle.asm86_line_types.proofs.Labels.{same_label_is, same_label_self}
 use Rattle.asm86_line_types.proofs.Sizes.{count_marks-append}
 use Rattle.asm86.specs.Places.{label_place}
-use Rattle.asm86.proofs.Labels.{same_is_one, same_as_itself}
 
 labels_before-append : (m : Option Label) (at : ℕ) (ys zs : List (Label × ℕ)) → labels_before m at (ys ++ zs) ≡ labels_before m at ys ++ zs
 labels_before-append None at ys zs = refl
@@ -83,7 +83,7 @@ defined_more xs l once none k = by_test (same_label l k) refl
     by_test true e =
         let joined = count_marks-append k xs (Mark l ∷ []) in
         let one : ◌≡◌ {A = ℕ} (cond (same_label l k) 1 0) 1 = ap (λ b. cond {A = ℕ} b 1 0) e in
-        let zero : count_marks k xs ≡ 0 = absent 0 xs k (ap (offset_from 0 xs) (sym (same_is_one l k e)) ∙ none) in
+        let zero : count_marks k xs ≡ 0 = absent 0 xs k (ap (offset_from 0 xs) (sym (same_label_is l k e)) ∙ none) in
         omega (arith, joined, one, zero)
     by_test false e =
         let joined = count_marks-append k xs (Mark l ∷ []) in
@@ -95,7 +95,7 @@ defined_more xs l once none k = by_test (same_label l k) refl
 pub defined_again : (xs : List Stmt86) (l : Label) (a : ℕ) → offset_from 0 xs l ≡ Some a → IsDefinedOnce (xs ++ Mark l ∷ []) → ⊥
 defined_again xs l a some once =
     let joined = count_marks-append l xs (Mark l ∷ []) in
-    let one : ◌≡◌ {A = ℕ} (cond (same_label l l) 1 0) 1 = ap (λ b. cond {A = ℕ} b 1 0) (same_as_itself l) in
+    let one : ◌≡◌ {A = ℕ} (cond (same_label l l) 1 0) 1 = ap (λ b. cond {A = ℕ} b 1 0) (same_label_self l) in
     let least = present 0 a xs l some in
     let most = once l in
     omega (arith, joined, one, least, most)

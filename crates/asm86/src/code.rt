@@ -54,7 +54,8 @@ fn is_near(from: usize, to: usize) -> bool
 pub fn code_bytes(alloc: Global, offsets: &Offsets, lines: &[Line86]) -> Result<Vec<u8>, AllocError>
     requires small { sizes_of (statements lines.now) < 0x10000 }
     requires labels { (label : Label) → label_place offsets.now label < 0x10000 }
-    ensures { IfOk result (λ code. code.items ≡ code_from (label_place offsets.now) 0 (statements lines.now)) }
+    ensures bytes { IfOk result (λ code. code.items ≡ code_from (label_place offsets.now) 0 (statements lines.now)) }
+    ensures small { IfOk result (λ code. length code.items < 0x10000) }
 {
     let mut code = Vec::new(alloc);
     for line in lines {

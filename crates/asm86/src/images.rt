@@ -27,7 +27,7 @@ pub struct Image86 {
 }
 
 impl Model for Image86 {
-    ghost use Rattle.std.specs.Prelude.{◌<◌};
+    ghost use Rattle.std.specs.Prelude.{◌<◌, length};
     ghost use Rattle.asm86_line_types.specs.declared.line.Label.{Label};
     ghost use Rattle.asm86_line_types.specs.Image.{Image};
     ghost use Rattle.asm86.specs.Places.{label_place};
@@ -36,13 +36,14 @@ impl Model for Image86 {
 
     ghost view = { λ i. record { code = i.code.items; cells = i.cells.items; labels = i.labels } };
 
-    ghost invariant = { λ i. (l : Label) → label_place i.labels l < 0x10000 };
+    ghost invariant = { λ i. (length i.code.items < 0x10000) × ((l : Label) → label_place i.labels l < 0x10000) };
 }
 
 impl Image86 {
     /// The bytes of the code, from offset 0 up.
     pub fn code(&self) -> &[u8]
-        ensures { result.now ≡ self.now.code }
+        ensures value { result.now ≡ self.now.code }
+        ensures small { length result.now < 0x10000 }
     {
         self.code.as_slice()
     }

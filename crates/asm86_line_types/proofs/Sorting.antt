@@ -6,7 +6,7 @@ use Rattle.std.specs.Map.{keys_of}
 use Rattle.std.specs.Ordering.{nat_cmp, MatchOrdering, match_ordering}
 use Rattle.std.specs.declared.cmp.Ordering.{Ordering}
 use Rattle.std.specs.declared.cmp.Ordering.TheVariants.{Less, Equal, Greater}
-use Rattle.std.proofs.lemmas.Bool.{eq-eqb, and_parts, or_parts}
+use Rattle.std.proofs.lemmas.Bool.{eq-eqb, and_parts, or_parts, not-true}
 use Rattle.std.proofs.lemmas.Bool.Decides.{nat_tests}
 use Rattle.std.proofs.lemmas.Cmp.{ranked}
 use Rattle.std.proofs.lemmas.List.Sorted.{IsPermutation-refl, IsPermutation-sym, IsPermutation-trans, IsPermutation-cons, IsPermutation-middle, IsPermutation-append_right, list_any-IsPermutation}
@@ -151,11 +151,7 @@ free : (r : Reading) (a : ℕ) (done : List (ℕ × ℕ)) → Counts r done → 
 free r a done counts h =
     let inner = and_parts (nat_le 0x100 a) (nat_lt a 0x10000 && not (list_any (λ b. b == a) r.filled)) h in
     let last = and_parts (nat_lt a 0x10000) (not (list_any (λ b. b == a) r.filled)) inner.1 in
-    counts a ∙ is_not (list_any (λ b. b == a) r.filled) last.1
-  where
-    is_not : (b : Bool) → not b ≡ true → b ≡ false
-    is_not true e = cc
-    is_not false e = refl
+    counts a ∙ not-true (list_any (λ b. b == a) r.filled) last.1
 
 rest_stands : (r : Reading) (x : Stmt86) (xs : List Stmt86) → in_order r (x ∷ xs) ≡ true → (may_stand r x ≡ true) × (in_order (reading_after r x) xs ≡ true)
 rest_stands r x xs h =

@@ -8,32 +8,14 @@ use Rattle.asm86_line_types.specs.declared.line.Label.TheVariants.{At, Skip, Use
 use Rattle.asm86_line_types.specs.declared.line.Stmt86.{Stmt86}
 use Rattle.asm86_line_types.specs.declared.line.Stmt86.TheVariants.{Cseg, Dseg, Org, Rb, Db, Dw, Mark, Run, MovOffset, Jmp, Jmps, Jcc as JccTo, Call, EndText}
 
+-- whether two labels are the same
 abbrev pub same_label : Label → Label → Bool
 same_label (At a) (At b) = a == b
-same_label (At a) (Skip b) = false
-same_label (At a) (User b) = false
-same_label (At a) Sys = false
-same_label (At a) End = false
-same_label (Skip a) (At b) = false
 same_label (Skip a) (Skip b) = a == b
-same_label (Skip a) (User b) = false
-same_label (Skip a) Sys = false
-same_label (Skip a) End = false
-same_label (User a) (At b) = false
-same_label (User a) (Skip b) = false
 same_label (User a) (User b) = a == b
-same_label (User a) Sys = false
-same_label (User a) End = false
-same_label Sys (At b) = false
-same_label Sys (Skip b) = false
-same_label Sys (User b) = false
 same_label Sys Sys = true
-same_label Sys End = false
-same_label End (At b) = false
-same_label End (Skip b) = false
-same_label End (User b) = false
-same_label End Sys = false
 same_label End End = true
+same_label l k = false
 
 -- the bytes that a statement takes in the code
 abbrev pub size_of : Stmt86 → ℕ

@@ -1,3 +1,4 @@
+pub mod Prefixes
 pub mod Addresses
 pub mod Cut
 pub mod Held

@@ -1,25 +1,11 @@
 // Whether the loads and stores of two outcomes agree.
 
-ghost use Rattle.std.specs.Prelude.{◌≡◌, ◌&&◌};
-ghost use Rattle.sym_terms.specs.Trees.{tree_in, IsGiven};
-ghost use Rattle.block_check_def.specs.Agree.{agrees, action_agrees, actions_agree};
+ghost use Rattle.std.specs.Prelude.{◌≡◌};
+ghost use Rattle.block_check_def.specs.Agree.{action_agrees, actions_agree};
 ghost use Rattle.sym_micro.specs.Stands.{tree_of_action, trees_of_actions, ActionIsGiven, ActionsAreGiven};
 
+use crate::pairs::pairs_agree;
 use sym_run::{Action, Work};
-use sym_terms::Term;
-
-// Whether an address agrees with its partner, and a value with its own.
-fn both_agree(work: &Work, address: Term, value: Term, other: Term, stored: Term) -> bool
-    requires address { IsGiven work.now.terms address }
-    requires value { IsGiven work.now.terms value }
-    requires other { IsGiven work.now.terms other }
-    requires stored { IsGiven work.now.terms stored }
-    ensures { result ≡ (agrees (tree_in work.now.terms address) (tree_in work.now.terms other) && agrees (tree_in work.now.terms value) (tree_in work.now.terms stored)) }
-{
-    let addresses = work.agree(address, other);
-    let values = work.agree(value, stored);
-    addresses && values
-}
 
 // Whether a load or store agrees with its partner.
 fn action_agrees(work: &Work, one: Action, other: Action) -> bool
@@ -30,8 +16,8 @@ fn action_agrees(work: &Work, one: Action, other: Action) -> bool
     match (one, other) {
         (Action::Load8(a), Action::Load8(b)) => work.agree(a, b),
         (Action::Load16(a), Action::Load16(b)) => work.agree(a, b),
-        (Action::Store8(a, v), Action::Store8(b, w)) => both_agree(work, a, v, b, w),
-        (Action::Store16(a, v), Action::Store16(b, w)) => both_agree(work, a, v, b, w),
+        (Action::Store8(a, v), Action::Store8(b, w)) => pairs_agree(work, (a, v), (b, w)),
+        (Action::Store16(a, v), Action::Store16(b, w)) => pairs_agree(work, (a, v), (b, w)),
         _ => false,
     }
 }

@@ -1,31 +1,17 @@
 // Whether the exits of two outcomes agree.
 
-ghost use Rattle.std.specs.Prelude.{◌≡◌, ◌&&◌};
+ghost use Rattle.std.specs.Prelude.{◌≡◌};
 ghost use Rattle.sym_terms.specs.Term.{same_bool};
-ghost use Rattle.sym_terms.specs.Trees.{tree_in, IsGiven};
-ghost use Rattle.block_check_def.specs.Agree.{agrees, way_agrees, ways_agree, exit_agrees};
+ghost use Rattle.block_check_def.specs.Agree.{way_agrees, ways_agree, exit_agrees};
 ghost use Rattle.sym_micro.specs.Exits.{tree_of_way, tree_of_exit, WayIsGiven, ExitIsGiven};
 
+use crate::pairs::pairs_agree;
 use sym_run::{Exit, Way, Work};
-use sym_terms::Term;
 
 fn same_value(one: bool, other: bool) -> bool
     ensures { result ≡ same_bool one other }
 {
     if one { other } else { !other }
-}
-
-// Whether the halves of an address agree with their partners.
-fn halves_agree(work: &Work, high: Term, low: Term, upper: Term, lower: Term) -> bool
-    requires high { IsGiven work.now.terms high }
-    requires low { IsGiven work.now.terms low }
-    requires upper { IsGiven work.now.terms upper }
-    requires lower { IsGiven work.now.terms lower }
-    ensures { result ≡ (agrees (tree_in work.now.terms high) (tree_in work.now.terms upper) && agrees (tree_in work.now.terms low) (tree_in work.now.terms lower)) }
-{
-    let first = work.agree(high, upper);
-    let second = work.agree(low, lower);
-    first && second
 }
 
 // Whether a way agrees with its partner.
@@ -37,7 +23,7 @@ fn way_agrees(work: &Work, one: Way, other: Way) -> bool
     match (one, other) {
         (Way::Leave, _) => true,
         (Way::Goto(q), Way::Goto(r)) => q.is_same(r),
-        (Way::ByTerms(h, l), Way::ByTerms(u, v)) => halves_agree(work, h, l, u, v),
+        (Way::ByTerms(h, l), Way::ByTerms(u, v)) => pairs_agree(work, (h, l), (u, v)),
         (Way::Call(q, back), Way::Call(r, other_back)) => q.is_same(r) && back.is_same(other_back),
         (Way::Sys(back), Way::Sys(other_back)) => back.is_same(other_back),
         (Way::SysReturn, Way::SysReturn) | (Way::Boot, Way::Boot) => true,

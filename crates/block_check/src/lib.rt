@@ -14,6 +14,7 @@ mod block;
 mod exits;
 mod kept;
 mod outcomes;
+mod pairs;
 
 pub use block::{Verdict, check, check_all_kept};
 pub use sym_run::{Index86, Reason, Work};

@@ -16,22 +16,6 @@ use crate::exits::exit_agrees;
 use cells::{Keep, Part};
 use sym_run::{Exit, Reason, Way, Work};
 
-// The parts in their order.
-const PARTS: [Part; 12] = [
-    Part::A,
-    Part::B,
-    Part::C,
-    Part::D,
-    Part::E,
-    Part::H,
-    Part::L,
-    Part::S,
-    Part::Z,
-    Part::Ac,
-    Part::P,
-    Part::Cy,
-];
-
 // Whether a part agrees with its partner.
 fn part_agrees(work: &Work, part: Part) -> bool
     requires { AreReady work.now }
@@ -123,6 +107,6 @@ pub fn reason_of(work: &Work, kept: &Wanted, back: Keep) -> Option<Reason>
     if !exit_agrees(work, first.exit(), second.exit()) {
         return Some(Reason::Exits);
     }
-    let bad = first_bad_of(work, kept, back, &PARTS);
+    let bad = first_bad_of(work, kept, back, &Part::ALL);
     kept_reason(work, bad)
 }

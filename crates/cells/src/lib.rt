@@ -74,6 +74,24 @@ pub enum Part {
     Cy,
 }
 
+impl Part {
+    /// The parts in their order: the registers, and then the flags.
+    pub const ALL: [Part; 12] = [
+        Part::A,
+        Part::B,
+        Part::C,
+        Part::D,
+        Part::E,
+        Part::H,
+        Part::L,
+        Part::S,
+        Part::Z,
+        Part::Ac,
+        Part::P,
+        Part::Cy,
+    ];
+}
+
 /// A condition of a jump, call or return (8080 Assembly Language Programming Manual, "Jump instructions").
 #[derive(Clone, Copy, PartialEq, Eq)]
 pub enum Cond {

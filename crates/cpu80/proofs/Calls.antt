@@ -23,22 +23,24 @@ use Rattle.dialogue.specs.Lawful.{IsLawfulRequest, IsShapeOver}
 use Rattle.dialogue.proofs.LawfulShapes.{made, made-lawful}
 use Rattle.dialogue.specs.Shape.{shape_of, request_of}
 use Rattle.dialogue.specs.Fits.{answer_fits, answer_in, answer_kind_of, fits_row, fits, fits_event, dma_after}
-use Rattle.dialogue.specs.ByteMemory.{put, put_bytes, put_blocks, seen_by}
+use Rattle.dialogue.specs.ByteMemory.{put, put_bytes, put_blocks, seen_by, word_at}
 use Rattle.dialogue.specs.Run.{Answer, Ran, Asks, Ends, Stops}
 use Rattle.asm80_program_types.specs.Program.{Program, IsProgram}
-use Rattle.cpu80_tagged_def.specs.State.{State80, num_of, wrap as wrap80}
+use Rattle.cpu80_tagged_def.specs.State.{State80, num_of}
 use Rattle.cpu80_tagged_def.specs.Memory.{is_closed, put as put80, read_word}
 use Rattle.cells.specs.Places.{same_place}
 use Rattle.cells.proofs.SamePlace.{same_place_is}
 use Rattle.cpu80_tagged_def.specs.Call.{Return as Return80, is_just_below, seen_by_tagged as seen_by80, ask as ask80, ask_after, call_by, call_system as call_system80, is_place, place_in, popped_return as popped_return80, put_bytes as put_bytes80, put_blocks as put_blocks80, answered as answered80, cells_after, after_reply as after_reply80}
 use Rattle.cpu80_tagged_def.specs.Step.{return_at as return_at80, replied_to as replied_to80, replied80}
 use Rattle.cpu80_tagged_def.proofs.Passing.{place_if_is}
-use Rattle.cpu80_untagged_def.specs.State.{UntaggedState, wrap, word, word_at, next, byte_of}
+use Rattle.cpu80_untagged_def.specs.State.{UntaggedState, next}
 use Rattle.cpu80_untagged_def.specs.Call.{Stop, ask, call_system, Return, place_of_return, popped_return, chosen_regs, answered, after_reply}
 use Rattle.cpu80_untagged_def.specs.Step.{program_fetch, return_at, replied_to, replied_untagged}
 use Rattle.cpu80_untagged_def.specs.Start.{address_of}
 use Rattle.cpu80_untagged_def.specs.Follows.{WritesBytes}
 use Rattle.dialogue.specs.Sight.{SeesMore, KnowsMore, WhoSeesMoreAsksTheSame}
+use Rattle.dialogue.specs.Words.{word, wrap}
+use Rattle.dialogue.specs.Choice.{byte_of}
 use Rattle.dialogue.proofs.Tried.{ok_is, err_is_not, then_is}
 use Rattle.cpu80.proofs.Stands.{Stands, RegsStand, CellsStand, StatesStand, put_stands, number}
 use Rattle.cpu80.proofs.Moves.{high_small, low_small, reads_word}
@@ -132,7 +134,7 @@ pub record ReturnStands (r : Return80) (back : Return) : Type 0 where
 pub record PopsReturn (p : Program) (s : State80) (u : UntaggedState) (r : Return80) : Type 0 where
   pub place : Place
   pub names : Names p place (word_at u.mem u.sp)
-  pub is : record { place = place; sp = wrap80 (s.sp + 2); is_popped = true } ≡ r
+  pub is : record { place = place; sp = wrap (s.sp + 2); is_popped = true } ≡ r
 
 pub pops : (p : Program) (s : State80) (u : UntaggedState) (r : Return80) → StatesStand s u → popped_return80 p s ≡ Ok r → PopsReturn p s u r
 pops p s u r d e =
@@ -145,8 +147,8 @@ pops p s u r d e =
 pub popped_stands : (p : Program) (s : State80) (u : UntaggedState) (r : Return80) → IsProgram p → StatesStand s u → popped_return80 p s ≡ Ok r → ReturnStands r (popped_return u)
 popped_stands p s u r g d e =
     let o = pops p s u r d e in
-    let up : wrap80 (s.sp + 2) < 0x10000 = omega arith in
-    let made : ReturnStands (record { place = o.place; sp = wrap80 (s.sp + 2); is_popped = true }) (popped_return u) = record { place = named_place p o.place (word_at u.mem u.sp) g o.names; sp = ap (λ k. wrap (k + 2)) d.sp; small = up } in
+    let up : wrap (s.sp + 2) < 0x10000 = omega arith in
+    let made : ReturnStands (record { place = o.place; sp = wrap (s.sp + 2); is_popped = true }) (popped_return u) = record { place = named_place p o.place (word_at u.mem u.sp) g o.names; sp = ap (λ k. wrap (k + 2)) d.sp; small = up } in
     subst (λ k. ReturnStands k (popped_return u)) o.is made
 
 -- after a reply

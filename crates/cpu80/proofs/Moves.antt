@@ -1,5 +1,5 @@
 -- Moves, loads, stores and the stack: where the tagged machine runs on, the bytes stand for what it knows afterwards.
-use Rattle.std.proofs.Common.{◌≡◌, ℕ, ◌+◌, ◌*◌, ◌/◌, ◌%◌, ◌<◌, ◌==◌, Bool, true, false, Ok, refl, sym, ap, subst, ◌∙◌, arith}
+use Rattle.std.proofs.Common.{◌≡◌, ℕ, ◌+◌, ◌*◌, ◌/◌, ◌%◌, ◌<◌, ◌==◌, Bool, Ok, refl, sym, ap, subst, ◌∙◌, arith}
 use Rattle.cells.specs.declared.Place.TheVariants.{At}
 use Rattle.cells.specs.declared.Cell.{Cell}
 use Rattle.cells.specs.declared.Cell.TheVariants.{Num, Lo, Hi, Psw as PswCell, Junk}
@@ -15,15 +15,15 @@ use Rattle.i80.specs.declared.StackPair.{StackPair}
 use Rattle.i80.specs.declared.StackPair.TheVariants.{B as StackB, D as StackD, H as StackH, Psw}
 use Rattle.dialogue.specs.Tried.{try_then}
 use Rattle.dialogue.specs.ByteMemory.{put}
-use Rattle.base_arithmetic_def.specs.Arithmetic.{as_bit}
+use Rattle.dialogue.specs.Words.{wrap}
 use Rattle.base_arithmetic_def.specs.Operations.{flags_in}
-use Rattle.base_arithmetic_def.proofs.Bytes.{tested}
+use Rattle.base_arithmetic_def.proofs.Bytes.{flag_bits}
 use Rattle.asm80_program_types.specs.Program.{Program}
-use Rattle.cpu80_tagged_def.specs.State.{State80, high_of, low_of, with_bc as with_bc80, with_de as with_de80, with_hl as with_hl80, with_num, with_a as with_a80, wrap as wrap80, num_or}
+use Rattle.cpu80_tagged_def.specs.State.{State80, high_of, low_of, with_bc as with_bc80, with_de as with_de80, with_hl as with_hl80, with_num, with_a as with_a80, num_or}
 use Rattle.cpu80_tagged_def.specs.Memory.{is_closed, unless_then, put as put80, address, word_fits, read_at, may_write, write_at, Halves, read_word, write_word}
 use Rattle.cpu80_tagged_def.specs.Effect.{source as source80, into as into80, lda as lda80, sta as sta80, lhld as lhld80, xchg as xchg80, xthl as xthl80, sphl as sphl80, push as push80, push_pair as push_pair80, popped as popped80, pop_pair as pop_pair80}
 use Rattle.cpu80_tagged_def.proofs.Passing.{unless_is, within}
-use Rattle.cpu80_untagged_def.specs.State.{UntaggedState, pair_word, with_bc, with_de, with_hl, with_word, with_a, wrap, next, put_word, bit_of}
+use Rattle.cpu80_untagged_def.specs.State.{UntaggedState, pair_word, with_bc, with_de, with_hl, with_word, with_a, next, put_word}
 use Rattle.cpu80_untagged_def.specs.Flags.{flag_byte, flags_in_byte}
 use Rattle.cpu80_untagged_def.specs.Effect.{source, into, store, lda, lhld, shld, xchg, xthl, push, push_pair, popped, pop_pair}
 use Rattle.dialogue.proofs.Tried.{ok_is, then_is}
@@ -38,30 +38,19 @@ high_small n lt = omega (arith, lt)
 pub low_small : (n : ℕ) → n % 256 < 256
 low_small n = omega arith
 
--- bits of a flag byte
-
-bits_are : (s z c2 a c1 p c0 k : ℕ) → s < 2 → z < 2 → c2 < 2 → a < 2 → c1 < 2 → p < 2 → c0 < 2 → k < 2 → (n : ℕ) → n ≡ 128 * s + 64 * z + 32 * c2 + 16 * a + 8 * c1 + 4 * p + 2 * c0 + k → (n < 256) × ((n / 128) % 2 ≡ s) × ((n / 64) % 2 ≡ z) × ((n / 16) % 2 ≡ a) × ((n / 4) % 2 ≡ p) × ((n / 1) % 2 ≡ k)
-bits_are s z c2 a c1 p c0 k hs hz h2 ha h1 hp h0 hk n e =
-    let whole : n / 1 ≡ n = omega arith in
-    let last : n % 2 ≡ k = omega (arith, e) in
-    (omega (arith, e), omega (arith, e), omega (arith, e), omega (arith, e), omega (arith, e), ap (λ j. j % 2) whole ∙ last)
-
-pub bit_small : (b : Bool) → as_bit b < 2
-bit_small true = omega arith
-bit_small false = omega arith
-
+-- a flag byte
 flag_byte_stands : (s : State80) (u : UntaggedState) (choice : ℕ) → FlagsStand s.flags u.flags → Stands (PswCell s.flags) (flag_byte u.flags choice)
 flag_byte_stands s u choice d =
     let f = u.flags in
     let n = flag_byte f choice in
-    let b = bits_are (as_bit f.s) (as_bit f.z) (as_bit (bit_of choice 2)) (as_bit f.ac) (as_bit (bit_of choice 1)) (as_bit f.p) (as_bit (bit_of choice 0)) (as_bit f.cy) (bit_small f.s) (bit_small f.z) (bit_small (bit_of choice 2)) (bit_small f.ac) (bit_small (bit_of choice 1)) (bit_small f.p) (bit_small (bit_of choice 0)) (bit_small f.cy) n refl in
+    let b = flag_bits n f.s f.z (has_bit choice 2) f.ac (has_bit choice 1) f.p (has_bit choice 0) f.cy refl in
     record {
       means = record {
-        s = subst (Knows s.flags.s) (sym (tested ((n / 128) % 2) f.s b.1)) d.s;
-        z = subst (Knows s.flags.z) (sym (tested ((n / 64) % 2) f.z b.2)) d.z;
-        ac = subst (Knows s.flags.ac) (sym (tested ((n / 16) % 2) f.ac b.3)) d.ac;
-        p = subst (Knows s.flags.p) (sym (tested ((n / 4) % 2) f.p b.4)) d.p;
-        cy = subst (Knows s.flags.cy) (sym (tested ((n / 1) % 2) f.cy b.5)) d.cy;
+        s = subst (Knows s.flags.s) (sym b.1) d.s;
+        z = subst (Knows s.flags.z) (sym b.2) d.z;
+        ac = subst (Knows s.flags.ac) (sym b.3) d.ac;
+        p = subst (Knows s.flags.p) (sym b.4) d.p;
+        cy = subst (Knows s.flags.cy) (sym b.5) d.cy;
       };
       small = b.0;
     }
@@ -232,7 +221,7 @@ module _ (p : Program) where
 
   pub push_stands : (s t : State80) (u : UntaggedState) (high low : Cell) (a b : ℕ) → StatesStand s u → Stands high a → Stands low b → push80 p s high low ≡ Ok t → StatesStand t (push u a b)
   push_stands s t u high low a b d ha lb e =
-      let below = wrap80 (s.sp + 0xFFFE) in
+      let below = wrap (s.sp + 0xFFFE) in
       let small : below < 0x10000 = omega arith in
       let v = then_is (write_word p s below high low) _ t e in
       let made = sets_sp v.0 (record u { mem = put_word u.mem below a b }) below (writes_word s v.0 u below high low a b d small ha lb v.1) small in
@@ -255,7 +244,7 @@ module _ (p : Program) where
   pop_pair_stands s t u pair d e =
       let w = then_is (read_word p s s.sp) _ t e in
       let h = reads_word s u s.sp w.0 d d.sp_small w.1 in
-      let up = wrap80 (s.sp + 2) in
+      let up = wrap (s.sp + 2) in
       let small : up < 0x10000 = omega arith in
       let made = popped_stands (record s { sp = up }) (record u { sp = up }) pair w.0 (u.mem (next s.sp)) (u.mem s.sp) (sets_sp s u up d small) h.high h.low in
       subst (λ k. StatesStand k (pop_pair u pair)) (ok_is _ t w.2)

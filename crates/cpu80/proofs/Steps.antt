@@ -19,17 +19,19 @@ use Rattle.dialogue.specs.declared.request.Event.{Event}
 use Rattle.dialogue.specs.declared.request.Event.TheVariants.{In as AskedIn, Out as AskedOut}
 use Rattle.dialogue.specs.Run.{Answer, Ran, Asks, Ends, Stops}
 use Rattle.asm80_program_types.specs.Program.{Program, IsProgram, instr_at, is_start}
-use Rattle.cpu80_tagged_def.specs.State.{State80, wrap as wrap80, num_or, with_a as with_a80}
+use Rattle.cpu80_tagged_def.specs.State.{State80, num_or, with_a as with_a80}
 use Rattle.cpu80_tagged_def.specs.Effect.{effect as effect80, push as push80}
 use Rattle.cpu80_tagged_def.specs.Call.{Return as Return80, call_system as call_system80, place_if, place_in, popped_return as popped_return80, return_after as return_after80}
 use Rattle.cells.specs.Conditions.{Knows, is_clear, holds as holds80}
 use Rattle.cpu80_tagged_def.specs.Step.{go_to as go_to80, go_on, leave_to as leave_to80, go_by, go_back, jump as jump80, enter, call as call80, where_holds, ask_event, ask_port, sent, act as act80, act_at as act_at80, step_at as step_at80, step80, return_of as return_of80, return_at as return_at80, replied_to as replied_to80}
-use Rattle.cpu80_untagged_def.specs.State.{UntaggedFlags, UntaggedState, pair_word, wrap, with_a, word_at}
+use Rattle.cpu80_untagged_def.specs.State.{UntaggedFlags, UntaggedState, pair_word, with_a}
 use Rattle.cpu80_untagged_def.specs.Flags.{holds}
 use Rattle.cpu80_untagged_def.specs.Effect.{effect, push}
 use Rattle.cpu80_untagged_def.specs.Call.{Stop, call_system, popped_return}
 use Rattle.cpu80_untagged_def.specs.Step.{program_fetch, go_to, leave_to, ret, jump, call, act, next_address, act_at, step_at, step_untagged, return_of, return_at, replied_to, replied_untagged}
 use Rattle.dialogue.specs.Sight.{WhoSeesMoreAsksTheSame}
+use Rattle.dialogue.specs.Words.{wrap}
+use Rattle.dialogue.specs.ByteMemory.{word_at}
 use Rattle.dialogue.proofs.Tried.{ok_is, err_is_not, then_is}
 use Rattle.cpu80.proofs.Stands.{FlagsStand, StatesStand, sets_sp, sets_place, number, number_is}
 use Rattle.cpu80.proofs.Moves.{sets_a, high_of_place, low_of_place, push_stands}
@@ -85,7 +87,7 @@ module _ (p : Program) (g : IsProgram p) where
   ret_follows : (s : State80) (u : UntaggedState) → StatesStand s u → StepFollows p (go_back s (popped_return80 p s)) (ret u)
   ret_follows s u d = by_return (popped_return80 p s) refl
     where
-      up : wrap80 (s.sp + 2) < 0x10000
+      up : wrap (s.sp + 2) < 0x10000
       up = omega arith
 
       by_return : (o : Result Return80 Rule) → popped_return80 p s ≡ o → StepFollows p (go_back s o) (ret u)
@@ -93,7 +95,7 @@ module _ (p : Program) (g : IsProgram p) where
       by_return (Ok r) e =
           let q = pops p s u r d e in
           subst (λ (k : Return80). StepFollows p (go_back s (Ok k)) (ret u)) q.is
-          (leave_follows s u (wrap80 (s.sp + 2)) (wrap (u.sp + 2)) (word_at u.mem u.sp) q.place d q.names (ap (λ k. wrap (k + 2)) d.sp) up)
+          (leave_follows s u (wrap (s.sp + 2)) (wrap (u.sp + 2)) (word_at u.mem u.sp) q.place d q.names (ap (λ k. wrap (k + 2)) d.sp) up)
 
   where_follows : (s : State80) (u : UntaggedState) (a : ℕ) (o : Option Bool) (b : Bool) (x : Answer State80 Rule) (y : Answer UntaggedState Stop) → StatesStand s u → Knows o b → StepFollows p x y → StepFollows p (where_holds p s a o x) (cond b y (go_to u a))
   where_follows s u a None b x y d h f = tt

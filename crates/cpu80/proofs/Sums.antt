@@ -7,6 +7,7 @@ use Rattle.cells.specs.declared.Cell.{Cell}
 use Rattle.cells.specs.declared.Cell.TheVariants.{Num}
 use Rattle.cells.specs.declared.Rule.TheVariants.{P5, P6, P7}
 use Rattle.cells.specs.Conditions.{Knows}
+use Rattle.cells.specs.Bits.{has_bit}
 use Rattle.i80.specs.declared.Reg.TheVariants.{A}
 use Rattle.i80.specs.declared.Src.{Src}
 use Rattle.i80.specs.declared.Src.TheVariants.{Reg as InReg, Mem}
@@ -15,19 +16,21 @@ use Rattle.i80.specs.declared.Pair.TheVariants.{H as PairH}
 use Rattle.i80.specs.declared.Op.{Op}
 use Rattle.i80.specs.declared.Op.TheVariants.{Add, Adc, Sub, Sbb, Ana, Xra, Ora, Cmp}
 use Rattle.dialogue.specs.Tried.{try_then}
+use Rattle.dialogue.specs.Words.{wrap}
+use Rattle.dialogue.specs.Choice.{byte_of}
 use Rattle.base_arithmetic_def.specs.Arithmetic.{as_bit, sum8, difference8, borrow8, turned_left, turned_right, bit7, bit0, daa_result, daa_carry, daa_excepted}
 use Rattle.base_arithmetic_def.specs.Operations.{flags_by, result_of, flags_of}
-use Rattle.base_arithmetic_def.proofs.Bytes.{result_small}
+use Rattle.base_arithmetic_def.proofs.Bytes.{bit_small, result_small}
 use Rattle.asm80_program_types.specs.Program.{Program}
-use Rattle.cpu80_tagged_def.specs.State.{State80, reg80, with_num, with_a as with_a80, with_flags as with_flags80, with_cy as with_cy80, wrap as wrap80, num_or}
+use Rattle.cpu80_tagged_def.specs.State.{State80, reg80, with_num, with_a as with_a80, with_flags as with_flags80, with_cy as with_cy80, num_or}
 use Rattle.cpu80_tagged_def.specs.Memory.{address, read_at, may_write}
 use Rattle.cpu80_tagged_def.specs.Effect.{source as source80, into as into80, known, carry_for as carry_for80, a_after as a_after80, alu_with, cleared, alu as alu80, counted, counted_up as counted_up80, counted_down as counted_down80, inr as inr80, dcr as dcr80, pair_num, add_to_pair as add_to_pair80, dad as dad80, daa_of, daa as daa80, cma as cma80, cmc as cmc80, rlc, rrc, ral, rar}
-use Rattle.cpu80_untagged_def.specs.State.{UntaggedState, reg, wrap, pair_word, with_word, with_a, with_flags, with_cy, bit_of, byte_of}
+use Rattle.cpu80_untagged_def.specs.State.{UntaggedState, reg, pair_word, with_word, with_a, with_flags, with_cy}
 use Rattle.cpu80_untagged_def.specs.Flags.{settled, chosen_flags}
 use Rattle.cpu80_untagged_def.specs.Effect.{source, into, carry_for, a_after, computed, alu, counted_up, counted_down, inr, dcr, add_to_pair, added, dad, adjusted, daa, turned}
 use Rattle.dialogue.proofs.Tried.{ok_is, then_is, err_is_not}
 use Rattle.cpu80.proofs.Stands.{Stands, FlagsStand, StatesStand, reg_stands, sets_flags, number, number_is}
-use Rattle.cpu80.proofs.Moves.{bit_small, reads, address_is, pair_is, sets_a, sets_word, source_stands, into_stands}
+use Rattle.cpu80.proofs.Moves.{reads, address_is, pair_is, sets_a, sets_word, source_stands, into_stands}
 
 -- flags
 
@@ -37,7 +40,7 @@ kept (Some v) b = refl
 
 pub settles : (f : Flags) (choice : ℕ) → FlagsStand f (settled f choice)
 settles f choice =
-    let b = bit_of choice 0 in
+    let b = has_bit choice 0 in
     record { s = kept f.s b; z = kept f.z b; ac = kept f.ac b; p = kept f.p b; cy = kept f.cy b }
 
 flag_is : (o : Option Bool) (v b : Bool) → Knows o b → known o ≡ Ok v → b ≡ v
@@ -154,23 +157,23 @@ dcr_stands p s t u on choice d e =
 
 -- pairs
 
-wrap_small : (w : ℕ) → wrap80 w < 0x10000
+wrap_small : (w : ℕ) → wrap w < 0x10000
 wrap_small w = omega arith
 
 pub add_to_pair_stands : (p : Program) (s t : State80) (u : UntaggedState) (pair : Pair) (k : ℕ) → StatesStand s u → add_to_pair80 s pair k ≡ Ok t → StatesStand t (add_to_pair u pair k)
 add_to_pair_stands p s t u pair k d e =
     let w = then_is (pair_num s pair) _ t e in
     subst (λ z. StatesStand z (add_to_pair u pair k)) (ok_is _ t w.2)
-    (subst (λ n. StatesStand (with_num s pair (wrap80 (w.0 + k))) (with_word u pair (wrap (n + k)))) (sym (pair_is P5 s u pair w.0 d w.1)) (sets_word s u pair (wrap80 (w.0 + k)) d (wrap_small (w.0 + k))))
+    (subst (λ n. StatesStand (with_num s pair (wrap (w.0 + k))) (with_word u pair (wrap (n + k)))) (sym (pair_is P5 s u pair w.0 d w.1)) (sets_word s u pair (wrap (w.0 + k)) d (wrap_small (w.0 + k))))
 
 pub dad_stands : (p : Program) (s t : State80) (u : UntaggedState) (pair : Pair) → StatesStand s u → dad80 s pair ≡ Ok t → StatesStand t (dad u pair)
 dad_stands p s t u pair d e =
     let x = then_is (pair_num s PairH) _ t e in
     let y = then_is (pair_num s pair) _ t x.2 in
-    let made = sets_cy (with_num s PairH (wrap80 (x.0 + y.0))) (with_word u PairH (wrap (x.0 + y.0))) (nat_lt 0xFFFF (x.0 + y.0)) (sets_word s u PairH (wrap80 (x.0 + y.0)) d (wrap_small (x.0 + y.0))) in
+    let made = sets_cy (with_num s PairH (wrap (x.0 + y.0))) (with_word u PairH (wrap (x.0 + y.0))) (nat_lt 0xFFFF (x.0 + y.0)) (sets_word s u PairH (wrap (x.0 + y.0)) d (wrap_small (x.0 + y.0))) in
     subst (λ z. StatesStand z (dad u pair)) (ok_is _ t y.2)
-    (subst (λ n. StatesStand (with_cy80 (with_num s PairH (wrap80 (x.0 + y.0))) (nat_lt 0xFFFF (x.0 + y.0))) (added u n (pair_word u pair))) (sym (pair_is P5 s u PairH x.0 d x.1))
-    (subst (λ n. StatesStand (with_cy80 (with_num s PairH (wrap80 (x.0 + y.0))) (nat_lt 0xFFFF (x.0 + y.0))) (added u x.0 n)) (sym (pair_is P5 s u pair y.0 d y.1)) made))
+    (subst (λ n. StatesStand (with_cy80 (with_num s PairH (wrap (x.0 + y.0))) (nat_lt 0xFFFF (x.0 + y.0))) (added u n (pair_word u pair))) (sym (pair_is P5 s u PairH x.0 d x.1))
+    (subst (λ n. StatesStand (with_cy80 (with_num s PairH (wrap (x.0 + y.0))) (nat_lt 0xFFFF (x.0 + y.0))) (added u x.0 n)) (sym (pair_is P5 s u pair y.0 d y.1)) made))
 
 -- DAA, CMA and CMC
 

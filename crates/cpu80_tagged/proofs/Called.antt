@@ -1,12 +1,13 @@
--- Calls of a machine are turns of its program's run, whatever replies come later.
-use Rattle.std.proofs.Common.{◌≡◌, ℕ, suc, ◌+◌, Bool, cond, List, [], ◌∷◌, ◌++◌, refl, sym, ap, ◌∙◌, subst, arith, append_assoc}
-use Rattle.std.proofs.lemmas.List.{append-nil}
+-- The calls on a `Cpu80` are calls on the tagged 8080 with its program, and so turns of the program's run.
+use Rattle.std.proofs.Common.{◌≡◌, ℕ, suc, Bool, true, false, cond, List, [], ◌∷◌, ◌++◌, Option, Some, None, refl, sym, ap, subst}
 use Rattle.cells.specs.declared.Rule.{Rule}
 use Rattle.dialogue.specs.declared.request.Reply.{Reply}
 use Rattle.dialogue.specs.declared.request.Event.{Event}
 use Rattle.dialogue.specs.declared.request.Event.TheVariants.{End}
-use Rattle.dialogue.specs.Run.{Answer, Ran, Asks, Ends, Stops, Status, Going, Waiting, Over, Stopped, Run, turn, settle, take_reply, start_run}
-use Rattle.dialogue.proofs.Turns.{turns_add}
+use Rattle.dialogue.specs.Run.{Answer, Ran, Asks, Ends, Stops, Status, Going, Waiting, Over, Stopped}
+use Rattle.dialogue.specs.Calls.{Standing, settled}
+use Rattle.dialogue.specs.Histories.{Calls as MachineCalls, started as has_started, ran as has_run, asked as has_asked, took, ended as has_ended, stopped, IsRunAt}
+use Rattle.dialogue.proofs.Called.{calls_run}
 use Rattle.asm80_program_types.specs.Program.{Program}
 use Rattle.cpu80_tagged_def.specs.State.{State80}
 use Rattle.cpu80_tagged_def.specs.Start.{start80, run80}
@@ -15,31 +16,20 @@ use Rattle.cpu80_tagged.specs.declared.processor.Cpu80.{Cpu80}
 use Rattle.cpu80_tagged.specs.declared.processor.Step80.TheVariants.{Ran as DidRun, Asked as DidAsk, Ended as DidEnd, Left}
 use Rattle.cpu80_tagged.specs.State.{tagged_state}
 use Rattle.cpu80_tagged.specs.Machine.{IsTaggedStep}
-use Rattle.cpu80_tagged.specs.Calls.{Calls, started, ran, asked, replied, ended, left, refused, asked_again, ended_again, left_again, IsRunAt, CallsGiveRuns}
+use Rattle.cpu80_tagged.specs.Calls.{Calls, started, ran, asked, replied, ended, left, refused, asked_again, ended_again, left_again, CallsGiveRuns}
 
--- a run as it stands
-abbrev pub at_run : State80 → Status Rule → List Event → List Reply → ℕ → Run State80 Rule
-at_run s status d ys u = record { state = s; status = status; dialogue = d; replies = ys; used = u }
+abbrev stand : State80 → Option Event → Standing State80
+stand s said = record { state = s; said = said }
 
--- how a run stands after calls, whatever replies come later: where it waits it takes the next of them
+abbrev HasCalls : Program → List ℕ → Status Rule → List Event → List Reply → ℕ → ℕ → Standing State80 → Type 0
+HasCalls p page status d ys n u x = MachineCalls (machine80 p) [] (start80 p page) status d ys n u x
+
+-- the calls on the machine of the definition that a history is, with some number of choices, of which it uses none
 abbrev pub Stands : Program → List ℕ → Status Rule → List Event → List Reply → ℕ → State80 → Type 0
-Stands p page Going d ys n s = (u : ℕ) × ((rest : List Reply) → run80 p page (ys ++ rest) n ≡ at_run s Going d rest u)
-Stands p page Waiting d ys n s =
-    (e : Event) × (step80 p s ≡ Asks e s)
-    × ((u : ℕ) × ((rest : List Reply) → run80 p page (ys ++ rest) n ≡ take_reply (machine80 p) [] (at_run s Going d rest u) e rest))
-Stands p page Over d ys n s = (u : ℕ) × ((rest : List Reply) → run80 p page (ys ++ rest) n ≡ at_run s Over d rest u)
-Stands p page (Stopped r) d ys n s = (u : ℕ) × ((rest : List Reply) → run80 p page (ys ++ rest) n ≡ at_run s (Stopped r) d rest u)
-
--- one turn more
-next_turn : (p : Program) (page : List ℕ) (ys : List Reply) (n : ℕ) → run80 p page ys (suc n) ≡ turn (machine80 p) [] (run80 p page ys n)
-next_turn p page ys n =
-    let e : suc n ≡ n + 1 = omega arith in
-    ap (run80 p page ys) e ∙ turns_add (machine80 p) [] n 1 (start_run (start80 p page) ys)
-
--- the turn of a run that goes on, by the answer of its step
-turn_from : (p : Program) (page : List ℕ) (ys rest : List Reply) (n u : ℕ) (s : State80) (d : List Event) (a : Answer State80 Rule) → run80 p page ys n ≡ at_run s Going d rest u → step80 p s ≡ a → run80 p page ys (suc n) ≡ settle (machine80 p) [] (at_run s Going d rest u) a
-turn_from p page ys rest n u s d a e f =
-    next_turn p page ys n ∙ ap (turn (machine80 p) []) e ∙ ap (settle (machine80 p) [] (at_run s Going d rest u)) f
+Stands p page Going d ys n s = (u : ℕ) × HasCalls p page Going d ys n u (stand s None)
+Stands p page Waiting d ys n s = (u : ℕ) × (e : Event) × (step80 p s ≡ Asks e s) × HasCalls p page Waiting d ys n u (stand s (Some e))
+Stands p page Over d ys n s = (u : ℕ) × HasCalls p page Over d ys n u (stand s (Some End))
+Stands p page (Stopped r) d ys n s = (u : ℕ) × HasCalls p page (Stopped r) d ys n u (stand s None)
 
 -- what a step's answer says of the definition's
 ran_to : (a : Answer State80 Rule) (s t : State80) → IsTaggedStep a DidRun s t → a ≡ Ran t
@@ -67,50 +57,39 @@ asked_at Ends s t h = let g = h.0 in cc
 asked_at (Stops x) s t h = let g = h.0 in cc
 
 pub stands : (p : Program) (page : List ℕ) (status : Status Rule) (d : List Event) (ys : List Reply) (n : ℕ) (c : Cpu80) → Calls p page status d ys n c → Stands p page status d ys n (tagged_state c)
-stands p page _ _ _ _ _ (started c h) = (0, λ rest. ap (λ (s : State80). at_run s Going [] rest 0) (sym h))
+stands p page _ _ _ _ _ (started c h) = subst (Stands p page Going [] [] 0) (sym h) (0, has_started)
 stands p page _ _ _ _ _ (ran d ys n c after before step) =
+    let s = tagged_state c in
+    let t = tagged_state after in
     let b = stands p page Going d ys n c before in
-    (suc b.0, λ rest. turn_from p page (ys ++ rest) rest n b.0 (tagged_state c) d (Ran (tagged_state after)) (b.1 rest) (ran_to (step80 p (tagged_state c)) (tagged_state c) (tagged_state after) step.step))
+    (suc b.0, has_run d ys n b.0 (stand s None) (stand t None) b.1 (sym (ap (settled s) (ran_to (step80 p s) s t step.step))))
 stands p page _ _ _ _ _ (asked d ys n c after e before step is) =
+    let s = tagged_state c in
     let b = stands p page Going d ys n c before in
-    let same : tagged_state after ≡ tagged_state c = asked_at (step80 p (tagged_state c)) (tagged_state c) (tagged_state after) step.step in
-    let asks_it : step80 p (tagged_state c) ≡ Asks e (tagged_state c) = subst (λ s. step80 p s ≡ Asks e s) same is.1.asked in (
-      e,
-      is.1.asked,
-      (
-        suc b.0,
-        λ rest.
-            turn_from p page (ys ++ rest) rest n b.0 (tagged_state c) d (Asks e (tagged_state c)) (b.1 rest) asks_it
-            ∙ ap (λ (s : State80). take_reply (machine80 p) [] (at_run s Going (d ++ e ∷ []) rest (suc b.0)) e rest) (sym same),
-      ),
-    )
+    let same : tagged_state after ≡ s = asked_at (step80 p s) s (tagged_state after) step.step in
+    let asks_it : step80 p s ≡ Asks e s = subst (λ t. step80 p t ≡ Asks e t) same is.1.asked in
+    subst (Stands p page Waiting (d ++ e ∷ []) ys (suc n)) (sym same)
+        (suc b.0, e, asks_it, has_asked d ys n b.0 (stand s None) (stand s (Some e)) e b.1 (sym (ap (settled s) asks_it)) refl)
 stands p page _ _ _ _ _ (replied d ys n c after y before is) =
+    let s = tagged_state c in
     let b = stands p page Waiting d ys n c before in
-    let e = b.0 in
-    let taken = is.3 e b.1 in (
-      suc b.2.0,
-      λ rest.
-          ap (λ zs. run80 p page zs n) (append_assoc ys (y ∷ []) rest)
-          ∙ b.2.1 (y ∷ rest)
-          ∙ ap (λ (t : Bool). cond t (at_run (replied80 p (tagged_state c) e y) Going d rest (suc b.2.0)) (at_run (tagged_state c) Waiting d (y ∷ rest) b.2.0)) taken.0
-          ∙ ap (λ (s : State80). at_run s Going d rest (suc b.2.0)) (sym taken.1),
-    )
+    let taken = is.3 b.1 b.2 in
+    let yes : Bool × Standing State80 = (true, stand (replied80 p s b.1 y) None) in
+    let no : Bool × Standing State80 = (false, stand s (Some b.1)) in
+    subst (Stands p page Going d (ys ++ y ∷ []) n) (sym taken.1)
+        (suc b.0, took d ys n b.0 (stand s (Some b.1)) yes.1 y b.3 (sym (ap (λ (fit : Bool). cond fit yes no) taken.0)))
 stands p page _ _ _ _ _ (ended d ys n c after before step) =
+    let s = tagged_state c in
     let b = stands p page Going d ys n c before in
-    let e = ended_at (step80 p (tagged_state c)) (tagged_state c) (tagged_state after) step.step in (
-      b.0,
-      λ rest.
-          turn_from p page (ys ++ rest) rest n b.0 (tagged_state c) d Ends (b.1 rest) e.0
-          ∙ ap (λ (s : State80). at_run s Over (d ++ End ∷ []) rest b.0) (sym e.1),
-    )
+    let e = ended_at (step80 p s) s (tagged_state after) step.step in
+    subst (Stands p page Over (d ++ End ∷ []) ys (suc n)) (sym e.1)
+        (b.0, has_ended d ys n b.0 (stand s None) (stand s (Some End)) b.1 (sym (ap (settled s) e.0)))
 stands p page _ _ _ _ _ (left d ys n c after r before step) =
+    let s = tagged_state c in
     let b = stands p page Going d ys n c before in
-    let e = left_by (step80 p (tagged_state c)) (tagged_state c) (tagged_state after) r step.step in (
-      b.0,
-      λ rest.
-          turn_from p page (ys ++ rest) rest n b.0 (tagged_state c) d (Stops r) (b.1 rest) e.0
-          ∙ ap (λ (s : State80). at_run s (Stopped r) d rest b.0) (sym e.1),
-    )
+    let e = left_by (step80 p s) s (tagged_state after) r step.step in
+    subst (Stands p page (Stopped r) d ys (suc n)) (sym e.1)
+        (b.0, stopped d ys n b.0 (stand s None) (stand s None) r b.1 (sym (ap (settled s) e.0)))
 stands p page _ _ _ _ _ (refused status d ys n c after y before is) =
     subst (λ (x : Cpu80). Stands p page status d ys n (tagged_state x)) (sym is.0) (stands p page status d ys n c before)
 stands p page _ _ _ _ _ (asked_again d ys n c after before step) =
@@ -122,24 +101,11 @@ stands p page _ _ _ _ _ (left_again d ys n c after r before step) =
     let e = left_by (step80 p (tagged_state c)) (tagged_state c) (tagged_state after) r step.step in
     subst (Stands p page (Stopped r) d ys n) (sym e.1) (stands p page (Stopped r) d ys n c before)
 
--- the run over the replies that were taken alone
-whole : (p : Program) (page : List ℕ) (ys : List Reply) (n : ℕ) (run : List Reply → Run State80 Rule) → ((rest : List Reply) → run80 p page (ys ++ rest) n ≡ run rest) → run80 p page ys n ≡ run []
-whole p page ys n run h = ap (λ zs. run80 p page zs n) (sym (append-nil ys)) ∙ h []
-
-is_at : (r : Run State80 Rule) (status : Status Rule) (d : List Event) (s : State80) (u : ℕ) → r ≡ at_run s status d [] u → IsRunAt r status d s
-is_at r status d s u e = record {
-  same_state = ap (λ (x : Run State80 Rule). x.state) e;
-  same_status = ap (λ (x : Run State80 Rule). x.status) e;
-  same_dialogue = ap (λ (x : Run State80 Rule). x.dialogue) e;
-  none_left = ap (λ (x : Run State80 Rule). x.replies) e;
-}
-
 at_end : (p : Program) (page : List ℕ) (status : Status Rule) (d : List Event) (ys : List Reply) (n : ℕ) (s : State80) → Stands p page status d ys n s → IsRunAt (run80 p page ys n) status d s
-at_end p page Going d ys n s h = is_at _ Going d s h.0 (whole p page ys n (λ rest. at_run s Going d rest h.0) h.1)
-at_end p page Waiting d ys n s h =
-    is_at _ Waiting d s h.2.0 (whole p page ys n (λ rest. take_reply (machine80 p) [] (at_run s Going d rest h.2.0) h.0 rest) h.2.1)
-at_end p page Over d ys n s h = is_at _ Over d s h.0 (whole p page ys n (λ rest. at_run s Over d rest h.0) h.1)
-at_end p page (Stopped r) d ys n s h = is_at _ (Stopped r) d s h.0 (whole p page ys n (λ rest. at_run s (Stopped r) d rest h.0) h.1)
+at_end p page Going d ys n s h = calls_run (machine80 p) [] (start80 p page) Going d ys n h.0 (stand s None) h.1
+at_end p page Waiting d ys n s h = calls_run (machine80 p) [] (start80 p page) Waiting d ys n h.0 (stand s (Some h.1)) h.3
+at_end p page Over d ys n s h = calls_run (machine80 p) [] (start80 p page) Over d ys n h.0 (stand s (Some End)) h.1
+at_end p page (Stopped r) d ys n s h = calls_run (machine80 p) [] (start80 p page) (Stopped r) d ys n h.0 (stand s None) h.1
 
 pub calls_give_runs : CallsGiveRuns
 unfolding CallsGiveRuns

@@ -4,7 +4,7 @@ use mathlib.Core.Path.{fun_ext}
 use Rattle.std.proofs.lemmas.Bool.Decides.{nat_tests}
 use Rattle.cells.specs.declared.Cell.{Cell}
 use Rattle.cells.specs.declared.Cell.TheVariants.{Junk}
-use Rattle.cpu80_tagged_def.specs.State.{wrap}
+use Rattle.dialogue.specs.Words.{wrap}
 use Rattle.cpu80_tagged_def.specs.Memory.{put}
 use Rattle.cpu80_tagged.specs.Reply.{spoiled_cells}
 

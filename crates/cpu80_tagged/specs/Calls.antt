@@ -4,9 +4,9 @@ use Rattle.cells.specs.declared.Rule.{Rule}
 use Rattle.dialogue.specs.declared.request.Reply.{Reply}
 use Rattle.dialogue.specs.declared.request.Event.{Event}
 use Rattle.dialogue.specs.declared.request.Event.TheVariants.{End}
-use Rattle.dialogue.specs.Run.{Status, Going, Waiting, Over, Stopped, Run}
+use Rattle.dialogue.specs.Run.{Status, Going, Waiting, Over, Stopped}
+use Rattle.dialogue.specs.Histories.{IsRunAt}
 use Rattle.asm80_program_types.specs.Program.{Program}
-use Rattle.cpu80_tagged_def.specs.State.{State80}
 use Rattle.cpu80_tagged_def.specs.Start.{start80, run80}
 use Rattle.cpu80_tagged_def.specs.Step.{step80}
 use Rattle.cpu80_tagged.specs.declared.processor.Cpu80.{Cpu80}
@@ -35,13 +35,6 @@ pub data Calls (p : Program) (page : List ℕ) : Status Rule → List Event → 
   asked_again : (d : List Event) (ys : List Reply) (n : ℕ) (c after : Cpu80) → Calls p page Waiting d ys n c → IsStepOf p c Asked after → Calls p page Waiting d ys n after
   ended_again : (d : List Event) (ys : List Reply) (n : ℕ) (c after : Cpu80) → Calls p page Over d ys n c → IsStepOf p c Ended after → Calls p page Over d ys n after
   left_again : (d : List Event) (ys : List Reply) (n : ℕ) (c after : Cpu80) (r : Rule) → Calls p page (Stopped r) d ys n c → IsStepOf p c (Left r) after → Calls p page (Stopped r) d ys n after
-
--- the run stands so, with no reply left over
-pub record IsRunAt (run : Run State80 Rule) (status : Status Rule) (d : List Event) (s : State80) : Type 0 where
-  pub same_state : run.state ≡ s
-  pub same_status : run.status ≡ status
-  pub same_dialogue : run.dialogue ≡ d
-  pub none_left : run.replies ≡ []
 
 -- any calls on a machine give the run of its program over the replies that were taken
 unfoldable pub CallsGiveRuns : Type 0

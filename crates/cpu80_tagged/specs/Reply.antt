@@ -7,7 +7,8 @@ use Rattle.dialogue.specs.declared.blocks.Block.{Block}
 use Rattle.dialogue.specs.declared.request.Request.{Request}
 use Rattle.dialogue.specs.declared.request.Reply.{Reply}
 use Rattle.dialogue.specs.Fits.{answer_kind_of, dma_after}
-use Rattle.cpu80_tagged_def.specs.State.{State80, wrap}
+use Rattle.dialogue.specs.Words.{wrap}
+use Rattle.cpu80_tagged_def.specs.State.{State80}
 use Rattle.cpu80_tagged_def.specs.Call.{put_blocks, answered}
 use Rattle.cpu80_tagged_step.specs.declared.turn.Return.{Return}
 

@@ -21,8 +21,9 @@ use Rattle.dialogue.specs.Table.{row_of}
 use Rattle.dialogue.specs.Shape.{Seen, shape_of, request_of}
 use Rattle.dialogue.specs.Fits.{answer_kind_of, dma_after}
 use Rattle.dialogue.specs.Run.{Answer, Asks, Ends, Stops}
+use Rattle.dialogue.specs.Words.{wrap}
 use Rattle.asm80_program_types.specs.Program.{Program, is_start}
-use Rattle.cpu80_tagged_def.specs.State.{Regs80, State80, num_of, wrap, junk_regs}
+use Rattle.cpu80_tagged_def.specs.State.{Regs80, State80, num_of, junk_regs}
 use Rattle.cpu80_tagged_def.specs.Memory.{is_closed, is_write_protected, put, read_word}
 
 -- one of the eight cells below SP

@@ -85,10 +85,6 @@ with_flags s f = record s { flags = f }
 abbrev pub with_cy : State80 → Bool → State80
 with_cy s c = record s { flags = record (s.flags) { cy = Some c } }
 
--- a word of 16 bits
-abbrev pub wrap : ℕ → ℕ
-wrap w = w % 0x10000
-
 abbrev pub junk_regs : Regs80
 junk_regs = record { a = Junk; b = Junk; c = Junk; d = Junk; e = Junk; h = Junk; l = Junk }
 

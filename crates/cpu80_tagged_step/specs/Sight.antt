@@ -2,7 +2,8 @@
 use Rattle.std.specs.Prelude.{ℕ, ◌+◌, ◌==◌, ◌&&◌, ◌||◌, not, Bool, true, cond, List, Option, None, slice_index_or}
 use Rattle.cells.specs.declared.Cell.{Cell}
 use Rattle.dialogue.specs.Shape.{Seen}
-use Rattle.cpu80_tagged_def.specs.State.{num_of, wrap}
+use Rattle.dialogue.specs.Words.{wrap}
+use Rattle.cpu80_tagged_def.specs.State.{num_of}
 use Rattle.cpu80_tagged_def.specs.Call.{is_just_below}
 
 -- a cell that the call may read holds a number, and is neither closed nor just below SP

@@ -10,6 +10,7 @@ use crate::numbers::{
     outcome_flags,
 };
 use cells::{Cell, Rule};
+use dialogue::join;
 use i80::{Op, Pair, Reg, Src};
 
 // A byte rotated left; the bit comes in at the right.
@@ -149,7 +150,7 @@ impl Draft<'_> {
     {
         let high = number(self.high(pair), Rule::P5)?;
         let low = number(self.low(pair), Rule::P5)?;
-        Ok(256 * u16::from(high) + u16::from(low))
+        Ok(join(high, low))
     }
 
     /// INX adds 1, DCX adds 0FFFFH. No flag changes.

@@ -7,6 +7,7 @@ ghost use Rattle.base_arithmetic_def.specs.Operations.{flags_by, result_of, flag
 ghost use Rattle.cpu80_tagged_def.specs.Effect.{known, carry_for};
 
 use cells::{Cell, Flags, Rule};
+use dialogue::join;
 use i80::Op;
 
 /// The number in a cell, if it holds one.
@@ -35,7 +36,7 @@ pub fn address_in(high: Cell, low: Cell) -> Result<u16, Rule>
 {
     let high = number(high, Rule::P8)?;
     let low = number(low, Rule::P8)?;
-    Ok(256 * u16::from(high) + u16::from(low))
+    Ok(join(high, low))
 }
 
 /// A flag that is read has to be known: P6.

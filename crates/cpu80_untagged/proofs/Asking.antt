@@ -8,14 +8,13 @@ use Rattle.dialogue.specs.declared.request.Shape.{Shape}
 use Rattle.dialogue.specs.declared.request.Event.TheVariants.{Call}
 use Rattle.dialogue.specs.Shape.{request_of}
 use Rattle.dialogue.specs.ByteMemory.{seen_by}
-use Rattle.dialogue.specs.Run.{Ends, Stops}
+use Rattle.dialogue.specs.Run.{Ends, Stops, Waiting, Stopped}
+use Rattle.dialogue.specs.Calls.{settled}
 use Rattle.cpu80_untagged_def.specs.State.{UntaggedState}
 use Rattle.cpu80_untagged_def.specs.Call.{OddCall, ask, shape_in, call_system}
-use Rattle.cpu80_untagged.specs.declared.machine.UntaggedStep.TheVariants.{Asked, OddCall as HasOdd}
 use Rattle.cpu80_untagged.specs.declared.machine.Pending.TheVariants.{Answer}
 use Rattle.cpu80_untagged.specs.declared.system.Return.{Return}
 use Rattle.cpu80_untagged.specs.Back.{IsUntaggedCall}
-use Rattle.cpu80_untagged.specs.Calls.{settled}
 
 not_zero : (c : ℕ) → (c ≡ 0 → ⊥) → (c == 0) ≡ false
 not_zero c ne = grind (arith, nat_tests)
@@ -23,10 +22,10 @@ not_zero c ne = grind (arith, nat_tests)
 asks : (u : UntaggedState) → (u.regs.c ≡ 0 → ⊥) → call_system u ≡ ask u (shape_in u)
 asks u ne = ap (λ b. cond b Ends (ask u (shape_in u))) (not_zero u.regs.c ne)
 
-pub asked_is : (u : UntaggedState) (shape : Shape) → (u.regs.c ≡ 0 → ⊥) → IsUntaggedCall u shape → (Asked, record { state = u; said = Some (Call (request_of shape (seen_by u.mem))) }) ≡ settled u (call_system u)
+pub asked_is : (u : UntaggedState) (shape : Shape) → (u.regs.c ≡ 0 → ⊥) → IsUntaggedCall u shape → (Waiting, record { state = u; said = Some (Call (request_of shape (seen_by u.mem))) }) ≡ settled u (call_system u)
 asked_is u shape ne e = sym (ap (settled u) (asks u ne ∙ ap (ask u) e))
 
-pub stopped_is : (u : UntaggedState) → (u.regs.c ≡ 0 → ⊥) → ask u (shape_in u) ≡ Stops (OddCall u.regs.c) → (HasOdd u.regs.c, record { state = u; said = None }) ≡ settled u (call_system u)
+pub stopped_is : (u : UntaggedState) → (u.regs.c ≡ 0 → ⊥) → ask u (shape_in u) ≡ Stops (OddCall u.regs.c) → (Stopped (OddCall u.regs.c), record { state = u; said = None }) ≡ settled u (call_system u)
 stopped_is u ne e = sym (ap (settled u) (asks u ne ∙ e))
 
 -- the shape that is kept is the one that was asked

@@ -1,4 +1,2 @@
 mod Asking
 mod Starts
-mod Told
-mod Called

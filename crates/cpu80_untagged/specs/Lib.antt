@@ -1,6 +1,5 @@
 pub mod State
 pub mod Back
 pub mod Standing
-pub mod Calls
 pub mod Plain
 pub mod Histories

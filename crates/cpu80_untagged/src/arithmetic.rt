@@ -5,10 +5,10 @@ ghost use Rattle.base_arithmetic_def.specs.Arithmetic.{as_bit, turned_left, turn
 ghost use Rattle.cpu80_untagged_def.specs.Effect.{carry_for, alu, counted_up, counted_down, inr, dcr, add_to_pair, dad, daa, turned};
 ghost use Rattle.cpu80_untagged.specs.State.{untagged_flags, untagged_state};
 
-use crate::choice::choice_byte;
-use crate::flags::{FlagBits, bit};
+use crate::flags::FlagBits;
 use crate::processor::Processor;
 use cpu80_tagged_step::numbers::{adjusted, byte_flags, is_excepted, outcome, outcome_flags};
+use dialogue::choice_byte;
 use i80::{Op, Pair, Src};
 
 // The carry that an operation takes: CY for ADC and SBB, else 0.
@@ -17,7 +17,7 @@ fn carry_for(op: Op, flags: FlagBits) -> u8
     ensures small { result ≤ 1 }
 {
     match op {
-        Op::Adc | Op::Sbb => bit(flags.cy),
+        Op::Adc | Op::Sbb => u8::from(flags.cy),
         Op::Add | Op::Sub | Op::Ana | Op::Xra | Op::Ora | Op::Cmp => 0,
     }
 }
@@ -26,14 +26,14 @@ fn carry_for(op: Op, flags: FlagBits) -> u8
 pub fn left(value: u8, flag: bool) -> u8
     ensures { result ≡ turned_left value (as_bit flag) }
 {
-    ((2 * u16::from(value) + u16::from(bit(flag))) % 256) as u8
+    ((2 * u16::from(value) + u16::from(flag)) % 256) as u8
 }
 
 /// A byte rotated right; the bit comes in at the left.
 pub fn right(value: u8, flag: bool) -> u8
     ensures { result ≡ turned_right value (as_bit flag) }
 {
-    value / 2 + 128 * bit(flag)
+    value / 2 + 128 * u8::from(flag)
 }
 
 /// Bit 7 of a byte.

@@ -5,8 +5,8 @@ ghost use Rattle.base_arithmetic_def.specs.Arithmetic.{as_bit};
 ghost use Rattle.cpu80_untagged_def.specs.Flags.{settled, chosen_flags, flag_byte, flags_in_byte, holds};
 ghost use Rattle.cpu80_untagged.specs.State.{untagged_flags};
 
-use crate::choice::choice_bit;
 use cells::{Cond, Flags};
+use dialogue::choice_bit;
 
 /// The five flags, each 0 or 1.
 #[derive(Clone, Copy)]
@@ -64,14 +64,14 @@ impl FlagBits {
     pub fn byte(self, choice: u128) -> u8
         ensures { result ≡ flag_byte (untagged_flags self) choice }
     {
-        128 * bit(self.s)
-            + 64 * bit(self.z)
-            + 32 * bit(choice_bit(choice, 2))
-            + 16 * bit(self.ac)
-            + 8 * bit(choice_bit(choice, 1))
-            + 4 * bit(self.p)
-            + 2 * bit(choice_bit(choice, 0))
-            + bit(self.cy)
+        128 * u8::from(self.s)
+            + 64 * u8::from(self.z)
+            + 32 * u8::from(choice_bit(choice, 2))
+            + 16 * u8::from(self.ac)
+            + 8 * u8::from(choice_bit(choice, 1))
+            + 4 * u8::from(self.p)
+            + 2 * u8::from(choice_bit(choice, 0))
+            + u8::from(self.cy)
     }
 
     /// Whether a condition holds.
@@ -89,14 +89,6 @@ impl FlagBits {
             Cond::M => self.s,
         }
     }
-}
-
-/// 1 for a set flag, 0 for a clear one.
-pub fn bit(flag: bool) -> u8
-    ensures is { result ≡ as_bit flag }
-    ensures small { result ≤ 1 }
-{
-    if flag { 1 } else { 0 }
 }
 
 fn is_set(byte: u8, place: u8) -> bool

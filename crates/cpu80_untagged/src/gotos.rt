@@ -15,17 +15,17 @@ impl Untagged80 {
     ghost use Rattle.cpu80_untagged_def.specs.State.{pair_word};
     ghost use Rattle.cpu80_untagged_def.specs.Effect.{push, effect};
     ghost use Rattle.dialogue.specs.Run.{Ends};
+    ghost use Rattle.dialogue.specs.Calls.{settled, IsOpen};
     ghost use Rattle.cpu80_untagged_def.specs.Step.{go_to, leave_to, ret, jump, call, act, step_untagged, return_at};
     ghost use Rattle.cpu80_untagged.specs.State.{untagged_state};
     ghost use Rattle.cpu80_untagged.specs.Back.{back_of};
-    ghost use Rattle.cpu80_untagged.specs.Standing.{standing, Keeps, goes_on_at};
-    ghost use Rattle.cpu80_untagged.specs.Calls.{settled, IsOpen};
+    ghost use Rattle.cpu80_untagged.specs.Standing.{standing, status_of, Keeps, goes_on_at};
 
     // The program ends.
     fn end(&mut self) -> UntaggedStep
         requires { self.old.pending ≡ Pending.Nothing }
-        ensures step { (result, standing self.new) ≡ settled (untagged_state self.old.processor) Ends }
-        ensures said { IsOpen result (standing self.new).said }
+        ensures step { (status_of result, standing self.new) ≡ settled (untagged_state self.old.processor) Ends }
+        ensures said { IsOpen (status_of result) (standing self.new).said }
         ensures kept { (back : Option Return) → Keeps back (untagged_state self.old.processor) (untagged_state self.new.processor) self.new.pending }
     {
         self.pending = Pending::Ending;
@@ -35,8 +35,8 @@ impl Untagged80 {
     // Goes to an address.
     fn go_to(&mut self, at: u16) -> UntaggedStep
         requires { self.old.pending ≡ Pending.Nothing }
-        ensures step { (result, standing self.new) ≡ settled (untagged_state self.old.processor) (go_to (untagged_state self.old.processor) at) }
-        ensures said { IsOpen result (standing self.new).said }
+        ensures step { (status_of result, standing self.new) ≡ settled (untagged_state self.old.processor) (go_to (untagged_state self.old.processor) at) }
+        ensures said { IsOpen (status_of result) (standing self.new).said }
         ensures kept { (back : Option Return) → Keeps back (untagged_state self.old.processor) (untagged_state self.new.processor) self.new.pending }
     {
         self.pending = Pending::Nothing;
@@ -47,8 +47,8 @@ impl Untagged80 {
     // RET and PCHL, with the SP after them: at address 0 the program ends.
     fn leave_to(&mut self, sp: u16, at: u16) -> UntaggedStep
         requires { self.old.pending ≡ Pending.Nothing }
-        ensures step { (result, standing self.new) ≡ settled (untagged_state self.old.processor) (leave_to (untagged_state self.old.processor) sp at) }
-        ensures said { IsOpen result (standing self.new).said }
+        ensures step { (status_of result, standing self.new) ≡ settled (untagged_state self.old.processor) (leave_to (untagged_state self.old.processor) sp at) }
+        ensures said { IsOpen (status_of result) (standing self.new).said }
         ensures kept { (back : Option Return) → Keeps back (untagged_state self.old.processor) (untagged_state self.new.processor) self.new.pending }
     {
         if at == 0 {
@@ -63,8 +63,8 @@ impl Untagged80 {
     // RET.
     fn ret(&mut self) -> UntaggedStep
         requires { self.old.pending ≡ Pending.Nothing }
-        ensures step { (result, standing self.new) ≡ settled (untagged_state self.old.processor) (ret (untagged_state self.old.processor)) }
-        ensures said { IsOpen result (standing self.new).said }
+        ensures step { (status_of result, standing self.new) ≡ settled (untagged_state self.old.processor) (ret (untagged_state self.old.processor)) }
+        ensures said { IsOpen (status_of result) (standing self.new).said }
         ensures kept { (back : Option Return) → Keeps back (untagged_state self.old.processor) (untagged_state self.new.processor) self.new.pending }
     {
         let at = self.processor.memory.word(self.processor.sp);
@@ -74,8 +74,8 @@ impl Untagged80 {
     // PCHL.
     fn pchl(&mut self) -> UntaggedStep
         requires { self.old.pending ≡ Pending.Nothing }
-        ensures step { (result, standing self.new) ≡ settled (untagged_state self.old.processor) (leave_to (untagged_state self.old.processor) (untagged_state self.old.processor).sp (pair_word (untagged_state self.old.processor) Pair.H)) }
-        ensures said { IsOpen result (standing self.new).said }
+        ensures step { (status_of result, standing self.new) ≡ settled (untagged_state self.old.processor) (leave_to (untagged_state self.old.processor) (untagged_state self.old.processor).sp (pair_word (untagged_state self.old.processor) Pair.H)) }
+        ensures said { IsOpen (status_of result) (standing self.new).said }
         ensures kept { (back : Option Return) → Keeps back (untagged_state self.old.processor) (untagged_state self.new.processor) self.new.pending }
     {
         let at = self.processor.pair(Pair::H);
@@ -85,8 +85,8 @@ impl Untagged80 {
     // A call of the system, which goes on at `back` after its reply. Function 0 ends the program.
     fn call_system(&mut self, back: Kept) -> UntaggedStep
         requires { self.old.pending ≡ Pending.Nothing }
-        ensures step { (result, standing self.new) ≡ settled (untagged_state self.old.processor) (call_system (untagged_state self.old.processor)) }
-        ensures said { IsOpen result (standing self.new).said }
+        ensures step { (status_of result, standing self.new) ≡ settled (untagged_state self.old.processor) (call_system (untagged_state self.old.processor)) }
+        ensures said { IsOpen (status_of result) (standing self.new).said }
         ensures kept { Keeps (Some (back_of back)) (untagged_state self.old.processor) (untagged_state self.new.processor) self.new.pending }
     {
         if self.processor.registers.c == 0 {
@@ -107,8 +107,8 @@ impl Untagged80 {
     // A jump: to an instruction, to 0, which ends the program, or to 5, which calls the system and returns as RET does.
     fn jump(&mut self, goal: Goal) -> UntaggedStep
         requires { self.old.pending ≡ Pending.Nothing }
-        ensures step { (result, standing self.new) ≡ settled (untagged_state self.old.processor) (jump (untagged_state self.old.processor) goal) }
-        ensures said { IsOpen result (standing self.new).said }
+        ensures step { (status_of result, standing self.new) ≡ settled (untagged_state self.old.processor) (jump (untagged_state self.old.processor) goal) }
+        ensures said { IsOpen (status_of result) (standing self.new).said }
         ensures kept { Keeps (Some (popped_return (untagged_state self.old.processor))) (untagged_state self.old.processor) (untagged_state self.new.processor) self.new.pending }
     {
         match goal {
@@ -125,8 +125,8 @@ impl Untagged80 {
     // nothing. `next` is the address after it.
     fn call(&mut self, next: u16, goal: Goal) -> UntaggedStep
         requires { self.old.pending ≡ Pending.Nothing }
-        ensures step { (result, standing self.new) ≡ settled (untagged_state self.old.processor) (call (untagged_state self.old.processor) next goal) }
-        ensures said { IsOpen result (standing self.new).said }
+        ensures step { (status_of result, standing self.new) ≡ settled (untagged_state self.old.processor) (call (untagged_state self.old.processor) next goal) }
+        ensures said { IsOpen (status_of result) (standing self.new).said }
         ensures kept { Keeps (Some (record { place = At next; sp = self.old.processor.sp })) (untagged_state self.old.processor) (untagged_state self.new.processor) self.new.pending }
     {
         match goal {
@@ -142,8 +142,8 @@ impl Untagged80 {
     // A call of an instruction.
     fn enter(&mut self, next: u16, to: u16) -> UntaggedStep
         requires { self.old.pending ≡ Pending.Nothing }
-        ensures step { (result, standing self.new) ≡ settled (untagged_state self.old.processor) (go_to (push (untagged_state self.old.processor) (next / 256) (next % 256)) to) }
-        ensures said { IsOpen result (standing self.new).said }
+        ensures step { (status_of result, standing self.new) ≡ settled (untagged_state self.old.processor) (go_to (push (untagged_state self.old.processor) (next / 256) (next % 256)) to) }
+        ensures said { IsOpen (status_of result) (standing self.new).said }
         ensures kept { (back : Option Return) → Keeps back (untagged_state self.old.processor) (untagged_state self.new.processor) self.new.pending }
     {
         self.pending = Pending::Nothing;
@@ -165,8 +165,8 @@ impl Untagged80 {
     // An effect, after which the instruction at an address comes next.
     fn run_on(&mut self, instr: Instr80, next: u16, choice: u128) -> UntaggedStep
         requires { self.old.pending ≡ Pending.Nothing }
-        ensures step { (result, standing self.new) ≡ settled (untagged_state self.old.processor) (go_to (effect (untagged_state self.old.processor) instr choice) next) }
-        ensures said { IsOpen result (standing self.new).said }
+        ensures step { (status_of result, standing self.new) ≡ settled (untagged_state self.old.processor) (go_to (effect (untagged_state self.old.processor) instr choice) next) }
+        ensures said { IsOpen (status_of result) (standing self.new).said }
         ensures kept { (back : Option Return) → Keeps back (untagged_state self.old.processor) (untagged_state self.new.processor) self.new.pending }
     {
         self.pending = Pending::Nothing;
@@ -178,8 +178,8 @@ impl Untagged80 {
     // An instruction; `next` is the address after it.
     fn act(&mut self, instr: Instr80, next: u16, choice: u128) -> UntaggedStep
         requires { self.old.pending ≡ Pending.Nothing }
-        ensures step { (result, standing self.new) ≡ settled (untagged_state self.old.processor) (act (untagged_state self.old.processor) next instr choice) }
-        ensures said { IsOpen result (standing self.new).said }
+        ensures step { (status_of result, standing self.new) ≡ settled (untagged_state self.old.processor) (act (untagged_state self.old.processor) next instr choice) }
+        ensures said { IsOpen (status_of result) (standing self.new).said }
         ensures kept { Keeps (goes_on_at (untagged_state self.old.processor) next instr) (untagged_state self.old.processor) (untagged_state self.new.processor) self.new.pending }
     {
         match instr {
@@ -226,8 +226,8 @@ impl Untagged80 {
     /// One instruction, where nothing is open.
     pub(crate) fn run_one<F: Fetch80>(&mut self, code: &F, choice: u128) -> UntaggedStep
         requires { self.old.pending ≡ Pending.Nothing }
-        ensures step { (result, standing self.new) ≡ settled (untagged_state self.old.processor) (step_untagged (F.fetch code.now) (untagged_state self.old.processor) choice) }
-        ensures said { IsOpen result (standing self.new).said }
+        ensures step { (status_of result, standing self.new) ≡ settled (untagged_state self.old.processor) (step_untagged (F.fetch code.now) (untagged_state self.old.processor) choice) }
+        ensures said { IsOpen (status_of result) (standing self.new).said }
         ensures kept { Keeps (return_at (F.fetch code.now) (untagged_state self.old.processor) (untagged_state self.old.processor).place) (untagged_state self.old.processor) (untagged_state self.new.processor) self.new.pending }
     {
         let Place::At(at) = self.processor.place else {

@@ -8,7 +8,6 @@
 #![tactic(auto)]
 
 mod arithmetic;
-mod choice;
 mod effect;
 mod fetch;
 mod flags;

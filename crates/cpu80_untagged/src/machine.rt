@@ -54,9 +54,9 @@ impl Untagged80 {
     ghost use Rattle.dialogue.specs.declared.request.Event.{Event};
     ghost use Rattle.dialogue.specs.Fits.{waits_in};
     ghost use Rattle.dialogue.specs.Lawful.{IsLawfulEvent};
-    ghost use Rattle.cpu80_untagged_def.specs.Step.{Fetch, step_untagged};
-    ghost use Rattle.cpu80_untagged.specs.Standing.{standing};
-    ghost use Rattle.cpu80_untagged.specs.Calls.{stepped, replied, IsOpen, IsStepTold, IsTaken, IsMachineOf};
+    ghost use Rattle.dialogue.specs.Calls.{stepped, replied, IsOpen, IsStepTold, IsTaken};
+    ghost use Rattle.cpu80_untagged_def.specs.Step.{Fetch, step_untagged, replied_untagged};
+    ghost use Rattle.cpu80_untagged.specs.Standing.{standing, status_of, IsMachineOf};
 
     /// The machine with a processor, before its first step.
     pub fn new(processor: Processor) -> Untagged80
@@ -75,9 +75,9 @@ impl Untagged80 {
     /// the byte that PUSH PSW stores; after a DAA of A from 0FAH up, or from 9AH to 9FH with AC and without CY, bits 0 to 7 are A
     /// and 8 to 12 S Z AC P CY.
     pub fn step<F: Fetch80>(&mut self, code: &F, choice: u128) -> UntaggedStep
-        ensures step { (result, standing self.new) ≡ stepped (F.fetch code.now) (standing self.old) choice }
-        ensures told { (standing self.old).said ≡ None → IsStepTold (step_untagged (F.fetch code.now) (standing self.old).state choice) result (standing self.old).state (standing self.new) }
-        ensures said { IsOpen result (standing self.new).said }
+        ensures step { (status_of result, standing self.new) ≡ stepped (step_untagged (F.fetch code.now)) (standing self.old) choice }
+        ensures told { (standing self.old).said ≡ None → IsStepTold (step_untagged (F.fetch code.now) (standing self.old).state choice) (status_of result) (standing self.old).state (standing self.new) }
+        ensures said { IsOpen (status_of result) (standing self.new).said }
         ensures machine { IsMachineOf (F.fetch code.now) self.old → IsMachineOf (F.fetch code.now) self.new }
     {
         match self.pending {
@@ -111,8 +111,8 @@ impl Untagged80 {
     /// After the reply to a call, but for the answer, A is bits 0 to 7 of the choice, BC, DE and HL are the words from bits 16, 32
     /// and 48 up, and S Z AC P CY are bits 80 to 84. After the reply to an IN its byte is in A. The ports use no bit of the choice.
     pub fn reply(&mut self, reply: &Reply, choice: u128) -> bool
-        ensures reply { (fetch : Fetch) → IsMachineOf fetch self.old → (result, standing self.new) ≡ replied fetch (standing self.old) reply.now choice }
-        ensures taken { (fetch : Fetch) (e : Event) → IsMachineOf fetch self.old → (standing self.old).said ≡ Some e → IsTaken fetch e result reply.now choice (standing self.old).state (standing self.new) }
+        ensures reply { (fetch : Fetch) → IsMachineOf fetch self.old → (result, standing self.new) ≡ replied (replied_untagged fetch) (standing self.old) reply.now choice }
+        ensures taken { (fetch : Fetch) (e : Event) → IsMachineOf fetch self.old → (standing self.old).said ≡ Some e → IsTaken (replied_untagged fetch) e result reply.now choice (standing self.old).state (standing self.new) }
         ensures machine { (fetch : Fetch) → IsMachineOf fetch self.old → IsMachineOf fetch self.new }
     {
         match self.pending {
@@ -126,7 +126,7 @@ impl Untagged80 {
     // The reply to a call of the system.
     fn reply_to_call(&mut self, shape: Shape, back: Return, reply: &Reply, choice: u128) -> bool
         requires { self.old.pending ≡ Pending.Answer shape back }
-        ensures reply { (fetch : Fetch) → IsMachineOf fetch self.old → (result, standing self.new) ≡ replied fetch (standing self.old) reply.now choice }
+        ensures reply { (fetch : Fetch) → IsMachineOf fetch self.old → (result, standing self.new) ≡ replied (replied_untagged fetch) (standing self.old) reply.now choice }
         ensures machine { (fetch : Fetch) → IsMachineOf fetch self.old → IsMachineOf fetch self.new }
     {
         // a reply is judged by the shape alone
@@ -145,7 +145,7 @@ impl Untagged80 {
     // The reply to an IN: its byte is put into A.
     fn reply_to_in(&mut self, port: u8, back: Return, reply: &Reply) -> bool
         requires { self.old.pending ≡ Pending.Byte port back }
-        ensures reply { (fetch : Fetch) (choice : ℕ) → IsMachineOf fetch self.old → (result, standing self.new) ≡ replied fetch (standing self.old) reply.now choice }
+        ensures reply { (fetch : Fetch) (choice : ℕ) → IsMachineOf fetch self.old → (result, standing self.new) ≡ replied (replied_untagged fetch) (standing self.old) reply.now choice }
         ensures machine { (fetch : Fetch) → IsMachineOf fetch self.old → IsMachineOf fetch self.new }
     {
         if !fits_event(&Event::In(port), reply) {
@@ -160,7 +160,7 @@ impl Untagged80 {
     // The reply to an OUT, which changes nothing but the place.
     fn reply_to_out(&mut self, port: u8, byte: u8, back: Return, reply: &Reply) -> bool
         requires { self.old.pending ≡ Pending.Taking port byte back }
-        ensures reply { (fetch : Fetch) (choice : ℕ) → IsMachineOf fetch self.old → (result, standing self.new) ≡ replied fetch (standing self.old) reply.now choice }
+        ensures reply { (fetch : Fetch) (choice : ℕ) → IsMachineOf fetch self.old → (result, standing self.new) ≡ replied (replied_untagged fetch) (standing self.old) reply.now choice }
         ensures machine { (fetch : Fetch) → IsMachineOf fetch self.old → IsMachineOf fetch self.new }
     {
         if !fits_event(&Event::Out(port, byte), reply) {

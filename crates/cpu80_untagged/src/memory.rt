@@ -1,8 +1,7 @@
 // The 64K of memory.
 ghost use Rattle.std.specs.Prelude.{◌≡◌, length};
 
-use crate::choice::join;
-use dialogue::{Block, View};
+use dialogue::{Block, View, join};
 
 /// 65,536 bytes.
 #[derive(Drop)]
@@ -12,8 +11,8 @@ pub struct Memory {
 }
 
 impl Memory {
-    ghost use Rattle.dialogue.specs.ByteMemory.{put, put_bytes, put_blocks};
-    ghost use Rattle.cpu80_untagged_def.specs.State.{word_at, put_word};
+    ghost use Rattle.dialogue.specs.ByteMemory.{put, put_bytes, put_blocks, word_at};
+    ghost use Rattle.cpu80_untagged_def.specs.State.{put_word};
     ghost use Rattle.cpu80_untagged.specs.State.{untagged_memory};
 
     /// The byte at an address.

@@ -2,11 +2,11 @@
 ghost use Rattle.std.specs.Prelude.{◌≡◌, None, Some, IfOk, IfSome, length};
 ghost use Rattle.dialogue.specs.Fits.{waits_in};
 ghost use Rattle.dialogue.specs.Lawful.{IsLawfulEvent};
+ghost use Rattle.dialogue.specs.Calls.{stepped, replied, IsOpen};
 ghost use Rattle.asm80_program_types.specs.Program.{Program};
 ghost use Rattle.cpu80_untagged_def.specs.Start.{start_untagged};
-ghost use Rattle.cpu80_untagged_def.specs.Step.{program_fetch};
-ghost use Rattle.cpu80_untagged.specs.Calls.{stepped, replied, IsOpen};
-ghost use Rattle.cpu80_untagged.specs.Plain.{plain_standing, OfUntaggedStep, IsPlainOf};
+ghost use Rattle.cpu80_untagged_def.specs.Step.{program_fetch, step_untagged, replied_untagged};
+ghost use Rattle.cpu80_untagged.specs.Plain.{plain_standing, OfStatus, IsPlainOf};
 
 use crate::machine::{Untagged80, UntaggedStep};
 use crate::start::{start_memory, start_processor};
@@ -58,8 +58,8 @@ impl Plain80 {
     /// One instruction of the program. While the machine asks it answers `Asked`, and after the end `Ended`; these change nothing,
     /// nor does a stop. `Untagged80::step` tells what the choice has.
     pub fn step(&mut self, program: &Program80, choice: u128) -> StepPlain
-        ensures step { OfUntaggedStep result (λ told. (told, plain_standing self.new) ≡ stepped (program_fetch program.now) (plain_standing self.old) choice) }
-        ensures said { OfUntaggedStep result (λ told. IsOpen told (plain_standing self.new).said) }
+        ensures step { OfStatus result (λ status. (status, plain_standing self.new) ≡ stepped (step_untagged (program_fetch program.now)) (plain_standing self.old) choice) }
+        ensures said { OfStatus result (λ status. IsOpen status (plain_standing self.new).said) }
         ensures machine { IsPlainOf program.now self.old → IsPlainOf program.now self.new }
     {
         match self.machine.step(program, choice) {
@@ -85,7 +85,7 @@ impl Plain80 {
     /// Takes a reply to what was asked. False where the machine does not ask or the reply does not fit; then nothing changes.
     /// `Untagged80::reply` tells what the choice has.
     pub fn reply(&mut self, reply: &Reply, choice: u128) -> bool
-        ensures reply { (p : Program) → IsPlainOf p self.old → (result, plain_standing self.new) ≡ replied (program_fetch p) (plain_standing self.old) reply.now choice }
+        ensures reply { (p : Program) → IsPlainOf p self.old → (result, plain_standing self.new) ≡ replied (replied_untagged (program_fetch p)) (plain_standing self.old) reply.now choice }
         ensures machine { (p : Program) → IsPlainOf p self.old → IsPlainOf p self.new }
     {
         self.machine.reply(reply, choice)

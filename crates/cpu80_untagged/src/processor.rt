@@ -4,11 +4,11 @@ ghost use Rattle.cpu80_untagged_def.specs.State.{pair_word, with_word, with_hl, 
 ghost use Rattle.cpu80_untagged_def.specs.Effect.{source, into, store};
 ghost use Rattle.cpu80_untagged.specs.State.{untagged_flags, untagged_state};
 
-use crate::choice::join;
 use crate::flags::FlagBits;
 use crate::memory::Memory;
 use crate::registers::Registers;
 use cells::Place;
+use dialogue::join;
 use i80::{Pair, Src};
 
 /// Registers, flags and memory, the place that comes next, and the DMA address that the system keeps. EXIT comes next where the

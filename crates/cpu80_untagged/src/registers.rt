@@ -5,8 +5,7 @@ ghost use Rattle.cpu80_untagged_def.specs.State.{reg, with_reg};
 ghost use Rattle.cpu80_untagged_def.specs.Call.{chosen_regs, answered};
 ghost use Rattle.cpu80_untagged.specs.State.{untagged_regs};
 
-use crate::choice::choice_byte;
-use dialogue::AnswerKind;
+use dialogue::{AnswerKind, choice_byte};
 use i80::Reg;
 
 /// A byte in each register.

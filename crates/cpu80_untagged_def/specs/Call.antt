@@ -12,9 +12,11 @@ use Rattle.dialogue.specs.declared.table.AnswerKind.{AnswerKind}
 use Rattle.dialogue.specs.declared.table.AnswerKind.TheVariants.{NoAnswer, ByteAnswer, WordAnswer}
 use Rattle.dialogue.specs.Shape.{shape_of, request_of}
 use Rattle.dialogue.specs.Fits.{answer_kind_of, dma_after}
-use Rattle.dialogue.specs.ByteMemory.{put_blocks, seen_by}
+use Rattle.dialogue.specs.ByteMemory.{put_blocks, seen_by, word_at}
 use Rattle.dialogue.specs.Run.{Answer, Asks, Ends, Stops}
-use Rattle.cpu80_untagged_def.specs.State.{UntaggedRegs, UntaggedState, wrap, word_at, byte_of}
+use Rattle.dialogue.specs.Words.{wrap}
+use Rattle.dialogue.specs.Choice.{byte_of}
+use Rattle.cpu80_untagged_def.specs.State.{UntaggedRegs, UntaggedState}
 use Rattle.cpu80_untagged_def.specs.Flags.{chosen_flags}
 
 -- why the machine stops: no instruction stands at the address that comes next; or a call of this function has no shape, that

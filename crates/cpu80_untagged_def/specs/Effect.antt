@@ -16,7 +16,9 @@ use Rattle.i80.specs.declared.Instr80.TheVariants.{Nop, Mov, Mvi, Lxi, Lda, Sta,
 use Rattle.base_arithmetic_def.specs.Arithmetic.{as_bit, sum8, carry4, difference8, turned_left, turned_right, bit7, bit0, daa_result, daa_carry, daa_excepted}
 use Rattle.base_arithmetic_def.specs.Operations.{flags_by, result_of, flags_of}
 use Rattle.dialogue.specs.ByteMemory.{put}
-use Rattle.cpu80_untagged_def.specs.State.{UntaggedFlags, UntaggedState, reg, with_reg, wrap, pair_word, with_bc, with_de, with_hl, with_word, with_a, with_flags, with_cy, next, put_word, byte_of}
+use Rattle.dialogue.specs.Words.{wrap}
+use Rattle.dialogue.specs.Choice.{byte_of}
+use Rattle.cpu80_untagged_def.specs.State.{UntaggedFlags, UntaggedState, reg, with_reg, pair_word, with_bc, with_de, with_hl, with_word, with_a, with_flags, with_cy, next, put_word}
 use Rattle.cpu80_untagged_def.specs.Flags.{settled, chosen_flags, flag_byte, flags_in_byte}
 
 -- moves

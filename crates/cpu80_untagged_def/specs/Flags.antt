@@ -6,7 +6,7 @@ use Rattle.cells.specs.declared.Cond.{Cond}
 use Rattle.cells.specs.declared.Cond.TheVariants.{Nz, Z, Nc, C, Po, Pe, P, M}
 use Rattle.cells.specs.Bits.{has_bit}
 use Rattle.base_arithmetic_def.specs.Arithmetic.{as_bit}
-use Rattle.cpu80_untagged_def.specs.State.{UntaggedFlags, bit_of}
+use Rattle.cpu80_untagged_def.specs.State.{UntaggedFlags}
 
 -- flags as an operation leaves them: an unknown flag, which is never another than AC, is bit 0 of the choice
 abbrev pub known_or : Flags → Bool → UntaggedFlags
@@ -19,23 +19,23 @@ known_or f b = record {
 }
 
 abbrev pub settled : Flags → ℕ → UntaggedFlags
-settled f choice = known_or f (bit_of choice 0)
+settled f choice = known_or f (has_bit choice 0)
 
 -- five bits of a choice or of a byte, from bit k up: S Z AC P CY
 abbrev pub chosen_flags : ℕ → ℕ → UntaggedFlags
 chosen_flags choice k = record {
-  s = bit_of choice k;
-  z = bit_of choice (k + 1);
-  ac = bit_of choice (k + 2);
-  p = bit_of choice (k + 3);
-  cy = bit_of choice (k + 4);
+  s = has_bit choice k;
+  z = has_bit choice (k + 1);
+  ac = has_bit choice (k + 2);
+  p = has_bit choice (k + 3);
+  cy = has_bit choice (k + 4);
 }
 
 -- PUSH PSW: S Z AC P CY are bits 7 6 4 2 0 of the byte, and bits 1 3 5 are bits 0 1 2 of the choice
 abbrev pub flag_byte : UntaggedFlags → ℕ → ℕ
 flag_byte f choice =
-    128 * as_bit f.s + 64 * as_bit f.z + 32 * as_bit (bit_of choice 2) + 16 * as_bit f.ac
-    + 8 * as_bit (bit_of choice 1) + 4 * as_bit f.p + 2 * as_bit (bit_of choice 0) + as_bit f.cy
+    128 * as_bit f.s + 64 * as_bit f.z + 32 * as_bit (has_bit choice 2) + 16 * as_bit f.ac
+    + 8 * as_bit (has_bit choice 1) + 4 * as_bit f.p + 2 * as_bit (has_bit choice 0) + as_bit f.cy
 
 -- POP PSW
 abbrev pub flags_in_byte : ℕ → UntaggedFlags

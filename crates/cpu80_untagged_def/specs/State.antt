@@ -1,11 +1,12 @@
 -- The state of the untagged 8080: registers, flags and 64K of memory (Intel 8080 Assembly Language Programming Manual,
 -- chapter 1). A code address is the 8080 address of the instruction.
-use Rattle.std.specs.Prelude.{ℕ, ◌+◌, ◌*◌, ◌/◌, ◌%◌, ◌^◌, ◌==◌, Bool}
+use Rattle.std.specs.Prelude.{ℕ, ◌+◌, ◌/◌, ◌%◌, Bool}
 use Rattle.cells.specs.declared.Place.{Place}
 use Rattle.i80.specs.declared.Reg.{Reg}
 use Rattle.i80.specs.declared.Reg.TheVariants.{A, B, C, D, E, H, L}
 use Rattle.i80.specs.declared.Pair.{Pair}
 use Rattle.i80.specs.declared.Pair.TheVariants.{B as PairB, D as PairD, H as PairH, Sp}
+use Rattle.dialogue.specs.Words.{word, wrap}
 use Rattle.dialogue.specs.ByteMemory.{put}
 
 pub record UntaggedFlags : Type 0 where
@@ -52,14 +53,6 @@ with_reg r E v = record r { e = v }
 with_reg r H v = record r { h = v }
 with_reg r L v = record r { l = v }
 
--- a word of 16 bits
-abbrev pub wrap : ℕ → ℕ
-wrap w = w % 0x10000
-
--- a word of two bytes
-abbrev pub word : ℕ → ℕ → ℕ
-word high low = 256 * high + low
-
 -- the word in a pair
 abbrev pub pair_word : UntaggedState → Pair → ℕ
 pair_word u PairB = word u.regs.b u.regs.c
@@ -99,16 +92,5 @@ with_cy u c = record u { flags = record (u.flags) { cy = c } }
 abbrev pub next : ℕ → ℕ
 next a = wrap (a + 1)
 
--- a word in memory, low byte first
-abbrev pub word_at : (ℕ → ℕ) → ℕ → ℕ
-word_at mem a = word (mem (next a)) (mem a)
-
 abbrev pub put_word : (ℕ → ℕ) → ℕ → ℕ → ℕ → ℕ → ℕ
 put_word mem a high low = put (put mem a low) (next a) high
-
--- of a choice: bit k, and the byte from bit k up
-abbrev pub bit_of : ℕ → ℕ → Bool
-bit_of c k = (c / 2 ^ k) % 2 == 1
-
-abbrev pub byte_of : ℕ → ℕ → ℕ
-byte_of c k = (c / 2 ^ k) % 256

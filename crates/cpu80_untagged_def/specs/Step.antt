@@ -12,8 +12,10 @@ use Rattle.dialogue.specs.declared.request.Reply.{Reply}
 use Rattle.dialogue.specs.declared.request.Event.{Event}
 use Rattle.dialogue.specs.declared.request.Event.TheVariants.{Call as Asked, In as AskedIn, Out as AskedOut, End}
 use Rattle.dialogue.specs.Run.{Answer, Ran, Asks, Ends, Stops, Machine}
+use Rattle.dialogue.specs.Words.{wrap}
+use Rattle.dialogue.specs.ByteMemory.{word_at}
 use Rattle.asm80_program_types.specs.Program.{Program, instr_at}
-use Rattle.cpu80_untagged_def.specs.State.{UntaggedState, pair_word, wrap, with_a, word_at}
+use Rattle.cpu80_untagged_def.specs.State.{UntaggedState, pair_word, with_a}
 use Rattle.cpu80_untagged_def.specs.Flags.{holds}
 use Rattle.cpu80_untagged_def.specs.Effect.{effect, push}
 use Rattle.cpu80_untagged_def.specs.Call.{Stop, NoInstruction, Return, call_system, popped_return, after_reply}

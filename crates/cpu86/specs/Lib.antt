@@ -1,4 +1,3 @@
 pub mod Standing
-pub mod Calls
 pub mod Starts
 pub mod Histories

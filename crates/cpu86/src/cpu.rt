@@ -60,14 +60,14 @@ impl Cpu86 {
     ghost use Rattle.std.specs.Prelude.{None, IfOk, IfSome, Bool, ◌&&◌, ◌==◌, not};
     ghost use Rattle.dialogue.specs.Fits.{waits_in};
     ghost use Rattle.dialogue.specs.Lawful.{IsLawfulEvent};
+    ghost use Rattle.dialogue.specs.Calls.{settled, stepped, replied, IsOpen, IsStepTold, IsTaken};
     ghost use Rattle.i86.specs.declared.Instr86.{Instr86};
     ghost use Rattle.i86.specs.Code.{ReadsCode};
-    ghost use Rattle.cpu86_def.specs.Call.{call_system};
+    ghost use Rattle.cpu86_def.specs.Call.{call_system, replied86};
     ghost use Rattle.cpu86_def.specs.Step.{step86, act_from};
     ghost use Rattle.cpu86_def.specs.Start.{start86};
     ghost use Rattle.cpu86.specs.Starts.{start_of};
-    ghost use Rattle.cpu86.specs.Standing.{standing, code_kept};
-    ghost use Rattle.cpu86.specs.Calls.{settled, stepped, replied, IsOpen, IsStepTold, IsTaken};
+    ghost use Rattle.cpu86.specs.Standing.{standing, status_of, code_kept};
 
     /// The machine at the start of an image, of which it keeps a copy of the code. Memory is the fill, which has a byte for each
     /// of the 65,536 addresses, over it the page from 5CH up, and over both the image's data cells. The offset of the next
@@ -110,9 +110,9 @@ impl Cpu86 {
     /// DAA of AL from 0FAH up, or from 9AH to 9FH with AF and without CF, bits 0 to 7 are AL and 8 to 12 SF ZF AF PF CF; at an
     /// INT bits 0 to 47 are the six bytes below SP, the lowest first.
     pub fn step(&mut self, choice: u128) -> Step86
-        ensures step { (fetch : ℕ → Option Instr86) → ReadsCode (code_kept self.old) fetch → (result, standing self.new) ≡ stepped fetch (standing self.old) choice }
-        ensures told { (fetch : ℕ → Option Instr86) → ReadsCode (code_kept self.old) fetch → (standing self.old).said ≡ None → IsStepTold (step86 fetch (standing self.old).state choice) result (standing self.old).state (standing self.new) }
-        ensures said { IsOpen result (standing self.new).said }
+        ensures step { (fetch : ℕ → Option Instr86) → ReadsCode (code_kept self.old) fetch → (status_of result, standing self.new) ≡ stepped (step86 fetch) (standing self.old) choice }
+        ensures told { (fetch : ℕ → Option Instr86) → ReadsCode (code_kept self.old) fetch → (standing self.old).said ≡ None → IsStepTold (step86 fetch (standing self.old).state choice) (status_of result) (standing self.old).state (standing self.new) }
+        ensures said { IsOpen (status_of result) (standing self.new).said }
         ensures code { code_kept self.new ≡ code_kept self.old }
     {
         match self.pending {
@@ -125,8 +125,8 @@ impl Cpu86 {
     // One instruction, where nothing is open.
     fn run_one(&mut self, choice: u128) -> Step86
         requires { self.old.pending ≡ Pending.Nothing }
-        ensures step { (fetch : ℕ → Option Instr86) → ReadsCode (code_kept self.old) fetch → (result, standing self.new) ≡ settled (standing self.old).state (step86 fetch (standing self.old).state choice) }
-        ensures said { IsOpen result (standing self.new).said }
+        ensures step { (fetch : ℕ → Option Instr86) → ReadsCode (code_kept self.old) fetch → (status_of result, standing self.new) ≡ settled (standing self.old).state (step86 fetch (standing self.old).state choice) }
+        ensures said { IsOpen (status_of result) (standing self.new).said }
         ensures code { code_kept self.new ≡ code_kept self.old }
     {
         let at = self.processor.ip;
@@ -139,8 +139,8 @@ impl Cpu86 {
     // An instruction, where nothing is open and the next one stands at `next`.
     fn act(&mut self, instr: Instr86, next: u16, choice: u128) -> Step86
         requires { self.old.pending ≡ Pending.Nothing }
-        ensures act { (result, standing self.new) ≡ settled (standing self.old).state (act_from (standing self.old).state.ip instr (record ((standing self.old).state) { ip = next }) choice) }
-        ensures said { IsOpen result (standing self.new).said }
+        ensures act { (status_of result, standing self.new) ≡ settled (standing self.old).state (act_from (standing self.old).state.ip instr (record ((standing self.old).state) { ip = next }) choice) }
+        ensures said { IsOpen (status_of result) (standing self.new).said }
         ensures code { code_kept self.new ≡ code_kept self.old }
     {
         let at = self.processor.ip;
@@ -177,8 +177,8 @@ impl Cpu86 {
     // INT 224, where nothing is open and the stack may be used.
     fn call_system(&mut self, next: u16, choice: u128) -> Step86
         requires { self.old.pending ≡ Pending.Nothing }
-        ensures call { (result, standing self.new) ≡ settled (standing self.old).state (call_system (record ((standing self.old).state) { ip = next }) choice) }
-        ensures said { IsOpen result (standing self.new).said }
+        ensures call { (status_of result, standing self.new) ≡ settled (standing self.old).state (call_system (record ((standing self.old).state) { ip = next }) choice) }
+        ensures said { IsOpen (status_of result) (standing self.new).said }
         ensures code { code_kept self.new ≡ code_kept self.old }
     {
         match self.processor.interrupt(next, choice) {
@@ -217,8 +217,8 @@ impl Cpu86 {
     /// After the reply to a call, but for the answer, bits 0 to 79 of the choice are AX CX DX BX SI, and 80 to 84 SF ZF AF PF CF.
     /// After the reply to an IN its byte is in AL. The ports change nothing else, and use no bit of the choice.
     pub fn reply(&mut self, reply: &Reply, choice: u128) -> bool
-        ensures reply { (result, standing self.new) ≡ replied (standing self.old) reply.now choice }
-        ensures taken { (e : Event) → (standing self.old).said ≡ Some e → IsTaken e result reply.now choice (standing self.old).state (standing self.new) }
+        ensures reply { (result, standing self.new) ≡ replied replied86 (standing self.old) reply.now choice }
+        ensures taken { (e : Event) → (standing self.old).said ≡ Some e → IsTaken replied86 e result reply.now choice (standing self.old).state (standing self.new) }
         ensures code { code_kept self.new ≡ code_kept self.old }
     {
         match self.pending {
@@ -232,7 +232,7 @@ impl Cpu86 {
     // The reply to a call of the system.
     fn reply_to_call(&mut self, shape: Shape, reply: &Reply, choice: u128) -> bool
         requires { self.old.pending ≡ Pending.Answer shape }
-        ensures reply { (result, standing self.new) ≡ replied (standing self.old) reply.now choice }
+        ensures reply { (result, standing self.new) ≡ replied replied86 (standing self.old) reply.now choice }
         ensures code { code_kept self.new ≡ code_kept self.old }
     {
         // a reply is judged by the shape alone
@@ -251,7 +251,7 @@ impl Cpu86 {
     // The reply to an IN: its byte is put into AL. The choice is not used.
     fn reply_to_in(&mut self, port: u8, reply: &Reply, choice: u128) -> bool
         requires { self.old.pending ≡ Pending.Byte port }
-        ensures reply { (result, standing self.new) ≡ replied (standing self.old) reply.now choice }
+        ensures reply { (result, standing self.new) ≡ replied replied86 (standing self.old) reply.now choice }
         ensures code { code_kept self.new ≡ code_kept self.old }
     {
         if !fits_event(&Event::In(port), reply) {
@@ -265,7 +265,7 @@ impl Cpu86 {
     // The reply to an OUT, which changes nothing.
     fn reply_to_out(&mut self, port: u8, byte: u8, reply: &Reply, choice: u128) -> bool
         requires { self.old.pending ≡ Pending.Taking port byte }
-        ensures reply { (result, standing self.new) ≡ replied (standing self.old) reply.now choice }
+        ensures reply { (result, standing self.new) ≡ replied replied86 (standing self.old) reply.now choice }
         ensures code { code_kept self.new ≡ code_kept self.old }
     {
         if !fits_event(&Event::Out(port, byte), reply) {

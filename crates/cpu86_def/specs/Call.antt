@@ -12,7 +12,9 @@ use Rattle.dialogue.specs.Shape.{shape_of, request_of}
 use Rattle.dialogue.specs.Fits.{answer_kind_of, dma_after}
 use Rattle.dialogue.specs.ByteMemory.{put_bytes, put_blocks, seen_by}
 use Rattle.dialogue.specs.Run.{Answer, Asks, Ends, Stops}
-use Rattle.cpu86_def.specs.State.{Regs86, State86, word, back, byte_of}
+use Rattle.dialogue.specs.Words.{word}
+use Rattle.dialogue.specs.Choice.{byte_of}
+use Rattle.cpu86_def.specs.State.{Regs86, State86, back}
 use Rattle.cpu86_def.specs.Flags.{chosen_flags}
 
 -- why the machine stops: no instruction stands at ip, the stack is not in the data segment, or a call that the profile lacks

@@ -13,8 +13,9 @@ use Rattle.i86.specs.declared.Operand8.{Operand8}
 use Rattle.i86.specs.declared.Instr86.{Instr86}
 use Rattle.i86.specs.declared.Instr86.TheVariants.{MovReg8, MovMem8, MovAlDirect, MovDirectAl, MovNum8, MovNum16, MovMemNum, MovReg16, MovDirect16, MovAxDs, MovSsAx, Alu, AluNum, OrClCl, Add16, Count8, Count16, Push, Pop, Xchg8, Xchg16, Rotate8, Rotate16, Not8, Daa, Sahf, Lahf, Cmc, Stc, Nop, Jcc, JmpNear, JmpShort, JmpBx, CallNear, Ret, Int224, InAl, OutAl}
 use Rattle.i86.specs.Enc86.{reg_of_stack}
-use Rattle.dialogue.specs.ByteMemory.{put}
-use Rattle.cpu86_def.specs.State.{Flags86, State86, reg8, with8, reg16, with16, wrap, put_word, word_at, pointed, operand8, with_operand8, operand16, push}
+use Rattle.dialogue.specs.ByteMemory.{put, word_at}
+use Rattle.dialogue.specs.Words.{wrap}
+use Rattle.cpu86_def.specs.State.{Flags86, State86, reg8, with8, reg16, with16, put_word, pointed, operand8, with_operand8, operand16, push}
 use Rattle.cpu86_def.specs.Flags.{alu_result, alu_flags, count8_result, count8_flags, count16_result, count16_flags, add16_result, add16_flags, rotate8_result, rotate8_carry, rotate16_result, rotate16_carry, daa_al, daa_flags, flag_byte, flags_of_byte, jumps}
 
 abbrev pub set8 : State86 → Reg8 → ℕ → State86

@@ -10,7 +10,9 @@ use Rattle.i86.specs.declared.Rotate.TheVariants.{Rol, Ror, Rcl, Rcr}
 use Rattle.i86.specs.declared.Jump.{Jump}
 use Rattle.i86.specs.declared.Jump.TheVariants.{Jb, Jnb, Jz, Jnz, Js, Jns, Jp, Jnp}
 use Rattle.base_arithmetic_def.specs.Arithmetic.{as_bit, has_even_parity, sum8, carry8, carry4, difference8, borrow8, borrow4, turned_left, turned_right, bit7, bit0, daa_adds_6, daa_carry, daa_result, daa_excepted}
-use Rattle.cpu86_def.specs.State.{Flags86, bit_of, byte_of}
+use Rattle.cells.specs.Bits.{has_bit}
+use Rattle.dialogue.specs.Choice.{byte_of}
+use Rattle.cpu86_def.specs.State.{Flags86}
 
 -- SF, ZF and PF of a byte, with these AF and CF
 abbrev pub flags_by : ℕ → Bool → Bool → Flags86
@@ -30,12 +32,12 @@ alu_result Cmp x y c = difference8 x y 0
 -- after a logic operation AF is bit 0 of the choice
 abbrev pub alu_flags : AluOp → ℕ → ℕ → Bool → ℕ → Flags86
 alu_flags Add x y c choice = flags_by (sum8 x y 0) (carry4 x y 0) (carry8 x y 0)
-alu_flags Or x y c choice = flags_by (bit_or x y) (bit_of choice 0) false
+alu_flags Or x y c choice = flags_by (bit_or x y) (has_bit choice 0) false
 alu_flags Adc x y c choice = flags_by (sum8 x y (as_bit c)) (carry4 x y (as_bit c)) (carry8 x y (as_bit c))
 alu_flags Sbb x y c choice = flags_by (difference8 x y (as_bit c)) (borrow4 x y (as_bit c)) (borrow8 x y (as_bit c))
-alu_flags And x y c choice = flags_by (bit_and x y) (bit_of choice 0) false
+alu_flags And x y c choice = flags_by (bit_and x y) (has_bit choice 0) false
 alu_flags Sub x y c choice = flags_by (difference8 x y 0) (borrow4 x y 0) (borrow8 x y 0)
-alu_flags Xor x y c choice = flags_by (bit_xor x y) (bit_of choice 0) false
+alu_flags Xor x y c choice = flags_by (bit_xor x y) (has_bit choice 0) false
 alu_flags Cmp x y c choice = flags_by (difference8 x y 0) (borrow4 x y 0) (borrow8 x y 0)
 
 -- INC and DEC keep CF
@@ -99,7 +101,7 @@ daa_al al f choice = cond (daa_excepted al f.af f.cf) (byte_of choice 0) (daa_re
 
 abbrev pub chosen_flags : ℕ → ℕ → Flags86
 chosen_flags choice k =
-    record { sf = bit_of choice k; zf = bit_of choice (k + 1); af = bit_of choice (k + 2); pf = bit_of choice (k + 3); cf = bit_of choice (k + 4) }
+    record { sf = has_bit choice k; zf = has_bit choice (k + 1); af = has_bit choice (k + 2); pf = has_bit choice (k + 3); cf = has_bit choice (k + 4) }
 
 abbrev pub daa_flags : ℕ → Flags86 → ℕ → Flags86
 daa_flags al f choice =
@@ -109,8 +111,8 @@ daa_flags al f choice =
 -- LAHF: SF ZF AF PF CF are bits 7 6 4 2 0 of AH, and bits 1 3 5 are bits 0 1 2 of the choice
 abbrev pub flag_byte : Flags86 → ℕ → ℕ
 flag_byte f choice =
-    128 * as_bit f.sf + 64 * as_bit f.zf + 32 * as_bit (bit_of choice 2) + 16 * as_bit f.af
-    + 8 * as_bit (bit_of choice 1) + 4 * as_bit f.pf + 2 * as_bit (bit_of choice 0) + as_bit f.cf
+    128 * as_bit f.sf + 64 * as_bit f.zf + 32 * as_bit (has_bit choice 2) + 16 * as_bit f.af
+    + 8 * as_bit (has_bit choice 1) + 4 * as_bit f.pf + 2 * as_bit (has_bit choice 0) + as_bit f.cf
 
 -- SAHF
 abbrev pub flags_of_byte : ℕ → Flags86

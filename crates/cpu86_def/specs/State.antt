@@ -1,5 +1,5 @@
 -- The state of the 8086: registers, segments, flags and 64K of memory (Intel 8086 Family User's Manual, "Registers").
-use Rattle.std.specs.Prelude.{ℕ, ◌+◌, ◌-◌, ◌*◌, ◌/◌, ◌%◌, ◌^◌, ◌==◌, Bool}
+use Rattle.std.specs.Prelude.{ℕ, ◌+◌, ◌-◌, ◌/◌, ◌%◌, Bool}
 use Rattle.i86.specs.declared.Reg8.{Reg8}
 use Rattle.i86.specs.declared.Reg8.TheVariants.{Al, Cl, Dl, Bl, Ah, Ch, Dh, Bh}
 use Rattle.i86.specs.declared.Reg16.{Reg16}
@@ -10,7 +10,8 @@ use Rattle.i86.specs.declared.Operand8.{Operand8}
 use Rattle.i86.specs.declared.Operand8.TheVariants.{Reg, Mem}
 use Rattle.i86.specs.declared.Operand16.{Operand16}
 use Rattle.i86.specs.declared.Operand16.TheVariants.{Reg as Reg_16, Direct}
-use Rattle.dialogue.specs.ByteMemory.{put}
+use Rattle.dialogue.specs.Words.{word, wrap}
+use Rattle.dialogue.specs.ByteMemory.{put, word_at}
 
 pub record Flags86 : Type 0 where
   pub sf : Bool
@@ -61,10 +62,6 @@ with8 r Ch v = record r { ch = v }
 with8 r Dh v = record r { dh = v }
 with8 r Bh v = record r { bh = v }
 
--- a word of two bytes
-abbrev pub word : ℕ → ℕ → ℕ
-word high low = 256 * high + low
-
 abbrev pub reg16 : State86 → Reg16 → ℕ
 reg16 s Ax = word s.regs.ah s.regs.al
 reg16 s Cx = word s.regs.ch s.regs.cl
@@ -81,17 +78,9 @@ with16 s Bx w = record s { regs = record (s.regs) { bh = w / 256; bl = w % 256 }
 with16 s Sp w = record s { sp = w }
 with16 s Si w = record s { si = w }
 
--- a word of 16 bits
-abbrev pub wrap : ℕ → ℕ
-wrap w = w % 0x10000
-
 -- so many below
 abbrev pub back : ℕ → ℕ → ℕ
 back w k = wrap (w + (0x10000 - k))
-
--- a word in memory, low byte first; the second byte of one at 0FFFFH is at 0
-abbrev pub word_at : (ℕ → ℕ) → ℕ → ℕ
-word_at mem a = word (mem (wrap (a + 1))) (mem a)
 
 abbrev pub put_word : (ℕ → ℕ) → ℕ → ℕ → ℕ → ℕ
 put_word mem a w = put (put mem a (w % 256)) (wrap (a + 1)) (w / 256)
@@ -115,10 +104,3 @@ operand16 s (Direct a) = word_at s.mem a
 
 abbrev pub push : State86 → ℕ → State86
 push s w = record s { sp = back s.sp 2; mem = put_word s.mem (back s.sp 2) w }
-
--- of a choice: bit k, and the byte from bit k up
-abbrev pub bit_of : ℕ → ℕ → Bool
-bit_of c k = (c / 2 ^ k) % 2 == 1
-
-abbrev pub byte_of : ℕ → ℕ → ℕ
-byte_of c k = (c / 2 ^ k) % 256

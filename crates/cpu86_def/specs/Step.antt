@@ -5,7 +5,8 @@ use Rattle.i86.specs.declared.Instr86.TheVariants.{Push, Pop, CallNear, Ret, Int
 use Rattle.i86.specs.Enc86.{enc86}
 use Rattle.dialogue.specs.declared.request.Event.TheVariants.{In, Out}
 use Rattle.dialogue.specs.Run.{Answer, Ran, Asks, Stops, Machine}
-use Rattle.cpu86_def.specs.State.{State86, wrap}
+use Rattle.dialogue.specs.Words.{wrap}
+use Rattle.cpu86_def.specs.State.{State86}
 use Rattle.cpu86_def.specs.Effect.{effect}
 use Rattle.cpu86_def.specs.Call.{Stop, NoInstruction, StackSegment, call_system, replied86}
 

@@ -4,7 +4,7 @@ use mathlib.Core.Path.{fun_ext}
 use Rattle.std.proofs.lemmas.Bool.Decides.{nat_tests}
 use Rattle.std.proofs.lemmas.List.{drop_more}
 use Rattle.dialogue.specs.ByteMemory.{put, put_bytes}
-use Rattle.cpu86_def.specs.State.{wrap}
+use Rattle.dialogue.specs.Words.{wrap}
 use Rattle.cpu86_def.specs.Start.{put_cells}
 use Rattle.cpu86_step.specs.System.{six_at}
 

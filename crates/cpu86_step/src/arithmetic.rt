@@ -4,8 +4,8 @@ ghost use Rattle.base_arithmetic_def.specs.Arithmetic.{sum8, carry8, carry4, dif
 ghost use Rattle.cpu86_def.specs.Flags.{flags_by, alu_result, alu_flags, count8_result, count8_flags, count16_result, count16_flags, add16_result, add16_flags, rotate8_result, rotate8_carry, rotate16_result, rotate16_carry, daa_al, daa_flags};
 ghost use Rattle.cpu86_step.specs.State.{flags_of_86};
 
-use crate::choice::{choice_bit, choice_byte};
-use crate::flags::{Flags, bit};
+use crate::flags::Flags;
+use dialogue::{choice_bit, choice_byte};
 use i86::{AluOp, Count, Rotate};
 
 /// The result of an operation on AL; ADC and SBB take the carry.
@@ -15,8 +15,8 @@ pub fn alu_result(op: AluOp, x: u8, y: u8, carry: bool) -> u8
     match op {
         AluOp::Add => sum(x, y, 0),
         AluOp::Or => x | y,
-        AluOp::Adc => sum(x, y, bit(carry)),
-        AluOp::Sbb => difference(x, y, bit(carry)),
+        AluOp::Adc => sum(x, y, u8::from(carry)),
+        AluOp::Sbb => difference(x, y, u8::from(carry)),
         AluOp::And => x & y,
         AluOp::Sub | AluOp::Cmp => difference(x, y, 0),
         AluOp::Xor => x ^ y,
@@ -29,8 +29,8 @@ pub fn alu_flags(op: AluOp, x: u8, y: u8, carry: bool, choice: u128) -> Flags
 {
     match op {
         AluOp::Add => sum_flags(x, y, 0),
-        AluOp::Adc => sum_flags(x, y, bit(carry)),
-        AluOp::Sbb => difference_flags(x, y, bit(carry)),
+        AluOp::Adc => sum_flags(x, y, u8::from(carry)),
+        AluOp::Sbb => difference_flags(x, y, u8::from(carry)),
         AluOp::Sub | AluOp::Cmp => difference_flags(x, y, 0),
         AluOp::Or => Flags::of_byte(x | y, choice_bit(choice, 0), false),
         AluOp::And => Flags::of_byte(x & y, choice_bit(choice, 0), false),
@@ -166,13 +166,13 @@ pub fn rotate8_carry(rotate: Rotate, value: u8) -> bool
 fn turn_left(value: u8, carry: bool) -> u8
     ensures { result ≡ turned_left value (as_bit carry) }
 {
-    value.wrapping_add(value).wrapping_add(bit(carry))
+    value.wrapping_add(value).wrapping_add(u8::from(carry))
 }
 
 fn turn_right(value: u8, carry: bool) -> u8
     ensures { result ≡ turned_right value (as_bit carry) }
 {
-    value / 2 + 128 * bit(carry)
+    value / 2 + 128 * u8::from(carry)
 }
 
 /// A word rotated by one bit; through CF the carry comes in.
@@ -200,15 +200,13 @@ pub fn rotate16_carry(rotate: Rotate, value: u16) -> bool
 fn turn_word_left(value: u16, carry: bool) -> u16
     ensures { result ≡ (2 * value + as_bit carry) % 0x10000 }
 {
-    value
-        .wrapping_add(value)
-        .wrapping_add(u16::from(bit(carry)))
+    value.wrapping_add(value).wrapping_add(u16::from(carry))
 }
 
 fn turn_word_right(value: u16, carry: bool) -> u16
     ensures { result ≡ value / 2 + 0x8000 * as_bit carry }
 {
-    value / 2 + 0x8000 * u16::from(bit(carry))
+    value / 2 + 0x8000 * u16::from(carry)
 }
 
 /// AL after DAA; at the excepted values it is bits 0 to 7 of the choice.
@@ -254,7 +252,7 @@ fn daa_low(al: u8, half: bool) -> u16
     ensures is { result ≡ daa_low al half }
     ensures small { result ≤ 261 }
 {
-    u16::from(al) + 6 * u16::from(bit(daa_adds_6(al, half)))
+    u16::from(al) + 6 * u16::from(daa_adds_6(al, half))
 }
 
 fn daa_carry(al: u8, half: bool, carry: bool) -> bool
@@ -266,5 +264,5 @@ fn daa_carry(al: u8, half: bool, carry: bool) -> bool
 fn daa_result(al: u8, half: bool, carry: bool) -> u8
     ensures { result ≡ daa_result al half carry }
 {
-    ((daa_low(al, half) + 0x60 * u16::from(bit(daa_carry(al, half, carry)))) % 256) as u8
+    ((daa_low(al, half) + 0x60 * u16::from(daa_carry(al, half, carry))) % 256) as u8
 }

@@ -4,7 +4,7 @@ ghost use Rattle.base_arithmetic_def.specs.Arithmetic.{as_bit, has_even_parity};
 ghost use Rattle.cpu86_def.specs.Flags.{flags_by, flags_by_word, chosen_flags, flag_byte, flags_of_byte, jumps};
 ghost use Rattle.cpu86_step.specs.State.{flags_of_86};
 
-use crate::choice::choice_bit;
+use dialogue::choice_bit;
 use i86::Jump;
 
 /// The flags that the instructions of the texts set or read.
@@ -75,14 +75,14 @@ impl Flags {
     pub fn flag_byte(self, choice: u128) -> u8
         ensures { result ≡ flag_byte (flags_of_86 self) choice }
     {
-        128 * bit(self.sf)
-            + 64 * bit(self.zf)
-            + 32 * bit(choice_bit(choice, 2))
-            + 16 * bit(self.af)
-            + 8 * bit(choice_bit(choice, 1))
-            + 4 * bit(self.pf)
-            + 2 * bit(choice_bit(choice, 0))
-            + bit(self.cf)
+        128 * u8::from(self.sf)
+            + 64 * u8::from(self.zf)
+            + 32 * u8::from(choice_bit(choice, 2))
+            + 16 * u8::from(self.af)
+            + 8 * u8::from(choice_bit(choice, 1))
+            + 4 * u8::from(self.pf)
+            + 2 * u8::from(choice_bit(choice, 0))
+            + u8::from(self.cf)
     }
 
     /// Whether a conditional jump is taken.
@@ -100,14 +100,6 @@ impl Flags {
             Jump::Jnp => !self.pf,
         }
     }
-}
-
-/// 1 for a set flag, 0 for a clear one.
-pub fn bit(flag: bool) -> u8
-    ensures is { result ≡ as_bit flag }
-    ensures small { result ≤ 1 }
-{
-    if flag { 1 } else { 0 }
 }
 
 // Whether the number of one bits is even.

@@ -5,7 +5,6 @@
 #![tactic(auto)]
 
 pub mod arithmetic;
-pub mod choice;
 pub mod effects;
 pub mod execute;
 pub mod flags;

@@ -1,8 +1,7 @@
 // The 64K of memory.
 ghost use Rattle.std.specs.Prelude.{◌≡◌, ℕ, length};
 
-use crate::choice::{choice_byte, join};
-use dialogue::{Block, View};
+use dialogue::{Block, View, choice_byte, join};
 
 /// 65,536 bytes.
 #[derive(Drop)]
@@ -14,8 +13,8 @@ pub struct Memory {
 impl Memory {
     ghost use Rattle.cpu86_step.specs.State.{memory_of_86};
     ghost use Rattle.cpu86_step.specs.System.{six_at};
-    ghost use Rattle.dialogue.specs.ByteMemory.{put, put_bytes, put_blocks};
-    ghost use Rattle.cpu86_def.specs.State.{word_at, put_word};
+    ghost use Rattle.dialogue.specs.ByteMemory.{put, put_bytes, put_blocks, word_at};
+    ghost use Rattle.cpu86_def.specs.State.{put_word};
     ghost use Rattle.cpu86_def.specs.Call.{spoiled};
 
     /// The byte at an address.

@@ -5,10 +5,10 @@ ghost use Rattle.dialogue.specs.ByteMemory.{put};
 ghost use Rattle.cpu86_def.specs.State.{reg8, reg16, with16, pointed, operand8, with_operand8, operand16, push, put_word};
 ghost use Rattle.cpu86_def.specs.Effect.{set8, with_flags, with_cf, popped, with_pop};
 
-use crate::choice::join;
 use crate::flags::Flags;
 use crate::memory::Memory;
 use crate::registers::Registers;
+use dialogue::join;
 use i86::{Operand8, Operand16, Ptr, Reg8, Reg16};
 
 /// Registers, segments, flags and memory, and the DMA address that the system keeps.

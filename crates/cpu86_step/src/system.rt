@@ -8,11 +8,12 @@ ghost use Rattle.cpu86_def.specs.Call.{chosen_regs, answered, after_reply};
 ghost use Rattle.cpu86_step.specs.State.{regs_of_86, state_of_86};
 ghost use Rattle.cpu86_step.specs.System.{IsInterrupt};
 
-use crate::choice::{choice_byte, join};
 use crate::flags::Flags;
 use crate::processor::Processor;
 use crate::registers::Registers;
-use dialogue::{AnswerKind, Reply, Request, Shape, answer_of, dma_after, shape_of};
+use dialogue::{
+    AnswerKind, Reply, Request, Shape, answer_of, choice_byte, dma_after, join, shape_of,
+};
 
 /// What INT 224 comes to.
 pub enum Interrupt {

@@ -6,4 +6,5 @@ pub mod Pages
 pub mod Tried
 pub mod Lines
 pub mod Turns
+pub mod Called
 mod Sight

@@ -2,11 +2,16 @@
 -- that of the 8086.
 use Rattle.std.specs.Prelude.{ℕ, ◌+◌, ◌%◌, ◌==◌, true, cond, List, [], ◌∷◌, Some}
 use Rattle.dialogue.specs.declared.blocks.Block.{Block}
+use Rattle.dialogue.specs.Words.{word, wrap}
 use Rattle.dialogue.specs.Shape.{Seen}
 
 -- one cell is written
 abbrev pub put : (ℕ → ℕ) → ℕ → ℕ → ℕ → ℕ
 put mem a v b = cond (b == a) v (mem b)
+
+-- the word at an address, low byte first; the second byte of one at 0FFFFH is at 0
+abbrev pub word_at : (ℕ → ℕ) → ℕ → ℕ
+word_at mem a = word (mem (wrap (a + 1))) (mem a)
 
 -- bytes from an address up; that of the cell after 0FFFFH is 0
 abbrev pub put_bytes : (ℕ → ℕ) → ℕ → List ℕ → ℕ → ℕ

@@ -1,12 +1,16 @@
 pub mod Tried
 pub mod Table
 pub mod Shape
+pub mod Words
 pub mod ByteMemory
+pub mod Choice
 pub mod Fits
 pub mod Places
 pub mod Lawful
 pub mod StartPage
 pub mod Run
+pub mod Calls
+pub mod Histories
 pub mod Same
 pub mod Fill
 pub mod Sight

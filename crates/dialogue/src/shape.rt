@@ -8,6 +8,7 @@ ghost use Rattle.dialogue.specs.Lawful.{IsShapeOver, IsLawfulRequest};
 use crate::blocks::{Block, Blocks, Bytes};
 use crate::request::{ArgWord, Range, Request, Shape, View};
 use crate::table::{Argument, Extent, Row, row_of};
+use crate::words::join;
 use cells::Rule;
 use std::alloc::{AllocError, Global};
 
@@ -142,7 +143,7 @@ fn argument_of(argument: Argument, d: Option<u8>, e: Option<u8>) -> Result<ArgWo
         (Argument::NoArgument, _, _) => Ok(ArgWord::None),
         (Argument::InE, _, Some(e)) => Ok(ArgWord::Byte(e)),
         (Argument::DirectInE, _, Some(e)) if e != 0xFE => Ok(ArgWord::Byte(e)),
-        (Argument::InDE, Some(d), Some(e)) => Ok(ArgWord::Word(256 * u16::from(d) + u16::from(e))),
+        (Argument::InDE, Some(d), Some(e)) => Ok(ArgWord::Word(join(d, e))),
         _ => Err(Rule::P10),
     }
 }

@@ -4,7 +4,6 @@ use Rattle.std.specs.Prelude.{IsTrue, ◌==◌}
 use Rattle.std.specs.List.{Contains}
 use Rattle.std.proofs.lemmas.Bool.{eqb-true}
 use Rattle.cells.specs.declared.Part.{Part}
-use Rattle.cells.specs.declared.Part.TheVariants.{A, B, C, D, E, H, L, S, Z, Ac, P, Cy}
 use Rattle.cells.specs.Parts.{Parts, nothing, has}
 use Rattle.i80.specs.declared.Instr80.{Instr80}
 use Rattle.i80.specs.Columns.{uses80}
@@ -20,26 +19,13 @@ use Rattle.flow.specs.Solving.{AreNeeds, HasNeeds}
 use Rattle.flow.specs.Wiring.{IsWired}
 use Rattle.flow.proofs.Complete.{are_needs}
 use Rattle.flow.proofs.Numbers.{number_of_return}
+use Rattle.flow.proofs.Sets.{has-nothing}
 use Rattle.flow.proofs.Wires.{start_number}
-
-nothing_has : (x : Part) → has nothing x ≡ false
-nothing_has A = refl
-nothing_has B = refl
-nothing_has C = refl
-nothing_has D = refl
-nothing_has E = refl
-nothing_has H = refl
-nothing_has L = refl
-nothing_has S = refl
-nothing_has Z = refl
-nothing_has Ac = refl
-nothing_has P = refl
-nothing_has Cy = refl
 
 no_need : (p : Program) (a : ℕ) (x : Part) → instr_at p a ≡ None → (has (uses_at p (Start a)) x ≡ true) ⊎ ((r : Node) × IsEdge p (Start a) r × (has (defines_at p (Start a)) x ≡ false) × Need p r x) → ⊥
 no_need p a x e (inl u) =
     let here : has nothing x ≡ true = subst (λ (o : Option Instr80). has (parts_at uses80 o) x ≡ true) e u in
-    let none = nothing_has x in
+    let none = has-nothing x in
     cc
 no_need p a x e (inr s) =
     let edge = subst (λ (o : Option Instr80). Contains (edges_at p a o) s.0) e s.1 in
@@ -48,7 +34,7 @@ no_need p a x e (inr s) =
 -- nothing is needed where no instruction starts
 pub none_needed : (p : Program) (a : ℕ) → NeedsAreClosed p → is_start p a ≡ false → AreNeeds p (Start a) nothing
 none_needed p a closed h = λ x.
-    let no : (has nothing x ≡ true) → Need p (Start a) x = λ e. let none = nothing_has x in absurd (cc) in
+    let no : (has nothing x ≡ true) → Need p (Start a) x = λ e. let none = has-nothing x in absurd (cc) in
     (no, λ n. absurd (no_need p a x (no_instr (placed_in p.instrs a) h) (closed.only (Start a) x n)))
 
 pub all_needs : (p : Program) (ss : List (List ℕ)) (vs : List Vertex) (work : List ℕ) (capacity : ℕ) → NeedsAreClosed p → IsWired p ss → AreVerticesOf p vs → IsPassedOn ss vs → IsQueue vs work capacity → IsTrue (length work == 0) → HasNeeds p

@@ -2,15 +2,12 @@
 use Rattle.std.proofs.Common.{◌≡◌, ◌≢◌, ℕ, ◌+◌, ◌<◌, ◌≤◌, Bool, true, false, ◌||◌, ◌&&◌, List, ◌∷◌, get_or, drop, refl, sym, ap, ◌∙◌, ⊎_elim, arith}
 use Rattle.std.proofs.lemmas.List.{drop_more}
 use Rattle.std.proofs.lemmas.Bool.{false≢true, cases_lt}
+use mathlib.Core.Bool.{or-false}
 use Rattle.cells.specs.declared.Part.{Part}
 use Rattle.cells.specs.declared.Part.TheVariants.{A, B, C, D, E, H, L, S, Z, Ac, P, Cy}
 use Rattle.cells.specs.Parts.{Parts, nothing, only, has, these, weight, all_parts}
 use Rattle.cells.proofs.Unions.{has_union}
 use Rattle.flow.specs.Search.{size, is_left}
-
-or-false : (b : Bool) → (b || false) ≡ b
-or-false true = refl
-or-false false = refl
 
 pub has-nothing : (x : Part) → has nothing x ≡ false
 has-nothing A = refl
@@ -94,58 +91,25 @@ same_members k m h =
     same
 
 module _ (k m : Parts) (grows : (x : Part) → has k x ≡ true → has m x ≡ true) where
-  a-le : weight k.a 1 ≤ weight m.a 1
-  a-le = weight-le k.a m.a (grows A)
-
-  b-le : weight k.b 1 ≤ weight m.b 1
-  b-le = weight-le k.b m.b (grows B)
-
-  c-le : weight k.c 1 ≤ weight m.c 1
-  c-le = weight-le k.c m.c (grows C)
-
-  d-le : weight k.d 1 ≤ weight m.d 1
-  d-le = weight-le k.d m.d (grows D)
-
-  e-le : weight k.e 1 ≤ weight m.e 1
-  e-le = weight-le k.e m.e (grows E)
-
-  h-le : weight k.h 1 ≤ weight m.h 1
-  h-le = weight-le k.h m.h (grows H)
-
-  l-le : weight k.l 1 ≤ weight m.l 1
-  l-le = weight-le k.l m.l (grows L)
-
-  s-le : weight k.s 1 ≤ weight m.s 1
-  s-le = weight-le k.s m.s (grows S)
-
-  z-le : weight k.z 1 ≤ weight m.z 1
-  z-le = weight-le k.z m.z (grows Z)
-
-  ac-le : weight k.ac 1 ≤ weight m.ac 1
-  ac-le = weight-le k.ac m.ac (grows Ac)
-
-  p-le : weight k.p 1 ≤ weight m.p 1
-  p-le = weight-le k.p m.p (grows P)
-
-  cy-le : weight k.cy 1 ≤ weight m.cy 1
-  cy-le = weight-le k.cy m.cy (grows Cy)
+  part-le : (x : Part) → weight (has k x) 1 ≤ weight (has m x) 1
+  part-le x = weight-le (has k x) (has m x) (grows x)
 
   pub size-grows : size k ≤ size m
-  size-grows = omega (arith, a-le, b-le, c-le, d-le, e-le, h-le, l-le, s-le, z-le, ac-le, p-le, cy-le)
+  size-grows = omega (arith, part-le A, part-le B, part-le C, part-le D, part-le E, part-le H, part-le L, part-le S, part-le Z, part-le Ac, part-le P, part-le Cy)
 
   same_size : size m ≤ size k → (x : Part) → has k x ≡ has m x
-  same_size h A = weight-same k.a m.a (omega (arith, h, a-le, b-le, c-le, d-le, e-le, h-le, l-le, s-le, z-le, ac-le, p-le, cy-le))
-  same_size h B = weight-same k.b m.b (omega (arith, h, a-le, b-le, c-le, d-le, e-le, h-le, l-le, s-le, z-le, ac-le, p-le, cy-le))
-  same_size h C = weight-same k.c m.c (omega (arith, h, a-le, b-le, c-le, d-le, e-le, h-le, l-le, s-le, z-le, ac-le, p-le, cy-le))
-  same_size h D = weight-same k.d m.d (omega (arith, h, a-le, b-le, c-le, d-le, e-le, h-le, l-le, s-le, z-le, ac-le, p-le, cy-le))
-  same_size h E = weight-same k.e m.e (omega (arith, h, a-le, b-le, c-le, d-le, e-le, h-le, l-le, s-le, z-le, ac-le, p-le, cy-le))
-  same_size h H = weight-same k.h m.h (omega (arith, h, a-le, b-le, c-le, d-le, e-le, h-le, l-le, s-le, z-le, ac-le, p-le, cy-le))
-  same_size h L = weight-same k.l m.l (omega (arith, h, a-le, b-le, c-le, d-le, e-le, h-le, l-le, s-le, z-le, ac-le, p-le, cy-le))
-  same_size h S = weight-same k.s m.s (omega (arith, h, a-le, b-le, c-le, d-le, e-le, h-le, l-le, s-le, z-le, ac-le, p-le, cy-le))
-  same_size h Z = weight-same k.z m.z (omega (arith, h, a-le, b-le, c-le, d-le, e-le, h-le, l-le, s-le, z-le, ac-le, p-le, cy-le))
-  same_size h Ac = weight-same k.ac m.ac (omega (arith, h, a-le, b-le, c-le, d-le, e-le, h-le, l-le, s-le, z-le, ac-le, p-le, cy-le))
-  same_size h P = weight-same k.p m.p (omega (arith, h, a-le, b-le, c-le, d-le, e-le, h-le, l-le, s-le, z-le, ac-le, p-le, cy-le))
-  same_size h Cy = weight-same k.cy m.cy (omega (arith, h, a-le, b-le, c-le, d-le, e-le, h-le, l-le, s-le, z-le, ac-le, p-le, cy-le))
+  same_size h A = weight-same k.a m.a (omega (arith, h, part-le A, part-le B, part-le C, part-le D, part-le E, part-le H, part-le L, part-le S, part-le Z, part-le Ac, part-le P, part-le Cy))
+  same_size h B = weight-same k.b m.b (omega (arith, h, part-le A, part-le B, part-le C, part-le D, part-le E, part-le H, part-le L, part-le S, part-le Z, part-le Ac, part-le P, part-le Cy))
+  same_size h C = weight-same k.c m.c (omega (arith, h, part-le A, part-le B, part-le C, part-le D, part-le E, part-le H, part-le L, part-le S, part-le Z, part-le Ac, part-le P, part-le Cy))
+  same_size h D = weight-same k.d m.d (omega (arith, h, part-le A, part-le B, part-le C, part-le D, part-le E, part-le H, part-le L, part-le S, part-le Z, part-le Ac, part-le P, part-le Cy))
+  same_size h E = weight-same k.e m.e (omega (arith, h, part-le A, part-le B, part-le C, part-le D, part-le E, part-le H, part-le L, part-le S, part-le Z, part-le Ac, part-le P, part-le Cy))
+  same_size h H = weight-same k.h m.h (omega (arith, h, part-le A, part-le B, part-le C, part-le D, part-le E, part-le H, part-le L, part-le S, part-le Z, part-le Ac, part-le P, part-le Cy))
+  same_size h L = weight-same k.l m.l (omega (arith, h, part-le A, part-le B, part-le C, part-le D, part-le E, part-le H, part-le L, part-le S, part-le Z, part-le Ac, part-le P, part-le Cy))
+  same_size h S = weight-same k.s m.s (omega (arith, h, part-le A, part-le B, part-le C, part-le D, part-le E, part-le H, part-le L, part-le S, part-le Z, part-le Ac, part-le P, part-le Cy))
+  same_size h Z = weight-same k.z m.z (omega (arith, h, part-le A, part-le B, part-le C, part-le D, part-le E, part-le H, part-le L, part-le S, part-le Z, part-le Ac, part-le P, part-le Cy))
+  same_size h Ac = weight-same k.ac m.ac (omega (arith, h, part-le A, part-le B, part-le C, part-le D, part-le E, part-le H, part-le L, part-le S, part-le Z, part-le Ac, part-le P, part-le Cy))
+  same_size h P = weight-same k.p m.p (omega (arith, h, part-le A, part-le B, part-le C, part-le D, part-le E, part-le H, part-le L, part-le S, part-le Z, part-le Ac, part-le P, part-le Cy))
+  same_size h Cy = weight-same k.cy m.cy (omega (arith, h, part-le A, part-le B, part-le C, part-le D, part-le E, part-le H, part-le L, part-le S, part-le Z, part-le Ac, part-le P, part-le Cy))
 
   -- a larger set that is another one has more members
   pub size-rises : k ≢ m → size k < size m

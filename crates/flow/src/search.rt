@@ -21,21 +21,6 @@ pub struct Vertex {
     pub waits: bool,
 }
 
-const PARTS: [Part; 12] = [
-    Part::A,
-    Part::B,
-    Part::C,
-    Part::D,
-    Part::E,
-    Part::H,
-    Part::L,
-    Part::S,
-    Part::Z,
-    Part::Ac,
-    Part::P,
-    Part::Cy,
-];
-
 // Adds a part if it is in the one set and not in the other.
 fn with_left(left: Keep, part: Part, keep: Keep, other: Keep) -> Keep
     ensures { (x : Part) → has result x ≡ (has left x || (has (only part) x && is_left keep other x)) }
@@ -52,7 +37,7 @@ pub fn without(keep: Keep, other: Keep) -> Keep
     ensures { (x : Part) → has result x ≡ is_left keep other x }
 {
     let mut left = Keep::none();
-    for part in PARTS {
+    for part in Part::ALL {
         left = with_left(left, part, keep, other);
     }
     left

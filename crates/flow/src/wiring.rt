@@ -1,12 +1,12 @@
 // The edges of a program, kept by their ends.
 
-ghost use Rattle.std.specs.Prelude.{◌≡◌, ◌+◌, ◌-◌, ◌^◌, ◌<◌, ◌≤◌, ◌++◌, [], ◌∷◌, ℕ, List, true, if◌then◌else◌, length, option_to_list, IfOk, OnOk, MatchOption, IsTrue, Some, None};
+ghost use Rattle.std.specs.Prelude.{◌≡◌, ◌+◌, ◌-◌, ◌^◌, ◌<◌, ◌++◌, [], ℕ, List, true, if◌then◌else◌, length, option_to_list, IfOk, OnOk, MatchOption, IsTrue, Some, None};
 ghost use Rattle.std.specs.List.{Contains};
 ghost use Rattle.i80.specs.Columns.{is_well_formed, length80};
-ghost use Rattle.asm80_program_types.specs.Program.{IsProgram, IsInstructionLaid, instr_at, named_by, starts};
+ghost use Rattle.asm80_program_types.specs.Program.{IsProgram, instr_at, named_by, starts};
 ghost use Rattle.flow.specs.declared.node.Node.{Node as NodeOf};
 ghost use Rattle.flow.specs.declared.node.Node.TheVariants.{Start, Return};
-ghost use Rattle.flow.specs.Graph.{edges, edge_to, nodes, successors};
+ghost use Rattle.flow.specs.Graph.{edges, nodes, successors};
 ghost use Rattle.flow.specs.Wiring.{IsNumber, IsWiredTo, IsWired, edge_if_node, edges_if};
 
 use crate::node::Node;

@@ -1,7 +1,7 @@
 // From bytes to instructions: the first byte says a form, and the form says what follows it.
 ghost use Rattle.std.specs.Prelude.{◌≡◌, ◌<◌, option_map, slice_get};
 ghost use Rattle.i86.specs.Decode.{IsDecoded, IsDecodedAt, IsOnlyReader, HasOneReader};
-ghost use Rattle.i86.specs.Decoder.{entry_under, regs8, regs16, stack_regs, ptrs, alu_ops, counts, rotates, jumps, arithmetic, on_word, singles, form_of, reg8_at, reg16_at, ptr_at, operand8_at, direct_at, operand16_at, or_cl_cl, with_fields, instruction_with_byte, instruction_with_word, word_from, by_form, decoded};
+ghost use Rattle.i86.specs.Decoder.{entry_under, regs8, regs16, stack_regs, alu_ops, counts, rotates, jumps, arithmetic, on_word, singles, form_of, reg8_at, reg16_at, ptr_at, operand8_at, direct_at, operand16_at, or_cl_cl, with_fields, instruction_with_byte, instruction_with_word, word_from, by_form, decoded};
 
 use crate::encoding::length_of;
 use crate::{AluOp, Count, Instr86, Jump, Operand8, Operand16, Ptr, Reg8, Reg16, Rotate, StackReg};

@@ -11,8 +11,9 @@ use Rattle.i80.specs.declared.Reg.{Reg}
 use Rattle.dialogue.specs.Tried.{try_then}
 use Rattle.dialogue.specs.declared.request.Event.TheVariants.{In as AskedIn, Out as AskedOut}
 use Rattle.dialogue.specs.Run.{Answer, Ran, Asks, Ends, Stops}
+use Rattle.dialogue.specs.Words.{wrap}
 use Rattle.asm80_program_types.specs.Program.{Program, IsProgram}
-use Rattle.cpu80_tagged_def.specs.State.{State80, Regs80, reg80, wrap}
+use Rattle.cpu80_tagged_def.specs.State.{State80, Regs80, reg80}
 use Rattle.cpu80_tagged_def.specs.Memory.{is_closed, is_write_protected, put, read_word}
 use Rattle.cpu80_tagged_def.specs.Effect.{push}
 use Rattle.cpu80_tagged_def.specs.Call.{Return, call_system, place_if, is_place, popped_return}

@@ -4,11 +4,13 @@ use Rattle.std.specs.Prelude.{◌≡◌, ◌≢◌, ℕ, ◌+◌, List, ◌++◌
 use Rattle.i86.specs.declared.Instr86.{Instr86}
 use Rattle.i86.specs.Code.{ReadsCode}
 use Rattle.dialogue.specs.Run.{Ends}
+use Rattle.dialogue.specs.Words.{wrap}
+use Rattle.dialogue.specs.ByteMemory.{word_at}
 use Rattle.asm86_line_types.specs.declared.line.Label.TheVariants.{Sys, End}
 use Rattle.asm86_line_types.specs.declared.line.Stmt86.{Stmt86}
 use Rattle.asm86_line_types.specs.declared.line.Line86.{Line86}
 use Rattle.asm86_line_types.specs.Image.{Assembles, image_of, statements}
-use Rattle.cpu86_def.specs.State.{State86, wrap, word_at}
+use Rattle.cpu86_def.specs.State.{State86}
 use Rattle.cpu86_def.specs.Call.{call_system}
 use Rattle.cpu86_def.specs.Step.{step86, machine86}
 use Rattle.templates.specs.Plain.{runtime}

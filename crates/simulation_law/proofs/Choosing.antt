@@ -1,5 +1,5 @@
 -- A value for each part: what the 8086 holds, where the part is kept, and else one that stands for what the 8080 holds.
-use Rattle.std.proofs.Common.{◌≡◌, ℕ, ◌+◌, ◌*◌, ◌/◌, ◌%◌, ◌<◌, ◌==◌, Bool, true, false, List, [], Option, Some, None, refl, sym, ap, subst, arith}
+use Rattle.std.proofs.Common.{◌≡◌, ℕ, ◌+◌, ◌*◌, ◌/◌, ◌%◌, ◌<◌, Bool, true, false, List, [], Option, Some, None, refl, sym, subst, arith}
 use Rattle.cells.specs.declared.Rule.{Rule}
 use Rattle.cells.specs.declared.Flags.{Flags}
 use Rattle.cells.specs.declared.Cell.{Cell}
@@ -11,6 +11,7 @@ use Rattle.cells.specs.Conditions.{Knows, KnowsBits}
 use Rattle.i80.specs.declared.Reg.TheVariants.{A as RegA, B as RegB, C as RegC, D as RegD, E as RegE, H as RegH, L as RegL}
 use Rattle.i86.specs.declared.Reg8.TheVariants.{Al, Cl, Ch, Dl, Dh, Bl, Bh}
 use Rattle.base_arithmetic_def.specs.Arithmetic.{as_bit}
+use Rattle.base_arithmetic_def.proofs.Bytes.{bit_small, flag_bits}
 use Rattle.dialogue.specs.Run.{Run}
 use Rattle.asm86_line_types.specs.declared.line.Label.{Label}
 use Rattle.asm80_program_types.specs.Program.{Program}
@@ -29,17 +30,6 @@ use Rattle.simulation_law.specs.Environments.{HasLabels, HasEnvs}
 
 -- a byte with five flags
 
-bit_small : (b : Bool) → as_bit b < 2
-bit_small true = omega arith
-bit_small false = omega arith
-
-tested : (k : ℕ) (b : Bool) → k ≡ as_bit b → (k == 1) ≡ b
-tested k true h = ap (λ k. k == 1) h
-tested k false h = ap (λ k. k == 1) h
-
-bits_of : (s z a p c n : ℕ) → s < 2 → z < 2 → a < 2 → p < 2 → c < 2 → n ≡ 128 * s + 64 * z + 16 * a + 4 * p + c → (n < 256) × ((n / 128) % 2 ≡ s) × ((n / 64) % 2 ≡ z) × ((n / 16) % 2 ≡ a) × ((n / 4) % 2 ≡ p) × ((n / 1) % 2 ≡ c)
-bits_of s z a p c n hs hz ha hp hc e = (omega (arith, hs, hz, ha, hp, hc, e), omega (arith, hs, hz, ha, hp, hc, e), omega (arith, hs, hz, ha, hp, hc, e), omega (arith, hs, hz, ha, hp, hc, e), omega (arith, hs, hz, ha, hp, hc, e), omega (arith, hs, hz, ha, hp, hc, e))
-
 -- a flag that is not known counts as 0
 abbrev flag_or_no : Option Bool → Bool
 flag_or_no None = false
@@ -56,16 +46,16 @@ byte_with f =
     let a = flag_or_no f.ac in
     let p = flag_or_no f.p in
     let c = flag_or_no f.cy in
-    let n = 128 * as_bit s + 64 * as_bit z + 16 * as_bit a + 4 * as_bit p + as_bit c in
-    let b = bits_of (as_bit s) (as_bit z) (as_bit a) (as_bit p) (as_bit c) n (bit_small s) (bit_small z) (bit_small a) (bit_small p) (bit_small c) refl in (
+    let n = 128 * as_bit s + 64 * as_bit z + 32 * as_bit false + 16 * as_bit a + 8 * as_bit false + 4 * as_bit p + 2 * as_bit false + as_bit c in
+    let b = flag_bits n s z false a false p false c refl in (
       n,
       b.0,
       record {
-        s = is_known f.s _ (tested ((n / 128) % 2) s b.1);
-        z = is_known f.z _ (tested ((n / 64) % 2) z b.2);
-        ac = is_known f.ac _ (tested ((n / 16) % 2) a b.3);
-        p = is_known f.p _ (tested ((n / 4) % 2) p b.4);
-        cy = is_known f.cy _ (tested ((n / 1) % 2) c b.5);
+        s = is_known f.s _ b.1;
+        z = is_known f.z _ b.2;
+        ac = is_known f.ac _ b.3;
+        p = is_known f.p _ b.4;
+        cy = is_known f.cy _ b.5;
       },
     )
 

@@ -28,7 +28,18 @@ use Rattle.simulation_law.proofs.Standing.{StatesStand, are_linked}
 abbrev pub asks_in_vain : {S X : Type 0} → Run S X → Run S X
 asks_in_vain r = record r { status = Waiting }
 
-module _ (p : Program) (lines : List Line86) (cut : List (ℕ × ℕ)) (keeps : Keeps) (fetch : ℕ → Option Instr86) (choices : List ℕ) (limit : ℕ) where
+-- a program and a text beside it: where its blocks begin, what is kept at each, how its instructions are fetched, and the choices
+pub record Beside : Type 0 where
+  pub p : Program
+  pub lines : List Line86
+  pub cut : List (ℕ × ℕ)
+  pub keeps : Keeps
+  pub fetch : ℕ → Option Instr86
+  pub choices : List ℕ
+
+module _ (beside : Beside) (limit : ℕ) where
+  open beside use {p, lines, cut, keeps, fetch, choices}
+
   abbrev M80 : Machine State80 Rule
   M80 = machine80 p
 

@@ -57,7 +57,7 @@ use Rattle.simulation_law.proofs.Going.{Follows, ends_follow}
 use Rattle.simulation_law.proofs.System.{AtSystem, called, jumped}
 use Rattle.cells.specs.Places.{same_place}
 use Rattle.cells.proofs.SamePlace.{same_place_is}
-use Rattle.simulation_law.proofs.Ways.{Ended, goto, boot, by_terms, call, asks_in, asks_out, through_runtime, directly}
+use Rattle.simulation_law.proofs.Ways.{Matched, Ended, one_stack, goto, boot, by_terms, call, asks_in, asks_out, through_runtime, directly}
 
 -- the places that are held have labels
 
@@ -97,19 +97,21 @@ one_taken : (e : Env80) (x : Exit) (taken c : Way) → exit_agrees x (One c) ≡
 one_taken e (One w) taken c h t = ap One (sym t)
 one_taken e (Two f v a b) taken c h t = absurd (cc)
 
-module _ (terms : AgreeingTermsStand) (same : WhoSeesMoreAsksTheSame) (runtimes : RuntimesRun86) (p : Program) (lines : List Line86) (cut : List (ℕ × ℕ)) (keeps : Keeps) (fetch : ℕ → Option Instr86) (choices : List ℕ) (reads : ReadsCode (image_of lines).code fetch) (set : BlocksMatch p lines cut keeps) (count : ℕ) (some_count : 1 ≤ count) where
+module _ (matched : Matched) where
+  open matched use {beside, set, count}
+  open matched.beside use {p, lines, cut, keeps, fetch}
+
   abbrev offset : Label → Option ℕ
   offset = offsets_of lines
 
   abbrev M80 : Machine State80 Rule
   M80 = machine80 p
 
-  labels : HasLabels p (offsets_of lines)
-  labels = held_labels p lines cut keeps set
+  module _ (n : Ended matched) (e : Env80) (d : Env86) (envs : EnvsStand (places offset) e d) (direct : Bool) where
+    open n use {x, y, t, u, w, steps}
 
-  module _ (x : Run State80 Rule) (y : Run State86 Stop) (t : State80) (u : State86) (w : State86) (steps : ℕ) (n : Ended terms same runtimes p lines cut keeps fetch choices reads set labels count some_count x y t u w steps) (few : steps ≤ 10 * count) (e : Env80) (d : Env86) (envs : EnvsStand (places offset) e d) (direct : Bool) where
     abbrev Then : Answer State80 Rule → Type 0
-    Then a = Follows p lines cut keeps fetch choices (16 * count) (settle M80 [] x a) y
+    Then a = Follows beside (16 * count) (settle M80 [] x a) y
 
     abbrev Left : Way → Type 0
     Left c = Leaves86 p fetch offset count d u c steps w ⊎ LeavesAsking86 p fetch offset count direct u c steps w
@@ -126,18 +128,18 @@ module _ (terms : AgreeingTermsStand) (same : WhoSeesMoreAsksTheSame) (runtimes 
     follows (Goto q) (Goto r) ans k h s ans80 (inl lv) =
         let is = same_place_is q r h in
         subst Then (sym ans80.1)
-        (goto terms same runtimes p lines cut keeps fetch choices reads set labels count some_count x y t u w steps n few q k.in_cut (subst (λ z. Rattle.simulation_def.specs.Runs86.StandsAtLabel offset (label_of z) u w) (sym is) lv.leads) (k.sp refl) k.parts lv.some)
+        (goto matched n q k.in_cut (subst (λ z. Rattle.simulation_def.specs.Runs86.StandsAtLabel offset (label_of z) u w) (sym is) lv.leads) (k.sp refl) k.parts lv.some)
     follows (Goto q) (Goto r) ans k h s ans80 (inr lv) = absurd lv.asks
     follows (ByTerms i j) (ByTerms v z) ans k h s ans80 (inl lv) =
         let both = and_parts (agrees i v) (agrees j z) h in
-        by_terms terms same runtimes p lines cut keeps fetch choices reads set labels count some_count x y t u w steps n few e d envs (k.sp refl) k.parts lv.some i j v z s both.0 both.1 ans ans80 lv.leads
+        by_terms matched n e d envs (k.sp refl) k.parts lv.some i j v z s both.0 both.1 ans ans80 lv.leads
     follows (ByTerms i j) (ByTerms v z) ans k h s ans80 (inr lv) = absurd lv.asks
     follows (Call q (At c)) (Call r back) ans k h s ans80 (inl lv) =
         let both = and_parts (same_place q r) (same_place (At c) back) h in
         let same_target = same_place_is q r both.0 in
         let same_back = same_place_is (At c) back both.1 in
         subst Then (sym ans80.4)
-        (call terms same runtimes p lines cut keeps fetch choices reads set labels count some_count x y t u w steps n few q c k.in_cut.0 ans80.2 ans80.0 ans80.3
+        (call matched n q c k.in_cut.0 ans80.2 ans80.0 ans80.3
         (subst (λ z. Rattle.simulation_def.specs.Runs86.Called offset (Rattle.simulation_def.specs.Runs86.ComesBackTo offset z) (label_of q) u w) (sym same_back) (subst (λ z. Rattle.simulation_def.specs.Runs86.Called offset (Rattle.simulation_def.specs.Runs86.ComesBackTo offset back) (label_of z) u w) (sym same_target) lv.leads))
         (k.sp refl) k.parts lv.some)
     follows (Call q (At c)) (Call r back) ans k h s ans80 (inr lv) = absurd lv.asks
@@ -146,29 +148,29 @@ module _ (terms : AgreeingTermsStand) (same : WhoSeesMoreAsksTheSame) (runtimes 
         let is = same_place_is (At c) back h in
         let at = subst (λ z. Rattle.simulation_def.specs.Runs86.Called offset (Rattle.simulation_def.specs.Runs86.GoesOnAt p offset z) SysLabel u w) (sym is) lv.leads in
         let sp = k.sp refl in
-        let s86 : AtSystem p cut set.is_cut offset t u n.is80 n.is86 n.segments sp n.memory (going_on p t (At c)) w = subst (λ (z : State86). AtSystem p cut set.is_cut offset t u n.is80 n.is86 n.segments sp n.memory (going_on p t (At c)) z) (sym at.3.2) (called p cut set.is_cut offset t u n.is80 n.is86 n.segments sp n.memory c at.0 at.3.0 k.in_cut at.1 at.2 at.3.1) in
-        through_runtime terms same runtimes p lines cut keeps fetch choices reads set labels count some_count x y t u w steps n few sp (k.parts C refl) (k.parts D refl) (k.parts E refl) (going_on p t (At c)) ans80.0 s86 ans ans80.1
+        let s86 : AtSystem (one_stack matched n sp) (going_on p t (At c)) w = subst (λ (z : State86). AtSystem (one_stack matched n sp) (going_on p t (At c)) z) (sym at.3.2) (called (one_stack matched n sp) c at.0 at.3.0 k.in_cut at.1 at.2 at.3.1) in
+        through_runtime matched n sp (k.parts C refl) (k.parts D refl) (k.parts E refl) (going_on p t (At c)) ans80.0 s86 ans ans80.1
     follows (Sys (At c)) (Sys back) ans k h s ans80 (inr lv) =
         let is = same_place_is (At c) back h in
         let goes = subst (λ z. Rattle.simulation_def.specs.Runs86.GoesOnAt p offset z lv.asks.0) (sym is) lv.asks.3 in
         let sp = k.sp refl in
-        directly terms same runtimes p lines cut keeps fetch choices reads set labels count some_count x y t u w steps n few sp (k.parts C refl) (k.parts D refl) (k.parts E refl) (going_on p t (At c)) ans80.0 c lv.asks.0 refl k.in_cut goes lv.asks.2 lv.asks.4 lv.few (k.not_lost lv.asks.1 B) (k.not_lost lv.asks.1 L) ans ans80.1
+        directly matched n sp (k.parts C refl) (k.parts D refl) (k.parts E refl) (going_on p t (At c)) ans80.0 c lv.asks.0 refl k.in_cut goes lv.asks.2 lv.asks.4 lv.few (k.not_lost lv.asks.1 B) (k.not_lost lv.asks.1 L) ans ans80.1
     follows (Sys EndPlace) c ans k h s ans80 lv = absurd k.in_cut
     follows SysReturn SysReturn ans k h s ans80 (inl lv) =
         let at = lv.leads in
         let sp = k.sp refl in
-        let s86 : AtSystem p cut set.is_cut offset t u n.is80 n.is86 n.segments sp n.memory (popped_return p t) w = subst (λ (z : State86). AtSystem p cut set.is_cut offset t u n.is80 n.is86 n.segments sp n.memory (popped_return p t) z) (sym at.2) (jumped p cut set.is_cut offset t u n.is80 n.is86 n.segments sp n.memory at.0 at.1) in
-        through_runtime terms same runtimes p lines cut keeps fetch choices reads set labels count some_count x y t u w steps n few sp (k.parts C refl) (k.parts D refl) (k.parts E refl) (popped_return p t) ans80.0 s86 ans ans80.1
+        let s86 : AtSystem (one_stack matched n sp) (popped_return p t) w = subst (λ (z : State86). AtSystem (one_stack matched n sp) (popped_return p t) z) (sym at.2) (jumped (one_stack matched n sp) at.0 at.1) in
+        through_runtime matched n sp (k.parts C refl) (k.parts D refl) (k.parts E refl) (popped_return p t) ans80.0 s86 ans ans80.1
     follows SysReturn SysReturn ans k h s ans80 (inr lv) = absurd lv.asks
     follows Boot Boot ans k h s ans80 (inl lv) =
-        subst Then (sym ans80) (boot terms same runtimes p lines cut keeps fetch choices reads set labels count some_count x y t u w steps n few lv.leads)
+        subst Then (sym ans80) (boot matched n lv.leads)
     follows Boot Boot ans k h s ans80 (inr lv) = absurd lv.asks
     follows (In port (At c)) (In port' next) ans k h s ans80 (inr lv) =
         let both = and_parts (Rattle.std.specs.Prelude.◌==◌ port port') (same_place (At c) next) h in
         let same_port : port ≡ port' = eqb-true port port' both.0 in
         let is = same_place_is (At c) next both.1 in
         subst Then (sym ans80.2)
-        (asks_in terms same runtimes p lines cut keeps fetch choices reads set labels count some_count x y t u w steps n few port c k.in_cut ans80.0 ans80.1 lv.asks.0
+        (asks_in matched n port c k.in_cut ans80.0 ans80.1 lv.asks.0
         (subst (λ z. Rattle.simulation_def.specs.Runs86.GoesOnAt p offset z lv.asks.0) (sym is) lv.asks.1)
         (λ choice. lv.asks.2 choice ∙ ap (λ z. Rattle.dialogue.specs.Run.Asks (Rattle.dialogue.specs.declared.request.Event.TheVariants.In z) (record u { ip = lv.asks.0 })) (sym same_port))
         lv.few (k.sp refl) k.parts)
@@ -179,7 +181,7 @@ module _ (terms : AgreeingTermsStand) (same : WhoSeesMoreAsksTheSame) (runtimes 
         let same_port : port ≡ port' = eqb-true port port' both.0 in
         let is = same_place_is (At c) next both.1 in
         subst Then (sym ans80.4)
-        (asks_out terms same runtimes p lines cut keeps fetch choices reads set labels count some_count x y t u w steps n few port ans80.0 c ans80.1 k.in_cut ans80.2 ans80.3 lv.asks.0
+        (asks_out matched n port ans80.0 c ans80.1 k.in_cut ans80.2 ans80.3 lv.asks.0
         (subst (λ z. Rattle.simulation_def.specs.Runs86.GoesOnAt p offset z lv.asks.0) (sym is) lv.asks.1)
         (λ choice. lv.asks.2 choice ∙ ap (λ z. Rattle.dialogue.specs.Run.Asks (Rattle.dialogue.specs.declared.request.Event.TheVariants.Out z u.regs.al) (record u { ip = lv.asks.0 })) (sym same_port))
         lv.few (k.sp refl) k.parts)
@@ -194,6 +196,18 @@ module _ (terms : AgreeingTermsStand) (same : WhoSeesMoreAsksTheSame) (runtimes 
 
     abbrev Links : Type 0
     Links = BlockLinks p (offsets_of lines) cut keeps fetch choices count x y
+
+    abbrev matched : Matched
+    matched = record {
+      beside = record { p = p; lines = lines; cut = cut; keeps = keeps; fetch = fetch; choices = choices };
+      terms = terms;
+      same = same;
+      runtimes = runtimes;
+      reads = reads;
+      set = set;
+      count = count;
+      some_count = some_count;
+    }
 
     left : BlockLeaves80 p count x.state → Links
     left b = record {
@@ -225,11 +239,17 @@ module _ (terms : AgreeingTermsStand) (same : WhoSeesMoreAsksTheSame) (runtimes 
           one_taken (env80 x.state b.run80.loads) (block80 p first count).exit b.run80.way b.run86.way
           (subst (λ z. exit_agrees (block80 p first count).exit z ≡ true) (b.run86.one h) b.exits) b.run80.takes
 
-      follow : Follows p lines cut keeps fetch choices (16 * count) (settle N80 [] (moved N80 [] x b.run80.last before.0) (step80 p b.run80.last)) y
+      follow : Follows matched.beside (16 * count) (settle N80 [] (moved N80 [] x b.run80.last before.0) (step80 p b.run80.last)) y
       follow =
-          follows terms same runtimes p lines cut keeps fetch choices reads set count some_count
-          (moved N80 [] x b.run80.last before.0) y b.run80.ended b.run86.ended b.run86.arrived b.run86.steps
+          follows matched
           (record {
+            x = moved N80 [] x b.run80.last before.0;
+            y = y;
+            t = b.run80.ended;
+            u = b.run86.ended;
+            w = b.run86.arrived;
+            steps = b.run86.steps;
+            few = steps_few b.run86.leaves;
             going80 = l.going80;
             going86 = l.going86;
             dialogue = l.dialogue;
@@ -242,7 +262,7 @@ module _ (terms : AgreeingTermsStand) (same : WhoSeesMoreAsksTheSame) (runtimes 
             segments = b.segments;
             dma = b.dma;
           })
-          (steps_few b.run86.leaves) (env80 x.state b.run80.loads) (with_loads b.env b.run86.loads) b.envs b.outcome.direct b.run80.way b.run86.way (step80 p b.run80.last)
+          (env80 x.state b.run80.loads) (with_loads b.env b.run86.loads) b.envs b.outcome.direct b.run80.way b.run86.way (step80 p b.run80.last)
           (record {
             in_cut = way_in p cut set.is_cut first count (env80 x.state b.run80.loads) b.run80.way in_cut b.run80.takes;
             parts = b.parts;
@@ -270,7 +290,7 @@ module _ (terms : AgreeingTermsStand) (same : WhoSeesMoreAsksTheSame) (runtimes 
   at_exit : (p : Program) (lines : List Line86) (cut : List (ℕ × ℕ)) (keeps : Keeps) (fetch : ℕ → Option Instr86) (choices : List ℕ) (x : Run State80 Rule) (y : Run State86 Stop) → BlocksMatch p lines cut keeps → ReadsCode (image_of lines).code fetch → Linked p (offsets_of lines) cut keeps x y → x.state.place ≡ EndPlace → BlockLinks p (offsets_of lines) cut keeps fetch choices 1 x y
   at_exit p lines cut keeps fetch choices x y set reads l at =
       let e = (runtimes lines fetch choices _ y.state set.assembles reads set.runtime l.state86 l.segments).ends (subst (λ q. places (offsets_of lines) q ≡ Some y.state.ip) at l.at_label) in
-      let f = ends_follow p lines cut keeps fetch choices 16 x y l.going80 l.going86 l.dialogue l.replies 0 y.state refl 2 e (omega arith) in
+      let f = ends_follow (record { p = p; lines = lines; cut = cut; keeps = keeps; fetch = fetch; choices = choices }) 16 x y l.going80 l.going86 l.dialogue l.replies 0 y.state refl 2 e (omega arith) in
       let ends : turns (machine80 p) [] 1 x ≡ settle (machine80 p) [] x Ends = turn_is (machine80 p) [] x l.going80 ∙ ap (λ q. settle (machine80 p) [] x (step_at p x.state q)) at in
       record {
         turns86 = f.count;

@@ -9,6 +9,7 @@ use Rattle.i86.specs.declared.Instr86.TheVariants.{MovNum16, MovReg16, MovDirect
 use Rattle.i86.specs.Code.{ReadsCode, HasBytes}
 use Rattle.i86.specs.Enc86.{enc86}
 use Rattle.dialogue.specs.Run.{Stops, choice_at}
+use Rattle.dialogue.specs.Words.{wrap}
 use Rattle.asm86_line_types.specs.declared.line.Label.TheVariants.{At, End}
 use Rattle.asm86_line_types.specs.declared.line.Stmt86.{Stmt86}
 use Rattle.asm86_line_types.specs.declared.line.Stmt86.TheVariants.{Cseg, Mark, Run, MovOffset}
@@ -16,7 +17,7 @@ use Rattle.asm86_line_types.specs.declared.line.Line86.{Line86}
 use Rattle.asm86_line_types.specs.Layout.{size_of, place_of, code_of, instr_of, enc_of}
 use Rattle.asm86_line_types.specs.Image.{Assembles, image_of, statements}
 use Rattle.asm80_program_types.specs.Program.{Program}
-use Rattle.cpu86_def.specs.State.{State86, wrap}
+use Rattle.cpu86_def.specs.State.{State86}
 use Rattle.cpu86_def.specs.Call.{StackSegment}
 use Rattle.cpu86_def.specs.Effect.{effect}
 use Rattle.cpu86_def.specs.Step.{uses_stack, act, act_from, act_at, step86, machine86}

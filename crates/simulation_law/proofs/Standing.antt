@@ -1,9 +1,8 @@
 -- States that stand for one another at the first instruction of a block, and the runs that are in them.
-use Rattle.std.proofs.Common.{◌≡◌, ℕ, suc, ◌+◌, ◌*◌, ◌/◌, ◌%◌, ◌<◌, ◌==◌, Bool, true, false, cond, not, List, [], ◌∷◌, length, Option, Some, None, refl, sym, ap, subst, ◌∙◌, arith}
+use Rattle.std.proofs.Common.{◌≡◌, ℕ, suc, ◌+◌, ◌*◌, ◌/◌, ◌%◌, ◌<◌, true, not, List, [], ◌∷◌, length, Option, Some, None, refl, sym, ap, subst, ◌∙◌, arith}
 use Rattle.std.specs.Prelude.{slice_get}
 use Rattle.std.proofs.lemmas.Bool.{and_parts}
 use Rattle.cells.specs.declared.Place.{Place}
-use Rattle.cells.specs.declared.Cell.{Cell}
 use Rattle.cells.specs.declared.Cell.TheVariants.{Lo, Hi}
 use Rattle.cells.specs.declared.Rule.{Rule}
 use Rattle.cells.specs.declared.Part.{Part}
@@ -13,7 +12,6 @@ use Rattle.dialogue.specs.Run.{Run, Going}
 use Rattle.asm86_line_types.specs.declared.line.Label.{Label}
 use Rattle.asm80_program_types.specs.Program.{Program}
 use Rattle.cpu80_tagged_def.specs.State.{State80}
-use Rattle.cpu80_tagged_def.specs.Memory.{put as put80}
 use Rattle.cpu86_def.specs.State.{State86}
 use Rattle.cpu86_def.specs.Call.{Stop}
 use Rattle.sym_terms.specs.Term.{Term, High, Loaded16, Join, FlagByte, Unknown, same_term}
@@ -23,7 +21,7 @@ use Rattle.sym_terms.proofs.Equal.{same_term-true}
 use Rattle.block_check_def.specs.Agree.{agrees, same_known, has_unknown}
 use Rattle.block_check_def.specs.BlockMatch.{Keeps, kept_at}
 use Rattle.sym_block_def.specs.Stands.{IsHalf, Stands}
-use Rattle.simulation_def.specs.States.{IsCell, IsState80, IsState86}
+use Rattle.simulation_def.specs.States.{IsState80, IsState86}
 use Rattle.simulation_def.specs.Linked.{IsFirstOf, StandsIn, places, Linked}
 use Rattle.simulation_law.specs.Linked.{LoadsStand}
 use Rattle.simulation_law.specs.Replayed.{MemoryStands}
@@ -85,14 +83,6 @@ halves_place offset q h l hf lf s t = by_offset (places offset q) refl s t
 -- a place's cells stand for the halves of its offset
 pub place_halves : (offset : Label → Option ℕ) (q : Place) (n : ℕ) → places offset q ≡ Some n → Stands (places offset) (Hi q) (n / 256) × Stands (places offset) (Lo q) (n % 256)
 place_halves offset q n e = (subst (λ o. IsHalf (λ n. n / 256) o (n / 256)) (sym e) refl, subst (λ o. IsHalf (λ n. n % 256) o (n % 256)) (sym e) refl)
-
--- a cell that is put into memory
-pub cell_put : (p : Program) (m : ℕ → Cell) (n : ℕ) (c : Cell) (a : ℕ) → IsCell p (m a) → IsCell p c → IsCell p (put80 m n c a)
-cell_put p m n c a h i = by_place (a == n)
-  where
-    by_place : (b : Bool) → IsCell p (cond b c (m a))
-    by_place true = i
-    by_place false = h
 
 -- The word that a return loads is the next one: no term of what was loaded before names it.
 

@@ -7,14 +7,16 @@ use Rattle.cells.specs.declared.Cell.{Cell}
 use Rattle.cells.specs.declared.Cell.TheVariants.{Lo, Hi}
 use Rattle.cells.specs.declared.Rule.{Rule}
 use Rattle.dialogue.specs.declared.blocks.Block.{Block}
-use Rattle.dialogue.specs.ByteMemory.{put, put_bytes, put_blocks}
+use Rattle.dialogue.specs.ByteMemory.{put, put_bytes, put_blocks, word_at}
+use Rattle.dialogue.specs.Words.{word, wrap}
+use Rattle.dialogue.specs.Choice.{byte_of}
 use Rattle.asm86_line_types.specs.declared.line.Label.{Label}
 use Rattle.asm86_line_types.specs.declared.line.Label.TheVariants.{Sys as SysLabel}
 use Rattle.asm80_program_types.specs.Program.{Program}
-use Rattle.cpu80_tagged_def.specs.State.{State80, wrap}
+use Rattle.cpu80_tagged_def.specs.State.{State80}
 use Rattle.cpu80_tagged_def.specs.Memory.{is_write_protected, read_word}
 use Rattle.cpu80_tagged_def.specs.Call.{Return, is_just_below, may_be_written, place_in, place_if, is_place, popped_return}
-use Rattle.cpu86_def.specs.State.{State86, put_word, back as below, byte_of, word, word_at, push}
+use Rattle.cpu86_def.specs.State.{State86, put_word, back as below, push}
 use Rattle.cpu86_def.specs.Call.{chosen_six, spoiled}
 use Rattle.sym_block_def.specs.Stands.{Stands}
 use Rattle.simulation_def.specs.States.{IsCell, IsHeldPlace, IsState80, IsState86}
@@ -74,7 +76,23 @@ is_below sp a h e = let near : (sp + (0xFFFF - a)) % 0x10000 < 8 = omega arith i
 is_below_next : (sp a : ℕ) → sp < 0x10000 → (a ≡ wrap (below sp 2 + 1)) → is_just_below sp a ≡ true
 is_below_next sp a h e = let near : (sp + (0xFFFF - a)) % 0x10000 < 8 = omega arith in lt_true ((sp + (0xFFFF - a)) % 0x10000) 8 near
 
-module _ (p : Program) (cut : List (ℕ × ℕ)) (is_cut : IsCut p cut) (offset : Label → Option ℕ) (t : State80) (u : State86) (is80 : IsState80 p t) (is86 : IsState86 u) (segments : u.ss ≡ u.ds) (sp : u.sp ≡ t.sp) (memory : MemoryStands p (places offset) t.mem u.mem) where
+-- both machines at the end of a block, with the same SP
+pub record OneStack : Type 0 where
+  pub p : Program
+  pub cut : List (ℕ × ℕ)
+  pub is_cut : IsCut p cut
+  pub offset : Label → Option ℕ
+  pub t : State80
+  pub u : State86
+  pub is80 : IsState80 p t
+  pub is86 : IsState86 u
+  pub segments : u.ss ≡ u.ds
+  pub sp : u.sp ≡ t.sp
+  pub memory : MemoryStands p (places offset) t.mem u.mem
+
+module _ (stack : OneStack) where
+  open stack use {p, cut, is_cut, offset, t, u, is80, is86, segments, sp, memory}
+
   sp_small : u.sp < 0x10000
   sp_small = is86.sp
 

@@ -1,5 +1,5 @@
 -- The ways out of a block, one by one: what the 8080's last step answers, and where the 8086 comes to.
-use Rattle.std.proofs.Common.{◌≡◌, ◌≢◌, ℕ, ◌+◌, ◌*◌, ◌≤◌, ◌<◌, true, false, List, [], length, Option, Some, Result, Ok, refl, sym, ap, subst, ◌∙◌, arith, ◌⊎◌, inl, inr}
+use Rattle.std.proofs.Common.{◌≡◌, ◌≢◌, ℕ, ◌+◌, ◌*◌, ◌≤◌, ◌<◌, true, false, [], length, Option, Some, Result, Ok, refl, sym, ap, subst, ◌∙◌, arith, ◌⊎◌, inl, inr}
 use Rattle.std.proofs.lemmas.Bool.{and_parts, ltb-true}
 use Rattle.cells.specs.declared.Place.{Place}
 use Rattle.cells.specs.declared.Place.TheVariants.{At, Exit as EndPlace}
@@ -11,7 +11,6 @@ use Rattle.cells.specs.declared.Part.TheVariants.{A, B, C, D, E, H, L, S, Z, Ac,
 use Rattle.cells.specs.Parts.{has}
 use Rattle.i80.specs.declared.Reg.{Reg}
 use Rattle.i80.specs.declared.Reg.TheVariants.{A as RegA, B as RegB, C as RegC, D as RegD, E as RegE, H as RegH, L as RegL}
-use Rattle.i86.specs.declared.Instr86.{Instr86}
 use Rattle.i86.specs.declared.Reg8.{Reg8}
 use Rattle.i86.specs.declared.Reg8.TheVariants.{Al, Cl, Dl, Bl, Ah, Ch, Dh, Bh}
 use Rattle.i86.specs.Code.{ReadsCode}
@@ -24,15 +23,13 @@ use Rattle.dialogue.specs.Shape.{request_of}
 use Rattle.dialogue.specs.Run.{Answer, Ran, Asks, Ends, Stops, Machine, Run, Going, settle}
 use Rattle.asm86_line_types.specs.declared.line.Label.{Label}
 use Rattle.asm86_line_types.specs.declared.line.Label.TheVariants.{End as EndLabel}
-use Rattle.asm86_line_types.specs.declared.line.Line86.{Line86}
 use Rattle.asm86_line_types.specs.Image.{image_of}
-use Rattle.asm80_program_types.specs.Program.{Program}
-use Rattle.cpu80_tagged_def.specs.State.{State80, wrap, num_of, with_a}
+use Rattle.cpu80_tagged_def.specs.State.{State80, num_of, with_a}
 use Rattle.cpu80_tagged_def.specs.Memory.{put as put80, write_word}
 use Rattle.cpu80_tagged_def.specs.Effect.{push as push80}
 use Rattle.cpu80_tagged_def.specs.Call.{Return, seen_by_tagged, call_system, is_place, place_if, after_reply}
 use Rattle.cpu80_tagged_def.specs.Step.{leave_to, replied_to, replied80, return_at, machine80}
-use Rattle.cpu86_def.specs.State.{State86, word, put_word, back as below}
+use Rattle.cpu86_def.specs.State.{State86, put_word, back as below}
 use Rattle.cpu86_def.specs.Call.{Stop, spoiled, call_system as call_system86, after_reply as after_reply86, replied86}
 use Rattle.cpu86_def.specs.Step.{step86, machine86}
 use Rattle.sym_terms.specs.Term.{Term}
@@ -40,7 +37,7 @@ use Rattle.sym_terms.specs.Values80.{Env80}
 use Rattle.sym_terms.specs.Values86.{Env86}
 use Rattle.sym_block_def.specs.Outcome.{ByTerms, In, Out}
 use Rattle.block_check_def.specs.Agree.{agrees}
-use Rattle.block_check_def.specs.BlockMatch.{Keeps, kept_at, kept_after_way}
+use Rattle.block_check_def.specs.BlockMatch.{kept_at, kept_after_way}
 use Rattle.sym_block_def.specs.Sorts.{WayIsSorted}
 use Rattle.sym_block_def.specs.Stands.{label_of, Stands}
 use Rattle.simulation_def.specs.Steps.{RunsOn}
@@ -50,21 +47,36 @@ use Rattle.simulation_def.specs.Runs86.{offsets_of, ComesBackTo, GoesOnAt, Stand
 use Rattle.simulation_def.specs.Runtime.{CallsSystem, EndsAfter, RuntimeRuns, RuntimesRun86, answers_moved}
 use Rattle.simulation_def.specs.Linked.{IsFirstOf, StandsIn, places}
 use Rattle.dialogue.specs.Sight.{WhoSeesMoreAsksTheSame}
+use Rattle.dialogue.specs.Words.{word, wrap}
 use Rattle.simulation_law.specs.Linked.{EnvsStand, AgreeingTermsStand}
 use Rattle.simulation_law.specs.Replayed.{MemoryStands}
-use Rattle.simulation_law.specs.Environments.{HasLabels}
 use Rattle.simulation_law.proofs.Replaying.{put_word_stands}
 use Rattle.dialogue.proofs.Tried.{then_is, ok_is}
 use Rattle.sym_sound.proofs.Machine80.Answering.{read_word_is, write_word_is}
+use Rattle.sym_sound.proofs.Machine80.Denoting.{cell_put}
 use Rattle.simulation_law.specs.Linking.{BlocksAreBytes, WriteBytes, BlocksMatch}
 use Rattle.simulation_law.proofs.Exits.{ComesBack}
 use Rattle.simulation_law.proofs.Asking.{AsksSystem, CallsSystem80, leaves, resets, asking, calls_80, number_stands, IsSight, CallStands, asks_same, reply_fits}
 use Rattle.simulation_law.proofs.Replying.{moved_bytes, memory_after, state80_after, state86_after, moved_parts, IsNotLost, direct_parts}
-use Rattle.simulation_law.proofs.Standing.{StatesStand, parts_on, halves_place, place_halves, cell_put, as_many, not_next80, not_next86}
-use Rattle.simulation_law.proofs.Going.{Follows, Lands, here, ran_follows, ends_follow, asks_follow}
-use Rattle.simulation_law.proofs.System.{AtSystem, going_is, spoil_sight}
+use Rattle.simulation_law.proofs.Standing.{StatesStand, parts_on, halves_place, place_halves, as_many, not_next80, not_next86}
+use Rattle.simulation_law.proofs.Going.{Beside, Follows, Lands, here, ran_follows, ends_follow, asks_follow}
+use Rattle.simulation_law.proofs.System.{OneStack, AtSystem, going_is, spoil_sight}
 
-module _ (terms : AgreeingTermsStand) (same : WhoSeesMoreAsksTheSame) (runtimes : RuntimesRun86) (p : Program) (lines : List Line86) (cut : List (ℕ × ℕ)) (keeps : Keeps) (fetch : ℕ → Option Instr86) (choices : List ℕ) (reads : ReadsCode (image_of lines).code fetch) (set : BlocksMatch p lines cut keeps) (labels : HasLabels p (offsets_of lines)) (count : ℕ) (some_count : 1 ≤ count) where
+-- The match of a text with its program, and the laws by which both machines go on from the end of a block of so many instructions.
+pub record Matched : Type 0 where
+  pub beside : Beside
+  pub terms : AgreeingTermsStand
+  pub same : WhoSeesMoreAsksTheSame
+  pub runtimes : RuntimesRun86
+  pub reads : ReadsCode (image_of beside.lines).code beside.fetch
+  pub set : BlocksMatch beside.p beside.lines beside.cut beside.keeps
+  pub count : ℕ
+  pub some_count : 1 ≤ count
+
+module _ (matched : Matched) where
+  open matched use {beside, terms, same, runtimes, reads, set, count, some_count}
+  open matched.beside use {p, lines, cut, keeps, fetch, choices}
+
   abbrev offset : Label → Option ℕ
   offset = offsets_of lines
 
@@ -76,7 +88,14 @@ module _ (terms : AgreeingTermsStand) (same : WhoSeesMoreAsksTheSame) (runtimes 
 
   -- Both machines have run the block: `x` is the 8080 before its last turn, whose terms have the values of `t`; the 8086 was at `y`,
   -- has the values of `u`, and has taken so many steps to `w`.
-  pub record Ended (x : Run State80 Rule) (y : Run State86 Stop) (t : State80) (u : State86) (w : State86) (steps : ℕ) : Type 0 where
+  pub record Ended : Type 0 where
+    pub x : Run State80 Rule
+    pub y : Run State86 Stop
+    pub t : State80
+    pub u : State86
+    pub w : State86
+    pub steps : ℕ
+    pub few : steps ≤ 10 * count
     pub going80 : x.status ≡ Going
     pub going86 : y.status ≡ Going
     pub dialogue : y.dialogue ≡ x.dialogue
@@ -89,15 +108,32 @@ module _ (terms : AgreeingTermsStand) (same : WhoSeesMoreAsksTheSame) (runtimes 
     pub segments : u.ss ≡ u.ds
     pub dma : u.dma ≡ t.dma
 
-  module _ (x : Run State80 Rule) (y : Run State86 Stop) (t : State80) (u : State86) (w : State86) (steps : ℕ) (n : Ended x y t u w steps) (few : steps ≤ 10 * count) where
+  module _ (n : Ended) where
+    open n use {x, y, t, u, w, steps, few}
+
     abbrev Then : Answer State80 Rule → Type 0
-    Then a = Follows p lines cut keeps fetch choices (16 * count) (settle M80 [] x a) y
+    Then a = Follows beside (16 * count) (settle M80 [] x a) y
 
     ran : (t' : State80) → StatesStand p offset cut keeps t' w → 1 ≤ steps → Then (Ran t')
-    ran t' s some = ran_follows p lines cut keeps fetch choices (16 * count) x y n.going80 n.going86 n.dialogue n.replies steps w n.runs t' s some (omega (arith, few))
+    ran t' s some = ran_follows beside (16 * count) x y n.going80 n.going86 n.dialogue n.replies steps w n.runs t' s some (omega (arith, few))
 
     used : ℕ
-    used = (here p lines cut keeps fetch choices (16 * count) x y n.going80 n.going86 n.dialogue n.replies steps w n.runs).0
+    used = (here beside (16 * count) x y n.going80 n.going86 n.dialogue n.replies steps w n.runs).0
+
+    abbrev pub one_stack : u.sp ≡ t.sp → OneStack
+    one_stack sp = record {
+      p = p;
+      cut = cut;
+      is_cut = set.is_cut;
+      offset = offset;
+      t = t;
+      u = u;
+      is80 = n.is80;
+      is86 = n.is86;
+      segments = n.segments;
+      sp = sp;
+      memory = n.memory;
+    }
 
     -- the 8080 leaves the profile
     stops : (r : Rule) → Then (Stops r)
@@ -105,7 +141,7 @@ module _ (terms : AgreeingTermsStand) (same : WhoSeesMoreAsksTheSame) (runtimes 
 
     ends_after : (more : ℕ) → EndsAfter fetch choices used more w → steps + (more + 1) ≤ 16 * count → Then Ends
     unfolding used
-    ends_after more e room = ends_follow p lines cut keeps fetch choices (16 * count) x y n.going80 n.going86 n.dialogue n.replies steps w n.runs more e room
+    ends_after more e room = ends_follow beside (16 * count) x y n.going80 n.going86 n.dialogue n.replies steps w n.runs more e room
 
     -- the 8086 at X_END
     ends : offset EndLabel ≡ Some w.ip → IsState86 w → w.ss ≡ w.ds → Then Ends
@@ -235,10 +271,10 @@ module _ (terms : AgreeingTermsStand) (same : WhoSeesMoreAsksTheSame) (runtimes 
         memory = put_word_stands p (places offset) t.mem u.mem k (Hi (At c)) (Lo (At c)) at.0 n.memory (place_halves offset (At c) at.0 at.2) at.1 fits
 
     -- what asks, where the 8086 asks some steps on
-    asks : (e : Event) (more : ℕ) (v : State86) (after : ℕ → State86) → RunsOn M86 choices more used w v → ((choice : ℕ) → step86 fetch v choice ≡ Asks e (after choice)) → steps + (more + 1) + 3 ≤ 16 * count → ((answer : Reply) (asked choice later : ℕ) → fits_event e answer ≡ true → BlocksAreBytes answer.writes → Lands p lines cut keeps fetch choices (16 * count) (replied80 p t e answer) (replied86 (after asked) e answer choice) later) → Then (Asks e t)
+    asks : (e : Event) (more : ℕ) (v : State86) (after : ℕ → State86) → RunsOn M86 choices more used w v → ((choice : ℕ) → step86 fetch v choice ≡ Asks e (after choice)) → steps + (more + 1) + 3 ≤ 16 * count → ((answer : Reply) (asked choice later : ℕ) → fits_event e answer ≡ true → BlocksAreBytes answer.writes → Lands beside (16 * count) (replied80 p t e answer) (replied86 (after asked) e answer choice) later) → Then (Asks e t)
     unfolding used
     asks e more v after on step room lands =
-        asks_follow p lines cut keeps fetch choices (16 * count) x y n.going80 n.going86 n.dialogue n.replies steps w n.runs e t more v after on step room n.bytes lands
+        asks_follow beside (16 * count) x y n.going80 n.going86 n.dialogue n.replies steps w n.runs e t more v after on step room n.bytes lands
 
     -- IN and OUT
 
@@ -362,11 +398,11 @@ module _ (terms : AgreeingTermsStand) (same : WhoSeesMoreAsksTheSame) (runtimes 
       replied_is a answer = ap (λ q. replied_to p t q (CallEvent (asked a)) answer) (return ∙ a.returns)
 
       -- through the runtime
-      module _ (s : AtSystem p cut set.is_cut offset t u n.is80 n.is86 n.segments sp n.memory back w) where
+      module _ (s : AtSystem (one_stack sp) back w) where
         runs_there : RuntimeRuns lines fetch choices used w
         runs_there = runtimes lines fetch choices used w set.assembles reads set.runtime s.state s.same_segments
 
-        moves : (a : AsksSystem p t back) (c : CallsSystem fetch choices used w) (asked_at choice later : ℕ) (answer : Reply) → fits_event (CallEvent (asked a)) answer ≡ true → BlocksAreBytes answer.writes → Lands p lines cut keeps fetch choices (16 * count) (replied80 p t (CallEvent (asked a)) answer) (after_reply86 (record w { flags = c.asking.flags; ip = c.back; mem = spoiled w.mem w.sp asked_at }) (asked a) answer choice) later
+        moves : (a : AsksSystem p t back) (c : CallsSystem fetch choices used w) (asked_at choice later : ℕ) (answer : Reply) → fits_event (CallEvent (asked a)) answer ≡ true → BlocksAreBytes answer.writes → Lands beside (16 * count) (replied80 p t (CallEvent (asked a)) answer) (after_reply86 (record w { flags = c.asking.flags; ip = c.back; mem = spoiled w.mem w.sp asked_at }) (asked a) answer choice) later
         moves a c asked_at choice later answer fit bytes =
             let v : State86 = record w { flags = c.asking.flags; ip = c.back; mem = spoiled w.mem w.sp asked_at } in
             let passes = Rattle.cpu80_tagged_def.specs.Call.may_be_written p t a.return.is_popped in
@@ -434,16 +470,16 @@ module _ (terms : AgreeingTermsStand) (same : WhoSeesMoreAsksTheSame) (runtimes 
         kept_not_lost Cy h = tt
 
         sight : (choice : ℕ) → IsSight p (places offset) t (spoiled u.mem u.sp choice)
-        sight = spoil_sight p cut set.is_cut offset t u n.is80 n.is86 n.segments sp n.memory
+        sight = spoil_sight (one_stack sp)
 
-        stays : (a : AsksSystem p t back) (asked_at choice later : ℕ) (answer : Reply) → fits_event (CallEvent (asked a)) answer ≡ true → BlocksAreBytes answer.writes → Lands p lines cut keeps fetch choices (16 * count) (replied80 p t (CallEvent (asked a)) answer) (after_reply86 (record u { ip = ip; mem = spoiled u.mem u.sp asked_at }) (asked a) answer choice) later
+        stays : (a : AsksSystem p t back) (asked_at choice later : ℕ) (answer : Reply) → fits_event (CallEvent (asked a)) answer ≡ true → BlocksAreBytes answer.writes → Lands beside (16 * count) (replied80 p t (CallEvent (asked a)) answer) (after_reply86 (record u { ip = ip; mem = spoiled u.mem u.sp asked_at }) (asked a) answer choice) later
         stays a asked_at choice later answer fit bytes =
             let v : State86 = record u { ip = ip; mem = spoiled u.mem u.sp asked_at } in
             let passes = Rattle.cpu80_tagged_def.specs.Call.may_be_written p t a.return.is_popped in
             let rf = reply_fits p t back a answer fit in
             let vs : IsState86 v = record { regs = n.is86.regs; mem = (sight asked_at).bytes; sp = n.is86.sp; si = n.is86.si; ds = n.is86.ds } in
             let z = after_reply86 v (asked a) answer choice in
-            let g = going_is p cut set.is_cut offset t u n.is80 n.is86 n.segments sp n.memory (At c) a.return (sym is_back ∙ a.returns) in
+            let g = going_is (one_stack sp) (At c) a.return (sym is_back ∙ a.returns) in
             let stand : StatesStand p offset cut keeps (after_reply p t (At c) t.sp (asked a) answer) z = record {
               first = in_cut g.0;
               at_label = goes_on g.0;

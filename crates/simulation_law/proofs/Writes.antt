@@ -12,10 +12,10 @@ use Rattle.dialogue.specs.Shape.{all_cells, is_within}
 use Rattle.dialogue.specs.Fits.{fills_range, writes_fit, line_bytes_fit, line_fits}
 use Rattle.dialogue.proofs.Lines.{line_short}
 use Rattle.dialogue.specs.ByteMemory.{put, put_bytes, put_blocks}
+use Rattle.dialogue.specs.Words.{wrap}
 use Rattle.asm80_program_types.specs.Program.{Program}
 use Rattle.cpu80_tagged_def.specs.Memory.{put as put80}
 use Rattle.cpu80_tagged_def.specs.Call.{put_bytes as put_bytes80, put_blocks as put_blocks80}
-use Rattle.cpu86_def.specs.State.{wrap}
 use Rattle.simulation_def.specs.States.{IsCell}
 use Rattle.sym_sound.proofs.Machine86.Words.{eq_false}
 use Rattle.simulation_law.specs.Replayed.{MemoryStands}

@@ -1,3 +1,4 @@
 pub mod Machine
+pub mod Alike
 pub mod Stands
 pub mod Exits

@@ -8,12 +8,13 @@ use Rattle.sym_block_def.specs.Block80.{Symbolic80, start80, effect80, exit80, o
 use Rattle.sym_micro.specs.declared.run.Run.{Run}
 use Rattle.sym_micro.specs.declared.outcome.Exit.{Exit as ExitIds}
 use Rattle.cells.specs.Parts.{Parts, everything}
-use Rattle.sym_block_def.specs.Symbolic86.{Symbolic86, start86}
+use Rattle.sym_block_def.specs.Symbolic86.{start86}
 use Rattle.sym_block_def.proofs.Instructions.{some_there, first_is, shorter}
 use Rattle.sym_micro.specs.Machine.{Machine, as80, as86}
 use Rattle.sym_micro.specs.Stands.{machine_of, Runs}
 use Rattle.sym_micro.specs.Exits.{FindsExit, RunsTo}
 use Rattle.sym_micro.proofs.Found.{ends_by}
+use Rattle.sym_micro.proofs.Alike.{seen_80}
 
 pub record Left (p : Program) (first count at left : ℕ) (s : Symbolic80) : Type 0 where
   pub rest : outcome_from p at (instrs_from p at left) s ≡ block80 p first count
@@ -62,9 +63,6 @@ ended p first count at next s i old mid new r j a found d h e g w =
     (subst (λ y. FindsExit mid new 3 y found) exit_is w)
     (ap (λ (y : Symbolic80). y.held) is) (ap (λ (y : Symbolic80). y.sp) is) (ap (λ (y : Symbolic80). y.trace.actions) is) refl)
 
-abbrev seen : Symbolic86 → Symbolic80
-seen s = record { held = s.held; sp = s.sp; trace = s.trace }
-
 -- what the 8080 sees of the beginning
 pub begun : (m : Machine) (keep : Parts) → keep ≡ everything → as86 m ≡ start86 keep → as80 m ≡ start80
-begun m keep all e = ap seen (e ∙ ap start86 all)
+begun m keep all e = ap seen_80 (e ∙ ap start86 all)

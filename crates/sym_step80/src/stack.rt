@@ -4,13 +4,13 @@ ghost use Rattle.std.specs.Prelude.{◌≡◌, ◌≤◌, length};
 ghost use Rattle.i80.specs.declared.Instr80.{Instr80};
 ghost use Rattle.sym_terms.specs.Term.{Num};
 ghost use Rattle.sym_terms.specs.Making.{sum16};
-ghost use Rattle.sym_block_def.specs.Block80.{pair_term, with_pair, load16, next_word, push, effect80};
+ghost use Rattle.sym_block_def.specs.Block80.{with_pair, load16, next_word, effect80};
 ghost use Rattle.sym_micro.specs.Machine.{as80};
 ghost use Rattle.sym_micro.specs.Stands.{machine_of, IsReady, GoesOn};
 
 use i80::{Pair, Reg, StackPair};
 use sym_micro::{
-    ByteSlot, ByteValue, FlagSet, FlagValue, Micro, Run, Wide, WordSlot, WordValue, perform,
+    ByteSlot, ByteValue, FlagSet, FlagValue, Micro, Run, Wide, WordSlot, WordValue, perform, push,
 };
 use sym_terms::Terms;
 
@@ -21,9 +21,9 @@ pub fn push_on(terms: &mut Terms, run: &mut Run, pair: StackPair) -> Option<()>
     ensures { GoesOn terms.old terms.new run.old run.new 24 2 (λ m. as80 m ≡ effect80 (as80 (machine_of terms.old run.old)) (Instr80.Push pair)) result }
 {
     match pair {
-        StackPair::B => push_pair(terms, run, Pair::B),
-        StackPair::D => push_pair(terms, run, Pair::D),
-        StackPair::H => push_pair(terms, run, Pair::H),
+        StackPair::B => push(terms, run, Wide::Of80(Pair::B)),
+        StackPair::D => push(terms, run, Wide::Of80(Pair::D)),
+        StackPair::H => push(terms, run, Wide::Of80(Pair::H)),
         StackPair::Psw => push_psw(terms, run),
     }
 }
@@ -63,42 +63,6 @@ pub fn exchange_top(terms: &mut Terms, run: &mut Run) -> Option<()>
             Micro::Word(WordSlot::W, WordValue::Of(Wide::Of80(Pair::H))),
             Micro::Store16(WordSlot::V, WordSlot::W),
             Micro::Put(Wide::Of80(Pair::H), WordSlot::X),
-        ],
-    )
-}
-
-/// SPHL.
-pub fn hl_to_sp(terms: &mut Terms, run: &mut Run) -> Option<()>
-    requires ready { IsReady terms.old run.old }
-    requires room { length run.old.actions.items ≤ 510 }
-    ensures { GoesOn terms.old terms.new run.old run.new 24 2 (λ m. as80 m ≡ effect80 (as80 (machine_of terms.old run.old)) Instr80.Sphl) result }
-{
-    perform(
-        terms,
-        run,
-        &[
-            Micro::Word(WordSlot::W, WordValue::Of(Wide::Of80(Pair::H))),
-            Micro::Put(Wide::Of80(Pair::Sp), WordSlot::W),
-        ],
-    )
-}
-
-// PUSH of a pair of registers, which are read before SP is changed.
-fn push_pair(terms: &mut Terms, run: &mut Run, pair: Pair) -> Option<()>
-    requires ready { IsReady terms.old run.old }
-    requires room { length run.old.actions.items ≤ 510 }
-    ensures { let before = as80 (machine_of terms.old run.old) in GoesOn terms.old terms.new run.old run.new 24 2 (λ m. as80 m ≡ push before (pair_term before pair)) result }
-{
-    perform(
-        terms,
-        run,
-        &[
-            Micro::Word(WordSlot::X, WordValue::Of(Wide::Of80(pair))),
-            Micro::Word(WordSlot::W, WordValue::Of(Wide::Of80(Pair::Sp))),
-            Micro::Word(WordSlot::V, WordValue::Number(0xFFFE)),
-            Micro::Sum(WordSlot::W, WordSlot::W, WordSlot::V),
-            Micro::Put(Wide::Of80(Pair::Sp), WordSlot::W),
-            Micro::Store16(WordSlot::W, WordSlot::X),
         ],
     )
 }

@@ -4,6 +4,7 @@ use Rattle.cells.specs.declared.Place.{Place}
 use Rattle.cells.specs.declared.Place.TheVariants.{At, Exit}
 use Rattle.cells.specs.declared.Part.{Part}
 use Rattle.cells.specs.declared.Part.TheVariants.{A, B, C, D, E, H, L, S, Z, Ac, P, Cy}
+use Rattle.cells.specs.Parts.{all_parts}
 use Rattle.i80.specs.declared.Op.{Op}
 use Rattle.i80.specs.declared.Op.TheVariants.{Add, Adc, Sub, Sbb, Ana, Xra, Ora, Cmp}
 use Rattle.sym_terms.specs.declared.numbers.Kind.{Kind}
@@ -24,7 +25,7 @@ part_number P = 10
 part_number Cy = 11
 
 abbrev pub part_numbered : ℕ → Part
-part_numbered n = slice_index_or (A ∷ B ∷ C ∷ D ∷ E ∷ H ∷ L ∷ S ∷ Z ∷ Ac ∷ P ∷ Cy ∷ []) n A
+part_numbered n = slice_index_or all_parts n A
 
 abbrev pub op_number : Op → ℕ
 op_number Add = 0

@@ -3,7 +3,7 @@
 ghost use Rattle.std.specs.Prelude.{◌≡◌, slice_index_or};
 ghost use Rattle.sym_terms.specs.Numbers.{part_number, part_numbered, op_number, op_numbered, kind_number, kind_of, says_adjusted};
 
-use cells::{Part, Place};
+use cells::Part;
 use i80::Op;
 
 /// The kinds of nodes. A FlagByte has two: its own, with S and Z and the id of the other, and that one, which is no term.
@@ -53,21 +53,6 @@ const KINDS: [Kind; 19] = [
     Kind::Adjust,
     Kind::Code,
     Kind::Unknown,
-];
-
-const PARTS: [Part; 12] = [
-    Part::A,
-    Part::B,
-    Part::C,
-    Part::D,
-    Part::E,
-    Part::H,
-    Part::L,
-    Part::S,
-    Part::Z,
-    Part::Ac,
-    Part::P,
-    Part::Cy,
 ];
 
 const OPS: [Op; 8] = [
@@ -120,7 +105,7 @@ pub fn part_number(part: Part) -> u16
 pub fn part_of(number: u16) -> Part
     ensures { result ≡ part_numbered number }
 {
-    listed(&PARTS, number, Part::A)
+    listed(&Part::ALL, number, Part::A)
 }
 
 pub fn op_number(op: Op) -> u16

@@ -1,5 +1,5 @@
 // A few statements, in an array.
-ghost use Rattle.std.specs.Prelude.{◌≡◌, ◌+◌, ◌≤◌, [], ◌∷◌, ◌++◌, length};
+ghost use Rattle.std.specs.Prelude.{◌≡◌, ◌≤◌, [], ◌∷◌, length};
 
 use asm86_line_types::Stmt86;
 use std::marker::Model;

@@ -1,5 +1,5 @@
 // The lines of a text, numbered as they come.
-ghost use Rattle.std.specs.Prelude.{◌≡◌, ◌+◌, ◌^◌, ◌<◌, [], ◌∷◌, ◌++◌, length, OnOk, IsTrue};
+ghost use Rattle.std.specs.Prelude.{◌≡◌, ◌+◌, ◌^◌, ◌<◌, [], ◌∷◌, ◌++◌, length, OnOk};
 ghost use Rattle.asm86_line_types.specs.Image.{statements};
 ghost use Rattle.templates.specs.Plain.{numbered_from};
 

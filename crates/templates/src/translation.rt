@@ -1,5 +1,5 @@
 // The text of a program.
-ghost use Rattle.std.specs.Prelude.{◌≡◌, ◌<◌, ◌≤◌, ◌^◌, IfOk, IfErr, vec_len};
+ghost use Rattle.std.specs.Prelude.{◌≡◌, ◌<◌, ◌^◌, IfOk, IfErr, vec_len};
 ghost use Rattle.templates.specs.Translation.{IsText, CodeFits, HasNoText};
 
 use crate::lean::lean_text;

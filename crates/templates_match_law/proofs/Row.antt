@@ -26,9 +26,19 @@ use Rattle.templates_match_law.proofs.Moves.{Adding, pair_meets}
 abbrev pub Given : Parts → Instr80 → Type 0
 Given before i = (q : Part) → Among (uses80 i) q → Among before q
 
+-- states of terms that agree on some parts, before the instruction at an address
+pub record Agreeing : Type 0 where
+  pub before : Parts
+  pub s : Symbolic80
+  pub t : Symbolic86
+  pub x : AreSorted80 s
+  pub y : AreSorted86 t
+  pub a : Agree (Among before) s t
+  pub at : ℕ
+
 -- behind it the states agree on those and on what it defines
-abbrev pub Row : Parts → Symbolic80 → Symbolic86 → Instr80 → ℕ → Bool → Type 0
-Row before s t i at save = Agree (Adding (Among before) (defs80 i)) (effect80 s i) (all_passed t (template i at save))
+abbrev pub Row : Agreeing → Instr80 → Bool → Type 0
+Row now i save = Agree (Adding (Among now.before) (defs80 i)) (effect80 now.s i) (all_passed now.t (template i now.at save))
 
 pub in_first : (a b : Parts) (q : Part) → Among a q → Among (union a b) q
 in_first a b q c = has_union a b q ∙ or_first (has a q) (has b q) c
@@ -41,10 +51,10 @@ itself RegA = refl
 itself r = refl
 
 -- the address in HL
-pub address : (before : Parts) (s : Symbolic80) (t : Symbolic86) → AreSorted80 s → AreSorted86 t → Agree (Among before) s t → Among before H → Among before L → agrees (pair_term s PairH) (reg16_term t Bx) ≡ true
-address before s t x y a kh kl = words_agree _ _ (pair_meets PairH s t x y a of_hl)
+pub address : (now : Agreeing) → Among now.before H → Among now.before L → agrees (pair_term now.s PairH) (reg16_term now.t Bx) ≡ true
+address now kh kl = words_agree _ _ (pair_meets PairH now.s now.t now.x now.y now.a of_hl)
   where
-    of_hl : (q : Part) → Among (pair PairH) q → Among before q
+    of_hl : (q : Part) → Among (pair PairH) q → Among now.before q
     of_hl H c = kh
     of_hl L c = kl
     of_hl q c = absurd (let e : false ≡ true = c in cc)

@@ -3,7 +3,7 @@ use Rattle.std.proofs.Common.{◌≡◌, ℕ, inl, inr, Bool, true, false, cond,
 use Rattle.std.specs.Prelude.{if◌then◌else◌}
 use Rattle.cells.specs.declared.Part.{Part}
 use Rattle.cells.specs.declared.Part.TheVariants.{A, H, L, S, Z, Ac, P, Cy}
-use Rattle.cells.specs.Parts.{Parts, has, only, nothing, union, these}
+use Rattle.cells.specs.Parts.{has, only, nothing, union, these}
 use Rattle.i80.specs.declared.Reg.TheVariants.{A as RegA}
 use Rattle.i80.specs.declared.Src.{Src}
 use Rattle.i80.specs.declared.Src.TheVariants.{Reg as InReg, Mem}
@@ -19,12 +19,11 @@ use Rattle.sym_terms.specs.Making.{alu, flag, turn}
 use Rattle.sym_block_def.specs.Outcome.{Held}
 use Rattle.sym_block_def.specs.Block80.{Symbolic80, with_held, operation, carry_in, a_after, operated, cleared, source, after_source, alu_by, count_by, turn_by}
 use Rattle.sym_block_def.specs.Symbolic86.{Symbolic86, with_cf, with_reg8, with_held as with_held86, operand8, after_operand8, operated as operated86, clears_al as gives_zero86, count_op, count8}
-use Rattle.sym_block_def.specs.Sorts.{AreSorted80, AreSorted86}
 use Rattle.templates_match_law.specs.Meeting.{Meets, lost, Among, Agree}
 use Rattle.templates_match_law.specs.Rows.{unsaved}
 use Rattle.templates_match_law.proofs.Terms.{flags_meet, alus_meet, turns_meet, adjusts_meet, number_meets, meets_agree}
 use Rattle.templates_match_law.proofs.Moves.{Adding, PartsMeet, old, agree_on, agree_none, agree_both, agree_reg, reg_meets, agree_flags, agree_count_flags, agree_cy, agree_load8, agree_store8, next_bytes_meet}
-use Rattle.templates_match_law.proofs.Row.{Given, Row, in_first, in_second, itself, address}
+use Rattle.templates_match_law.proofs.Row.{Given, Agreeing, Row, in_first, in_second, itself, address}
 
 -- an operation on A: its result and flags
 
@@ -90,16 +89,18 @@ zero_same Sub (InReg RegA) = refl
 zero_same Sub (InReg r) = refl
 zero_same op from = refl
 
-module _ (before : Parts) (s : Symbolic80) (t : Symbolic86) (x : AreSorted80 s) (y : AreSorted86 t) (a : Agree (Among before) s t) (at : ℕ) (save : Bool) where
+module _ (now : Agreeing) (save : Bool) where
+  open now use {before, s, t, a}
+
   operated_with : (op : Op) (from : Src) → ((q : Part) → Among (union (union (only A) (read from)) (carry_used op)) q → Among before q) → Agree (Adding (Among before) (union (result_in_a op) five_flags)) (with_held (after_source s from) (operated op (source s from) s.held)) (operated86 (after_operand8 t (byte_operand from)) (op86 op) (operand8 t (byte_operand from)))
   operated_with op (InReg r) k =
       agree_operated op s t _ _ (reg_meets r s t a (k (part_of_reg r) (in_first (union (only A) (read (InReg r))) (carry_used op) (part_of_reg r) (in_second (only A) (read (InReg r)) (part_of_reg r) (itself r)))))
       (a.parts A (k A refl)) (λ c. a.parts Cy (k Cy (in_second (union (only A) (read (InReg r))) (carry_used op) Cy c))) a
   operated_with op Mem k =
       agree_operated op _ _ _ _ (next_bytes_meet s t a) (a.parts A (k A refl)) (λ c. a.parts Cy (k Cy (in_second (union (only A) (read Mem)) (carry_used op) Cy c)))
-      (agree_load8 s t _ _ (address before s t x y a (k H refl) (k L refl)) a)
+      (agree_load8 s t _ _ (address now (k H refl) (k L refl)) a)
 
-  pub row_alu : (op : Op) (from : Src) → Given before (AluWith op from) → Row before s t (AluWith op from) at save
+  pub row_alu : (op : Op) (from : Src) → Given before (AluWith op from) → Row now (AluWith op from) save
   row_alu op from k =
       subst (λ z. Agree (Adding (Among before) (union (result_in_a op) five_flags)) (alu_by s op from) (cond z (with_held86 t (cleared t.held)) (operated86 (after_operand8 t (byte_operand from)) (op86 op) (operand8 t (byte_operand from))))) (sym (zero_same op from))
       (by_zero (gives_zero op from) refl)
@@ -108,7 +109,7 @@ module _ (before : Parts) (s : Symbolic80) (t : Symbolic86) (x : AreSorted80 s) 
       by_zero true e = for_result op _ _ (agree_cleared s t a)
       by_zero false e = operated_with op from (λ q c. k q (ap (λ (z : Bool). has (if z then nothing else union (union (only A) (read from)) (carry_used op)) q) e ∙ c))
 
-  pub row_alui : (op : Op) (n : ℕ) → Given before (AluI op n) → Row before s t (AluI op n) at save
+  pub row_alui : (op : Op) (n : ℕ) → Given before (AluI op n) → Row now (AluI op n) save
   row_alui op n k =
       agree_operated op s t _ _ (number_meets n) (a.parts A (k A refl)) (λ c. a.parts Cy (k Cy (in_second (only A) (carry_used op) Cy c))) a
 
@@ -120,27 +121,27 @@ module _ (before : Parts) (s : Symbolic80) (t : Symbolic86) (x : AreSorted80 s) 
       agree_both (only (part_of_reg r)) unsaved _ _ (agree_count_flags _ _ _ _ m (agree_reg r s t _ _ m a))
   counted c Mem k =
       let m = alus_meet (count_op c) _ _ _ _ _ _ (next_bytes_meet s t a) (number_meets 1) (number_meets 0) in
-      let e = address before s t x y a (k H refl) (k L refl) in
+      let e = address now (k H refl) (k L refl) in
       agree_both nothing unsaved _ _ (agree_count_flags _ _ _ _ m (agree_none _ _ (agree_store8 _ _ _ _ _ _ e (meets_agree _ _ m) (agree_load8 s t _ _ e a))))
 
-  pub row_inr : (on : Src) → Given before (Inr on) → Row before s t (Inr on) at save
+  pub row_inr : (on : Src) → Given before (Inr on) → Row now (Inr on) save
   row_inr on k = counted Inc on k
 
-  pub row_dcr : (on : Src) → Given before (Dcr on) → Row before s t (Dcr on) at save
+  pub row_dcr : (on : Src) → Given before (Dcr on) → Row now (Dcr on) save
   row_dcr on k = counted Dec on k
 
-  pub row_daa : Given before Daa → Row before s t Daa at save
+  pub row_daa : Given before Daa → Row now Daa save
   row_daa k =
       let m = adjusts_meet _ _ _ _ _ _ (a.parts A (k A refl)) (a.parts Ac (k Ac refl)) (a.parts Cy (k Cy refl)) in
       agree_both (only A) five_flags _ _ (agree_flags _ _ _ _ m (agree_reg RegA s t _ _ m a))
 
-  pub row_cma : Given before Cma → Row before s t Cma at save
+  pub row_cma : Given before Cma → Row now Cma save
   row_cma k = agree_reg RegA s t _ _ (alus_meet Xra _ _ _ _ _ _ (a.parts A (k A refl)) (number_meets 0xFF) (number_meets 0)) a
 
-  pub row_stc : Row before s t Stc at save
+  pub row_stc : Row now Stc save
   row_stc = agree_cy s t _ _ (number_meets 1) a
 
-  pub row_cmc : Given before Cmc → Row before s t Cmc at save
+  pub row_cmc : Given before Cmc → Row now Cmc save
   row_cmc k = agree_cy s t _ _ (alus_meet Xra _ _ _ _ _ _ (a.parts Cy (k Cy refl)) (number_meets 1) (number_meets 0)) a
 
   turned : (kind : ℕ) (c c' : Term) → Among before A → Meets c c' → Agree (Adding (Among before) (these (A ∷ Cy ∷ []))) (turn_by s kind c) (with_cf (with_reg8 t (reg_of RegA) (turn kind t.held.a c')) (flag Cy (turn kind t.held.a c')))
@@ -148,14 +149,14 @@ module _ (before : Parts) (s : Symbolic80) (t : Symbolic86) (x : AreSorted80 s) 
       let m = turns_meet kind _ _ _ _ (a.parts A k) mc in
       agree_both (only A) (only Cy) _ _ (agree_cy _ _ _ _ (flags_meet Cy _ _ m) (agree_reg RegA s t _ _ m a))
 
-  pub row_rlc : Given before Rlc → Row before s t Rlc at save
+  pub row_rlc : Given before Rlc → Row now Rlc save
   row_rlc k = turned 0 _ _ (k A refl) (number_meets 0)
 
-  pub row_rrc : Given before Rrc → Row before s t Rrc at save
+  pub row_rrc : Given before Rrc → Row now Rrc save
   row_rrc k = turned 1 _ _ (k A refl) (number_meets 0)
 
-  pub row_ral : Given before Ral → Row before s t Ral at save
+  pub row_ral : Given before Ral → Row now Ral save
   row_ral k = turned 2 _ _ (k A refl) (a.parts Cy (k Cy refl))
 
-  pub row_rar : Given before Rar → Row before s t Rar at save
+  pub row_rar : Given before Rar → Row now Rar save
   row_rar k = turned 3 _ _ (k A refl) (a.parts Cy (k Cy refl))

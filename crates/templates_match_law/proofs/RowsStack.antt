@@ -3,7 +3,7 @@ use Rattle.std.proofs.Common.{◌≡◌, ℕ, Bool, true, refl, ap, ◌∙◌}
 use Rattle.std.proofs.lemmas.Bool.{or_right, and_from}
 use Rattle.cells.specs.declared.Part.{Part}
 use Rattle.cells.specs.declared.Part.TheVariants.{A, H, L, S, Z, Ac, P, Cy}
-use Rattle.cells.specs.Parts.{Parts, only, union}
+use Rattle.cells.specs.Parts.{only, union}
 use Rattle.i80.specs.declared.Pair.TheVariants.{B as PairB, D as PairD, H as PairH}
 use Rattle.i80.specs.declared.StackPair.{StackPair}
 use Rattle.i80.specs.declared.StackPair.TheVariants.{B as StackB, D as StackD, H as StackH, Psw}
@@ -12,15 +12,14 @@ use Rattle.i80.specs.Columns.{five_flags}
 use Rattle.sym_terms.specs.Term.{Term, Num, Loaded16, High, Low, Join, FlagByte}
 use Rattle.sym_terms.specs.Making.{sum16, join, bit}
 use Rattle.sym_block_def.specs.Outcome.{Held, with_flags_in}
-use Rattle.sym_block_def.specs.Block80.{Symbolic80, flag_byte}
-use Rattle.sym_block_def.specs.Symbolic86.{Symbolic86, next_word as next_word86}
-use Rattle.sym_block_def.specs.Sorts.{AreSorted80, AreSorted86}
+use Rattle.sym_block_def.specs.Block80.{flag_byte}
+use Rattle.sym_block_def.specs.Symbolic86.{next_word as next_word86}
 use Rattle.block_check_def.specs.Agree.{agrees, same_known}
-use Rattle.templates_match_law.specs.Meeting.{Meets, same, WordsMeet, Among, Agree}
+use Rattle.templates_match_law.specs.Meeting.{Meets, same, WordsMeet}
 use Rattle.templates_match_law.proofs.Terms.{meets_agree}
 use Rattle.templates_match_law.proofs.Words.{words_agree, sums_meet, number_words_meet}
 use Rattle.templates_match_law.proofs.Moves.{Adding, PartsMeet, old, agree_none, agree_pair, pair_meets, agree_sp, agree_beside, agree_load16, agree_store16, next_words_meet}
-use Rattle.templates_match_law.proofs.Row.{Given, Row, address}
+use Rattle.templates_match_law.proofs.Row.{Given, Agreeing, Row, address}
 
 -- A above the byte of flags
 join_flag_byte : (h s z ac p cy : Term) → join h (FlagByte s z ac p cy) ≡ Join h (FlagByte s z ac p cy)
@@ -49,14 +48,16 @@ psw_written x y k k' e m P c = same (ap (λ n. bit (Low (Loaded16 n)) P) e) refl
 psw_written x y k k' e m Cy c = same (ap (λ n. bit (Low (Loaded16 n)) Cy) e) refl
 psw_written x y k k' e m q c = m q (old c refl)
 
-module _ (before : Parts) (s : Symbolic80) (t : Symbolic86) (x : AreSorted80 s) (y : AreSorted86 t) (a : Agree (Among before) s t) (at : ℕ) (save : Bool) where
+module _ (now : Agreeing) (save : Bool) where
+  open now use {before, s, t, x, y, a}
+
   lowered : WordsMeet (sum16 s.sp (Num 0xFFFE)) (sum16 t.sp (Num 0xFFFE))
   lowered = sums_meet _ _ _ _ a.sp (number_words_meet 0xFFFE)
 
   raised : WordsMeet (sum16 s.sp (Num 2)) (sum16 t.sp (Num 2))
   raised = sums_meet _ _ _ _ a.sp (number_words_meet 2)
 
-  pub row_push : (p : StackPair) → Given before (Push p) → Row before s t (Push p) at save
+  pub row_push : (p : StackPair) → Given before (Push p) → Row now (Push p) save
   row_push StackB k = agree_none _ _ (agree_sp _ _ _ _ lowered (agree_store16 s t _ _ _ _ (words_agree _ _ lowered) (words_agree _ _ (pair_meets PairB s t x y a k)) a))
   row_push StackD k = agree_none _ _ (agree_sp _ _ _ _ lowered (agree_store16 s t _ _ _ _ (words_agree _ _ lowered) (words_agree _ _ (pair_meets PairD s t x y a k)) a))
   row_push StackH k = agree_none _ _ (agree_sp _ _ _ _ lowered (agree_store16 s t _ _ _ _ (words_agree _ _ lowered) (words_agree _ _ (pair_meets PairH s t x y a k)) a))
@@ -67,7 +68,7 @@ module _ (before : Parts) (s : Symbolic80) (t : Symbolic86) (x : AreSorted80 s) 
       (agree_store16 s t _ _ _ _ (words_agree _ _ lowered)
       (psw_agrees s.held t.held (a.parts A (k A refl)) (a.parts S (k S refl)) (a.parts Z (k Z refl)) (a.parts Ac (k Ac refl)) (a.parts P (k P refl)) (a.parts Cy (k Cy refl))) a)))
 
-  pub row_pop : (p : StackPair) → Row before s t (Pop p) at save
+  pub row_pop : (p : StackPair) → Row now (Pop p) save
   row_pop StackB = agree_pair PairB _ _ _ _ (next_words_meet s t a) (agree_sp _ _ _ _ raised (agree_load16 s t _ _ (words_agree _ _ a.sp) a))
   row_pop StackD = agree_pair PairD _ _ _ _ (next_words_meet s t a) (agree_sp _ _ _ _ raised (agree_load16 s t _ _ (words_agree _ _ a.sp) a))
   row_pop StackH = agree_pair PairH _ _ _ _ (next_words_meet s t a) (agree_sp _ _ _ _ raised (agree_load16 s t _ _ (words_agree _ _ a.sp) a))
@@ -75,10 +76,10 @@ module _ (before : Parts) (s : Symbolic80) (t : Symbolic86) (x : AreSorted80 s) 
       let b = agree_load16 s t _ _ (words_agree _ _ a.sp) a in
       record { parts = psw_written s.held t.held s.trace.loads t.trace.loads a.loads a.parts; sp = raised; actions = b.actions; loads = b.loads }
 
-  pub row_xthl : Given before Xthl → Row before s t Xthl at save
+  pub row_xthl : Given before Xthl → Row now Xthl save
   row_xthl k =
       let back : WordsMeet (sum16 (sum16 s.sp (Num 2)) (Num 0xFFFE)) (sum16 (sum16 t.sp (Num 2)) (Num 0xFFFE)) = sums_meet _ _ _ _ raised (number_words_meet 0xFFFE) in
       agree_pair PairH _ _ _ _ (next_words_meet s t a)
       (agree_beside _ _ t.ah (next_word86 t)
       (agree_sp _ _ _ _ back
-      (agree_store16 _ _ _ _ _ _ (words_agree _ _ back) (address before s t x y a (k H refl) (k L refl)) (agree_load16 s t _ _ (words_agree _ _ a.sp) a))))
+      (agree_store16 _ _ _ _ _ _ (words_agree _ _ back) (address now (k H refl) (k L refl)) (agree_load16 s t _ _ (words_agree _ _ a.sp) a))))

@@ -1,8 +1,8 @@
 -- The rows of arithmetic on words. With a save the flags go through AH; without one S, Z, AC and P are lost.
-use Rattle.std.proofs.Common.{◌≡◌, ℕ, true, false}
+use Rattle.std.proofs.Common.{◌≡◌, true, false}
 use Rattle.cells.specs.declared.Part.{Part}
 use Rattle.cells.specs.declared.Part.TheVariants.{Cy}
-use Rattle.cells.specs.Parts.{Parts, has, only}
+use Rattle.cells.specs.Parts.{has, only}
 use Rattle.i80.specs.declared.Pair.{Pair}
 use Rattle.i80.specs.declared.Pair.TheVariants.{B as PairB, D as PairD, H as PairH, Sp as PairSp}
 use Rattle.i80.specs.declared.Instr80.TheVariants.{Inx, Dcx, Dad}
@@ -15,16 +15,17 @@ use Rattle.asm86_line_types.specs.declared.line.Stmt86.TheVariants.{Run}
 use Rattle.templates.specs.Template.{word_register, saved, template}
 use Rattle.sym_terms.specs.Term.{Num, Unknown}
 use Rattle.sym_terms.specs.Making.{sum16, carry_of}
-use Rattle.sym_block_def.specs.Block80.{Symbolic80, pair_term, add_to_pair, dad, effect80, flag_byte}
-use Rattle.sym_block_def.specs.Symbolic86.{Symbolic86, reg16_term, with_reg16, with_cf, count_step}
-use Rattle.sym_block_def.specs.Sorts.{AreSorted80, AreSorted86}
+use Rattle.sym_block_def.specs.Block80.{pair_term, add_to_pair, dad, effect80, flag_byte}
+use Rattle.sym_block_def.specs.Symbolic86.{reg16_term, with_reg16, with_cf, count_step}
 use Rattle.templates_match_law.specs.Meeting.{WordsMeet, Among, Agree}
 use Rattle.templates_match_law.specs.Rows.{unsaved, all_passed, PairsMayGo}
 use Rattle.templates_match_law.proofs.Words.{sums_meet, carries_meet, number_words_meet}
 use Rattle.templates_match_law.proofs.Moves.{Adding, agree_both, agree_pair, pair_meets, agree_beside, agree_cy, agree_losing}
-use Rattle.templates_match_law.proofs.Row.{Given, Row, in_first, in_second}
+use Rattle.templates_match_law.proofs.Row.{Given, Agreeing, Row, in_first, in_second}
 
-module _ (before : Parts) (s : Symbolic80) (t : Symbolic86) (x : AreSorted80 s) (y : AreSorted86 t) (a : Agree (Among before) s t) (at : ℕ) where
+module _ (now : Agreeing) where
+  open now use {before, s, t, x, y, a, at}
+
   -- INX and DCX
 
   added : (c : Count) (p : Pair) → ((q : Part) → Among (pair p) q → Among before q) → Agree (Adding (Among before) (pair p)) (add_to_pair s p (count_step c)) (with_reg16 t (word_register p) (sum16 (reg16_term t (word_register p)) (Num (count_step c))))
@@ -50,7 +51,7 @@ module _ (before : Parts) (s : Symbolic80) (t : Symbolic86) (x : AreSorted80 s) 
       n : WordsMeet (pair_term s p) (reg16_term t (word_register p))
       n = pair_meets p s t x y a (λ q c. k q (in_second (pair PairH) (pair p) q c))
 
-  pub row_dad : (p : Pair) → Given before (Dad p) → Row before s t (Dad p) at true
+  pub row_dad : (p : Pair) → Given before (Dad p) → Row now (Dad p) true
   row_dad PairB k = agree_beside _ _ (flag_byte t.held) Unknown (summed PairB k)
   row_dad PairD k = agree_beside _ _ (flag_byte t.held) Unknown (summed PairD k)
   row_dad PairH k = agree_beside _ _ (flag_byte t.held) Unknown (summed PairH k)
@@ -59,10 +60,10 @@ module _ (before : Parts) (s : Symbolic80) (t : Symbolic86) (x : AreSorted80 s) 
   pub dad_unsaved : (p : Pair) → Given before (Dad p) → Agree (λ q. Adding (Among before) (defs80 (Dad p)) q × (has unsaved q ≡ false)) (effect80 s (Dad p)) (all_passed t (template (Dad p) at false))
   dad_unsaved p k = agree_losing _ _ (summed p k)
 
-  pub row_inx : (p : Pair) → Given before (Inx p) → Row before s t (Inx p) at true
+  pub row_inx : (p : Pair) → Given before (Inx p) → Row now (Inx p) true
   row_inx p k = counted Inc p k
 
-  pub row_dcx : (p : Pair) → Given before (Dcx p) → Row before s t (Dcx p) at true
+  pub row_dcx : (p : Pair) → Given before (Dcx p) → Row now (Dcx p) true
   row_dcx p k = counted Dec p k
 
   pub inx_unsaved : (p : Pair) → Given before (Inx p) → Agree (λ q. Adding (Among before) (defs80 (Inx p)) q × (has unsaved q ≡ false)) (effect80 s (Inx p)) (all_passed t (template (Inx p) at false))

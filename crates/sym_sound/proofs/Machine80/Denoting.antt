@@ -33,6 +33,14 @@ holds_grow s0 loads more x regs flags h =
       in_flags = (value_grows e more x.s (OneBit flags.s) h.in_flags.0, value_grows e more x.z (OneBit flags.z) h.in_flags.1, value_grows e more x.ac (OneBit flags.ac) h.in_flags.2, value_grows e more x.p (OneBit flags.p) h.in_flags.3, value_grows e more x.cy (OneBit flags.cy) h.in_flags.4);
     }
 
+-- a cell that is put into memory
+pub cell_put : (p : Program) (m : ℕ → Cell) (n : ℕ) (c : Cell) (a : ℕ) → IsCell p (m a) → IsCell p c → IsCell p (put m n c a)
+cell_put p m n c a h i = by_place (a == n)
+  where
+    by_place : (b : Bool) → IsCell p (cond b c (m a))
+    by_place true = i
+    by_place false = h
+
 module _ (p : Program) (s0 : State80) where
   -- a load: the state stays, and what is loaded is the value of the next loaded byte or word
   pub loads_byte : (loads : List Load80) (x : Symbolic80) (s : State80) (address : Term) (n : ℕ) → Denotes p s0 loads x s → n < 0x10000 → Val80 (env80 s0 loads) address (word_of n) → is_closed p n ≡ false → Denotes p s0 (loads ++ LoadedByte (s.mem n) ∷ []) (load8 x address) s
@@ -66,16 +74,9 @@ module _ (p : Program) (s0 : State80) where
   word_loaded loads x s h l d = get_last_at loads (LoadedWord h l) x.trace.loads d.count
 
   -- a store
-  cell_put : (m : ℕ → Cell) (n : ℕ) (c : Cell) → ((a : ℕ) → is_closed p a ≡ false → IsCell p (m a)) → IsCell p c → (a : ℕ) → is_closed p a ≡ false → IsCell p (put m n c a)
-  cell_put m n c h i a open_cell = by_place (a == n)
-    where
-      by_place : (b : Bool) → IsCell p (cond b c (m a))
-      by_place true = i
-      by_place false = h a open_cell
-
   pub stores_byte : (loads : List Load80) (x : Symbolic80) (s : State80) (address value : Term) (n : ℕ) (c : Cell) → Denotes p s0 loads x s → n < 0x10000 → Val80 (env80 s0 loads) address (word_of n) → Val80 (env80 s0 loads) value (Byte c) → is_write_protected p n ≡ false → IsCell p c → Denotes p s0 loads (store8 x address value) (record s { mem = put s.mem n c })
   stores_byte loads x s address value n c d lt v w may i = record {
-    is_state = record { regs = d.is_state.regs; mem = cell_put s.mem n c d.is_state.mem i; sp = d.is_state.sp };
+    is_state = record { regs = d.is_state.regs; mem = λ a o. cell_put p s.mem n c a (d.is_state.mem a o) i; sp = d.is_state.sp };
     holds = d.holds;
     sp = d.sp;
     count = d.count;
@@ -86,7 +87,7 @@ module _ (p : Program) (s0 : State80) where
 
   pub stores_word : (loads : List Load80) (x : Symbolic80) (s : State80) (address value : Term) (n : ℕ) (h l : Cell) → Denotes p s0 loads x s → n + 1 < 0x10000 → Val80 (env80 s0 loads) address (word_of n) → Val80 (env80 s0 loads) value (Word h l) → is_write_protected p n ≡ false → is_write_protected p (n + 1) ≡ false → IsCell p h → IsCell p l → Denotes p s0 loads (store16 x address value) (record s { mem = put (put s.mem n l) (n + 1) h })
   stores_word loads x s address value n h l d lt v w may_low may_high i j = record {
-    is_state = record { regs = d.is_state.regs; mem = cell_put (put s.mem n l) (n + 1) h (cell_put s.mem n l d.is_state.mem j) i; sp = d.is_state.sp };
+    is_state = record { regs = d.is_state.regs; mem = λ a o. cell_put p (put s.mem n l) (n + 1) h a (cell_put p s.mem n l a (d.is_state.mem a o) j) i; sp = d.is_state.sp };
     holds = d.holds;
     sp = d.sp;
     count = d.count;

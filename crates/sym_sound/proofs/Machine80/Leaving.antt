@@ -17,9 +17,10 @@ use Rattle.i80.specs.declared.Goal.TheVariants.{At as ToInstr, Boot as ToBoot, B
 use Rattle.dialogue.specs.declared.request.Event.{Event}
 use Rattle.dialogue.specs.declared.request.Event.TheVariants.{In as AskedIn}
 use Rattle.dialogue.specs.Run.{Answer, Ran, Asks, Stops}
+use Rattle.dialogue.specs.Words.{wrap}
 use Rattle.asm80_program_types.specs.Program.{Program, is_start}
 use Rattle.asm80_program_types.specs.Taken.{takes}
-use Rattle.cpu80_tagged_def.specs.State.{State80, wrap, num_or}
+use Rattle.cpu80_tagged_def.specs.State.{State80, num_or}
 use Rattle.cpu80_tagged_def.specs.Memory.{read_word}
 use Rattle.cpu80_tagged_def.specs.Effect.{push}
 use Rattle.cells.specs.Conditions.{is_clear, holds}

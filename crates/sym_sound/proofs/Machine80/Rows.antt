@@ -4,7 +4,7 @@ use Rattle.cells.specs.declared.Cell.{Cell}
 use Rattle.cells.specs.declared.Cell.TheVariants.{Num as NumCell}
 use Rattle.cells.specs.declared.Place.TheVariants.{At}
 use Rattle.cells.specs.declared.Rule.{Rule}
-use Rattle.i80.specs.declared.Reg.TheVariants.{A, B, C, D, E}
+use Rattle.i80.specs.declared.Reg.TheVariants.{B, C, D, E}
 use Rattle.i80.specs.declared.Src.{Src}
 use Rattle.i80.specs.declared.Src.TheVariants.{Reg as InReg, Mem}
 use Rattle.i80.specs.declared.Pair.TheVariants.{B as PairB, D as PairD, H as PairH, Sp}

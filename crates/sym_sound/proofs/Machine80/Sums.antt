@@ -1,6 +1,6 @@
 -- Counts, words, adjustment and rotation.
 use Rattle.std.proofs.Common.{◌≡◌, ℕ, zero, suc, ◌+◌, ◌-◌, ◌*◌, ◌/◌, ◌%◌, ◌<◌, Bool, true, false, cond, not, List, Some, None, Result, Ok, Err, refl, sym, ap, subst, ◌∙◌, arith}
-use Rattle.std.specs.Prelude.{nat_lt, bit_xor, ◌||◌}
+use Rattle.std.specs.Prelude.{nat_lt, ◌||◌}
 use Rattle.cells.specs.declared.Cell.{Cell}
 use Rattle.cells.specs.declared.Cell.TheVariants.{Num as NumCell}
 use Rattle.cells.specs.declared.Rule.{Rule}
@@ -16,10 +16,11 @@ use Rattle.i80.specs.declared.Op.{Op}
 use Rattle.i80.specs.declared.Op.TheVariants.{Add, Adc, Sub, Xra}
 use Rattle.base_arithmetic_def.specs.Arithmetic.{as_bit, has_even_parity, sum8, carry8, difference8, bit0, daa_result, daa_carry, daa_excepted}
 use Rattle.base_arithmetic_def.specs.Operations.{flags_by, result_of, flags_of}
-use Rattle.base_arithmetic_def.proofs.Bytes.{carry_is, inverted_is}
+use Rattle.base_arithmetic_def.proofs.Bytes.{turned_round, carry_is, inverted_is}
 use Rattle.dialogue.specs.Tried.{try_then}
+use Rattle.dialogue.specs.Words.{wrap}
 use Rattle.asm80_program_types.specs.Program.{Program}
-use Rattle.cpu80_tagged_def.specs.State.{State80, reg80, high_of, low_of, with_a as with_a80, with_num, with_flags, with_cy, wrap, num_or}
+use Rattle.cpu80_tagged_def.specs.State.{State80, reg80, high_of, low_of, with_a as with_a80, with_num, with_flags, with_cy, num_or}
 use Rattle.cpu80_tagged_def.specs.Memory.{put, address, read_at, may_write}
 use Rattle.cpu80_tagged_def.specs.Effect.{source as source80, into as into80, known, counted, inr, dcr, pair_num, add_to_pair as add80, dad as dad80, daa as daa80, cma, cmc, rlc, rrc, ral, rar, cleared as cleared80}
 use Rattle.sym_terms.specs.Term.{Term, Num, Start, Alu, Flag, Bit, Turn, Unknown, is_bit, is_word, leaves_flag, is_open}
@@ -262,10 +263,6 @@ module _ (keep : MadeTermsKeepValues) (sorts : MadeTermsHaveSorts) (p : Program)
       (sets_a loads x s r (255 - a.0) d (subst (λ k. Val80 (env80 s0 loads) r (Byte (NumCell k))) is g.byte) small)
 
   -- CMC
-  turned_round : (b : Bool) → bit_xor (as_bit b) 1 ≡ as_bit (not b)
-  turned_round true = refl
-  turned_round false = refl
-
   pub turns_cy : (loads : List Load80) (x : Symbolic80) (s t : State80) → Denotes p s0 loads x s → HeldIsSorted x.held → cmc s ≡ Ok t → Denotes p s0 loads (with_held x (record (x.held) { cy = alu Xra x.held.cy (Num 1) (Num 0) })) t
   turns_cy loads x s t d h e =
       let a = then_is (known s.flags.cy) _ t e in

@@ -5,6 +5,7 @@ use Rattle.std.proofs.lemmas.Nat.{and_le_l, or_of_8, xor_of_8}
 use Rattle.cells.specs.declared.Flags.{Flags}
 use Rattle.cells.specs.declared.Part.{Part}
 use Rattle.cells.specs.declared.Part.TheVariants.{S, Z, Ac, P, Cy}
+use Rattle.cells.specs.Bits.{has_bit}
 use Rattle.i80.specs.declared.Op.{Op}
 use Rattle.i86.specs.declared.Reg8.{Reg8}
 use Rattle.i86.specs.declared.Reg8.TheVariants.{Al, Cl, Dl, Bl, Ah, Ch, Dh, Bh}
@@ -12,7 +13,8 @@ use Rattle.i86.specs.declared.AluOp.{AluOp}
 use Rattle.i86.specs.declared.AluOp.TheVariants.{Add as Add86, Or, Adc, Sbb, And, Sub as Sub86, Xor, Cmp}
 use Rattle.base_arithmetic_def.specs.Arithmetic.{as_bit, borrow4}
 use Rattle.base_arithmetic_def.specs.Operations.{result_of, flags_of}
-use Rattle.cpu86_def.specs.State.{State86, Flags86, bit_of}
+use Rattle.base_arithmetic_def.proofs.Bytes.{bit_small}
+use Rattle.cpu86_def.specs.State.{State86, Flags86}
 use Rattle.cpu86_def.specs.Flags.{alu_result, alu_flags}
 use Rattle.cpu86_def.specs.Effect.{set8, stores_result, alu_al as alu_al86}
 use Rattle.sym_terms.specs.Term.{Term, Num, Alu, is_byte, is_bit, is_flag, leaves_flag, is_open}
@@ -27,11 +29,6 @@ use Rattle.sym_block_def.specs.Symbolic86.{Symbolic86, reg8_term, with_held, wit
 use Rattle.simulation_def.specs.Runs86.{with_loads, FlagsHold86}
 use Rattle.sym_sound.proofs.Machine86.Denoting.{Denotes, sets_byte, sets_flags}
 use Rattle.sym_sound.proofs.Machine86.Words86.{HasSorts}
-
--- a bit is 0 or 1
-pub bit_small : (b : Bool) → as_bit b < 2
-bit_small true = omega arith
-bit_small false = omega arith
 
 -- the machine's flags are such as the operation's flags may be: a flag of it that is not known is either
 pub record MayHave (f : Flags) (g : Flags86) : Type 0 where
@@ -59,12 +56,12 @@ alu_result_is Cmp x y c = refl
 
 alu_may : (op : AluOp) (x y : ℕ) (c : Bool) (choice : ℕ) → MayHave (flags_of (operation (op_of op)) x y (as_bit (takes op c))) (alu_flags op x y c choice)
 alu_may Add86 x y c choice = record { s = refl; z = refl; ac = refl; p = refl; cy = refl }
-alu_may Or x y c choice = record { s = refl; z = refl; ac = bit_small (bit_of choice 0); p = refl; cy = refl }
+alu_may Or x y c choice = record { s = refl; z = refl; ac = bit_small (has_bit choice 0); p = refl; cy = refl }
 alu_may Adc x y c choice = record { s = refl; z = refl; ac = refl; p = refl; cy = refl }
 alu_may Sbb x y c choice = record { s = refl; z = refl; ac = bit_small (borrow4 x y (as_bit c)); p = refl; cy = refl }
-alu_may And x y c choice = record { s = refl; z = refl; ac = bit_small (bit_of choice 0); p = refl; cy = refl }
+alu_may And x y c choice = record { s = refl; z = refl; ac = bit_small (has_bit choice 0); p = refl; cy = refl }
 alu_may Sub86 x y c choice = record { s = refl; z = refl; ac = bit_small (borrow4 x y 0); p = refl; cy = refl }
-alu_may Xor x y c choice = record { s = refl; z = refl; ac = bit_small (bit_of choice 0); p = refl; cy = refl }
+alu_may Xor x y c choice = record { s = refl; z = refl; ac = bit_small (has_bit choice 0); p = refl; cy = refl }
 alu_may Cmp x y c choice = record { s = refl; z = refl; ac = bit_small (borrow4 x y 0); p = refl; cy = refl }
 
 alu_small : (op : AluOp) (x y : ℕ) (c : Bool) → x < 256 → y < 256 → alu_result op x y c < 256

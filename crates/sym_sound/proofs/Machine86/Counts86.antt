@@ -1,6 +1,6 @@
 -- Counts, words, rotations, adjustment and the byte of flags.
 use Rattle.std.proofs.Common.{◌≡◌, ℕ, ◌+◌, ◌-◌, ◌*◌, ◌/◌, ◌%◌, ◌<◌, Bool, true, false, cond, not, List, Some, None, refl, sym, ap, subst, ◌∙◌, arith, ◌==◌}
-use Rattle.std.specs.Prelude.{bit_xor, nat_lt, ◌||◌}
+use Rattle.std.specs.Prelude.{nat_lt, ◌||◌}
 use Rattle.cells.specs.declared.Flags.{Flags}
 use Rattle.cells.specs.declared.Part.TheVariants.{S, Z, Ac, P, Cy}
 use Rattle.cells.specs.Bits.{has_bit}
@@ -17,8 +17,9 @@ use Rattle.i86.specs.declared.Rotate.{Rotate}
 use Rattle.i86.specs.declared.Rotate.TheVariants.{Rol, Ror, Rcl, Rcr}
 use Rattle.base_arithmetic_def.specs.Arithmetic.{as_bit, has_even_parity, sum8, carry8, difference8, borrow4, turned_left, turned_right, bit7, bit0, daa_adds_6, daa_result, daa_carry, daa_excepted}
 use Rattle.base_arithmetic_def.specs.Operations.{flags_by as flags_by80, result_of, flags_of}
-use Rattle.base_arithmetic_def.proofs.Bytes.{tested, carry_is, inverted_is}
-use Rattle.cpu86_def.specs.State.{State86, Flags86, reg8, reg16, with16, byte_of, bit_of, operand8 as operand86, with_operand8}
+use Rattle.base_arithmetic_def.proofs.Bytes.{bit_small, turned_round, flag_bits, carry_is, inverted_is}
+use Rattle.dialogue.specs.Choice.{byte_of}
+use Rattle.cpu86_def.specs.State.{State86, Flags86, reg8, reg16, with16, operand8 as operand86, with_operand8}
 use Rattle.cpu86_def.specs.Flags.{flags_by, alu_flags, count8_flags, count16_flags, add16_flags, rotate8_result, rotate8_carry, rotate16_result, bit15, chosen_flags, flag_byte as flag_byte86, flags_of_byte}
 use Rattle.cpu86_def.specs.Effect.{set8, with_flags, with_cf as with_cf86, or_cl as or_cl86, count8 as count8_86, count16 as count16_86, add16 as add16_86, rotate8 as rotate8_86, rotate16 as rotate16_86, daa as daa86}
 use Rattle.sym_terms.specs.Term.{Term, Num, Turn, Turned, Adjust, Unknown, is_bit, is_word, leaves_flag, is_open}
@@ -33,7 +34,7 @@ use Rattle.sym_block_def.specs.Symbolic86.{Symbolic86, reg8_term, with_reg8, reg
 use Rattle.simulation_def.specs.Runs86.{with_loads}
 use Rattle.sym_sound.proofs.Machine86.Denoting.{Denotes, sets_byte, sets_flags}
 use Rattle.sym_sound.proofs.Machine86.Words86.{Denoted, HasSorts, reg8_sorted, reg16_value, reg16_sorted, reg16_small, sets_word, fetches, puts}
-use Rattle.sym_sound.proofs.Machine86.Alu86.{bit_small, MayHave, Gives, alu_gives, all_flags, count_flags, same_flags_of, same_count_flags, same_cy, same_lost, same_in, same_cleared}
+use Rattle.sym_sound.proofs.Machine86.Alu86.{MayHave, Gives, alu_gives, all_flags, count_flags, same_flags_of, same_count_flags, same_cy, same_lost, same_in, same_cleared}
 
 zero_is_even : has_even_parity 0 ≡ true
 unfolding lib.Count.ones
@@ -44,10 +45,6 @@ sum_small x = omega arith
 
 difference_small : (x : ℕ) → difference8 x 1 0 < 256
 difference_small x = omega arith
-
-turned_round : (b : Bool) → bit_xor (as_bit b) 1 ≡ as_bit (not b)
-turned_round true = refl
-turned_round false = refl
 
 -- bytes that are rotated
 left_small : (n c : ℕ) → turned_left n c < 256
@@ -89,10 +86,6 @@ bit15_is n lt = by_bit (bit15 n) refl
     by_bit true h = grind (arith, h, lt)
     by_bit false h = grind (arith, h, lt)
 
--- the byte that LAHF makes has the flags in their bits
-bits_are : (s z c2 a c1 p c0 k : ℕ) → s < 2 → z < 2 → c2 < 2 → a < 2 → c1 < 2 → p < 2 → c0 < 2 → k < 2 → (n : ℕ) → n ≡ 128 * s + 64 * z + 32 * c2 + 16 * a + 8 * c1 + 4 * p + 2 * c0 + k → (n < 256) × ((n / 128) % 2 ≡ s) × ((n / 64) % 2 ≡ z) × ((n / 16) % 2 ≡ a) × ((n / 4) % 2 ≡ p) × (n % 2 ≡ k)
-bits_are s z c2 a c1 p c0 k hs hz h2 ha h1 hp h0 hk n e = (omega (arith, e), omega (arith, e), omega (arith, e), omega (arith, e), omega (arith, e), omega (arith, e))
-
 module _ (keep : MadeTermsKeepValues) (sorts : MadeTermsHaveSorts) (e : Env86) (s0 : State86) where
   -- CF alone
   pub sets_cf : (loads : List Load86) (x : Symbolic86) (s : State86) (c : Term) (b : Bool) → Denotes e s0 loads x s → Val86 (with_loads e loads) c (Number (as_bit b)) → Denotes e s0 loads (with_cf x c) (with_cf86 s b)
@@ -118,7 +111,7 @@ module _ (keep : MadeTermsKeepValues) (sorts : MadeTermsHaveSorts) (e : Env86) (
       let stored = sets_byte e s0 loads x s Cl r n d (or_small c (d.is_state.regs Cl)) g.number in
       let held = record (x.held) { c = r } in
       sets_flags e s0 loads (with_held x held) (set8 s Cl n) (with_flags_of r held) (alu_flags Or c c s.flags.cf choice) stored (same_flags_of x held r)
-      (all_flags keep sorts now r held n (flags_of Ora c c 0) (alu_flags Or c c s.flags.cf choice) g (record { s = refl; z = refl; ac = bit_small (bit_of choice 0); p = refl; cy = refl }))
+      (all_flags keep sorts now r held n (flags_of Ora c c 0) (alu_flags Or c c s.flags.cf choice) g (record { s = refl; z = refl; ac = bit_small (has_bit choice 0); p = refl; cy = refl }))
     where
       or_small : (n : ℕ) → n < 256 → result_of Ora n n 0 < 256
       or_small n lt = Rattle.std.proofs.lemmas.Nat.or_of_8 n n lt lt
@@ -352,22 +345,16 @@ module _ (keep : MadeTermsKeepValues) (sorts : MadeTermsHaveSorts) (e : Env86) (
   loads_flags loads x s choice d =
       let f = s.flags in
       let n = flag_byte86 f choice in
-      let b = bits_are (as_bit f.sf) (as_bit f.zf) (as_bit (bit_of choice 2)) (as_bit f.af) (as_bit (bit_of choice 1)) (as_bit f.pf) (as_bit (bit_of choice 0)) (as_bit f.cf) (bit_small f.sf) (bit_small f.zf) (bit_small (bit_of choice 2)) (bit_small f.af) (bit_small (bit_of choice 1)) (bit_small f.pf) (bit_small (bit_of choice 0)) (bit_small f.cf) n refl in
+      let b = flag_bits n f.sf f.zf (has_bit choice 2) f.af (has_bit choice 1) f.pf (has_bit choice 0) f.cf refl in
       let v = d.in_flags in
       let now = with_loads e loads in
-      let is_s : has_bit n 7 ≡ f.sf = tested ((n / 128) % 2) f.sf b.1 in
-      let is_z : has_bit n 6 ≡ f.zf = tested ((n / 64) % 2) f.zf b.2 in
-      let is_a : has_bit n 4 ≡ f.af = tested ((n / 16) % 2) f.af b.3 in
-      let is_p : has_bit n 2 ≡ f.pf = tested ((n / 4) % 2) f.pf b.4 in
-      let whole : n / 1 ≡ n = omega arith in
-      let is_c : has_bit n 0 ≡ f.cf = tested ((n / 1) % 2) f.cf (ap (λ k. k % 2) whole ∙ b.5) in
       sets_byte e s0 loads x s Ah (flag_byte x.held) n d b.0 (
         b.0,
-        subst (λ q. Val86 now x.held.s (Number (as_bit q))) (sym is_s) v.0,
-        subst (λ q. Val86 now x.held.z (Number (as_bit q))) (sym is_z) v.1,
-        subst (λ q. Val86 now x.held.ac (Number (as_bit q))) (sym is_a) v.2,
-        subst (λ q. Val86 now x.held.p (Number (as_bit q))) (sym is_p) v.3,
-        subst (λ q. Val86 now x.held.cy (Number (as_bit q))) (sym is_c) v.4,
+        subst (λ q. Val86 now x.held.s (Number (as_bit q))) (sym b.1) v.0,
+        subst (λ q. Val86 now x.held.z (Number (as_bit q))) (sym b.2) v.1,
+        subst (λ q. Val86 now x.held.ac (Number (as_bit q))) (sym b.3) v.2,
+        subst (λ q. Val86 now x.held.p (Number (as_bit q))) (sym b.4) v.3,
+        subst (λ q. Val86 now x.held.cy (Number (as_bit q))) (sym b.5) v.4,
       )
 
   pub stores_flags : (loads : List Load86) (x : Symbolic86) (s : State86) → Denotes e s0 loads x s → HasSorts x → Denotes e s0 loads (with_held x (with_flags_in x.ah x.held)) (with_flags s (flags_of_byte s.regs.ah))

@@ -4,8 +4,9 @@ use Rattle.std.proofs.lemmas.List.{length-append, append-nil}
 use Rattle.i86.specs.declared.Reg8.{Reg8}
 use Rattle.i86.specs.declared.Reg8.TheVariants.{Al, Cl, Dl, Bl, Ah, Ch, Dh, Bh}
 use Rattle.base_arithmetic_def.specs.Arithmetic.{as_bit}
-use Rattle.dialogue.specs.ByteMemory.{put}
-use Rattle.cpu86_def.specs.State.{State86, Flags86, reg8, wrap, put_word, word_at}
+use Rattle.dialogue.specs.ByteMemory.{put, word_at}
+use Rattle.dialogue.specs.Words.{wrap}
+use Rattle.cpu86_def.specs.State.{State86, Flags86, reg8, put_word}
 use Rattle.cpu86_def.specs.Effect.{set8, with_flags}
 use Rattle.sym_terms.specs.Term.{Term, Loaded8, Loaded16}
 use Rattle.sym_terms.specs.Values86.{Env86, Load86, LoadedByte, LoadedWord, Number, Val86}
@@ -131,45 +132,26 @@ module _ (e : Env86) (s0 : State86) where
   flags_stay x f d Dh t h = h
   flags_stay x f d Bh t h = h
 
-  si_stays : (x : Symbolic86) (r : Reg8) (t : Term) → (with_reg8 x r t).si ≡ x.si
-  si_stays x Al t = refl
-  si_stays x Cl t = refl
-  si_stays x Dl t = refl
-  si_stays x Bl t = refl
-  si_stays x Ah t = refl
-  si_stays x Ch t = refl
-  si_stays x Dh t = refl
-  si_stays x Bh t = refl
-
-  sp_stays : (x : Symbolic86) (r : Reg8) (t : Term) → (with_reg8 x r t).sp ≡ x.sp
-  sp_stays x Al t = refl
-  sp_stays x Cl t = refl
-  sp_stays x Dl t = refl
-  sp_stays x Bl t = refl
-  sp_stays x Ah t = refl
-  sp_stays x Ch t = refl
-  sp_stays x Dh t = refl
-  sp_stays x Bh t = refl
-
-  trace_stays : (x : Symbolic86) (r : Reg8) (t : Term) → (with_reg8 x r t).trace ≡ x.trace
-  trace_stays x Al t = refl
-  trace_stays x Cl t = refl
-  trace_stays x Dl t = refl
-  trace_stays x Bl t = refl
-  trace_stays x Ah t = refl
-  trace_stays x Ch t = refl
-  trace_stays x Dh t = refl
-  trace_stays x Bh t = refl
+  -- so do SI, SP, and the loads and stores so far
+  others_stay : (x : Symbolic86) (r : Reg8) (t : Term) → ((with_reg8 x r t).si ≡ x.si) × ((with_reg8 x r t).sp ≡ x.sp) × ((with_reg8 x r t).trace ≡ x.trace)
+  others_stay x Al t = (refl, refl, refl)
+  others_stay x Cl t = (refl, refl, refl)
+  others_stay x Dl t = (refl, refl, refl)
+  others_stay x Bl t = (refl, refl, refl)
+  others_stay x Ah t = (refl, refl, refl)
+  others_stay x Ch t = (refl, refl, refl)
+  others_stay x Dh t = (refl, refl, refl)
+  others_stay x Bh t = (refl, refl, refl)
 
   pub sets_byte : (loads : List Load86) (x : Symbolic86) (s : State86) (r : Reg8) (t : Term) (n : ℕ) → Denotes e s0 loads x s → n < 256 → Val86 (with_loads e loads) t (Number n) → Denotes e s0 loads (with_reg8 x r t) (set8 s r n)
   sets_byte loads x s r t n d lt v = record {
     is_state = record { regs = each_written (λ u k. k < 256) x s.regs r t n lt d.is_state.regs; mem = d.is_state.mem; sp = d.is_state.sp; si = d.is_state.si; ds = d.is_state.ds };
     in_regs = each_written (λ u k. Val86 (with_loads e loads) u (Number k)) x s.regs r t n v d.in_regs;
     in_flags = flags_stay x s.flags (with_loads e loads) r t d.in_flags;
-    si = subst (λ u. Val86 (with_loads e loads) u (Number s.si)) (sym (si_stays x r t)) d.si;
-    sp = subst (λ u. Val86 (with_loads e loads) u (Number s.sp)) (sym (sp_stays x r t)) d.sp;
-    count = d.count ∙ ap (λ (u : Trace). u.loads) (sym (trace_stays x r t));
-    memory = subst (λ (u : Trace). Replays86 (with_loads e []) s0.mem u.actions loads s.mem) (sym (trace_stays x r t)) d.memory;
+    si = subst (λ u. Val86 (with_loads e loads) u (Number s.si)) (sym (others_stay x r t).0) d.si;
+    sp = subst (λ u. Val86 (with_loads e loads) u (Number s.sp)) (sym (others_stay x r t).1) d.sp;
+    count = d.count ∙ ap (λ (u : Trace). u.loads) (sym (others_stay x r t).2);
+    memory = subst (λ (u : Trace). Replays86 (with_loads e []) s0.mem u.actions loads s.mem) (sym (others_stay x r t).2) d.memory;
     dma = d.dma;
     ds = d.ds;
     ss = d.ss;

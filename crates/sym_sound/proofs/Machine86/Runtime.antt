@@ -9,12 +9,13 @@ use Rattle.i86.specs.declared.Instr86.{Instr86}
 use Rattle.i86.specs.declared.Instr86.TheVariants.{MovReg8, MovNum8, OrClCl, Jcc, Ret, Int224}
 use Rattle.i86.specs.Code.{ReadsCode}
 use Rattle.dialogue.specs.Run.{Ran, choice_at}
+use Rattle.dialogue.specs.Words.{wrap}
 use Rattle.asm86_line_types.specs.declared.line.Label.TheVariants.{Sys, End}
 use Rattle.asm86_line_types.specs.declared.line.Stmt86.TheVariants.{Mark, Run, Jcc as JccTo}
 use Rattle.asm86_line_types.specs.declared.line.Line86.{Line86}
 use Rattle.asm86_line_types.specs.Layout.{sizes_of, offset_of, place_of, distance8}
 use Rattle.asm86_line_types.specs.Image.{Assembles, image_of, statements}
-use Rattle.cpu86_def.specs.State.{State86, wrap}
+use Rattle.cpu86_def.specs.State.{State86}
 use Rattle.cpu86_def.specs.Effect.{distance, jump_by, effect}
 use Rattle.cpu86_def.specs.Call.{call_system}
 use Rattle.cpu86_def.specs.Step.{step86}

@@ -1,6 +1,5 @@
 -- Walks, from each state at a block's label.
 use Rattle.std.proofs.Common.{◌≡◌, ℕ, ◌*◌, Bool, true, false, cond, List, [], Option, Some, None, Ok, refl, sym, subst, ◌∙◌, ◌⊎◌, inl, inr}
-use Rattle.cells.specs.declared.Place.{Place}
 use Rattle.cells.specs.declared.Part.{Part}
 use Rattle.cells.specs.declared.Part.TheVariants.{A, B, C, D, E, H, L, S, Z, Ac, P, Cy}
 use Rattle.cells.specs.Parts.{Parts, has}
@@ -8,13 +7,9 @@ use Rattle.i80.specs.declared.Reg.{Reg}
 use Rattle.i80.specs.declared.Reg.TheVariants.{A as RegA, B as RegB, C as RegC, D as RegD, E as RegE, H as RegH, L as RegL}
 use Rattle.i86.specs.declared.Reg8.{Reg8}
 use Rattle.i86.specs.declared.Reg8.TheVariants.{Al, Cl, Dl, Bl, Ah, Ch, Dh, Bh}
-use Rattle.i86.specs.declared.Instr86.{Instr86}
-use Rattle.i86.specs.Code.{ReadsCode}
 use Rattle.asm86_line_types.specs.declared.line.Label.TheVariants.{At}
 use Rattle.asm86_line_types.specs.declared.line.Stmt86.{Stmt86}
-use Rattle.asm86_line_types.specs.declared.line.Line86.{Line86}
-use Rattle.asm86_line_types.specs.Image.{Assembles, image_of, statements}
-use Rattle.asm80_program_types.specs.Program.{Program}
+use Rattle.asm86_line_types.specs.Image.{statements}
 use Rattle.cpu86_def.specs.State.{State86, reg8}
 use Rattle.templates.specs.Template.{reg_of}
 use Rattle.sym_terms.specs.Term.{Start, Unknown}
@@ -25,12 +20,13 @@ use Rattle.sym_block_def.specs.Outcome.{Outcome}
 use Rattle.sym_block_def.specs.Block80.{reg_term, instrs_from}
 use Rattle.sym_block_def.specs.Symbolic86.{Symbolic86, reg8_term, start_if, start86}
 use Rattle.sym_block_def.specs.Walk86.{Surroundings, after_label, Met, EndsAt, Instruction, Nothing, met, walk_some, walk_behind, surroundings}
-use Rattle.sym_block_def.specs.Sorts.{StatementsAreCoded, StepsKeepSorts}
+use Rattle.sym_block_def.specs.Sorts.{StepsKeepSorts}
 use Rattle.simulation_def.specs.States.{IsState86}
 use Rattle.simulation_def.specs.Runs86.{part86, IsEnv86, with_loads, Leaves86, LeavesAsking86, WalkRuns86, offsets_of, WalksRun86}
 use Rattle.sym_sound.proofs.Machine86.Denoting.{Denotes}
 use Rattle.sym_sound.proofs.Machine86.Positions.{Position, offsets_are, behind_is, MetAt, met_at}
 use Rattle.dialogue.proofs.Tried.{err_is_not}
+use Rattle.sym_sound.proofs.Machine86.Walking.{Walk}
 use Rattle.sym_sound.proofs.Machine86.Walks.{Leaves, arrives, asks, IsAsked, WalkRuns, walk_runs}
 
 -- the start of a walk
@@ -92,8 +88,10 @@ regs_held e x s h RegE = h Dl
 regs_held e x s h RegH = h Bh
 regs_held e x s h RegL = h Bl
 
-module _ (keep : MadeTermsKeepValues) (sorts : MadeTermsHaveSorts) (steps : StepsKeepSorts) (p : Program) (lines : List Line86) (a : Assembles lines) (coded : StatementsAreCoded (statements lines)) (fetch : ℕ → Option Instr86) (reads : ReadsCode (image_of lines).code fetch) (w : Surroundings) (same_text : w.text ≡ statements lines) (same_next : w.goes_on ≡ Rattle.asm80_program_types.specs.Program.is_start p w.after) (choices : List ℕ) (e : Env86) (offsets : (q : Place) → e.offset q ≡ offsets_of lines (Rattle.sym_block_def.specs.Stands.label_of q)) (s : State86) (segments : s.ss ≡ s.ds) where
-  as_outcome : (used count : ℕ) (o : Outcome) → WalkRuns keep sorts steps p lines a coded fetch reads w same_text same_next choices e offsets s segments 1 (10 * count) used s o → WalkRuns86 p fetch (offsets_of lines) choices used count o s e
+module _ (walk : Walk) where
+  open walk use {steps, p, lines, fetch, w, choices, e, s0 as s}
+
+  as_outcome : (used count : ℕ) (o : Outcome) → WalkRuns walk 1 (10 * count) used s o → WalkRuns86 p fetch (offsets_of lines) choices used count o s e
   as_outcome used count o r = subst (λ (q : Outcome). WalkRuns86 p fetch (offsets_of lines) choices used count q s e) r.is (record {
     steps = r.count;
     arrived = r.arrived;
@@ -114,17 +112,17 @@ module _ (keep : MadeTermsKeepValues) (sorts : MadeTermsHaveSorts) (steps : Step
     direct = λ h. asking r.leaves (r.is_asked h);
   })
     where
-      leaves : Leaves keep sorts steps p lines a coded fetch reads w same_text same_next choices e offsets s segments r.direct 1 (10 * count) r.count (with_loads e r.loads) r.ended r.way r.arrived → Leaves86 p fetch (offsets_of lines) count (with_loads e r.loads) r.ended r.way r.count r.arrived ⊎ LeavesAsking86 p fetch (offsets_of lines) count r.direct r.ended r.way r.count r.arrived
+      leaves : Leaves walk r.direct 1 (10 * count) r.count (with_loads e r.loads) r.ended r.way r.arrived → Leaves86 p fetch (offsets_of lines) count (with_loads e r.loads) r.ended r.way r.count r.arrived ⊎ LeavesAsking86 p fetch (offsets_of lines) count r.direct r.ended r.way r.count r.arrived
       leaves (arrives low few l) = inl (record { some = low; few = few; leads = l })
       leaves (asks few l) = inr (record { few = few; asks = l })
 
-      asking : (l : Leaves keep sorts steps p lines a coded fetch reads w same_text same_next choices e offsets s segments r.direct 1 (10 * count) r.count (with_loads e r.loads) r.ended r.way r.arrived) → IsAsked keep sorts steps p lines a coded fetch reads w same_text same_next choices e offsets s segments r.direct 1 (10 * count) r.count (with_loads e r.loads) r.ended r.way r.arrived l → LeavesAsking86 p fetch (offsets_of lines) count r.direct r.ended r.way r.count r.arrived
+      asking : (l : Leaves walk r.direct 1 (10 * count) r.count (with_loads e r.loads) r.ended r.way r.arrived) → IsAsked walk r.direct 1 (10 * count) r.count (with_loads e r.loads) r.ended r.way r.arrived l → LeavesAsking86 p fetch (offsets_of lines) count r.direct r.ended r.way r.count r.arrived
       asking (arrives low few l) h = absurd h
       asking (asks few l) h = record { few = few; asks = l }
 
   runs_some : (kept : Parts) (used count : ℕ) (m : Met) (o : Outcome) → Denotes e s [] (start86 kept) s → MetAt (statements lines) s.ip m → walk_some w (10 * count) m (start86 kept) ≡ Ok o → WalkRuns86 p fetch (offsets_of lines) choices used count o s e
   runs_some kept used count (EndsAt l) o d q h = absurd (err_is_not Length o h)
-  runs_some kept used count (Instruction x rest) o d q h = as_outcome used count o (walk_runs keep sorts steps p lines a coded fetch reads w same_text same_next choices e offsets s segments [] (start86 kept) (10 * count) used (Instruction x rest) s o d (steps.start86 kept) q h)
+  runs_some kept used count (Instruction x rest) o d q h = as_outcome used count o (walk_runs walk [] (start86 kept) (10 * count) used (Instruction x rest) s o d (steps.start86 kept) q h)
   runs_some kept used count Nothing o d q h = absurd (err_is_not Rattle.sym_block_def.specs.declared.reason.Reason.TheVariants.Form o h)
 
 pub walks_run : MadeTermsKeepValues → MadeTermsHaveSorts → StepsKeepSorts → WalksRun86
@@ -140,7 +138,26 @@ walks_run keep sorts steps p lines fetch kept first count o choices used s e a c
         let b = behind_is (statements lines) xs (At first) f in
         let same : b.0 ≡ s.ip = some_is b.0 s.ip (sym b.1 ∙ sym (offsets_are lines (At first)) ∙ here) in
         let around = surroundings p (statements lines) first (instrs_from p first count) in
-        runs_some keep sorts steps p lines a coded fetch reads around refl refl choices e env.offsets s segments kept used count (met around xs) o (at_start kept (offsets_of lines) s e is env) (met_at around (statements lines) xs s.ip a.once (subst (Position (statements lines) xs) same b.2)) g
+        let walk : Walk = record {
+          keep = keep;
+          sorts = sorts;
+          steps = steps;
+          p = p;
+          lines = lines;
+          a = a;
+          coded = coded;
+          fetch = fetch;
+          reads = reads;
+          w = around;
+          same_text = refl;
+          same_start = refl;
+          choices = choices;
+          e = e;
+          offsets = env.offsets;
+          s0 = s;
+          segments = segments;
+        } in
+        runs_some walk kept used count (met around xs) o (at_start kept (offsets_of lines) s e is env) (met_at around (statements lines) xs s.ip a.once (subst (Position (statements lines) xs) same b.2)) g
       where
         some_is : (x y : ℕ) → Some x ≡ Some y → x ≡ y
         some_is x y e = cc

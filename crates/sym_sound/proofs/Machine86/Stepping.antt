@@ -12,11 +12,12 @@ use Rattle.i86.specs.declared.Instr86.TheVariants.{MovReg8, MovMem8, MovAlDirect
 use Rattle.i86.specs.Code.{HasBytes, ReadsCode}
 use Rattle.i86.specs.Enc86.{enc86, reg_of_stack}
 use Rattle.dialogue.specs.Run.{Ran, Stops}
+use Rattle.dialogue.specs.Words.{wrap}
 use Rattle.asm86_line_types.specs.declared.line.Stmt86.{Stmt86}
 use Rattle.asm86_line_types.specs.declared.line.Line86.{Line86}
 use Rattle.asm86_line_types.specs.Layout.{size_of, place_of, distance8, instr_of, enc_of, code_of}
 use Rattle.asm86_line_types.specs.Image.{Assembles, image_of, statements, jump_reaches}
-use Rattle.cpu86_def.specs.State.{State86, wrap, reg16, with16, with_operand8}
+use Rattle.cpu86_def.specs.State.{State86, reg16, with16, with_operand8}
 use Rattle.cpu86_def.specs.Effect.{distance, effect}
 use Rattle.cpu86_def.specs.Call.{StackSegment}
 use Rattle.cpu86_def.specs.Step.{uses_stack, act, act_from, act_at, step86}

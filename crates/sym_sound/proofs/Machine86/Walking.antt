@@ -12,6 +12,8 @@ use Rattle.i86.specs.Code.{ReadsCode}
 use Rattle.dialogue.proofs.Tried.{ok_is, err_is_not}
 use Rattle.base_arithmetic_def.specs.Arithmetic.{as_bit}
 use Rattle.dialogue.specs.Run.{Ran, choice_at}
+use Rattle.dialogue.specs.Words.{word, wrap}
+use Rattle.dialogue.specs.ByteMemory.{word_at}
 use Rattle.asm86_line_types.specs.declared.line.Label.{Label}
 use Rattle.asm86_line_types.specs.declared.line.Label.TheVariants.{At, Skip, User, Sys, End}
 use Rattle.asm86_line_types.specs.declared.line.Stmt86.{Stmt86}
@@ -20,7 +22,7 @@ use Rattle.asm86_line_types.specs.declared.line.Line86.{Line86}
 use Rattle.asm86_line_types.specs.Layout.{offset_of, place_of, distance16, distance8}
 use Rattle.asm86_line_types.specs.Image.{Assembles, image_of, statements, AllDefined, used_in}
 use Rattle.asm80_program_types.specs.Program.{Program, is_start}
-use Rattle.cpu86_def.specs.State.{State86, Flags86, wrap, word, word_at, push}
+use Rattle.cpu86_def.specs.State.{State86, Flags86, push}
 use Rattle.cpu86_def.specs.Flags.{jumps}
 use Rattle.cpu86_def.specs.Step.{step86, machine86}
 use Rattle.sym_terms.specs.Term.{High, Low, Loaded16, same_bool}
@@ -86,7 +88,30 @@ jumps_where Jns f = (f.sf, λ e x h. h.0, not_as f.sf)
 jumps_where Jp f = (f.pf, λ e x h. h.3, same_as f.pf)
 jumps_where Jnp f = (f.pf, λ e x h. h.3, not_as f.pf)
 
-module _ (keep : MadeTermsKeepValues) (sorts : MadeTermsHaveSorts) (steps : StepsKeepSorts) (p : Program) (lines : List Line86) (a : Assembles lines) (coded : StatementsAreCoded (statements lines)) (fetch : ℕ → Option Instr86) (reads : ReadsCode (image_of lines).code fetch) (w : Surroundings) (same_text : w.text ≡ statements lines) (same_start : w.goes_on ≡ is_start p w.after) (choices : List ℕ) (e : Env86) (offsets : (q : Place) → e.offset q ≡ offsets_of lines (label_of q)) (s0 : State86) (segments : s0.ss ≡ s0.ds) where
+-- A walk of a text and the machine that runs it: the laws of terms, the text with what reads it, the surroundings of the walk, the
+-- choices, and the state in which the machine begins.
+pub record Walk : Type 0 where
+  pub keep : MadeTermsKeepValues
+  pub sorts : MadeTermsHaveSorts
+  pub steps : StepsKeepSorts
+  pub p : Program
+  pub lines : List Line86
+  pub a : Assembles lines
+  pub coded : StatementsAreCoded (statements lines)
+  pub fetch : ℕ → Option Instr86
+  pub reads : ReadsCode (image_of lines).code fetch
+  pub w : Surroundings
+  pub same_text : w.text ≡ statements lines
+  pub same_start : w.goes_on ≡ is_start p w.after
+  pub choices : List ℕ
+  pub e : Env86
+  pub offsets : (q : Place) → e.offset q ≡ offsets_of lines (label_of q)
+  pub s0 : State86
+  pub segments : s0.ss ≡ s0.ds
+
+module _ (walk : Walk) where
+  open walk use {steps, p, lines, a, fetch, reads, w, same_text, same_start, choices, e, s0, segments}
+
   -- a label at its offset
   at_offset : (l : Label) (n : ℕ) → offset_of (statements lines) l ≡ Some n → offsets_of lines l ≡ Some n
   at_offset l n h = offsets_are lines l ∙ h

@@ -14,13 +14,13 @@ returns-in_err-labels-clause-refused c = λ fault r.
 
 pub returns-clause-answer : goal.returns-clause-answer
 returns-clause-answer c =
-    image_made c.args.lines.now c.in_ok-code.code.items c.in_ok-cells.cells.items c.in_ok-labels.labels c.requires.order c.in_ok-labels.ensures c.in_ok-code.ensures c.in_ok-cells.ensures.cells
+    image_made c.args.lines.now c.in_ok-code.code.items c.in_ok-cells.cells.items c.in_ok-labels.labels c.requires.order c.in_ok-labels.ensures c.in_ok-code.ensures.bytes c.in_ok-cells.ensures.cells
 
 pub returns-clause-assembled : goal.returns-clause-assembled
 returns-clause-assembled c = λ _.
-    (image_made c.args.lines.now c.in_ok-code.code.items c.in_ok-cells.cells.items c.in_ok-labels.labels c.requires.order c.in_ok-labels.ensures c.in_ok-code.ensures c.in_ok-cells.ensures.cells).is
+    (image_made c.args.lines.now c.in_ok-code.code.items c.in_ok-cells.cells.items c.in_ok-labels.labels c.requires.order c.in_ok-labels.ensures c.in_ok-code.ensures.bytes c.in_ok-cells.ensures.cells).is
 
 pub returns-clause-refused : goal.returns-clause-refused
 returns-clause-refused c = λ fault r.
     absurd (image_not_refused c.args.lines.now (record { code = c.in_ok-code.code.items; cells = c.in_ok-cells.cells.items; labels = c.in_ok-labels.labels }) fault
-    (image_made c.args.lines.now c.in_ok-code.code.items c.in_ok-cells.cells.items c.in_ok-labels.labels c.requires.order c.in_ok-labels.ensures c.in_ok-code.ensures c.in_ok-cells.ensures.cells) r)
+    (image_made c.args.lines.now c.in_ok-code.code.items c.in_ok-cells.cells.items c.in_ok-labels.labels c.requires.order c.in_ok-labels.ensures c.in_ok-code.ensures.bytes c.in_ok-cells.ensures.cells) r)

@@ -1,5 +1,8 @@
-use Rattle.cpu80_untagged.proofs.Called.{calls_give_runs as the_law}
+use Rattle.dialogue.proofs.Called.{calls_run}
+use Rattle.cpu80_untagged_def.specs.Step.{untagged_machine}
+use Rattle.cpu80_untagged.specs.Histories.{CallsGiveRuns}
 use Rattle.cpu80_untagged.proofs.laws.calls_give_runs.Goals as goal
 
 pub returns : goal.returns
-returns c = the_law
+unfolding CallsGiveRuns
+returns c fetch s choices = calls_run (untagged_machine fetch) choices s

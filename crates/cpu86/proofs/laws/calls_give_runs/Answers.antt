@@ -1,5 +1,9 @@
-use Rattle.cpu86.proofs.Called.{calls_give_runs as the_law}
+use Rattle.dialogue.proofs.Called.{calls_run}
+use Rattle.cpu86_def.specs.Step.{machine86}
+use Rattle.cpu86_def.specs.Start.{start86}
+use Rattle.cpu86.specs.Histories.{CallsGiveRuns}
 use Rattle.cpu86.proofs.laws.calls_give_runs.Goals as goal
 
 pub returns : goal.returns
-returns c = the_law
+unfolding CallsGiveRuns
+returns c fetch image page fill start choices = calls_run (machine86 fetch) choices (start86 image page fill start)

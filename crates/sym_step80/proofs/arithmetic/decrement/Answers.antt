@@ -4,7 +4,7 @@ use Rattle.sym_step80.proofs.Seen.{of_instr}
 use Rattle.sym_step80.proofs.arithmetic.decrement.Goals as goal
 
 pub returns-in-Reg : goal.returns-in-Reg
-returns-in-Reg c = of_instr (ap Dcr c.in-Reg.is) c.count_register.ensures
+returns-in-Reg c = of_instr (ap Dcr c.in-Reg.is) c.count_register.ensures.on_80
 
 pub returns-in-Mem : goal.returns-in-Mem
 returns-in-Mem c = of_instr (ap Dcr c.in-Mem.is) c.count_memory.ensures.on_80

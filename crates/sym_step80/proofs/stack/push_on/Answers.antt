@@ -4,13 +4,13 @@ use Rattle.sym_step80.proofs.Seen.{of_instr}
 use Rattle.sym_step80.proofs.stack.push_on.Goals as goal
 
 pub returns-in-B : goal.returns-in-B
-returns-in-B c = of_instr (ap Push c.in-B.is) c.push_pair.ensures
+returns-in-B c = of_instr (ap Push c.in-B.is) c.push.ensures.on_80
 
 pub returns-in-D : goal.returns-in-D
-returns-in-D c = of_instr (ap Push c.in-D.is) c.push_pair-in-D.ensures
+returns-in-D c = of_instr (ap Push c.in-D.is) c.push-in-D.ensures.on_80
 
 pub returns-in-H : goal.returns-in-H
-returns-in-H c = of_instr (ap Push c.in-H.is) c.push_pair-in-H.ensures
+returns-in-H c = of_instr (ap Push c.in-H.is) c.push-in-H.ensures.on_80
 
 pub returns-in-Psw : goal.returns-in-Psw
 returns-in-Psw c = of_instr (ap Push c.in-Psw.is) c.push_psw.ensures

@@ -5,13 +5,13 @@ use Rattle.sym_step80.proofs.Seen.{of_instr}
 use Rattle.sym_step80.proofs.step.move_source.Goals as goal
 
 pub returns-in-Reg-from : goal.returns-in-Reg-from
-returns-in-Reg-from c = of_instr (ap₂ Mov c.in-Reg.is c.in-Reg-from.is) c.move_register.ensures
+returns-in-Reg-from c = of_instr (ap₂ Mov c.in-Reg.is c.in-Reg-from.is) c.move_byte.ensures.on_80
 
 pub returns-in-Mem-from : goal.returns-in-Mem-from
-returns-in-Mem-from c = of_instr (ap₂ Mov c.in-Reg.is c.in-Mem-from.is) c.load_register.ensures
+returns-in-Mem-from c = of_instr (ap₂ Mov c.in-Reg.is c.in-Mem-from.is) c.load_byte.ensures.on_80
 
 pub returns-in-Reg-from-2 : goal.returns-in-Reg-from-2
-returns-in-Reg-from-2 c = of_instr (ap₂ Mov c.in-Mem.is c.in-Reg-from-2.is) c.store_register.ensures
+returns-in-Reg-from-2 c = of_instr (ap₂ Mov c.in-Mem.is c.in-Reg-from-2.is) c.store_byte.ensures.on_80
 
 pub returns-in-Mem-from-2 : goal.returns-in-Mem-from-2
 returns-in-Mem-from-2 c = of_instr (ap₂ Mov c.in-Mem.is c.in-Mem-from-2.is) c.load_and_store.ensures

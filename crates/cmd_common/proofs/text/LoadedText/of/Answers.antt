@@ -8,7 +8,7 @@ use Rattle.cmd_common.proofs.text.LoadedText.of.Goals as goal
 pub returns-in-Ok-clause-image : goal.returns-in-Ok-clause-image
 returns-in-Ok-clause-image c = record {
   made = subst (λ (l : List Line86). IsImage l c.in-Ok.image) c.as_slice.ensures.value c.in-Ok.ensures.answer;
-  reader = subst HasReader c.code.ensures c.bytes_have_one_reader.ensures;
+  reader = subst HasReader c.code.ensures.value c.bytes_have_one_reader.ensures;
 }
 
 pub returns-clause-stopped : goal.returns-clause-stopped

@@ -1,19 +1,20 @@
 use Rattle.cpu80_untagged.specs.State.{untagged_state, untagged_memory}
 use Rattle.cpu80_untagged.specs.Standing.{standing, said_by}
-use Rattle.cpu80_untagged.proofs.Told.{taken}
+use Rattle.dialogue.proofs.Called.{taken}
+use Rattle.cpu80_untagged_def.specs.Step.{replied_untagged}
 use Rattle.cpu80_untagged.proofs.machine.Untagged80.reply.Goals as goal
 
 pub returns-in-Answer-clause-taken : goal.returns-in-Answer-clause-taken
 returns-in-Answer-clause-taken c fetch e of said =
     let processor = c.args.self.now.processor in
-    taken fetch e (said_by c.args.self.now.pending (untagged_memory processor.memory)) c.reply_to_call.result c.args.reply.now c.args.choice (untagged_state processor) (standing c.reply_to_call.new.self) said (c.reply_to_call.ensures.reply fetch of)
+    taken (replied_untagged fetch) e c.args.reply.now c.args.choice (untagged_state processor) (standing c.reply_to_call.new.self) (said_by c.args.self.now.pending (untagged_memory processor.memory)) c.reply_to_call.result said (c.reply_to_call.ensures.reply fetch of)
 
 pub returns-in-Byte-clause-taken : goal.returns-in-Byte-clause-taken
 returns-in-Byte-clause-taken c fetch e of said =
     let processor = c.args.self.now.processor in
-    taken fetch e (said_by c.args.self.now.pending (untagged_memory processor.memory)) c.reply_to_in.result c.args.reply.now c.args.choice (untagged_state processor) (standing c.reply_to_in.new.self) said (c.reply_to_in.ensures.reply fetch c.args.choice of)
+    taken (replied_untagged fetch) e c.args.reply.now c.args.choice (untagged_state processor) (standing c.reply_to_in.new.self) (said_by c.args.self.now.pending (untagged_memory processor.memory)) c.reply_to_in.result said (c.reply_to_in.ensures.reply fetch c.args.choice of)
 
 pub returns-in-Taking-clause-taken : goal.returns-in-Taking-clause-taken
 returns-in-Taking-clause-taken c fetch e of said =
     let processor = c.args.self.now.processor in
-    taken fetch e (said_by c.args.self.now.pending (untagged_memory processor.memory)) c.reply_to_out.result c.args.reply.now c.args.choice (untagged_state processor) (standing c.reply_to_out.new.self) said (c.reply_to_out.ensures.reply fetch c.args.choice of)
+    taken (replied_untagged fetch) e c.args.reply.now c.args.choice (untagged_state processor) (standing c.reply_to_out.new.self) (said_by c.args.self.now.pending (untagged_memory processor.memory)) c.reply_to_out.result said (c.reply_to_out.ensures.reply fetch c.args.choice of)

@@ -3,9 +3,11 @@ use Rattle.std.specs.Prelude.{IfSome}
 use Rattle.i86.specs.Decoder.{decoded}
 use Rattle.dialogue.specs.declared.request.Event.{Event}
 use Rattle.dialogue.specs.Run.{Asks}
+use Rattle.dialogue.specs.Calls.{Standing}
+use Rattle.cpu86_def.specs.State.{State86}
 use Rattle.cpu86_def.specs.Call.{NoInstruction, StackSegment, OddCall, replied86}
 use Rattle.cpu86_def.specs.Step.{step86}
-use Rattle.cpu86.specs.Standing.{Standing, standing, code_kept}
+use Rattle.cpu86.specs.Standing.{standing, code_kept}
 use Rattle.emulator_loop.specs.declared.emulator.Why.TheVariants.{OddCall as HasOdd}
 use Rattle.emulator_loop.specs.declared.emulator.Turn.TheVariants.{Ran, Asks as HasAsked, Stopped}
 use Rattle.emulator_loop.specs.Turns.{IsTurn}
@@ -68,7 +70,7 @@ returns-in-OddCall-clause-turn c =
     let s = (standing cpu).state in
     let f = c.in-OddCall.function in
     let told = c.in-OddCall.ensures.told (decoded (code_kept cpu)) c.requires.1 c.requires.0 in
-    let at : s.ip ≡ c.ip.result = sym (c.ip.ensures ∙ ap (λ (x : Standing). x.state.ip) told.1) in
+    let at : s.ip ≡ c.ip.result = sym (c.ip.ensures ∙ ap (λ (x : Standing State86). x.state.ip) told.1) in
     subst (λ ip. IsTurn (course86_from (code_kept cpu) choice s) (course86_from (code_kept cpu) choice s) (λ e y. course86_from (code_kept cpu) choice s) (Stopped (HasOdd ip f))) at (stopped86 (code_kept cpu) choice s s (λ e y. course86_from (code_kept cpu) choice s) (OddCall f) told.0)
 
 pub returns-in-NoInstruction-clause-still : goal.returns-in-NoInstruction-clause-still

@@ -1,0 +1,34 @@
+use Rattle.std.proofs.Common.{◌≡◌, ◌+◌, ◌-◌, ◌<◌, subst, arith}
+use Rattle.std.proofs.lemmas.List.Elements.{All-from_get_or}
+use Rattle.base_types.specs.Prefixes.{CannotGoOn}
+use Rattle.cmd_file.specs.CommandFile.{IsCommandFile, IsFile}
+use Rattle.cmd_file.specs.Header.{groups_end}
+use Rattle.cmd_file.proofs.Stops.{short_stops, long_stops, read_whole, groups_cut}
+use Rattle.cmd_file.proofs.file.CmdFile.read.Goals as goal
+
+pub returns-then-bytes-data_end : goal.returns-then-bytes-data_end
+returns-then-bytes-data_end c =
+    let bytes = c.args.bytes.now in
+    let code = c.group_size-code_end.ensures in
+    let more = c.group_size.ensures in
+    short_stops bytes (All-from_get_or (λ b. b < 256) bytes 0 (λ i lt. (c.type_inv.bytes i).fits)) c.in_ok-check_header.ensures (omega (arith, code, more, c.if-bytes-data_end.true))
+
+pub returns-then-bytes-most : goal.returns-then-bytes-most
+returns-then-bytes-most c =
+    let bytes = c.args.bytes.now in
+    let code = c.group_size-code_end.ensures in
+    let more = c.group_size.ensures in
+    let at : groups_end bytes + 127 ≡ 128 + c.group_size-code_end.result + c.group_size.result + 128 - 1 = omega (arith, code, more) in
+    subst (CannotGoOn IsFile bytes) at
+    (long_stops bytes (All-from_get_or (λ b. b < 256) bytes 0 (λ i lt. (c.type_inv.bytes i).fits)) c.in_ok-check_header.ensures (omega (arith, at, c.if-bytes-most.true)))
+
+pub returns : goal.returns
+returns c =
+    let bytes = c.args.bytes.now in
+    let code = c.group_size-code_end.ensures in
+    let more = c.group_size.ensures in
+    subst (IsCommandFile bytes)
+    (groups_cut bytes c.in_ok-code.code.items c.in_ok-data.data.items c.group_size-code_end.result c.group_size.result code more c.in_ok-code.ensures.items c.in_ok-data.ensures.items)
+    (read_whole bytes (All-from_get_or (λ b. b < 256) bytes 0 (λ i lt. (c.type_inv.bytes i).fits)) c.in_ok-check_header.ensures
+    (omega (arith, code, more, c.if-bytes-data_end.false))
+    (omega (arith, code, more, c.if-bytes-most.false)))

@@ -1,0 +1,5 @@
+pub mod CommandFile
+pub mod Written
+pub mod Loaded
+pub mod Header
+pub mod Reading

@@ -1,0 +1,10 @@
+-- Why bytes are not read as a command file.
+use Rattle.std.specs.Prelude.{ℕ, List}
+use Rattle.base_types.specs.Prefixes.{CannotGoOn}
+use Rattle.cmd_file.specs.declared.fault.CmdFault.{CmdFault}
+use Rattle.cmd_file.specs.declared.fault.CmdFault.TheVariants.{Bad, Memory}
+use Rattle.cmd_file.specs.CommandFile.{IsFile}
+
+abbrev pub IsFaultOf : List ℕ → CmdFault → Type 0
+IsFaultOf bytes (Bad k) = CannotGoOn IsFile bytes k
+IsFaultOf bytes Memory = Unit {0}

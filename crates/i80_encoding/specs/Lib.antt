@@ -1,0 +1,3 @@
+pub mod Enc80
+pub mod Decoded
+pub mod Decoder
