@@ -3,6 +3,7 @@ pub mod Laid
 pub mod Faults
 pub mod Filling
 pub mod Exclusion
+pub mod OneOutcome
 pub mod Made
 pub mod Decided86
 pub mod HavingImages

@@ -4,10 +4,10 @@
 // Proved: `image` answers the image of statements that stand in order (code, data cells in ascending order, offsets of labels), or the
 // refusal: the first line that defines a label again (M3), else the first that uses one that is not defined (M4), else the size of a code
 // above 65,535 bytes, else the first short jump that does not reach (clauses `answer`, `assembled`, `refused`). Each comes exactly where
-// the text has it, want of memory aside. `Image86::code`, `cells` and `offset` read the image. Laws: a text has one image or one refusal at
-// most, and not both (`images_exclude_refusals`); each text is read as something (`each_text_has_a_reading`); it cannot be that lines in
-// order have neither an image nor a refusal (`lines_have_an_image_or_a_refusal`), nor that a text has neither an image nor a fault
-// (`each_text_has_an_image_or_a_fault`). So these definitions leave no text out.
+// the text has it, want of memory aside. `Image86::code`, `cells` and `offset` read the image. Laws: lines have one image or one refusal at
+// most, and not both (`images_exclude_refusals`), and so has a text (`texts_have_one_image`); each text is read as something
+// (`each_text_has_a_reading`); it cannot be that lines in order have neither an image nor a refusal (`lines_have_an_image_or_a_refusal`),
+// nor that a text has neither an image nor a fault (`each_text_has_an_image_or_a_fault`). So these definitions leave no text out.
 #![tactic(auto)]
 
 ghost use Rattle.asm86.specs.Images.{HasImage, IsNoImage};
@@ -35,7 +35,7 @@ pub use asm86_line_types::{
 pub use asm86_text::{Text86, TextFault, text_has_one_reading, written_text_reads_back};
 pub use fault::ImageFault;
 pub use images::{Image86, image};
-pub use laws::images_exclude_refusals;
+pub use laws::{images_exclude_refusals, texts_have_one_image};
 
 /// A law: each ASM-86 text is read as something, its statements or the first rule that a line breaks. With
 /// `text_has_one_reading` it is just one.

@@ -1,4 +1,5 @@
 pub mod Sorting
 pub mod Labels
+pub mod Same
 pub mod Sizes
 pub mod Statements

@@ -1,10 +1,10 @@
 -- Disk files as a whole.
-use Rattle.std.proofs.Common.{◌≡◌, ℕ, zero, suc, ◌+◌, ◌*◌, ◌<◌, ◌≤◌, ◌^◌, List, [], ◌∷◌, ◌++◌, length, take, drop, refl, sym, ap, ◌∙◌, inl, inr, subst, arith, append_assoc}
+use Rattle.std.proofs.Common.{◌≡◌, ℕ, zero, suc, ◌+◌, ◌*◌, ◌<◌, ◌≤◌, ◌^◌, List, [], ◌∷◌, ◌++◌, length, take, drop, refl, sym, ap, ◌∙◌, subst, arith, append_assoc}
 use Rattle.std.specs.Prelude.{Option, Some, None}
-use Rattle.std.proofs.lemmas.Bool.{cases_lt}
 use Rattle.std.proofs.lemmas.List.{append-nil, length-append, length-take-le, length-drop, take-append-drop, take-take, take_at}
 use Rattle.std.proofs.lemmas.List.Elements.{All-nil}
 use Rattle.std.proofs.lemmas.List.Sums.{sum_by-cons}
+use Rattle.base_types.proofs.Fronts.{member_goes_on}
 use Rattle.bdos_disk.specs.Spelled.{BreaksAt}
 use Rattle.bdos_disk.proofs.Going.{name_parts, highest_lawful}
 use Rattle.bdos_disk.specs.declared.reading.Stop.{Stop}
@@ -48,20 +48,21 @@ length-disk_file d h =
 
 pub bad_small : (bytes : List ℕ) (k : ℕ) → IsBadAt bytes k → k < 2 ^ 32
 bad_small bytes k h =
-    let d = h.so_far in
-    let whole = length-disk_file d.0 d.1 in
+    let far = h.so_far in
+    let whole = length-disk_file far.1.0 far.1.1 in
+    let is = ap length far.1.2 in
     let front = length-take-le k bytes h.within in
-    let begins = ap length d.2.1 in
-    let parts = length-append (take k bytes) d.2.0 in
+    let begins = ap length far.2.1 in
+    let parts = length-append (take k bytes) far.2.0 in
     omega arith
 
 -- where the bytes break as the disk file of no disk
 bad_from : (bytes : List ℕ) (k : ℕ) → BreaksAt IsDisk disk_file bytes k → IsBadAt bytes k
 bad_from bytes k h = record {
   within = h.within;
-  so_far = h.so_far;
-  no_further = h.no_further;
-  early = λ _ d is e. h.none d is ([], e ∙ sym (append-nil (disk_file d)));
+  so_far = (disk_file h.so_far.0, (h.so_far.0, h.so_far.1, refl), h.so_far.2);
+  no_further = λ lt whole is begins. h.no_further lt is.0 is.1 (begins.0, sym is.2 ∙ begins.1);
+  early = λ _ is. h.none is.0 is.1 ([], is.2 ∙ sym (append-nil (disk_file is.0)));
 }
 
 -- the number of files, and the files
@@ -160,12 +161,13 @@ bad_behind bytes rest d is e lt =
     let front : take n bytes ≡ disk_file d = ap (take n) e ∙ take_at (disk_file d) rest n refl in
     record {
       within = omega (arith, lt);
-      so_far = (d, is, ([], sym (append-nil (disk_file d)) ∙ ap (λ l. l ++ []) (sym front)));
-      no_further = λ _ c is_c begins.
+      so_far = (disk_file d, (d, is, refl), ([], sym (append-nil (disk_file d)) ∙ ap (λ l. l ++ []) (sym front)));
+      no_further = λ _ whole is_file begins.
+          let c = is_file.0 in
           let more : bytes ≡ take (n + 1) bytes ++ drop (n + 1) bytes = sym (take-append-drop (n + 1) bytes) in
           let long : length (take (n + 1) bytes) ≡ n + 1 = length-take-le (n + 1) bytes (omega (arith, lt)) in
           let split : take (n + 1) bytes ≡ disk_file d ++ drop n (take (n + 1) bytes) = sym (take-append-drop n (take (n + 1) bytes)) ∙ ap (λ l. l ++ drop n (take (n + 1) bytes)) (take-take n (n + 1) bytes (omega arith) ∙ front) in
-          let same = disk_only c d [] (drop n (take (n + 1) bytes) ++ begins.0) is_c is (append-nil (disk_file c) ∙ begins.1 ∙ ap (λ l. l ++ begins.0) split ∙ append_assoc (disk_file d) (drop n (take (n + 1) bytes)) begins.0) in
+          let same = disk_only c d [] (drop n (take (n + 1) bytes) ++ begins.0) is_file.1 is (append-nil (disk_file c) ∙ sym is_file.2 ∙ begins.1 ∙ ap (λ l. l ++ begins.0) split ∙ append_assoc (disk_file d) (drop n (take (n + 1) bytes)) begins.0) in
           let none : 0 ≡ length (drop n (take (n + 1) bytes)) + length begins.0 = ap length same.1 ∙ length-append (drop n (take (n + 1) bytes)) begins.0 in
           absurd (omega (arith, none, length-drop n (take (n + 1) bytes), long));
       early = λ at. absurd (omega (arith, lt, at));
@@ -187,10 +189,4 @@ pub told_by_file : (d c : List Stored) → IsDisk d → IsDisk c → disk_file d
 told_by_file d c h g e = (disk_only d c [] [] h g (ap (λ l. l ++ []) e)).0
 
 pub never_bad : (d : List Stored) (k : ℕ) → IsDisk d → IsBadAt (disk_file d) k → ⊥
-never_bad d k is h =
-    let bytes = disk_file d in
-    let within : k ≤ length bytes = h.within in
-    elim (cases_lt k (length bytes)) [
-      | inl lt ↦ h.no_further lt d is (drop (k + 1) bytes, sym (take-append-drop (k + 1) bytes))
-      | inr le ↦ h.early (omega (arith, within, le)) d is refl
-    ]
+never_bad d k is h = member_goes_on (disk_file d) k (d, is, refl) h

@@ -1,8 +1,8 @@
 -- The disk file: the bytes that keep a disk. `XLTDISK1`; the number of files as two bytes, the low one first; then for each file, in
 -- order, its name, the number of its records as two bytes, the low one first, and its records. Nothing follows.
-use Rattle.std.specs.Prelude.{◌≡◌, ◌≢◌, ℕ, ◌+◌, ◌<◌, ◌≤◌, ◌%◌, ◌/◌, List, [], ◌∷◌, ◌++◌, length, take, codes}
+use Rattle.std.specs.Prelude.{◌≡◌, ℕ, ◌%◌, ◌/◌, List, [], ◌∷◌, ◌++◌, length, codes}
 use Rattle.std.specs.List.{flat_map}
-use Rattle.bdos_disk.specs.Spelled.{IsPrefixOf}
+use Rattle.base_types.specs.Prefixes.{CannotGoOn}
 use Rattle.bdos_disk.specs.Stored.{Stored}
 use Rattle.bdos_disk.specs.Disks.{IsDisk}
 
@@ -25,10 +25,10 @@ files_bytes fs = flat_map file_bytes fs
 abbrev pub disk_file : List Stored → List ℕ
 disk_file d = disk_mark ++ (word_bytes (length d) ++ files_bytes d)
 
--- bytes that are no disk file, and the first byte at which they cannot become one: the file of some disk begins with the
--- first k bytes, and that of no disk with one byte more; or k is the number of the bytes, and they end early
-pub record IsBadAt (bytes : List ℕ) (k : ℕ) : Type 0 where
-  pub within : k ≤ length bytes
-  pub so_far : (d : List Stored) × IsDisk d × IsPrefixOf (take k bytes) (disk_file d)
-  pub no_further : k < length bytes → (d : List Stored) → IsDisk d → IsPrefixOf (take (k + 1) bytes) (disk_file d) → ⊥
-  pub early : k ≡ length bytes → (d : List Stored) → IsDisk d → bytes ≢ disk_file d
+-- the bytes are the file of a disk
+abbrev pub IsDiskFile : List ℕ → Type 0
+IsDiskFile bytes = (d : List Stored) × IsDisk d × (bytes ≡ disk_file d)
+
+-- bytes that are no disk file, and the first byte at which they cannot become one
+abbrev pub IsBadAt : List ℕ → ℕ → Type 0
+IsBadAt bytes k = CannotGoOn IsDiskFile bytes k

@@ -72,6 +72,8 @@ fn command_text(alloc: Global, command: &Command) -> Result<String, AllocError> 
         Command::Sample(command) => {
             format!(in alloc; "sample {} {}", command.count, command.output)
         }
+        Command::Cmd(command) => format!(in alloc; "cmd {} {}", command.text, command.output),
+        Command::CmdShow(command) => format!(in alloc; "cmdshow {}", command.file),
     }
 }
 

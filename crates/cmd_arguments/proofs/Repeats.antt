@@ -7,7 +7,7 @@ use Rattle.std.proofs.lemmas.Bool.{false≢true, or_right}
 use Rattle.clap.specs.Words.{Row}
 use Rattle.clap.specs.Walk.{has_row}
 use Rattle.cmd_arguments.specs.declared.table.CommandName.{CommandName}
-use Rattle.cmd_arguments.specs.declared.table.CommandName.TheVariants.{Translate, Check, Flags, Run80, Run86, Both, Sample}
+use Rattle.cmd_arguments.specs.declared.table.CommandName.TheVariants.{Translate, Check, Flags, Run80, Run86, Both, Sample, Cmd, CmdShow}
 use Rattle.cmd_arguments.specs.declared.table.OptionName.{OptionName}
 use Rattle.cmd_arguments.specs.declared.table.OptionName.TheVariants.{Top, Choice, Input, Disk, Ports, OutDisk, Tail, Steps, Plain}
 use Rattle.cmd_arguments.specs.Table.{Word, long_name, option_word, named_among, options_of, flag_words}
@@ -144,6 +144,24 @@ repeated Sample OutDisk g takes e = absurd (false≢true takes)
 repeated Sample Tail g takes e = absurd (false≢true takes)
 repeated Sample Steps g takes e = absurd (false≢true takes)
 repeated Sample Plain g takes e = absurd (false≢true takes)
+repeated Cmd Top g takes e = absurd (false≢true takes)
+repeated Cmd Choice g takes e = absurd (false≢true takes)
+repeated Cmd Input g takes e = absurd (false≢true takes)
+repeated Cmd Disk g takes e = absurd (false≢true takes)
+repeated Cmd Ports g takes e = absurd (false≢true takes)
+repeated Cmd OutDisk g takes e = absurd (false≢true takes)
+repeated Cmd Tail g takes e = absurd (false≢true takes)
+repeated Cmd Steps g takes e = absurd (false≢true takes)
+repeated Cmd Plain g takes e = absurd (false≢true takes)
+repeated CmdShow Top g takes e = absurd (false≢true takes)
+repeated CmdShow Choice g takes e = absurd (false≢true takes)
+repeated CmdShow Input g takes e = absurd (false≢true takes)
+repeated CmdShow Disk g takes e = absurd (false≢true takes)
+repeated CmdShow Ports g takes e = absurd (false≢true takes)
+repeated CmdShow OutDisk g takes e = absurd (false≢true takes)
+repeated CmdShow Tail g takes e = absurd (false≢true takes)
+repeated CmdShow Steps g takes e = absurd (false≢true takes)
+repeated CmdShow Plain g takes e = absurd (false≢true takes)
 
 of_gathered : (o : OptionName) (items : List Item) → of_option o (gathered items) ≡ occurrence (texts_of o items)
 of_gathered Top items = refl

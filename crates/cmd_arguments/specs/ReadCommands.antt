@@ -9,8 +9,10 @@ use Rattle.cmd_arguments.specs.declared.command.Run80.{Run80 as ReadRun80}
 use Rattle.cmd_arguments.specs.declared.command.Run86.{Run86 as ReadRun86}
 use Rattle.cmd_arguments.specs.declared.command.Both.{Both as ReadBoth}
 use Rattle.cmd_arguments.specs.declared.command.Sample.{Sample as ReadSample}
+use Rattle.cmd_arguments.specs.declared.command.Cmd.{Cmd as ReadCmd}
+use Rattle.cmd_arguments.specs.declared.command.CmdShow.{CmdShow as ReadCmdShow}
 use Rattle.cmd_arguments.specs.declared.command.RunOptions.{RunOptions as ReadRunOptions}
-use Rattle.cmd_arguments.specs.Words.{Translate, Check, Flags, RunOptions, Run80, Run86, Both, Sample, Command, Translates, Checks, ListsFlags, Runs80, Runs86, RunsBoth, MakesSample}
+use Rattle.cmd_arguments.specs.Words.{Translate, Check, Flags, RunOptions, Run80, Run86, Both, Sample, Cmd, CmdShow, Command, Translates, Checks, ListsFlags, Runs80, Runs86, RunsBoth, MakesSample, MakesCmd, ShowsCmd}
 
 abbrev pub translate_read : ReadTranslate → Translate
 translate_read c = record { input = c.input.now; output = c.output.now; plain = c.plain; top = c.top }
@@ -36,6 +38,12 @@ both_read c = record { source = c.source.now; top = c.top; choice = c.choice; ru
 abbrev pub sample_read : ReadSample → Sample
 sample_read c = record { count = c.count; output = c.output.now }
 
+abbrev pub cmd_read : ReadCmd → Cmd
+cmd_read c = record { text = c.text.now; output = c.output.now }
+
+abbrev pub cmd_show_read : ReadCmdShow → CmdShow
+cmd_show_read c = record { file = c.file.now }
+
 abbrev pub command_read : ReadCommand → Command
 command_read (read.Translate c) = Translates (translate_read c)
 command_read (read.Check c) = Checks (check_read c)
@@ -44,3 +52,5 @@ command_read (read.Run80 c) = Runs80 (run80_read c)
 command_read (read.Run86 c) = Runs86 (run86_read c)
 command_read (read.Both c) = RunsBoth (both_read c)
 command_read (read.Sample c) = MakesSample (sample_read c)
+command_read (read.Cmd c) = MakesCmd (cmd_read c)
+command_read (read.CmdShow c) = ShowsCmd (cmd_show_read c)

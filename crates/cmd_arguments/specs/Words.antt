@@ -59,6 +59,15 @@ pub record Sample : Type 0 where
   pub count : ℕ
   pub output : Word
 
+-- `cmd TEXT OUT`
+pub record Cmd : Type 0 where
+  pub text : Word
+  pub output : Word
+
+-- `cmdshow FILE`
+pub record CmdShow : Type 0 where
+  pub file : Word
+
 pub data Command : Type 0 where
   Translates : (command : Translate) → Command
   Checks : (command : Check) → Command
@@ -67,6 +76,8 @@ pub data Command : Type 0 where
   Runs86 : (command : Run86) → Command
   RunsBoth : (command : Both) → Command
   MakesSample : (command : Sample) → Command
+  MakesCmd : (command : Cmd) → Command
+  ShowsCmd : (command : CmdShow) → Command
 
 infixl 10 ◌>>=◌
 abbrev pub ◌>>=◌ : {A B : Type 0} → Option A → (A → Option B) → Option B
@@ -184,6 +195,16 @@ sample_of g = do
   names ← count_and_file g.names
   Some (record { count = names.0; output = names.1 })
 
+abbrev pub cmd_of : Gathered → Option Cmd
+cmd_of g = do
+  files ← two_files g.names
+  Some (record { text = files.0; output = files.1 })
+
+abbrev pub cmd_show_of : Gathered → Option CmdShow
+cmd_show_of g = do
+  file ← one_file g.names
+  Some (record { file = file })
+
 -- the command that its name and what stands behind it make
 abbrev pub command_of : CommandName → Gathered → Option Command
 command_of named.Translate g = option_map Translates (translate_of g)
@@ -193,6 +214,8 @@ command_of named.Run80 g = option_map Runs80 (run80_of g)
 command_of named.Run86 g = option_map Runs86 (run86_of g)
 command_of named.Both g = option_map RunsBoth (both_of g)
 command_of named.Sample g = option_map MakesSample (sample_of g)
+command_of named.Cmd g = option_map MakesCmd (cmd_of g)
+command_of named.CmdShow g = option_map ShowsCmd (cmd_show_of g)
 
 -- the words are this command: the first is its name, and the others give its values
 pub record IsCommand (words : List Word) (c : Command) : Type 0 where

@@ -3,8 +3,8 @@
 ghost use Rattle.std.specs.Prelude.{◌≡◌, ℕ, List, Some, map, option_copied, option_map, IfOk, MatchOption};
 ghost use Rattle.std.specs.String.{string_bytes};
 ghost use Rattle.cmd_arguments.specs.Read.{count_and_file_of, files_of, input_of, names_read, option_read};
-ghost use Rattle.cmd_arguments.specs.ReadCommands.{both_read, check_read, command_read, flags_read, run80_read, run86_read, run_options_read, sample_read, translate_read};
-ghost use Rattle.cmd_arguments.specs.Words.{both_of, check_of, choice_of, command_of, count_and_file, flags_command_of, flag_of, input_file, one_file, page_of, run80_of, run86_of, run_options_of, sample_of, steps_of, text_or, top_of, translate_of, two_files, Command as CommandValue, IsCommand, IsNoCommand};
+ghost use Rattle.cmd_arguments.specs.ReadCommands.{both_read, check_read, cmd_read, cmd_show_read, command_read, flags_read, run80_read, run86_read, run_options_read, sample_read, translate_read};
+ghost use Rattle.cmd_arguments.specs.Words.{both_of, check_of, cmd_of, cmd_show_of, choice_of, command_of, count_and_file, flags_command_of, flag_of, input_file, one_file, page_of, run80_of, run86_of, run_options_of, sample_of, steps_of, text_or, top_of, translate_of, two_files, Command as CommandValue, IsCommand, IsNoCommand};
 
 use crate::given::{Given, Names};
 use crate::items::first_word;
@@ -23,6 +23,8 @@ pub enum Command<'a> {
     Run86(Run86<'a>),
     Both(Both<'a>),
     Sample(Sample<'a>),
+    Cmd(Cmd<'a>),
+    CmdShow(CmdShow<'a>),
 }
 
 /// `translate IN OUT [--plain] [--top H]`: a source's file, the file for its text, whether it is to be the plain one, and the top of
@@ -81,6 +83,19 @@ pub struct Both<'a> {
 pub struct Sample<'a> {
     pub count: u32,
     pub output: &'a str,
+}
+
+/// `cmd TEXT OUT`: a text's file, and the file for its command file.
+#[derive(Clone, Copy)]
+pub struct Cmd<'a> {
+    pub text: &'a str,
+    pub output: &'a str,
+}
+
+/// `cmdshow FILE`: a command file.
+#[derive(Clone, Copy)]
+pub struct CmdShow<'a> {
+    pub file: &'a str,
 }
 
 /// `[--input F] [--disk F] [--ports F] [--out-disk F] [--tail T] [--steps N]`: the files of the console's input, of the disk and of
@@ -266,6 +281,20 @@ impl<'a> Given<'a> {
         Some(Sample { count, output })
     }
 
+    fn cmd(&self) -> Option<Cmd<'a>>
+        ensures { option_map cmd_read result ≡ cmd_of self.now }
+    {
+        let (text, output) = self.names.two_files()?;
+        Some(Cmd { text, output })
+    }
+
+    fn cmd_show(&self) -> Option<CmdShow<'a>>
+        ensures { option_map cmd_show_read result ≡ cmd_show_of self.now }
+    {
+        let file = self.names.one_file()?;
+        Some(CmdShow { file })
+    }
+
     // The command of a name.
     fn command(&self, name: CommandName) -> Option<Command<'a>>
         ensures { option_map command_read result ≡ command_of name self.now }
@@ -278,6 +307,8 @@ impl<'a> Given<'a> {
             CommandName::Run86 => Some(Command::Run86(self.run86()?)),
             CommandName::Both => Some(Command::Both(self.both()?)),
             CommandName::Sample => Some(Command::Sample(self.sample()?)),
+            CommandName::Cmd => Some(Command::Cmd(self.cmd()?)),
+            CommandName::CmdShow => Some(Command::CmdShow(self.cmd_show()?)),
         }
     }
 }

@@ -14,6 +14,6 @@ mod table;
 mod values;
 
 pub use command::{
-    Both, Check, Command, Flags, Run80, Run86, RunOptions, Sample, Translate, read_words,
-    words_are_one_command,
+    Both, Check, Cmd, CmdShow, Command, Flags, Run80, Run86, RunOptions, Sample, Translate,
+    read_words, words_are_one_command,
 };

@@ -13,6 +13,8 @@ pub enum CommandName {
     Run86,
     Both,
     Sample,
+    Cmd,
+    CmdShow,
 }
 
 /// An option's name, or a flag's.
@@ -29,7 +31,7 @@ pub enum OptionName {
     Plain,
 }
 
-const COMMANDS: [CommandName; 7] = [
+const COMMANDS: [CommandName; 9] = [
     CommandName::Translate,
     CommandName::Check,
     CommandName::Flags,
@@ -37,6 +39,8 @@ const COMMANDS: [CommandName; 7] = [
     CommandName::Run86,
     CommandName::Both,
     CommandName::Sample,
+    CommandName::Cmd,
+    CommandName::CmdShow,
 ];
 
 impl CommandName {
@@ -62,6 +66,8 @@ impl CommandName {
             CommandName::Run86 => "run86",
             CommandName::Both => "both",
             CommandName::Sample => "sample",
+            CommandName::Cmd => "cmd",
+            CommandName::CmdShow => "cmdshow",
         }
     }
 
@@ -76,7 +82,7 @@ impl CommandName {
             CommandName::Run80 => &[Top, Input, Disk, Ports, OutDisk, Tail, Steps],
             CommandName::Run86 => &[Choice, Input, Disk, Ports, OutDisk, Tail, Steps],
             CommandName::Both => &[Top, Choice, Input, Disk, Ports, OutDisk, Tail, Steps],
-            CommandName::Sample => &[],
+            CommandName::Sample | CommandName::Cmd | CommandName::CmdShow => &[],
         }
     }
 
@@ -91,7 +97,9 @@ impl CommandName {
             | CommandName::Run80
             | CommandName::Run86
             | CommandName::Both
-            | CommandName::Sample => &[],
+            | CommandName::Sample
+            | CommandName::Cmd
+            | CommandName::CmdShow => &[],
         }
     }
 }

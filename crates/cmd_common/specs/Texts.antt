@@ -11,6 +11,7 @@ use Rattle.asm86_text.specs.Stream.{TextGives}
 use Rattle.asm86.specs.declared.fault.ImageFault.{ImageFault}
 use Rattle.asm86.specs.declared.fault.ImageFault.TheVariants.{Line, CodeTooLarge, Short, Memory}
 use Rattle.asm86.specs.Refusals.{ImageRefused}
+use Rattle.asm86.specs.Images.{IsNoImage}
 use Rattle.cmd_common.specs.declared.stop.Stop.{Stop}
 use Rattle.cmd_common.specs.declared.stop.Stop.TheVariants.{TextLine, ShortJump, CodeTooLarge as TooLarge, OutOfMemory}
 use Rattle.cmd_common.specs.Files.{IsWholeFile, text_limit}
@@ -25,6 +26,10 @@ stop_of_image (Line line rule) = TextLine line rule
 stop_of_image (CodeTooLarge size) = TooLarge size
 stop_of_image (Short line) = ShortJump line
 stop_of_image Memory = OutOfMemory
+
+-- why the bytes of a text give no image
+abbrev pub TextIsRefused : List ℕ → Stop → Type 0
+TextIsRefused text stop = (fault : ImageFault) × IsNoImage text fault × (stop ≡ stop_of_image fault)
 
 -- why lines have no image, or memory ran out
 pub record ImageStops (lines : List Line86) (stop : Stop) : Type 0 where

@@ -1,7 +1,7 @@
 // The lines of status 0.
 ghost use Rattle.std.specs.Prelude.{◌≡◌, IfOk};
 ghost use Rattle.std.specs.String.{string_bytes};
-ghost use Rattle.cmd_common.specs.Lines.{translated_line, shown_line, saves_line, ended_line, both_line};
+ghost use Rattle.cmd_common.specs.Lines.{translated_line, shown_line, saves_line, command_file_line, groups_line, ended_line, both_line};
 
 use crate::stop::count_line;
 use std::alloc::{AllocError, Global};
@@ -32,6 +32,20 @@ pub fn saves_line(alloc: Global, saved: usize, sums: usize) -> Result<String, Al
     ensures { IfOk result (λ line. string_bytes line ≡ saves_line saved sums) }
 {
     format!(in alloc; "saves {saved} of {sums}\n")
+}
+
+/// The line of a command file that was written: how many bytes it has.
+pub fn command_file_line(alloc: Global, size: usize) -> Result<String, AllocError>
+    ensures { IfOk result (λ line. string_bytes line ≡ command_file_line size) }
+{
+    format!(in alloc; "command file: {size} bytes\n")
+}
+
+/// The line of a command file that was read: how many bytes its code group and its data group have.
+pub fn groups_line(alloc: Global, code_size: usize, data_size: usize) -> Result<String, AllocError>
+    ensures { IfOk result (λ line. string_bytes line ≡ groups_line code_size data_size) }
+{
+    format!(in alloc; "code {code_size} bytes, data {data_size} bytes\n")
 }
 
 /// The line of a run that ended: how many instructions ran.

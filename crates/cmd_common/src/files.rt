@@ -39,8 +39,8 @@ pub fn read_named_into<'a, H: Host, S: Sink>(
     }
 }
 
-/// Reads the file of a name, whose bytes are kept whole.
-fn read_named<'a, H: Host>(
+/// Reads the file of a name, whose bytes are kept whole. The limit is at most 2^31.
+pub fn read_named<'a, H: Host>(
     alloc: Global,
     host: &mut H,
     name: &'a str,

@@ -24,8 +24,10 @@ mod stop;
 mod text;
 mod writing;
 
-pub use done::{both_line, ended_line, saves_line, shown_line, translated_line};
-pub use files::read_input;
+pub use done::{
+    both_line, command_file_line, ended_line, groups_line, saves_line, shown_line, translated_line,
+};
+pub use files::{SOURCE_LIMIT, read_input, read_named};
 pub use say::{say_done, say_made, say_report, say_stop, words_refused};
 pub use source::{program_of_bytes, read_source, read_source_by};
 pub use stop::{Stop, word_digits};

@@ -50,6 +50,8 @@ pub enum Stop<'a> {
     CodeTooLarge(u32),
     /// The file of this name has more bytes than its limit.
     FileTooLong(&'a str),
+    /// The file is no command file: the byte at this place, counted from 0, cannot go on.
+    BadCommandFile(u32),
 }
 
 impl<'a> From<AllocError> for Stop<'a> {
@@ -81,6 +83,7 @@ impl<'a> Stop<'a> {
             Stop::BadDisk(_) | Stop::NoDrive(_) => 12,
             Stop::CodeTooLarge(_) => 13,
             Stop::FileTooLong(_) => 14,
+            Stop::BadCommandFile(_) => 15,
         }
     }
 
@@ -125,6 +128,9 @@ impl<'a> Stop<'a> {
             Stop::NoDrive(function) => drive_line(alloc, function),
             Stop::CodeTooLarge(size) => count_line(alloc, "code too large: ", size, " bytes"),
             Stop::FileTooLong(name) => named_line(alloc, "file too long: ", name),
+            Stop::BadCommandFile(place) => {
+                count_line(alloc, "command file refused: byte ", place, "")
+            }
         }
     }
 }

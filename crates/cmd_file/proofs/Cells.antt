@@ -1,5 +1,5 @@
 -- Data cells as bytes from address 0 up.
-use Rattle.std.proofs.Common.{◌≡◌, ℕ, ◌+◌, ◌<◌, ◌≤◌, cond, List, [], ◌∷◌, length, drop, get_or, replicate, set, max, sym, ap, ◌∙◌, inl, inr, arith}
+use Rattle.std.proofs.Common.{◌≡◌, ℕ, ◌+◌, ◌<◌, ◌≤◌, cond, List, [], ◌∷◌, length, drop, get_or, replicate, set, max, refl, sym, ap, ◌∙◌, inl, inr, arith}
 use Rattle.std.specs.Prelude.{slice_index}
 use Rattle.std.specs.List.{All, fold}
 use Rattle.std.proofs.Math.Path.{fun_ext}
@@ -9,7 +9,8 @@ use Rattle.std.proofs.lemmas.List.Elements.{All-nil, All-cons}
 use Rattle.std.proofs.lemmas.List.FromFn.{fill_by_all, length-map-range_with_len, get_or-map-range_with_len}
 use Rattle.dialogue.specs.ByteMemory.{put}
 use Rattle.cpu86_def.specs.Start.{put_cells}
-use Rattle.cmd_file.specs.Written.{end_with, data_end, data_bytes}
+use Rattle.cmd_file.specs.Written.{filled, end_with, data_end, data_bytes, command_file_of}
+use Rattle.cmd_file.specs.Loaded.{loaded}
 
 pub end_grows : (cells : List (ℕ × ℕ)) (end : ℕ) → end ≤ fold end_with end cells
 end_grows [] end = omega arith
@@ -62,3 +63,17 @@ length-data_bytes cells = length-map-range_with_len (put_cells (λ a. 0) cells) 
 pub data_byte : (cells : List (ℕ × ℕ)) (a : ℕ) → a < data_end cells → get_or (data_bytes cells) a 0 ≡ put_cells (λ b. 0) cells a
 unfolding data_bytes
 data_byte cells a lt = get_or-map-range_with_len (put_cells (λ b. 0) cells) 0 (data_end cells) a a 0 lt (omega arith)
+
+-- ---- the data of an image without cells, and of one with a cell at 110H, which comes back
+
+no_cells : length (filled 16 (data_bytes [])) ≡ 256
+unfolding data_bytes
+no_cells = refl
+
+one_cell : length (filled 16 (data_bytes ((0x110, 5) ∷ []))) ≡ 288
+unfolding data_bytes
+one_cell = refl
+
+cell_loaded : get_or (loaded (command_file_of (record { code = []; cells = (0x110, 5) ∷ []; labels = [] }))).cells 0x10 (0, 0) ≡ (0x110, 5)
+unfolding data_bytes
+cell_loaded = refl

@@ -40,7 +40,7 @@ written_is_file file h =
     (All-append IsByte (descriptor l.data_group) others (group_bytes l.data_group (lit< tt) (omega arith) (lit< tt) (lit< tt) (lit< tt))
     (All-append IsByte (flat_map descriptor (replicate 6 no_group)) rest (zeros 54)
     (All-append IsByte (replicate 56 0) groups (zeros 56)
-    (All-append IsByte file.code (file.data ++ replicate more 0) h.code_bytes (All-append IsByte file.data (replicate more 0) h.data_bytes (zeros more))))))
+    (All-append IsByte file.code (file.data ++ replicate more 0) h.code_small (All-append IsByte file.data (replicate more 0) h.data_small (zeros more))))))
     in
     record {
       layout = l;

@@ -35,7 +35,7 @@ paragraphs bytes = length bytes / 16
 abbrev pub no_group : Group
 no_group = record { form = 0; length = 0; base = 0; least = 0; greatest = 0 }
 
--- code needs its paragraphs and takes no more; data may have all of 64K; zeros everywhere else, up to a multiple of 128
+-- the code has memory of its own size, and the data have all of 64K; zeros everywhere else, up to a multiple of 128 bytes
 abbrev pub written_layout : CommandFile → Layout
 written_layout file = record {
   code_group = record { form = 1; length = paragraphs file.code; base = 0; least = paragraphs file.code; greatest = paragraphs file.code };
@@ -59,5 +59,5 @@ pub record IsPart (bytes : List ℕ) : Type 0 where
 pub record MayBeWritten (file : CommandFile) : Type 0 where
   pub code_part : IsPart file.code
   pub data_part : IsPart file.data
-  pub code_bytes : All (λ b. b < 256) file.code
-  pub data_bytes : All (λ b. b < 256) file.data
+  pub code_small : All (λ b. b < 256) file.code
+  pub data_small : All (λ b. b < 256) file.data

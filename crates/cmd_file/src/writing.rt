@@ -10,7 +10,7 @@ use crate::header::{
 use std::alloc::{AllocError, Global};
 
 impl CmdFile {
-    /// The bytes of the file. The code takes its own size of memory, and the data may take all of 64K.
+    /// The bytes of the file. The code has memory of its own size, and the data have all of 64K.
     pub fn write(&self, alloc: Global) -> Result<Vec<u8>, AllocError>
         ensures written { IfOk result (λ bytes. bytes.items ≡ written self.now) }
         ensures reads_back { IfOk result (λ bytes. IsCommandFile bytes.items self.now) }

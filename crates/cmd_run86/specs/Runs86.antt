@@ -1,20 +1,14 @@
 -- What `run86` is among the commands that run something: the image of a text runs on the 8086, by a choice.
-use Rattle.std.specs.Prelude.{◌≡◌, ℕ, List}
+use Rattle.std.specs.Prelude.{◌≡◌}
 use Rattle.i86.specs.Decode.{HasReader}
 use Rattle.asm86_line_types.specs.Image.{Image}
-use Rattle.asm86.specs.declared.fault.ImageFault.{ImageFault}
 use Rattle.cmd_arguments.specs.Words.{Run86}
-use Rattle.cmd_common.specs.declared.stop.Stop.{Stop}
 use Rattle.cmd_common.specs.Files.{text_limit}
-use Rattle.cmd_common.specs.Texts.{stop_of_image}
-use Rattle.asm86.specs.Images.{HasImage, IsNoImage}
+use Rattle.cmd_common.specs.Texts.{TextIsRefused}
+use Rattle.asm86.specs.Images.{HasImage}
 use Rattle.cmd_runs.specs.Settings.{IsCourse86}
 use Rattle.cmd_runs.specs.Kinds.{RunKind}
 use Rattle.cmd_runs.specs.Works.{RunWork, work_of_one}
-
--- why the bytes of a text give no image
-abbrev pub TextIsRefused : List ℕ → Stop → Type 0
-TextIsRefused text stop = (fault : ImageFault) × IsNoImage text fault × (stop ≡ stop_of_image fault)
 
 -- a file that is a text with an image gives it, and any other file is refused by the rule that it breaks; the image's code has one
 -- reader, the image has a course by that, and no line stands with a stop

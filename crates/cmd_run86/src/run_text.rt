@@ -10,8 +10,7 @@ ghost use Rattle.cmd_runs.specs.Outcomes.{RunCompletes};
 ghost use Rattle.cmd_run86.specs.Runs86.{kind86, work86};
 
 use crate::inputs::{Loaded, load};
-use asm86::images_exclude_refusals;
-use asm86_text::text_has_one_reading;
+use asm86::texts_have_one_image;
 use bdos_disk::disks_read_back;
 use cmd_arguments::Run86;
 use cmd_runs::{Halt, Last, came_to, close_work, kept_disk_name, leave_runs, run_image};
@@ -25,8 +24,7 @@ pub fn run86<H: Host>(alloc: Global, host: &mut H, command: &Run86<'_>) -> u8
     ensures files { DiskAlone (run86_read command.now).run.out_disk (H.state host.old) (H.state host.new) }
     ensures completes { RunCompletes (kind86 (run86_read command.now)) (H.state host.old) (H.state host.new) result }
 {
-    text_has_one_reading();
-    images_exclude_refusals();
+    texts_have_one_image();
     disks_read_back();
     let worked = work(alloc, host, command);
     close_work(alloc, host, worked)

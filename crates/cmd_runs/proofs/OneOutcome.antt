@@ -7,6 +7,7 @@ use Rattle.host.proofs.HostLemmas.{SameFaults-trans}
 use Rattle.host.specs.Host.{HostState, SameFaults}
 use Rattle.bdos_disk.specs.declared.fault.DiskFault.{DiskFault}
 use Rattle.bdos_disk.specs.declared.fault.DiskFault.TheVariants.{Bad, Memory}
+use Rattle.base_types.proofs.Fronts.{one_place}
 use Rattle.bdos_disk.specs.DiskFile.{IsBadAt}
 use Rattle.bdos_disk.specs.Reading.{IsFaultOf}
 use Rattle.bdos_small.specs.Supply.{Supply}
@@ -27,7 +28,7 @@ use Rattle.cmd_runs.specs.Kinds.{RunKind, run_setting, IsToRun, NothingToRun, no
 use Rattle.cmd_runs.specs.Outcomes.{ComesTo, IsOnlyEnd, HasStatus, FilesComeTo, refuses, of_disk, runs, RunCompletes}
 use Rattle.cmd_runs.specs.Works.{RunsMade, WorkGives, IsRunMade, IsRunCut, work_of_one}
 use Rattle.cmd_runs.proofs.Told.{told_given, supply_stops}
-use Rattle.cmd_runs.proofs.Disks.{DiskLaw, one_supply, disk_or_none, one_bad}
+use Rattle.cmd_runs.proofs.Disks.{DiskLaw, one_supply, disk_or_none}
 use Rattle.cmd_runs.proofs.Completing.{work_completes}
 
 -- what is known of a kind: its bytes give one thing or are refused by one stop, what can be read has a course, an end has one line
@@ -74,7 +75,7 @@ module _ {Loaded : Type 0} (k : RunKind Loaded) (laws : KindLaws k) (disks : Dis
     -- and so is a disk's file that is none
     other_disk : (loaded : Loaded) (place : ℕ) → k.IsGiven bytes loaded → IsBadAt given.disk place → (r : Result ℕ Stop) → FilesComeTo k bytes given r → r ≡ Err (BadDisk place)
     other_disk loaded place is bad _ (refuses {stop = s} h) = absurd (laws.apart bytes loaded s is h)
-    other_disk loaded place is bad _ (of_disk l other there also) = ap (λ n. Err (BadDisk n)) (one_bad given.disk other place also bad)
+    other_disk loaded place is bad _ (of_disk l other there also) = ap (λ n. Err (BadDisk n)) (one_place given.disk other place also bad)
     other_disk loaded place is bad r (runs l course s e n there is_course devices to at_line same) = absurd (disk_or_none disks given s place devices bad)
 
     pub disk_status : (loaded : Loaded) (fault : DiskFault) (status : ℕ) → k.IsGiven bytes loaded → IsFaultOf given.disk fault → (status ≡ 5) ⊎ (status ≡ status_of (stop_of_disk fault)) → HasStatus (FilesComeTo k bytes given) status

@@ -69,7 +69,7 @@ stands p page _ _ _ _ _ (asked d ys n c after e before step is) =
     let same : tagged_state after ≡ s = asked_at (step80 p s) s (tagged_state after) step.step in
     let asks_it : step80 p s ≡ Asks e s = subst (λ t. step80 p t ≡ Asks e t) same is.1.asked in
     subst (Stands p page Waiting (d ++ e ∷ []) ys (suc n)) (sym same)
-        (suc b.0, e, asks_it, has_asked d ys n b.0 (stand s None) (stand s (Some e)) e b.1 (sym (ap (settled s) asks_it)) refl)
+    (suc b.0, e, asks_it, has_asked d ys n b.0 (stand s None) (stand s (Some e)) e b.1 (sym (ap (settled s) asks_it)) refl)
 stands p page _ _ _ _ _ (replied d ys n c after y before is) =
     let s = tagged_state c in
     let b = stands p page Waiting d ys n c before in
@@ -77,19 +77,19 @@ stands p page _ _ _ _ _ (replied d ys n c after y before is) =
     let yes : Bool × Standing State80 = (true, stand (replied80 p s b.1 y) None) in
     let no : Bool × Standing State80 = (false, stand s (Some b.1)) in
     subst (Stands p page Going d (ys ++ y ∷ []) n) (sym taken.1)
-        (suc b.0, took d ys n b.0 (stand s (Some b.1)) yes.1 y b.3 (sym (ap (λ (fit : Bool). cond fit yes no) taken.0)))
+    (suc b.0, took d ys n b.0 (stand s (Some b.1)) yes.1 y b.3 (sym (ap (λ (fit : Bool). cond fit yes no) taken.0)))
 stands p page _ _ _ _ _ (ended d ys n c after before step) =
     let s = tagged_state c in
     let b = stands p page Going d ys n c before in
     let e = ended_at (step80 p s) s (tagged_state after) step.step in
     subst (Stands p page Over (d ++ End ∷ []) ys (suc n)) (sym e.1)
-        (b.0, has_ended d ys n b.0 (stand s None) (stand s (Some End)) b.1 (sym (ap (settled s) e.0)))
+    (b.0, has_ended d ys n b.0 (stand s None) (stand s (Some End)) b.1 (sym (ap (settled s) e.0)))
 stands p page _ _ _ _ _ (left d ys n c after r before step) =
     let s = tagged_state c in
     let b = stands p page Going d ys n c before in
     let e = left_by (step80 p s) s (tagged_state after) r step.step in
     subst (Stands p page (Stopped r) d ys (suc n)) (sym e.1)
-        (b.0, stopped d ys n b.0 (stand s None) (stand s None) r b.1 (sym (ap (settled s) e.0)))
+    (b.0, stopped d ys n b.0 (stand s None) (stand s None) r b.1 (sym (ap (settled s) e.0)))
 stands p page _ _ _ _ _ (refused status d ys n c after y before is) =
     subst (λ (x : Cpu80). Stands p page status d ys n (tagged_state x)) (sym is.0) (stands p page status d ys n c before)
 stands p page _ _ _ _ _ (asked_again d ys n c after before step) =

@@ -2,3 +2,4 @@ pub mod Tables
 pub mod Operands
 pub mod Readers
 pub mod Prefixes
+pub mod Same

@@ -6,7 +6,7 @@ use Rattle.std.proofs.Math.Seq.{drop-cons}
 use Rattle.std.proofs.lemmas.List.{drop_all}
 use Rattle.std.specs.Ordering.{nat_cmp, ordering_index}
 use Rattle.std.specs.Map.{keys_of}
-use Rattle.std.proofs.lemmas.Bool.{cases_lt, eqb-true}
+use Rattle.std.proofs.lemmas.Bool.{cases_lt, eqb-true, eq-eqb}
 use Rattle.std.proofs.lemmas.Bool.Decides.{nat_tests}
 use Rattle.std.proofs.lemmas.Cmp.{ranked}
 use Rattle.std.proofs.lemmas.Map.Keys.{sorted_from_strictly_increasing, below_from_sorted}
@@ -46,13 +46,10 @@ found_from instrs from limit a c (x ∷ xs) laid h = by_test (x.0 == a) refl h (
 each_stands : (image : Image) (instrs : List Placed) (from limit : ℕ) (cs : List (ℕ × Cell)) → CellsAreLaid instrs from limit cs → ((a : ℕ) (c : Cell) → cell_in cs a ≡ Some c → CellStands image a c) → AllStand image cs
 each_stands image instrs from limit [] laid h = tt
 each_stands image instrs from limit (x ∷ xs) laid h = (
-  h x.0 x.1 (ap (λ t. cond t (Some x.1) (cell_in xs x.0)) (same x.0)),
+  h x.0 x.1 (ap (λ t. cond t (Some x.1) (cell_in xs x.0)) (eq-eqb x.0 x.0 refl)),
   each_stands image instrs (x.0 + 1) limit xs laid.3 (λ a c e. h a c (further a c e)),
 )
   where
-    same : (n : ℕ) → (n == n) ≡ true
-    same n = grind (arith, nat_tests)
-
     further : (a : ℕ) (c : Cell) → cell_in xs a ≡ Some c → cond (x.0 == a) (Some x.1) (cell_in xs a) ≡ Some c
     further a c e =
         let past = found_from instrs (x.0 + 1) limit a c xs laid.3 e in

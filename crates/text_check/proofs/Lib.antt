@@ -1,6 +1,5 @@
 mod Frames
 mod Cells
-mod Same
 mod Numbers
 mod Walking
 mod Found

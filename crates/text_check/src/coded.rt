@@ -1,6 +1,6 @@
 // The numbers in the statements of lines.
 ghost use Rattle.asm86_line_types.specs.Image.{statements};
-ghost use Rattle.sym_block_def.specs.Sorts.{IsCoded86, StatementIsCoded, StatementsAreCoded};
+ghost use Rattle.sym_block_def.specs.Sorts.{StatementIsCoded, StatementsAreCoded};
 ghost use Rattle.simulation_def.specs.Matches.{DatumIsCoded, DataAreCoded};
 
 use asm86_line_types::{Line86, Stmt86};

@@ -2,7 +2,7 @@
 ghost use Rattle.std.specs.Prelude.{◌≡◌, ◌↔◌, IsTrue, Bool, Some};
 ghost use Rattle.std.specs.List.Sorted.{IsStrictlyIncreasing};
 ghost use Rattle.std.specs.Map.{keys_of};
-ghost use Rattle.asm86_line_types.specs.Image.{Image, offset_in};
+ghost use Rattle.asm86_line_types.specs.Image.{offset_in};
 ghost use Rattle.cells.specs.Conditions.{Knows, KnowsBits};
 ghost use Rattle.sym_block_def.specs.Stands.{label_of, Stands};
 ghost use Rattle.simulation_def.specs.Linked.{places};

@@ -1,6 +1,5 @@
 // What stands in a text around the instructions: the opening and the runtime.
-ghost use Rattle.std.specs.Prelude.{◌≡◌, ◌≢◌, ◌↔◌, ◌∷◌, ◌++◌, List, IsTrue, MatchOption};
-ghost use Rattle.asm80_program_types.specs.Program.{Program};
+ghost use Rattle.std.specs.Prelude.{◌≡◌, ◌≢◌, ◌↔◌, ◌++◌, List, IsTrue, MatchOption};
 ghost use Rattle.asm86_line_types.specs.declared.line.Stmt86.{Stmt86};
 ghost use Rattle.templates.specs.Plain.{prologue, runtime};
 ghost use Rattle.simulation_def.specs.Runtime.{HasRuntime};

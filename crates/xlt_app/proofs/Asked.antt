@@ -8,7 +8,7 @@ use Rattle.cmd_arguments.specs.declared.table.CommandName.TheVariants as named
 use Rattle.cmd_arguments.specs.Table.{Word}
 use Rattle.cmd_arguments.specs.Values.{top_among, top_value, number_in, count_within, count_value, file_name}
 use Rattle.cmd_arguments.specs.Given.{Gathered, Names, NoName, OneName, TwoNames, MoreNames}
-use Rattle.cmd_arguments.specs.Words.{Translate, Check, Flags, Run80, Both, Sample, Command, Translates, Checks, ListsFlags, Runs80, Runs86, RunsBoth, MakesSample, IsCommand, command_of, translate_of, check_of, flags_command_of, run80_of, run86_of, both_of, sample_of, run_options_of, flag_of, one_file, two_files, count_and_file, top_of, choice_of, text_or}
+use Rattle.cmd_arguments.specs.Words.{Translate, Check, Flags, Run80, Both, Sample, Command, Translates, Checks, ListsFlags, Runs80, Runs86, RunsBoth, MakesSample, MakesCmd, ShowsCmd, IsCommand, command_of, translate_of, check_of, flags_command_of, run80_of, run86_of, both_of, sample_of, cmd_of, cmd_show_of, run_options_of, flag_of, one_file, two_files, count_and_file, top_of, choice_of, text_or}
 use Rattle.cmd_sample.specs.Samples.{IsCount}
 use Rattle.xlt_app.specs.Top.{HasLawfulValues}
 
@@ -144,6 +144,8 @@ asked_by_name named.Run80 g c e = let h = mapped (run80_of g) Runs80 c e in subs
 asked_by_name named.Run86 g c e = let h = mapped (run86_of g) Runs86 c e in subst HasLawfulValues h.2 tt
 asked_by_name named.Both g c e = let h = mapped (both_of g) RunsBoth c e in subst HasLawfulValues h.2 (both_top g h.0 h.1)
 asked_by_name named.Sample g c e = let h = mapped (sample_of g) MakesSample c e in subst HasLawfulValues h.2 (sample_count g h.0 h.1)
+asked_by_name named.Cmd g c e = let h = mapped (cmd_of g) MakesCmd c e in subst HasLawfulValues h.2 tt
+asked_by_name named.CmdShow g c e = let h = mapped (cmd_show_of g) ShowsCmd c e in subst HasLawfulValues h.2 tt
 
 -- so the work of each command that words are may be done
 pub words_ask : (words : List Word) (c : Command) → IsCommand words c → HasLawfulValues c

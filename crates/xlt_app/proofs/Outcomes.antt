@@ -4,10 +4,11 @@ use Rattle.host.specs.Host.{HostState, SameFiles}
 use Rattle.host.proofs.HostLemmas.{OnlyReads-refl}
 use Rattle.asm86_line_types.specs.Image.{image_of}
 use Rattle.asm86_line_types.specs.Written.{written_text}
-use Rattle.cmd_arguments.specs.Words.{Translate, Check, Command, Translates, Checks, ListsFlags, Runs80, Runs86, RunsBoth, MakesSample, IsCommand, IsNoCommand}
+use Rattle.cmd_arguments.specs.Words.{Translate, Check, Cmd, Command, Translates, Checks, ListsFlags, Runs80, Runs86, RunsBoth, MakesSample, MakesCmd, ShowsCmd, IsCommand, IsNoCommand}
 use Rattle.cmd_common.specs.declared.stop.Stop.TheVariants.{OutOfMemory}
 use Rattle.cmd_common.specs.Said.{IsRefusedWords, SaysLast, Closes, said, unsaid}
 use Rattle.cmd_common.specs.Lines.{memory_line}
+use Rattle.cmd_common.proofs.Said.{never_0}
 use Rattle.cmd_translate.specs.Translates as translation
 use Rattle.cmd_check.specs.Checks as checking
 use Rattle.cmd_sample.specs.Samples as making
@@ -16,8 +17,10 @@ use Rattle.cmd_runs.specs.Keeping.{DiskAlone}
 use Rattle.cmd_runs.specs.Kinds as running_one
 use Rattle.cmd_runs.specs.Works as running
 use Rattle.cmd_both.specs.Loads as running_both
+use Rattle.cmd_makes.specs.Makes as files
+use Rattle.cmd_cmd.specs.Cmds.{HasCommandFile}
 use Rattle.xlt_app.specs.Top.{Headline, CheckedHeadline, IsStatus, refused as words_are_refused, no_memory as words_want_memory, Outcomes, CommandAnswers}
-use Rattle.xlt_app.proofs.Statuses.{never_0, of_5, of_words, of_answer}
+use Rattle.xlt_app.proofs.Statuses.{of_5, of_words, of_answer}
 
 -- ---- the headlines
 
@@ -65,6 +68,9 @@ module _ (words : List (List ℕ)) (old new : HostState) (status : ℕ) (o : Out
 
   pub has_checked : (c : Check) → IsCommand words (Checks c) → status ≡ 0 → CheckedHeadline c old
   has_checked c is e = checked_by c old new status (o.answered (Checks c) is).gives e
+
+  pub has_command_file : (c : Cmd) → IsCommand words (MakesCmd c) → status ≡ 0 → HasCommandFile c old new
+  has_command_file c is e = (o.answered (MakesCmd c) is).loads e
 
 -- ---- what words come to
 
@@ -151,6 +157,16 @@ module _ (words : List (List ℕ)) (old new : HostState) (status : ℕ) where
     wanting (MakesSample c) = record {
       gives = subst (making.SampleGives c old new) (sym is_5) (making.no_memory says);
       completes = λ none other. absurd (other is_5);
+    }
+    wanting (MakesCmd c) = record {
+      gives = files.stopped old OutOfMemory (files.unmade (OnlyReads-refl old) files.no_memory) closes;
+      completes = λ none bytes told other. absurd (other is_5);
+      loads = λ e. absurd (omega (arith, e, is_5));
+    }
+    wanting (ShowsCmd c) = record {
+      gives = files.stopped old OutOfMemory (files.unmade (OnlyReads-refl old) files.no_memory) closes;
+      completes = λ none bytes told other. absurd (other is_5);
+      files = same;
     }
 
     pub by_memory : Outcomes words old new status

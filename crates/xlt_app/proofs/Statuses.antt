@@ -4,9 +4,9 @@ use Rattle.std.specs.Prelude.{Option, Result, Ok, Err}
 use Rattle.host.specs.declared.HostFault.{HostFault}
 use Rattle.host.specs.declared.HostFault.TheVariants.{Failed, Memory}
 use Rattle.host.specs.Host.{HostState}
-use Rattle.cmd_arguments.specs.Words.{Translate, Check, Flags, Sample, Command, Translates, Checks, ListsFlags, Runs80, Runs86, RunsBoth, MakesSample}
+use Rattle.cmd_arguments.specs.Words.{Translate, Check, Flags, Sample, Command, Translates, Checks, ListsFlags, Runs80, Runs86, RunsBoth, MakesSample, MakesCmd, ShowsCmd}
 use Rattle.cmd_common.specs.declared.stop.Stop.{Stop}
-use Rattle.cmd_common.specs.declared.stop.Stop.TheVariants.{SourceLine, SourceProgram, ReadFailed, WriteFailed, OutOfMemory, LeftProfile, StepLimit, NotShown, InputEnded, TextLine, ShortJump, NoInstruction, StackSegment, OddCall, BadDisk, NoDrive, CodeTooLarge, FileTooLong}
+use Rattle.cmd_common.specs.declared.stop.Stop.TheVariants.{SourceLine, SourceProgram, ReadFailed, WriteFailed, OutOfMemory, LeftProfile, StepLimit, NotShown, InputEnded, TextLine, ShortJump, NoInstruction, StackSegment, OddCall, BadDisk, NoDrive, CodeTooLarge, FileTooLong, BadCommandFile}
 use Rattle.cmd_common.specs.Lines.{status_of}
 use Rattle.cmd_common.specs.Said.{IsDone, whole, failed, no_memory, Closes, said, unsaid}
 use Rattle.std.specs.List.{concat}
@@ -17,6 +17,11 @@ use Rattle.cmd_runs.specs.Works.{RunWork, WorkGives, came_by}
 use Rattle.cmd_run80.specs.Runs80.{work80}
 use Rattle.cmd_run86.specs.Runs86.{work86}
 use Rattle.cmd_both.specs.Runs.{work_both}
+use Rattle.cmd_makes.specs.Kinds.{MakeKind}
+use Rattle.cmd_makes.specs.Makes as files
+use Rattle.cmd_makes.specs.Makes.{MakeGives}
+use Rattle.cmd_cmd.specs.Cmds.{cmd_kind}
+use Rattle.cmd_cmdshow.specs.Shows.{cmd_show_kind}
 use Rattle.cmd_translate.specs.Translates as translation
 use Rattle.cmd_check.specs.Checks as checking
 use Rattle.cmd_flags.specs.Listing as listing
@@ -74,6 +79,9 @@ of_13 = record { number = (13, omega arith, refl); other = λ e. absurd (omega a
 of_14 : IsOfCommand 14
 of_14 = record { number = (14, omega arith, refl); other = λ e. absurd (omega arith) }
 
+of_15 : IsOfCommand 15
+of_15 = record { number = (15, omega arith, refl); other = λ e. absurd (omega arith) }
+
 of_stop : (stop : Stop) → IsOfCommand (status_of stop)
 of_stop (SourceLine line rule) = of_1
 of_stop (SourceProgram line rule) = of_1
@@ -93,35 +101,11 @@ of_stop (BadDisk place) = of_12
 of_stop (NoDrive function) = of_12
 of_stop (CodeTooLarge size) = of_13
 of_stop (FileTooLong name) = of_14
+of_stop (BadCommandFile place) = of_15
 
 of_closes : (stop : Stop) (old new : HostState) (status : ℕ) → Closes stop old new status → IsOfCommand status
 of_closes stop old new status (said e s) = subst IsOfCommand (sym e) (of_stop stop)
 of_closes stop old new status (unsaid n e s) = subst IsOfCommand (sym e) of_5
-
--- no stop is status 0
-stop_not_0 : (stop : Stop) → status_of stop ≡ 0 → ⊥
-stop_not_0 (SourceLine line rule) e = absurd (omega arith)
-stop_not_0 (SourceProgram line rule) e = absurd (omega arith)
-stop_not_0 (ReadFailed name) e = absurd (omega arith)
-stop_not_0 WriteFailed e = absurd (omega arith)
-stop_not_0 OutOfMemory e = absurd (omega arith)
-stop_not_0 (LeftProfile line rule) e = absurd (omega arith)
-stop_not_0 (StepLimit steps) e = absurd (omega arith)
-stop_not_0 (NotShown at reason) e = absurd (omega arith)
-stop_not_0 InputEnded e = absurd (omega arith)
-stop_not_0 (TextLine line rule) e = absurd (omega arith)
-stop_not_0 (ShortJump line) e = absurd (omega arith)
-stop_not_0 (NoInstruction offset) e = absurd (omega arith)
-stop_not_0 (StackSegment offset) e = absurd (omega arith)
-stop_not_0 (OddCall offset function) e = absurd (omega arith)
-stop_not_0 (BadDisk place) e = absurd (omega arith)
-stop_not_0 (NoDrive function) e = absurd (omega arith)
-stop_not_0 (CodeTooLarge size) e = absurd (omega arith)
-stop_not_0 (FileTooLong name) e = absurd (omega arith)
-
-pub never_0 : (stop : Stop) (old new : HostState) (status : ℕ) → Closes stop old new status → status ≡ 0 → ⊥
-never_0 stop old new status (said e s) z = stop_not_0 stop (sym e ∙ z)
-never_0 stop old new status (unsaid n e s) z = omega (arith, e, z)
 
 of_done : (line : List ℕ) (old new : HostState) (status : ℕ) → IsDone line old new status → IsOfCommand status
 of_done line old new _ (whole o s f) = of_0
@@ -163,6 +147,10 @@ of_work w old new status (running.ran kept m h e) = of_ending m.second (came_by 
 of_work w old new status (running.unsaid fault e k) = subst IsOfCommand (sym e) (of_unsaid fault)
 of_work w old new status (running.stopped mid stop s k) = of_closes stop mid new status k
 
+of_file : {Made : Type 0} (k : MakeKind Made) (old new : HostState) (status : ℕ) → MakeGives k old new status → IsOfCommand status
+of_file k old new status (files.made mid line h d) = of_done line mid new status d
+of_file k old new status (files.stopped mid stop s c) = of_closes stop mid new status c
+
 of_making : (c : Sample) (old new : HostState) (status : ℕ) → making.SampleGives c old new status → IsOfCommand status
 of_making c old new _ (making.made line is w s f) = of_0
 of_making c old new _ (making.unwritten w s) = of_4
@@ -179,3 +167,5 @@ of_answer (Runs80 c) old new status a = of_work (work80 c) old new status a.give
 of_answer (Runs86 c) old new status a = of_work (work86 c) old new status a.gives
 of_answer (RunsBoth c) old new status a = of_work (work_both c) old new status a.gives
 of_answer (MakesSample c) old new status a = of_making c old new status a.gives
+of_answer (MakesCmd c) old new status a = of_file (cmd_kind c) old new status a.gives
+of_answer (ShowsCmd c) old new status a = of_file (cmd_show_kind c) old new status a.gives

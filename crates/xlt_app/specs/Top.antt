@@ -7,7 +7,7 @@ use Rattle.asm86_line_types.specs.Image.{Image}
 use Rattle.asm80_program_types.specs.Program.{Program, is_top}
 use Rattle.asm80_text.specs.Intel.{intel_reading}
 use Rattle.asm80_source_def.specs.Source.{IsSource}
-use Rattle.cmd_arguments.specs.Words.{Translate, Check, Flags, Run80, Run86, Both, Sample, Command, Translates, Checks, ListsFlags, Runs80, Runs86, RunsBoth, MakesSample, IsCommand, IsNoCommand}
+use Rattle.cmd_arguments.specs.Words.{Translate, Check, Flags, Run80, Run86, Both, Sample, Cmd, CmdShow, Command, Translates, Checks, ListsFlags, Runs80, Runs86, RunsBoth, MakesSample, MakesCmd, ShowsCmd, IsCommand, IsNoCommand}
 use Rattle.cmd_common.specs.Lines.{memory_line}
 use Rattle.cmd_common.specs.Said.{IsRefusedWords, SaysLast}
 use Rattle.asm86.specs.Images.{HasImage}
@@ -25,6 +25,9 @@ use Rattle.cmd_run80.specs.Runs80.{kind80, work80}
 use Rattle.cmd_run86.specs.Runs86.{kind86, work86}
 use Rattle.cmd_both.specs.Runs.{work_both}
 use Rattle.cmd_both.specs.Completes.{BothComplete}
+use Rattle.cmd_makes.specs.Makes.{MakeGives, MakeCompletes}
+use Rattle.cmd_cmd.specs.Cmds.{cmd_kind, HasCommandFile}
+use Rattle.cmd_cmdshow.specs.Shows.{cmd_show_kind}
 
 -- the headline: the source's file, where the host tells it, is the source of a program; the output's file holds a text with an
 -- image, whose code is read in one way; and the image makes the same system calls as the program, in the same order, and ends
@@ -57,7 +60,7 @@ pub record CheckedHeadline (c : Check) (old : HostState) : Type 0 where
 
 -- the statuses that are answered
 abbrev pub statuses : List ℕ
-statuses = 0 ∷ (1 ∷ (2 ∷ (3 ∷ (4 ∷ (5 ∷ (6 ∷ (7 ∷ (8 ∷ (9 ∷ (10 ∷ (11 ∷ (12 ∷ (13 ∷ (14 ∷ []))))))))))))))
+statuses = 0 ∷ (1 ∷ (2 ∷ (3 ∷ (4 ∷ (5 ∷ (6 ∷ (7 ∷ (8 ∷ (9 ∷ (10 ∷ (11 ∷ (12 ∷ (13 ∷ (14 ∷ (15 ∷ [])))))))))))))))
 
 abbrev pub IsStatus : ℕ → Type 0
 IsStatus status = Contains statuses status
@@ -100,6 +103,16 @@ pub record Made (c : Sample) (old new : HostState) (status : ℕ) : Type 0 where
   pub gives : making.SampleGives c old new status
   pub completes : making.Completes c old new status
 
+pub record WroteCmd (c : Cmd) (old new : HostState) (status : ℕ) : Type 0 where
+  pub gives : MakeGives (cmd_kind c) old new status
+  pub completes : MakeCompletes (cmd_kind c) old new status
+  pub loads : status ≡ 0 → HasCommandFile c old new
+
+pub record ShowedCmd (c : CmdShow) (old new : HostState) (status : ℕ) : Type 0 where
+  pub gives : MakeGives (cmd_show_kind c) old new status
+  pub completes : MakeCompletes (cmd_show_kind c) old new status
+  pub files : SameFiles old new
+
 abbrev pub CommandAnswers : Command → HostState → HostState → ℕ → Type 0
 CommandAnswers (Translates c) old new status = Translated c old new status
 CommandAnswers (Checks c) old new status = Checked c old new status
@@ -108,6 +121,8 @@ CommandAnswers (Runs80 c) old new status = Ran80 c old new status
 CommandAnswers (Runs86 c) old new status = Ran86 c old new status
 CommandAnswers (RunsBoth c) old new status = RanBoth c old new status
 CommandAnswers (MakesSample c) old new status = Made c old new status
+CommandAnswers (MakesCmd c) old new status = WroteCmd c old new status
+CommandAnswers (ShowsCmd c) old new status = ShowedCmd c old new status
 
 -- ---- what is answered to words
 
@@ -132,3 +147,5 @@ HasLawfulValues (Runs80 c) = is_top c.top ≡ true
 HasLawfulValues (Runs86 c) = Unit {0}
 HasLawfulValues (RunsBoth c) = is_top c.top ≡ true
 HasLawfulValues (MakesSample c) = making.IsCount c.count
+HasLawfulValues (MakesCmd c) = Unit {0}
+HasLawfulValues (ShowsCmd c) = Unit {0}

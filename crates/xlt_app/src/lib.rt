@@ -3,7 +3,8 @@
 // Proved of `xlt`, for every list of words and every host, and it returns for every input. Clause `headline`: where the words are the
 // command `translate` and it answers 0, the bytes of the source (where the host tells them) are the source of a program, the output holds a
 // text that has an image, and program and image are `Same` (`Headline`). Clause `checked_headline`: the same of `check` and the text that
-// it was given (`CheckedHeadline`). Clause `outcomes` (`Outcomes`): words that are no command, and no others, are refused; each command
+// it was given (`CheckedHeadline`). Clause `command_file`: where they are the command `cmd` and it answers 0, the output is the command file
+// of the text's image, and whatever program is `Same` with that image is `Same` with what the file loads to (`HasCommandFile`). Clause `outcomes` (`Outcomes`): words that are no command, and no others, are refused; each command
 // answers as its crate says (each way to a status with its cause, what is said and what becomes of files; and which status it is where no
 // call of the host failed and memory suffices); no other number is answered.
 #![tactic(auto)]
@@ -11,12 +12,15 @@
 ghost use Rattle.std.specs.Prelude.{◌≡◌, map};
 ghost use Rattle.std.specs.String.{string_bytes};
 ghost use Rattle.cmd_arguments.specs.ReadCommands.{command_read};
-ghost use Rattle.cmd_arguments.specs.Words.{Translate, Check, Translates, Checks, IsCommand};
+ghost use Rattle.cmd_arguments.specs.Words.{Translate, Check, Cmd, Translates, Checks, MakesCmd, IsCommand};
+ghost use Rattle.cmd_cmd.specs.Cmds.{HasCommandFile};
 ghost use Rattle.xlt_app.specs.Top.{Headline, CheckedHeadline, Outcomes, CommandAnswers, HasLawfulValues};
 
 use cmd_arguments::{Command, read_words, words_are_one_command};
 use cmd_both::both;
 use cmd_check::check;
+use cmd_cmd::cmd;
+use cmd_cmdshow::cmdshow;
 use cmd_common::{Stop, say_stop, words_refused};
 use cmd_flags::flags;
 use cmd_run80::run80;
@@ -34,6 +38,8 @@ pub fn xlt<H: Host>(alloc: Global, words: Vec<String>, host: &mut H) -> u8
         → result ≡ 0 → Headline c (H.state host.old) (H.state host.new) }
     ensures checked_headline { (c : Check) → IsCommand (map string_bytes words.items) (Checks c)
         → result ≡ 0 → CheckedHeadline c (H.state host.old) }
+    ensures command_file { (c : Cmd) → IsCommand (map string_bytes words.items) (MakesCmd c)
+        → result ≡ 0 → HasCommandFile c (H.state host.old) (H.state host.new) }
     ensures outcomes { Outcomes (map string_bytes words.items) (H.state host.old) (H.state host.new) result }
 {
     words_are_one_command();
@@ -57,5 +63,7 @@ fn answer<H: Host>(alloc: Global, host: &mut H, command: &Command<'_>) -> u8
         Command::Run86(command) => run86(alloc, host, command),
         Command::Both(command) => both(alloc, host, command),
         Command::Sample(command) => sample(alloc, host, command),
+        Command::Cmd(command) => cmd(alloc, host, command),
+        Command::CmdShow(command) => cmdshow(alloc, host, command),
     }
 }

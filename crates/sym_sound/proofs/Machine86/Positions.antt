@@ -1,15 +1,14 @@
 -- Where a walk is in a text: what stands behind a position, and at which offset.
 use Rattle.std.proofs.Common.{◌≡◌, ℕ, ◌+◌, ◌<◌, ◌≤◌, Bool, true, false, cond, List, [], ◌∷◌, ◌++◌, Option, Some, None, refl, sym, ap, subst, ◌∙◌, arith, append_assoc}
 use Rattle.std.specs.Prelude.{◌||◌, is_some, unwrap_or}
-use Rattle.std.proofs.lemmas.Bool.{eqb-true}
 use Rattle.i86.specs.Code.{HasBytes}
 use Rattle.asm86_line_types.specs.declared.line.Label.{Label}
-use Rattle.asm86_line_types.specs.declared.line.Label.TheVariants.{At, Skip, User, Sys, End}
 use Rattle.asm86_line_types.specs.declared.line.Stmt86.{Stmt86}
 use Rattle.asm86_line_types.specs.declared.line.Stmt86.TheVariants.{Cseg, Dseg, Org, Rb, Db, Dw, Mark, Run, MovOffset, Jmp, Jmps, Jcc as JccTo, Call as CallTo, EndText}
 use Rattle.asm86_line_types.specs.declared.line.Line86.{Line86}
 use Rattle.asm86_line_types.specs.Layout.{same_label, size_of, sizes_of, marked, is_label, marks, offset_from, offset_of, place_of, bytes_at, code_of}
 use Rattle.asm86_line_types.specs.Image.{statements, offset_in, labels_before, labels_from, count_marks, IsDefinedOnce, AllDefined, UsesDefined, used_in, short_reaches, AllReach}
+use Rattle.asm86_line_types.proofs.Labels.{same_label_is, same_label_self}
 use Rattle.asm86_line_types.proofs.Sizes.{sizes_of-append, count_marks-append}
 use Rattle.asm86_line_types.proofs.Statements.{uncounted, offset_past}
 use Rattle.sym_block_def.specs.Walk86.{Surroundings, after_label, is_passed, Met, EndsAt, Instruction, Nothing, met_label, met, follows}
@@ -35,23 +34,6 @@ position_next text x xs at p =
 
 pub position_moved : (text xs : List Stmt86) (at to : ℕ) → at ≡ to → Position text xs at → Position text xs to
 position_moved text xs at to e p = subst (Position text xs) e p
-
--- labels
-
-same_label_is : (k l : Label) → same_label k l ≡ true → k ≡ l
-same_label_is (At a) (At b) e = ap At (eqb-true a b e)
-same_label_is (Skip a) (Skip b) e = ap Skip (eqb-true a b e)
-same_label_is (User a) (User b) e = ap User (eqb-true a b e)
-same_label_is Sys Sys e = refl
-same_label_is End End e = refl
-same_label_is k l e = absurd (cc)
-
-same_label_self : (l : Label) → same_label l l ≡ true
-same_label_self (At a) = Rattle.sym_sound.proofs.Machine86.Words.eq_true a a refl
-same_label_self (Skip a) = Rattle.sym_sound.proofs.Machine86.Words.eq_true a a refl
-same_label_self (User a) = Rattle.sym_sound.proofs.Machine86.Words.eq_true a a refl
-same_label_self Sys = refl
-same_label_self End = refl
 
 -- the labels of an image
 offsets_from : (at : ℕ) (xs : List Stmt86) (l : Label) → offset_in (labels_from at xs) l ≡ offset_from at xs l

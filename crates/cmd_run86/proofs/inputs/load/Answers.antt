@@ -56,13 +56,11 @@ returns-in_err-image-clause-stopped g c =
     let second = c.in_ok-supplies.ensures in
     let s = c.in_ok-supplies.supplies in
     let given = given_of s.input.items s.disk.items s.ports.items in
-    let stopped = c.in_err-image.ensures.stopped in
     judged c.from_residual-in_err-image.result (λ h. h ≡ By c.in_err-image.field-0.0) (Halts (NothingToRun (kind86 command) old new)) c.from_residual-in_err-image.ensures.1
     (λ h is. subst (Halts (NothingToRun (kind86 command) old new)) (sym is)
-    (subst (NothingToRun (kind86 command) old new) (sym stopped.is)
     (image_stops command old new first.read.bytes given first.read.file (supply_before old mid new first.only first.counted command.run given second.read)
     (faults_before old mid new first.only first.counted second.counted)
-    c.in_ok-lines.lines.items (subst (BytesGiveLines first.read.bytes) c.in_ok-lines.was first.read.gives) stopped.fault stopped.refused)))
+    c.in_ok-lines.lines.items (subst (BytesGiveLines first.read.bytes) c.in_ok-lines.was first.read.gives) c.in_err-image.field-0.0 c.in_err-image.ensures.stopped))
 
 -- the disk's file is none, or memory ran out
 pub returns-in_err-equipment-clause-stopped : goal.returns-in_err-equipment-clause-stopped

@@ -25,6 +25,6 @@ returns-clause-completes g c =
     let kind = kind86 (run86_read c.args.command.now) in
     let old = g.H.Host.state c.args.host.now in
     let new = g.H.Host.state c.close_work.new.host in
-    let law = c.images_exclude_refusals.ensures in
+    let law = c.texts_have_one_image.ensures in
     let disks = c.disks_read_back.ensures in
-    one_completes kind (laws86 c.text_has_one_reading.ensures law.one_image law.one_refusal law.not_both (run86_read c.args.command.now)) (record { told = disks.told; taken = disks.taken }) old new c.close_work.result (returns-clause-gives g c)
+    one_completes kind (laws86 law.image law.fault law.apart (run86_read c.args.command.now)) (record { told = disks.told; taken = disks.taken }) old new c.close_work.result (returns-clause-gives g c)

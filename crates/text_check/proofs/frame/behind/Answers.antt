@@ -1,6 +1,6 @@
 use Rattle.std.proofs.Common.{◌∙◌, sym}
+use Rattle.asm86_line_types.proofs.Same.{same_stmt86, differs}
 use Rattle.text_check.proofs.Frames.{one_further, other_found, none_found}
-use Rattle.text_check.proofs.Same.{same_stmt86, differs}
 use Rattle.text_check.proofs.frame.behind.Goals as goal
 use Rattle.text_check.proofs.frame.behind.Goals.{in_default-split_first-via-in-Some-split_first+else-eq, in_default-split_first-via-in_default-split_first}
 

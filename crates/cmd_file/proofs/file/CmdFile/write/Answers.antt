@@ -31,6 +31,6 @@ returns-clause-reads_back c =
     (written_is_file (file_is c) (record {
       code_part = c.code_part-code.ensures.part;
       data_part = c.data_part-data.ensures.part;
-      code_bytes = c.code_part-code.ensures.bytes;
-      data_bytes = c.data_part-data.ensures.bytes;
+      code_small = c.code_part-code.ensures.bytes;
+      data_small = c.data_part-data.ensures.bytes;
     })))

@@ -78,18 +78,18 @@ returns-in-NoInstruction-clause-still c =
     let cpu = c.args.self.now.cpu in
     let choice = c.args.self.now.choice in
     let told = c.in-NoInstruction.ensures.told (decoded (code_kept cpu)) c.requires.1 c.requires.0 in
-    ap (λ code. course86_from code choice (standing c.step.new.self).state) c.step.ensures.code ∙ ap (λ (x : Standing). course86_from (code_kept cpu) choice x.state) told.1
+    ap (λ code. course86_from code choice (standing c.step.new.self).state) c.step.ensures.code ∙ ap (λ (x : Standing State86). course86_from (code_kept cpu) choice x.state) told.1
 
 pub returns-in-StackSegment-clause-still : goal.returns-in-StackSegment-clause-still
 returns-in-StackSegment-clause-still c =
     let cpu = c.args.self.now.cpu in
     let choice = c.args.self.now.choice in
     let told = c.in-StackSegment.ensures.told (decoded (code_kept cpu)) c.requires.1 c.requires.0 in
-    ap (λ code. course86_from code choice (standing c.step.new.self).state) c.step.ensures.code ∙ ap (λ (x : Standing). course86_from (code_kept cpu) choice x.state) told.1
+    ap (λ code. course86_from code choice (standing c.step.new.self).state) c.step.ensures.code ∙ ap (λ (x : Standing State86). course86_from (code_kept cpu) choice x.state) told.1
 
 pub returns-in-OddCall-clause-still : goal.returns-in-OddCall-clause-still
 returns-in-OddCall-clause-still c =
     let cpu = c.args.self.now.cpu in
     let choice = c.args.self.now.choice in
     let told = c.in-OddCall.ensures.told (decoded (code_kept cpu)) c.requires.1 c.requires.0 in
-    ap (λ code. course86_from code choice (standing c.step.new.self).state) c.step.ensures.code ∙ ap (λ (x : Standing). course86_from (code_kept cpu) choice x.state) told.1
+    ap (λ code. course86_from code choice (standing c.step.new.self).state) c.step.ensures.code ∙ ap (λ (x : Standing State86). course86_from (code_kept cpu) choice x.state) told.1

@@ -1,0 +1,5 @@
+pub mod Readers
+pub mod Steps
+pub mod Cells
+pub mod Memory
+pub mod Loading
