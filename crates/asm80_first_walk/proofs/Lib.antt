@@ -1,3 +1,6 @@
+pub mod Keys
+pub mod Definitions
+pub mod Sets
 pub mod Lists
 pub mod Verdicts
 pub mod Reaching

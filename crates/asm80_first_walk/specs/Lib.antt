@@ -1,2 +1,4 @@
+pub mod Entries
+pub mod Scopes
 pub mod Walked
 pub mod State

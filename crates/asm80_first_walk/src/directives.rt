@@ -4,7 +4,7 @@ ghost use Rattle.std.specs.Prelude.{◌≡◌, ◌≢◌, ◌+◌, ◌%◌, ◌�
 ghost use Rattle.std.specs.List.{list_any};
 ghost use Rattle.asm80_statement_types.specs.declared.arg.Arg.{Arg};
 ghost use Rattle.asm80_statement_types.specs.Tree.{Operand, operand_of, Statement, statement_of};
-ghost use Rattle.asm80_names.specs.Scopes.{scope_of};
+ghost use Rattle.asm80_first_walk.specs.Scopes.{scope_of};
 ghost use Rattle.asm80_source_def.specs.Values.{operand_has_unknown, operand_divides_by_zero};
 ghost use Rattle.asm80_source_def.specs.Walk.{Walk, operation_in, operand_meaning, directive_meaning, label_meaning_by, kind_of_label, address_by, is_end_directive, is_endif, is_true, or_at, size_by};
 ghost use Rattle.asm80_source_def.specs.FirstFaults.{is_one_value, breaks_v5};
@@ -12,7 +12,7 @@ ghost use Rattle.asm80_first_walk.specs.State.{rule_of_values, is_evaluated};
 
 use crate::operations::operation_of;
 use crate::size::size_of;
-use asm80_names::{Scope, is_no_value, meaning_of, operand_divides_by_zero, operand_has_unknown};
+use crate::{Scope, is_no_value, meaning_of, operand_divides_by_zero, operand_has_unknown};
 use asm80_source_def::{AsmRule, Meaning, NameKind, Operation};
 use asm80_statement_types::{Arg, Stmt80};
 

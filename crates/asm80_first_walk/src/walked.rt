@@ -3,7 +3,7 @@
 ghost use Rattle.std.specs.Prelude.{◌≡◌};
 ghost use Rattle.asm80_first_walk.specs.declared.walked.AsmFault.TheVariants as fault;
 
-use asm80_names::Names;
+use crate::Names;
 use asm80_source_def::{AsmRule, Meaning, Operation};
 use std::alloc::{AllocError, AllocFailed};
 use thiserror::Error;

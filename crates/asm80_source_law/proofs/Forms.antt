@@ -15,9 +15,9 @@ use Rattle.i80.specs.declared.Instr80.{Instr80}
 use Rattle.i80.specs.declared.Instr80.TheVariants as i80
 use Rattle.asm80_program_types.specs.Program.{IsCoded}
 use Rattle.asm80_statement_types.specs.Tree.{Operand, String, Whole}
-use Rattle.asm80_operands.specs.declared.form.Form.{Form}
-use Rattle.asm80_operands.specs.declared.form.Form.TheVariants.{Instruction, Data}
-use Rattle.asm80_operands.specs.Forms.{HoldsByte, IsForm}
+use Rattle.asm80_values.specs.declared.form.Form.{Form}
+use Rattle.asm80_values.specs.declared.form.Form.TheVariants.{Instruction, Data}
+use Rattle.asm80_values.specs.Forms.{HoldsByte, IsForm}
 use Rattle.asm80_source_def.specs.declared.operation.Operation.{Operation}
 use Rattle.asm80_source_def.specs.declared.operation.Operation.TheVariants as op
 use Rattle.asm80_source_def.specs.Values.{operand_number}

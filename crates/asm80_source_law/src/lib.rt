@@ -16,7 +16,7 @@ ghost use Rattle.asm80_source_def.specs.Assembly.{refusal, IsAssembled};
 ghost use Rattle.asm80_source_def.specs.Source.{IsSource, SourceRule, IsNoSource};
 ghost use Rattle.asm80_statement_types.specs.Ranges.{AreInRange};
 
-use asm80_tokens::Notation;
+use asm80_text::Notation;
 
 /// A law: in each spelling the statements of a stream have words for numbers and bytes for characters.
 pub fn statements_of_a_stream_are_in_range<N: Notation>()

@@ -1,3 +1,13 @@
+pub mod Digits
+pub mod Names
+pub mod Quotes
+pub mod Symbols
+pub mod Operations
+pub mod Lexing
+pub mod Chain
+pub mod Cases
+pub mod Unambiguous
+pub mod Inverted
 pub mod Operands
 pub mod Bodies
 pub mod Alone

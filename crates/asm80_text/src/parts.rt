@@ -2,7 +2,7 @@
 
 ghost use Rattle.std.specs.Prelude.{◌≡◌, ◌≤◌, ◌++◌, All, IfOk, OnOk, map};
 ghost use Rattle.std.specs.List.{list_any};
-ghost use Rattle.asm80_tokens.specs.Tokens.{IsLawful};
+ghost use Rattle.asm80_text.specs.Tokens.{IsLawful};
 ghost use Rattle.asm80_statement_types.specs.Tree.{statement_of};
 ghost use Rattle.asm80_statement_types.specs.WellFormed.{AreWellFormed, IsWellFormed};
 ghost use Rattle.asm80_text.specs.Statement.{kept};
@@ -10,8 +10,8 @@ ghost use Rattle.asm80_text.specs.Line.{begins_with_colon, begins_with_reserved,
 ghost use Rattle.asm80_text.specs.Results.{GivesStatements};
 
 use crate::parse::statement;
+use crate::{Notation, ParseFault, Token, as_operation, first};
 use asm80_statement_types::{Stmt80, Two};
-use asm80_tokens::{Notation, ParseFault, Token, as_operation, first};
 use std::alloc::{AllocError, Global};
 
 /// The most parentheses that may be open in a statement.

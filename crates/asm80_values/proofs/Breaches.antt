@@ -4,8 +4,8 @@ use Rattle.std.specs.List.{list_any}
 use Rattle.std.specs.Option.{option_or}
 use Rattle.std.proofs.lemmas.Bool.Decides.{nat_tests}
 use Rattle.asm80_statement_types.specs.Tree.{Operand}
-use Rattle.asm80_operands.specs.declared.form.Form.{Form}
-use Rattle.asm80_operands.specs.declared.form.Form.TheVariants.{Nothing, Instruction, Data}
+use Rattle.asm80_values.specs.declared.form.Form.{Form}
+use Rattle.asm80_values.specs.declared.form.Form.TheVariants.{Nothing, Instruction, Data}
 use Rattle.asm80_source_def.specs.declared.operation.Operation.{Operation}
 use Rattle.asm80_source_def.specs.declared.operation.Operation.TheVariants.{Db, Dw, Rst, Foreign}
 use Rattle.asm80_source_def.specs.declared.operation.Kind.TheVariants.{Byte, Word}

@@ -13,8 +13,8 @@ use Rattle.i80.specs.declared.Instr80.{Instr80}
 use Rattle.asm80_program_types.specs.declared.program.Placed.{Placed}
 use Rattle.asm80_program_types.specs.Program.{Program, is_top, IsProgram}
 use Rattle.asm80_statement_types.specs.Tree.{Operand}
-use Rattle.asm80_operands.specs.declared.form.Form.{Form}
-use Rattle.asm80_operands.specs.declared.form.Form.TheVariants.{Nothing, Instruction, Data}
+use Rattle.asm80_values.specs.declared.form.Form.{Form}
+use Rattle.asm80_values.specs.declared.form.Form.TheVariants.{Nothing, Instruction, Data}
 use Rattle.asm80_source_def.specs.declared.operation.Operation.{Operation}
 use Rattle.asm80_source_def.specs.declared.operation.Operation.TheVariants.{Db, Dw}
 use Rattle.asm80_source_def.specs.declared.rule.AsmRule.{AsmRule}

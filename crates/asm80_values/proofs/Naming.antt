@@ -15,9 +15,9 @@ use Rattle.i80.specs.declared.Instr80.TheVariants as i80
 use Rattle.i80.specs.Columns.{is_well_formed, length80}
 use Rattle.asm80_program_types.specs.Program.{if_instr, if_code, IsCoded}
 use Rattle.asm80_statement_types.specs.Tree.{Operand, String, Whole, Statement}
-use Rattle.asm80_operands.specs.Forms.{HoldsByte}
-use Rattle.asm80_operands.specs.declared.form.Form.{Form}
-use Rattle.asm80_operands.specs.declared.form.Form.TheVariants.{Nothing, Instruction, Data}
+use Rattle.asm80_values.specs.Forms.{HoldsByte}
+use Rattle.asm80_values.specs.declared.form.Form.{Form}
+use Rattle.asm80_values.specs.declared.form.Form.TheVariants.{Nothing, Instruction, Data}
 use Rattle.asm80_source_def.specs.declared.operation.Operation.{Operation}
 use Rattle.asm80_source_def.specs.declared.operation.Operation.TheVariants as op
 use Rattle.asm80_source_def.specs.declared.rule.AsmRule.TheVariants.{S2}

@@ -16,9 +16,9 @@ use Rattle.i80.specs.Columns.{length80, is_well_formed}
 use Rattle.asm80_program_types.specs.declared.program.Placed.{Placed}
 use Rattle.asm80_program_types.specs.Program.{Program, covers, placed_in, is_start, cell_at, named_by, AreLaid, CellsAreLaid, IsInstructionLaid, NameStarts, IsCoded, AreCoded, IsProgram, program_of}
 use Rattle.asm80_program_types.proofs.Lookup.{top_range}
-use Rattle.asm80_operands.specs.Forms.{HoldsByte}
-use Rattle.asm80_operands.specs.declared.form.Form.{Form}
-use Rattle.asm80_operands.specs.declared.form.Form.TheVariants.{Nothing, Instruction, Data}
+use Rattle.asm80_values.specs.Forms.{HoldsByte}
+use Rattle.asm80_values.specs.declared.form.Form.{Form}
+use Rattle.asm80_values.specs.declared.form.Form.TheVariants.{Nothing, Instruction, Data}
 use Rattle.asm80_source_def.specs.declared.rule.AsmRule.TheVariants.{S1, S7}
 use Rattle.asm80_source_def.specs.Items.{laid_from}
 use Rattle.asm80_source_def.specs.Layout.{counted_from, is_filled}

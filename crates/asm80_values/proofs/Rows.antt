@@ -1,12 +1,12 @@
 -- The items of rows, from the forms of their operands.
 use Rattle.std.proofs.Common.{◌≡◌, Bool, true, false, ◌||◌, List, Option, Some, Result, Ok, refl, subst}
 use Rattle.asm80_statement_types.specs.Tree.{Operand}
-use Rattle.asm80_operands.specs.declared.fault.FormFault.{FormFault}
-use Rattle.asm80_operands.specs.declared.form.Form.{Form}
-use Rattle.asm80_operands.specs.declared.form.Form.TheVariants.{Nothing, Instruction, Data}
-use Rattle.asm80_operands.specs.declared.form.Instruction.{Instruction as Instr}
-use Rattle.asm80_operands.specs.declared.form.Data.{Data as Cells}
-use Rattle.asm80_operands.specs.Forms.{IsForm, GivesForm}
+use Rattle.asm80_values.specs.declared.fault.FormFault.{FormFault}
+use Rattle.asm80_values.specs.declared.form.Form.{Form}
+use Rattle.asm80_values.specs.declared.form.Form.TheVariants.{Nothing, Instruction, Data}
+use Rattle.asm80_values.specs.declared.form.Instruction.{Instruction as Instr}
+use Rattle.asm80_values.specs.declared.form.Data.{Data as Cells}
+use Rattle.asm80_values.specs.Forms.{IsForm, GivesForm}
 use Rattle.asm80_source_def.specs.declared.operation.Operation.{Operation}
 use Rattle.asm80_source_def.specs.Items.{Setting, is_instruction_op}
 use Rattle.asm80_source_def.specs.Walk.{WalkRow, row_operation}

@@ -3,9 +3,9 @@ use Rattle.std.specs.Prelude.{◌≡◌, ℕ, ◌-◌, ◌^◌, ◌<◌, nat_lt,
 use Rattle.std.specs.List.{list_any}
 use Rattle.std.specs.Option.{option_or}
 use Rattle.asm80_statement_types.specs.Tree.{Operand}
-use Rattle.asm80_operands.specs.declared.form.Form.{Form}
-use Rattle.asm80_operands.specs.declared.form.Form.TheVariants.{Instruction, Data}
-use Rattle.asm80_operands.specs.Forms.{IsForm}
+use Rattle.asm80_values.specs.declared.form.Form.{Form}
+use Rattle.asm80_values.specs.declared.form.Form.TheVariants.{Instruction, Data}
+use Rattle.asm80_values.specs.Forms.{IsForm}
 use Rattle.asm80_source_def.specs.declared.operation.Operation.{Operation}
 use Rattle.asm80_source_def.specs.declared.rule.AsmRule.{AsmRule}
 use Rattle.asm80_source_def.specs.declared.rule.AsmRule.TheVariants.{S1, S2, S4, S5, S7}

@@ -1,3 +1,5 @@
+pub mod Forms
+pub mod Settings
 pub mod Items
 pub mod Programs
 pub mod Second

@@ -8,9 +8,9 @@ use Rattle.i80.specs.declared.Instr80.{Instr80}
 use Rattle.i80.specs.Columns.{length80, is_well_formed}
 use Rattle.asm80_program_types.specs.declared.program.Placed.{Placed}
 use Rattle.asm80_program_types.specs.Program.{named_by, is_top, IsCoded}
-use Rattle.asm80_operands.specs.Forms.{HoldsByte}
-use Rattle.asm80_operands.specs.declared.form.Form.{Form}
-use Rattle.asm80_operands.specs.declared.form.Form.TheVariants.{Nothing, Instruction, Data}
+use Rattle.asm80_values.specs.Forms.{HoldsByte}
+use Rattle.asm80_values.specs.declared.form.Form.{Form}
+use Rattle.asm80_values.specs.declared.form.Form.TheVariants.{Nothing, Instruction, Data}
 use Rattle.asm80_source_def.specs.declared.rule.AsmRule.TheVariants.{S1, S7}
 use Rattle.asm80_source_def.specs.Items.{laid_from}
 use Rattle.asm80_values.specs.declared.item.Item.{Item}

@@ -3,8 +3,8 @@ use Rattle.std.specs.Prelude.{◌≡◌, ℕ, ◌^◌, ◌<◌, ◌||◌, Bool, 
 use Rattle.asm80_statement_types.specs.declared.stmt.Stmt80.{Stmt80}
 use Rattle.asm80_statement_types.specs.Tree.{statement_of}
 use Rattle.base_types.specs.Addresses.{has_address}
-use Rattle.asm80_operands.specs.declared.fault.FormFault.{FormFault}
-use Rattle.asm80_operands.specs.declared.fault.FormFault.TheVariants.{Rule, Memory as NoRoom}
+use Rattle.asm80_values.specs.declared.fault.FormFault.{FormFault}
+use Rattle.asm80_values.specs.declared.fault.FormFault.TheVariants.{Rule, Memory as NoRoom}
 use Rattle.asm80_first_walk.specs.declared.walked.Taken.{Taken}
 use Rattle.asm80_first_walk.specs.declared.walked.AsmFault.{AsmFault}
 use Rattle.asm80_first_walk.specs.declared.walked.AsmFault.TheVariants.{Refused, Memory}

@@ -1,7 +1,7 @@
 // Statements that fill cells.
 ghost use Rattle.std.specs.Prelude.{◌≡◌, ◌+◌, ◌%◌};
 
-use asm80_operands::Form;
+use crate::Form;
 
 /// A statement that is an instruction or data.
 #[derive(Drop)]

@@ -8,8 +8,8 @@ ghost use Rattle.asm80_source_def.specs.Items.{item_rows as rows_that_fill, star
 ghost use Rattle.asm80_source_def.specs.Layout.{layout_fault};
 ghost use Rattle.asm80_values.specs.Items.{AreItems, cells_of_item, overlap_from, stands_outside, breaks, refused_item, profile_fault};
 
+use crate::Form;
 use crate::item::{Item, address_of_cell};
-use asm80_operands::Form;
 use asm80_source_def::AsmRule;
 use base_types::AddressSet;
 use std::alloc::{AllocError, Global};

@@ -7,18 +7,35 @@
 // belongs to two; all are from 100H up and below the top less 2; operands are in their ranges; a data cell is a number, or half of a code
 // address with the other half beside it. Law `source_has_one_outcome`: bytes, with a top, are the source of one program at most, are
 // refused at one line for one rule at most, and never both. Below it: `items_of` (operands of the second walk), `layout_fault` (the first
-// breach of the layout) and `program_of_items` (the program of the items in the order of their addresses).
+// breach of the layout) and `program_of_items` (the program of the items in the order of their addresses). Of an operation with its
+// operands `form_of` gives the first of the rules V5, V1, V4, V3 that they break, exactly where they break it, and else what they make
+// (`GivesForm`): the instruction, if it is of the profile, or the cells of DB and DW, with whether an operand breaks S1, S2, S4 or S5; the
+// bytes, words and addresses in them are in their ranges. `kinds_of` is the table of the operands that each operation takes (CP/M 2.2
+// Operating System Manual, the assembler, "Operand field"; Intel 8080 Assembly Language Programming Manual, chapter 2).
 #![tactic(auto)]
 
 mod assembly;
+mod data;
+mod fault;
+mod form;
+mod instruction;
 mod item;
+mod kinds;
 mod laws;
 mod layout;
+mod profile;
 mod program;
+mod registers;
+mod rules;
 mod second_walk;
+mod setting;
 
 pub use asm80_first_walk::AsmFault;
 pub use asm80_program_types::Program80;
 pub use asm80_source_def::AsmRule;
 pub use assembly::assemble;
+pub use fault::FormFault;
+pub use form::{Data, Form, Instruction, form_of};
+pub use kinds::kinds_of;
 pub use laws::source_has_one_outcome;
+pub use setting::Setting;

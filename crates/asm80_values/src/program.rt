@@ -6,8 +6,8 @@ ghost use Rattle.asm80_program_types.specs.Program.{Program, IsProgram};
 ghost use Rattle.asm80_source_def.specs.Items.{laid_from};
 ghost use Rattle.asm80_values.specs.Programs.{AreLawful, placed_item, data_item};
 
+use crate::Form;
 use crate::item::{Item, address_of_cell};
-use asm80_operands::Form;
 use asm80_program_types::{Placed, Program80};
 use cells::Cell;
 use std::alloc::{AllocError, Global};

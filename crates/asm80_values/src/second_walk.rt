@@ -3,16 +3,15 @@ ghost use Rattle.std.specs.Prelude.{◌≡◌, ◌||◌, ℕ, List, option_to_li
 ghost use Rattle.base_types.specs.Addresses.{has_address, is_among, IsSetOf};
 ghost use Rattle.asm80_statement_types.specs.declared.stmt.Stmt80.{Stmt80};
 ghost use Rattle.asm80_statement_types.specs.Tree.{Statement, operand_of, statement_of};
-ghost use Rattle.asm80_operands.specs.Forms.{IsForm};
+ghost use Rattle.asm80_values.specs.Forms.{IsForm};
 ghost use Rattle.asm80_first_walk.specs.Walked.{IsRowOf as StandsForRow, Stand, IsWalked};
 ghost use Rattle.asm80_source_def.specs.Walk.{WalkRow, row_operation, size_by, rows};
 ghost use Rattle.asm80_source_def.specs.Items.{Setting as Seen, address, is_instruction_op, starts_in};
 ghost use Rattle.asm80_values.specs.Second.{taken_rows, start_of_row, seen_in, names_set, fault_on, IsItemOf, GivesItem, AreItemsOf, AreRefused};
 
 use crate::item::Item;
-use asm80_first_walk::{AsmFault, Taken, Walked, size_of};
-use asm80_names::{Names, Scope};
-use asm80_operands::{Form, FormFault, Setting, form_of, kinds_of};
+use crate::{Form, FormFault, Setting, form_of, kinds_of};
+use asm80_first_walk::{AsmFault, Names, Scope, Taken, Walked, size_of};
 use asm80_source_def::{NameKind, Operation};
 use asm80_statement_types::{Arg, Stmt80};
 use base_types::AddressSet;

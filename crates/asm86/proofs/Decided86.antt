@@ -4,7 +4,7 @@ use Rattle.asm86_line_types.specs.declared.line.Line86.{Line86}
 use Rattle.asm86_line_types.specs.declared.line.TextRule.{TextRule}
 use Rattle.asm86_line_types.specs.Image.{Image, statements}
 use Rattle.asm86_line_types.specs.Order.{at_start, in_order}
-use Rattle.asm86_text.specs.Stream.{are_in_order, Ending, Open, Ended, Broken, TextLinesGive, none_left, next, ends, breaks, outcome_of_text, TextGives}
+use Rattle.asm86.specs.Stream.{are_in_order, Ending, Open, Ended, Broken, TextLinesGive, none_left, next, ends, breaks, outcome_of_text, TextGives}
 use Rattle.asm86.specs.declared.fault.ImageFault.{ImageFault}
 use Rattle.asm86.specs.declared.fault.ImageFault.TheVariants.{Line}
 use Rattle.asm86.specs.Images.{HasImage, IsNoImage, unread, refused}

@@ -14,7 +14,7 @@ use Rattle.asm86_line_reader.specs.Letters.{upper}
 use Rattle.asm86_line_reader.specs.Tokens.{Lexes}
 use Rattle.asm86_line_reader.specs.Forms.{statements_of, is_small}
 use Rattle.asm86_line_reader.specs.Line.{TextLineGives, long, faulty, large, senseless, sensible}
-use Rattle.asm86_text.specs.Stream.{IsNotLf, lines_of_number, are_in_order, has_end, AddsLine, unread, misplaced, Ending, Open, Ended, Broken, TextLinesGive, none_left, next, ends, breaks, outcome_of_text, TextGives}
+use Rattle.asm86.specs.Stream.{IsNotLf, lines_of_number, are_in_order, has_end, AddsLine, unread, misplaced, Ending, Open, Ended, Broken, TextLinesGive, none_left, next, ends, breaks, outcome_of_text, TextGives}
 use Rattle.asm86.proofs.Tokens86.{lexed}
 
 -- ---- a line

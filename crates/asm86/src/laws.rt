@@ -5,7 +5,7 @@ ghost use Rattle.asm86.specs.Images.{HasImage, IsNoImage};
 ghost use Rattle.asm86.specs.Refusals.{OneImage, OneRefusal, NotBoth, HasOffsets};
 ghost use Rattle.asm86.specs.declared.fault.ImageFault.{ImageFault};
 
-use asm86_text::text_has_one_reading;
+use crate::text_has_one_reading;
 
 /// A law: lines have one image at most, one refusal at most, and not both; an image has the offsets of the text's labels.
 pub fn images_exclude_refusals()

@@ -39,6 +39,6 @@ fault_of (At k) = Bad k
 fault_of Memory = HasNoMemory
 
 -- why bytes are no disk
-abbrev pub IsFaultOf : List ℕ → DiskFault → Type 0
-IsFaultOf bytes (Bad k) = IsBadAt bytes k
-IsFaultOf bytes HasNoMemory = Unit {0}
+abbrev pub IsDiskFaultOf : List ℕ → DiskFault → Type 0
+IsDiskFaultOf bytes (Bad k) = IsBadAt bytes k
+IsDiskFaultOf bytes HasNoMemory = Unit {0}

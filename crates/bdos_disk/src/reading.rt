@@ -5,7 +5,7 @@ ghost use Rattle.bdos_disk.specs.Names.{is_after, highest};
 ghost use Rattle.bdos_disk.specs.Spelled.{BreaksAt};
 ghost use Rattle.bdos_disk.specs.Disks.{IsDisk};
 ghost use Rattle.bdos_disk.specs.DiskFile.{disk_mark, word_bytes, files_bytes, all_records, disk_file, IsBadAt};
-ghost use Rattle.bdos_disk.specs.Reading.{AreFiles, IsNextFile, StopsBy, stop_after, fault_of, IsFaultOf};
+ghost use Rattle.bdos_disk.specs.Reading.{AreFiles, IsNextFile, StopsBy, stop_after, fault_of, IsDiskFaultOf};
 
 use crate::disk::{Disk, MOST_FILES, MOST_RECORDS};
 use crate::fault::DiskFault;
@@ -61,7 +61,7 @@ impl Stop {
 impl Disk {
     /// The disk of a disk file, as `Disk::write` gives it.
     pub fn read(alloc: Global, bytes: &[u8]) -> Result<Disk, DiskFault>
-        ensures { MatchResult result (λ d. IsDisk d × (bytes.now ≡ disk_file d)) (IsFaultOf bytes.now) }
+        ensures { MatchResult result (λ d. IsDisk d × (bytes.now ≡ disk_file d)) (IsDiskFaultOf bytes.now) }
     {
         match read_disk(alloc, bytes) {
             Ok(disk) => Ok(disk),

@@ -2,14 +2,13 @@
 use crate::codes::{push_cell, push_code};
 use crate::columns::push_columns;
 use crate::source::statements_of;
-use asm80_first_walk::{operation_of, walk};
-use asm80_names::{
+use asm80_first_walk::{
     Names, Scope, has_place_inside, is_no_value, meaning_of, operand_divides_by_zero,
-    operand_has_unknown, operand_number, operand_place,
+    operand_has_unknown, operand_number, operand_place, operation_of, walk,
 };
-use asm80_operands::{Form, Setting, form_of};
 use asm80_source_def::{Meaning, NameKind};
 use asm80_statement_types::{Arg, ReadFault, Stmt80};
+use asm80_values::{Form, Setting, form_of};
 use base_types::AddressSet;
 use cells::Cell;
 use std::alloc::{AllocError, Global};

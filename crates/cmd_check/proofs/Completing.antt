@@ -5,8 +5,8 @@ use Rattle.host.specs.Host.{HostState}
 use Rattle.asm86_line_types.specs.declared.line.Line86.{Line86}
 use Rattle.asm86_line_types.specs.declared.line.TextRule.{TextRule}
 use Rattle.asm86_line_types.specs.Image.{Assembles, image_of}
-use Rattle.asm86_text.specs.Stream.{TextGives}
-use Rattle.asm86_text.proofs.Outcomes.{same_lines, same_fault, no_lines}
+use Rattle.asm86.specs.Stream.{TextGives}
+use Rattle.asm86.proofs.Outcomes.{same_lines, same_fault, no_lines}
 use Rattle.asm86.specs.declared.fault.ImageFault.{ImageFault}
 use Rattle.asm86.specs.declared.fault.ImageFault.TheVariants.{Line}
 use Rattle.asm86.specs.Refusals.{ImageRefused, OneRefusal, NotBoth}

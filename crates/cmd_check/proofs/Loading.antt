@@ -5,7 +5,7 @@ use Rattle.host.specs.Host.{HostState, IsFile, HasRisen, OnlyReads, SameFaults}
 use Rattle.host.proofs.HostLemmas.{OnlyReads-trans, SameFaults-trans}
 use Rattle.host_files.specs.Transfer.{IsLonger}
 use Rattle.asm86_line_types.specs.declared.line.Line86.{Line86}
-use Rattle.asm86_text.specs.Stream.{TextGives}
+use Rattle.asm86.specs.Stream.{TextGives}
 use Rattle.asm86.specs.declared.fault.ImageFault.TheVariants.{Line}
 use Rattle.asm80_program_types.specs.Program.{Program}
 use Rattle.asm80_text.specs.Intel.{intel_reading}

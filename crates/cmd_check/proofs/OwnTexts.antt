@@ -5,8 +5,8 @@ use Rattle.host.specs.Host.{HostState}
 use Rattle.asm86_line_types.specs.declared.line.Line86.{Line86}
 use Rattle.asm86_line_types.specs.Image.{Assembles}
 use Rattle.asm86_line_types.specs.Written.{written_text}
-use Rattle.asm86_text.specs.Stream.{TextGives}
-use Rattle.asm86_text.proofs.Outcomes.{same_lines}
+use Rattle.asm86.specs.Stream.{TextGives}
+use Rattle.asm86.proofs.Outcomes.{same_lines}
 use Rattle.asm80_program_types.specs.Program.{Program, IsProgram}
 use Rattle.templates.specs.declared.translation.Mode.{Mode}
 use Rattle.templates.specs.Translation.{IsText, CodeFits}

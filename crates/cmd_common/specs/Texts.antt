@@ -7,7 +7,7 @@ use Rattle.host.specs.Host.{HostState}
 use Rattle.asm86_line_types.specs.declared.line.Line86.{Line86}
 use Rattle.asm86_line_types.specs.declared.line.TextRule.{TextRule}
 use Rattle.asm86_line_types.specs.Image.{Image, IsImage}
-use Rattle.asm86_text.specs.Stream.{TextGives}
+use Rattle.asm86.specs.Stream.{TextGives}
 use Rattle.asm86.specs.declared.fault.ImageFault.{ImageFault}
 use Rattle.asm86.specs.declared.fault.ImageFault.TheVariants.{Line, CodeTooLarge, Short, Memory}
 use Rattle.asm86.specs.Refusals.{ImageRefused}

@@ -9,8 +9,7 @@ ghost use Rattle.cmd_common.specs.Texts.{ReadsTextFile, HasOneImage, ImageStops,
 
 use crate::files::{TEXT_LIMIT, read_named_into};
 use crate::stop::Stop;
-use asm86::{Image86, ImageFault, image};
-use asm86_text::{Line86, Text86, TextFault};
+use asm86::{Image86, ImageFault, Line86, Text86, TextFault, image};
 use host::Host;
 use host_files::Sink;
 use i86::code_has_one_reader;
@@ -44,7 +43,7 @@ struct TextLines {
 }
 
 impl Sink for TextLines {
-    ghost use Rattle.asm86_text.specs.Reader.{AfterText};
+    ghost use Rattle.asm86.specs.Reader.{AfterText};
 
     ghost has = { λ text bytes. AfterText bytes text.reader };
 
@@ -61,7 +60,7 @@ impl Sink for TextLines {
 }
 
 impl TextLines {
-    ghost use Rattle.asm86_text.specs.Reader.{AfterText};
+    ghost use Rattle.asm86.specs.Reader.{AfterText};
     ghost use Rattle.cmd_common.specs.Texts.{BytesGiveLines};
 
     // The lines of the whole text, or the first rule that one of them breaks.

@@ -4,12 +4,12 @@ use Rattle.std.specs.Prelude.{slice_index}
 use Rattle.std.specs.List.{All, fold}
 use Rattle.std.proofs.Math.Path.{fun_ext}
 use Rattle.std.proofs.lemmas.Bool.{cases_lt, cases_eq, eq-eqb, ne_eqb}
-use Rattle.std.proofs.lemmas.List.{length-replicate, get_or-replicate, get_or_past, get_or-set_same, get_or-set_other, drop_more}
+use Rattle.std.proofs.lemmas.List.{length-replicate, get_or-replicate, get_or_past, get_or-set_same, get_or-set_other}
 use Rattle.std.proofs.lemmas.List.Elements.{All-nil, All-cons}
 use Rattle.std.proofs.lemmas.List.FromFn.{fill_by_all, length-map-range_with_len, get_or-map-range_with_len}
-use Rattle.dialogue.specs.ByteMemory.{put}
-use Rattle.cpu86_def.specs.Start.{put_cells}
-use Rattle.cmd_file.specs.Written.{filled, end_with, data_end, data_bytes, command_file_of}
+use Rattle.dialogue.specs.ByteMemory.{put, put_cells}
+use Rattle.dialogue.proofs.ByteMemory.{put_cells_more}
+use Rattle.cmd_file.specs.Written.{zero_filled, end_with, data_end, data_bytes, command_file_of}
 use Rattle.cmd_file.specs.Loaded.{loaded}
 
 pub end_grows : (cells : List (ℕ × ℕ)) (end : ℕ) → end ≤ fold end_with end cells
@@ -46,8 +46,7 @@ none_put cells bytes n e = ap (λ m. put_cells m cells) (fun_ext (λ a. ap (λ (
 pub put_more : (cells : List (ℕ × ℕ)) (i : ℕ) (d : ℕ × ℕ) (bytes more : List ℕ) (memory : ℕ → ℕ) → i < length cells → (get_or cells i d).0 < length bytes → more ≡ set bytes (get_or cells i d).0 (get_or cells i d).1 → put_cells (slice_index bytes) (drop i cells) ≡ memory → put_cells (slice_index more) (drop (i + 1) cells) ≡ memory
 put_more cells i d bytes more memory lt within is so_far =
     ap (λ (l : List ℕ). put_cells (slice_index l) (drop (i + 1) cells)) is
-    ∙ ap (λ m. put_cells m (drop (i + 1) cells)) (set_is_put bytes (get_or cells i d).0 (get_or cells i d).1 within)
-    ∙ ap (put_cells (slice_index bytes)) (sym (drop_more cells i d lt))
+    ∙ put_cells_more (slice_index bytes) (slice_index (set bytes (get_or cells i d).0 (get_or cells i d).1)) cells i d lt (set_is_put bytes (get_or cells i d).0 (get_or cells i d).1 within)
     ∙ so_far
 
 -- the bytes of all cells
@@ -66,11 +65,11 @@ data_byte cells a lt = get_or-map-range_with_len (put_cells (λ b. 0) cells) 0 (
 
 -- ---- the data of an image without cells, and of one with a cell at 110H, which comes back
 
-no_cells : length (filled 16 (data_bytes [])) ≡ 256
+no_cells : length (zero_filled 16 (data_bytes [])) ≡ 256
 unfolding data_bytes
 no_cells = refl
 
-one_cell : length (filled 16 (data_bytes ((0x110, 5) ∷ []))) ≡ 288
+one_cell : length (zero_filled 16 (data_bytes ((0x110, 5) ∷ []))) ≡ 288
 unfolding data_bytes
 one_cell = refl
 

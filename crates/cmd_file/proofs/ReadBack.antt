@@ -4,7 +4,7 @@ use Rattle.std.specs.List.{All, flat_map}
 use Rattle.std.proofs.lemmas.List.{length-append, length-replicate}
 use Rattle.std.proofs.lemmas.List.Elements.{All-from_recursion, All-append, All-replicate}
 use Rattle.cmd_file.specs.CommandFile.{Group, descriptor, file_bytes, Describes, CommandFile, IsCommandFile}
-use Rattle.cmd_file.specs.Written.{lacking, filled, paragraphs, no_group, written_layout, written, IsPart, MayBeWritten}
+use Rattle.cmd_file.specs.Written.{lacking, zero_filled, paragraphs, no_group, written_layout, written, IsPart, MayBeWritten}
 
 abbrev IsByte : ℕ → Type 0
 IsByte b = b < 256
@@ -58,7 +58,7 @@ written_is_file file h =
     }
 
 -- the header that is filled, the groups and their padding are the file
-pub filled_is_written : (file : CommandFile) (first second header whole : List ℕ) (n : ℕ) → first ≡ descriptor (written_layout file).code_group → second ≡ descriptor (written_layout file).data_group → n ≡ 18 → header ≡ take 128 (first ++ second) ++ replicate (128 - n) 0 → whole ≡ filled 128 ((header ++ file.code) ++ file.data) → whole ≡ written file
+pub filled_is_written : (file : CommandFile) (first second header whole : List ℕ) (n : ℕ) → first ≡ descriptor (written_layout file).code_group → second ≡ descriptor (written_layout file).data_group → n ≡ 18 → header ≡ take 128 (first ++ second) ++ replicate (128 - n) 0 → whole ≡ zero_filled 128 ((header ++ file.code) ++ file.data) → whole ≡ written file
 unfolding written
 filled_is_written file first second header whole n f s size h w =
     let l = written_layout file in

@@ -5,6 +5,6 @@ use Rattle.cmd_file.specs.declared.fault.CmdFault.{CmdFault}
 use Rattle.cmd_file.specs.declared.fault.CmdFault.TheVariants.{Bad, Memory}
 use Rattle.cmd_file.specs.CommandFile.{IsFile}
 
-abbrev pub IsFaultOf : List ℕ → CmdFault → Type 0
-IsFaultOf bytes (Bad k) = CannotGoOn IsFile bytes k
-IsFaultOf bytes Memory = Unit {0}
+abbrev pub IsCmdFaultOf : List ℕ → CmdFault → Type 0
+IsCmdFaultOf bytes (Bad k) = CannotGoOn IsFile bytes k
+IsCmdFaultOf bytes Memory = Unit {0}

@@ -3,7 +3,7 @@ use Rattle.std.specs.Prelude.{◌≡◌, ℕ, ◌+◌, ◌-◌, ◌/◌, ◌%◌
 use Rattle.std.specs.List.{All, fold, range_with_len}
 use Rattle.std.specs.Int.{next_multiple_of}
 use Rattle.asm86_line_types.specs.Image.{Image}
-use Rattle.cpu86_def.specs.Start.{put_cells}
+use Rattle.dialogue.specs.ByteMemory.{put_cells}
 use Rattle.cmd_file.specs.CommandFile.{Group, Layout, file_bytes, CommandFile}
 
 -- how many zeros are lacking to a multiple of a unit
@@ -11,8 +11,8 @@ abbrev pub lacking : ℕ → ℕ → ℕ
 lacking unit n = next_multiple_of n unit - n
 
 -- filled with zeros to a multiple of a unit
-abbrev pub filled : ℕ → List ℕ → List ℕ
-filled unit bytes = bytes ++ replicate (lacking unit (length bytes)) 0
+abbrev pub zero_filled : ℕ → List ℕ → List ℕ
+zero_filled unit bytes = bytes ++ replicate (lacking unit (length bytes)) 0
 
 -- the address after the highest cell, and at least 100H
 abbrev pub end_with : ℕ → ℕ × ℕ → ℕ
@@ -26,7 +26,7 @@ unfoldable pub data_bytes : List (ℕ × ℕ) → List ℕ
 data_bytes cells = map (put_cells (λ a. 0) cells) (range_with_len 0 (data_end cells))
 
 abbrev pub command_file_of : Image → CommandFile
-command_file_of image = record { code = filled 16 image.code; «data» = filled 16 (data_bytes image.cells) }
+command_file_of image = record { code = zero_filled 16 image.code; «data» = zero_filled 16 (data_bytes image.cells) }
 
 -- the paragraphs of a group
 abbrev pub paragraphs : List ℕ → ℕ

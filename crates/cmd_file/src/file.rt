@@ -1,6 +1,6 @@
 // Command files, and that of an image.
 ghost use Rattle.std.specs.Prelude.{◌≡◌, ◌<◌, ◌≤◌, ◌^◌, length, vec_len, IfOk, OnOk, All};
-ghost use Rattle.cmd_file.specs.Written.{filled, data_end, data_bytes, command_file_of, IsPart};
+ghost use Rattle.cmd_file.specs.Written.{zero_filled, data_end, data_bytes, command_file_of, IsPart};
 
 use crate::header::PARAGRAPH;
 use asm86::Image86;
@@ -77,7 +77,7 @@ pub fn fill(bytes: &mut Vec<u8>, unit: usize) -> Result<(), AllocError>
     requires unit { 0 < unit }
     requires near { unit < 2 ^ 16 }
     requires small { vec_len bytes.old < 2 ^ 32 }
-    ensures { OnOk result (bytes.new.items ≡ filled unit bytes.old.items) }
+    ensures { OnOk result (bytes.new.items ≡ zero_filled unit bytes.old.items) }
 {
     let length = bytes.len().next_multiple_of(unit);
     bytes.resize(length, 0)

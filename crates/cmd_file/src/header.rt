@@ -2,7 +2,7 @@
 ghost use Rattle.std.specs.Prelude.{◌≡◌, ◌+◌, ◌*◌, ◌/◌, ◌%◌, ◌<◌, length, slice_index_or, MatchResult};
 ghost use Rattle.cmd_file.specs.CommandFile.{Group, descriptor};
 ghost use Rattle.cmd_file.specs.Header.{AnyByte, allows, group_rules, may_stand, word_in, HasHeader};
-ghost use Rattle.cmd_file.specs.Reading.{IsFaultOf};
+ghost use Rattle.cmd_file.specs.Reading.{IsCmdFaultOf};
 
 use crate::fault::CmdFault;
 
@@ -79,7 +79,7 @@ pub fn group_size(bytes: &[u8], at: usize) -> usize
 
 /// Whether the bytes begin with the descriptors of a command file's groups.
 pub fn check_header(bytes: &[u8]) -> Result<(), CmdFault>
-    ensures { MatchResult result (λ _. HasHeader bytes.now) (IsFaultOf bytes.now) }
+    ensures { MatchResult result (λ _. HasHeader bytes.now) (IsCmdFaultOf bytes.now) }
 {
     let mut before = 0;
     for place in 0..DESCRIPTORS_LENGTH {

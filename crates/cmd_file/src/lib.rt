@@ -3,7 +3,7 @@
 //
 // Proved: `CmdFile::of` gives the command file of an image (`command_file_of`), `CmdFile::write` its bytes (`written`), `CmdFile::read` the
 // command file that bytes are (`IsCommandFile`), or the first byte at which they cannot become one, or their number where they end early
-// (`IsFaultOf`). Laws: a command file has one reading (`command_file_has_one_reading`), and what is written of a file is read as that file
+// (`IsCmdFaultOf`). Laws: a command file has one reading (`command_file_has_one_reading`), and what is written of a file is read as that file
 // (`written_reads_back`).
 #![tactic(auto)]
 

@@ -1,7 +1,7 @@
 // The command file that bytes are.
 ghost use Rattle.std.specs.Prelude.{MatchResult};
 ghost use Rattle.cmd_file.specs.CommandFile.{IsCommandFile};
-ghost use Rattle.cmd_file.specs.Reading.{IsFaultOf};
+ghost use Rattle.cmd_file.specs.Reading.{IsCmdFaultOf};
 
 use crate::fault::CmdFault;
 use crate::file::{CmdFile, RECORD_LENGTH};
@@ -11,7 +11,7 @@ use std::alloc::Global;
 impl CmdFile {
     /// The command file that bytes are. Files with other groups, shared code, a single group or a base other than 0 are refused.
     pub fn read(alloc: Global, bytes: &[u8]) -> Result<CmdFile, CmdFault>
-        ensures { MatchResult result (IsCommandFile bytes.now) (IsFaultOf bytes.now) }
+        ensures { MatchResult result (IsCommandFile bytes.now) (IsCmdFaultOf bytes.now) }
     {
         check_header(bytes)?;
         let code_end = HEADER_LENGTH + group_size(bytes, 0);

@@ -5,10 +5,10 @@ use Rattle.std.proofs.Math.Path.{fun_ext}
 use Rattle.std.proofs.lemmas.Bool.{cases_lt, cases_Bool, le-ltb, and_right, eq-eqb, ne_eqb}
 use Rattle.std.proofs.lemmas.List.{length-append, length-take-le, length-drop, length-replicate, get_or-take, get_or-drop, get_or_append_left, get_or-append_right, get_or-replicate, get_or_past}
 use Rattle.std.proofs.lemmas.List.Elements.{All-append, All-take, All-drop, All-replicate, All-head, All-tail}
-use Rattle.dialogue.specs.ByteMemory.{put}
+use Rattle.dialogue.specs.ByteMemory.{put, put_cells}
 use Rattle.dialogue.specs.Fill.{IsFill}
-use Rattle.cpu86_def.specs.Start.{start_byte, put_cells}
-use Rattle.cmd_file.specs.Written.{lacking, filled, end_with, data_end, data_bytes}
+use Rattle.cpu86_def.specs.Start.{start_byte}
+use Rattle.cmd_file.specs.Written.{lacking, zero_filled, end_with, data_end, data_bytes}
 use Rattle.cmd_file.proofs.Cells.{end_grows, cells_below, length-data_bytes, data_byte}
 use Rattle.cmd_file_law.proofs.Cells.{InData}
 
@@ -58,7 +58,7 @@ put_within (b ∷ bytes) at (suc k) m lt =
 
 module _ (cells : List (ℕ × ℕ)) (in_data : All InData cells) where
   abbrev pub data_group : List ℕ
-  data_group = filled 16 (data_bytes cells)
+  data_group = zero_filled 16 (data_bytes cells)
 
   end_from : (cs : List (ℕ × ℕ)) (end : ℕ) → end ≤ 0x10000 → All InData cs → fold end_with end cs ≤ 0x10000
   end_from [] end le h = le

@@ -1,2 +1,4 @@
+pub mod Shows
+pub mod Cmds
 pub mod Kinds
 pub mod Makes

@@ -1,11 +1,26 @@
-// What the commands that make something of one file have in common: a file that they write of it, or a line that they say.
+// The commands that make something of one file: `cmd` (writes the CP/M-86 command file of an ASM-86 text) and `cmdshow` (says how many bytes
+// the groups of a CP/M-86 command file have).
 //
 // Proved: `write_made` writes the bytes of what was made, or tells the fault (`WriteStops`). What a command of this kind gives by its status
 // is said once, of any such command (`MakeGives`), and so is the status that whole bytes have where no call of the host fails
 // (`MakeCompletes`): a command gives its `MakeKind`, which has what the bytes of its file give and what is written of that, and the laws
-// that they give one thing or are refused by one stop (`KindLaws`).
+// that they give one thing or are refused by one stop (`KindLaws`). Clauses `gives` and `completes` of each are these, with want of memory
+// aside.
+//
+// `cmd` (`cmd_kind`): after status 0 OUT is the command file of the image that the whole bytes of TEXT have; else the line of the stop with
+// its status, 10 and 13 where the text has no image, 3, 14, 4 and 5 by their causes; status 0 comes exactly where the text has an image.
+// Clause `loads` (`HasCommandFile`): after status 0 whatever program is `Same` with that image is `Same` with what OUT loads to. All memory
+// is taken before OUT is touched; no clause carries that.
+//
+// `cmdshow` (`cmd_show_kind`): the sizes of the groups of the command file that the whole bytes of FILE are, with status 0, which comes
+// exactly where FILE is a command file; or the line of the stop with its status: 15 with the first byte at which no command file goes on so,
+// 3, 14 and 5 by their causes. No file changes (`files`).
 #![tactic(auto)]
 
+mod making;
+mod showing;
 mod writing;
 
+pub use making::cmd;
+pub use showing::cmdshow;
 pub use writing::write_made;

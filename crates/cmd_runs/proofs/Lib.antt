@@ -1,3 +1,10 @@
+pub mod Agreement
+pub mod Running
+pub mod BothCompleting
+mod Loading
+mod Laws86
+pub mod Leaving
+pub mod Laws80
 pub mod Kept
 pub mod Told
 pub mod Loading

@@ -9,12 +9,12 @@ use Rattle.bdos_disk.specs.declared.fault.DiskFault.{DiskFault}
 use Rattle.bdos_disk.specs.declared.fault.DiskFault.TheVariants.{Bad, Memory}
 use Rattle.base_types.proofs.Fronts.{one_place}
 use Rattle.bdos_disk.specs.DiskFile.{IsBadAt}
-use Rattle.bdos_disk.specs.Reading.{IsFaultOf}
+use Rattle.bdos_disk.specs.Reading.{IsDiskFaultOf}
 use Rattle.bdos_small.specs.Supply.{Supply}
-use Rattle.emulator_loop.specs.declared.fault.TalkFault.TheVariants.{Unsaid as Untold}
-use Rattle.emulator_loop.specs.declared.running.Conversation.{Conversation}
-use Rattle.emulator_loop.specs.declared.running.RunEnd.{RunEnd}
-use Rattle.emulator_loop.specs.Talk.{SeenRun}
+use Rattle.emulators.specs.declared.fault.TalkFault.TheVariants.{Unsaid as Untold}
+use Rattle.emulators.specs.declared.running.Conversation.{Conversation}
+use Rattle.emulators.specs.declared.running.RunEnd.{RunEnd}
+use Rattle.emulators.specs.Talk.{SeenRun}
 use Rattle.cmd_common.specs.declared.stop.Stop.{Stop}
 use Rattle.cmd_common.specs.declared.stop.Stop.TheVariants.{BadDisk, OutOfMemory}
 use Rattle.cmd_common.specs.Lines.{status_of}
@@ -78,7 +78,7 @@ module _ {Loaded : Type 0} (k : RunKind Loaded) (laws : KindLaws k) (disks : Dis
     other_disk loaded place is bad _ (of_disk l other there also) = ap (λ n. Err (BadDisk n)) (one_place given.disk other place also bad)
     other_disk loaded place is bad r (runs l course s e n there is_course devices to at_line same) = absurd (disk_or_none disks given s place devices bad)
 
-    pub disk_status : (loaded : Loaded) (fault : DiskFault) (status : ℕ) → k.IsGiven bytes loaded → IsFaultOf given.disk fault → (status ≡ 5) ⊎ (status ≡ status_of (stop_of_disk fault)) → HasStatus (FilesComeTo k bytes given) status
+    pub disk_status : (loaded : Loaded) (fault : DiskFault) (status : ℕ) → k.IsGiven bytes loaded → IsDiskFaultOf given.disk fault → (status ≡ 5) ⊎ (status ≡ status_of (stop_of_disk fault)) → HasStatus (FilesComeTo k bytes given) status
     disk_status loaded (Bad place) status is bad s =
         ⊎_elim (λ e. inl e) (λ e. inr (Err (BadDisk place), record { comes = of_disk loaded place is bad; only = other_disk loaded place is bad }, e)) s
     disk_status loaded Memory status is bad s = ⊎_elim (λ e. inl e) (λ e. inl e) s
@@ -105,7 +105,7 @@ module _ {Loaded : Type 0} (k : RunKind Loaded) (laws : KindLaws k) (disks : Dis
     nothing_to_run mid stop status (no_disk loaded with_these n same stops) closes =
         let e = told_whole old k.file k.most bytes n.bytes told n.file in
         let whose = told_given old k.options given with_these fed n.supplied in
-        disk_status bytes given loaded stops.0 status (subst (λ b. k.IsGiven b loaded) e n.gives) (subst (λ (x : Given). IsFaultOf x.disk stops.0) whose stops.1)
+        disk_status bytes given loaded stops.0 status (subst (λ b. k.IsGiven b loaded) e n.gives) (subst (λ (x : Given). IsDiskFaultOf x.disk stops.0) whose stops.1)
         (subst (λ s. (status ≡ 5) ⊎ (status ≡ status_of s)) stops.2 (closes_status stop mid new status closes))
     nothing_to_run mid _ status no_memory closes = inl (memory_status OutOfMemory mid new status refl closes)
 

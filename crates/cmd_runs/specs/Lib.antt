@@ -1,3 +1,9 @@
+pub mod BothLoads
+pub mod BothRuns
+pub mod BothMaking
+pub mod BothCompletes
+pub mod Runs86
+pub mod Runs80
 pub mod Ends
 pub mod Supplies
 pub mod Keeping

@@ -7,7 +7,7 @@ use Rattle.bdos_disk.specs.declared.fault.DiskFault.TheVariants.{Bad, Memory}
 use Rattle.bdos_disk.specs.Stored.{Stored}
 use Rattle.bdos_disk.specs.Disks.{IsDisk}
 use Rattle.bdos_disk.specs.DiskFile.{disk_file}
-use Rattle.bdos_disk.specs.Reading.{IsFaultOf}
+use Rattle.bdos_disk.specs.Reading.{IsDiskFaultOf}
 use Rattle.bdos_small.specs.Supply.{Supply, first_supply}
 use Rattle.cmd_arguments.specs.Words.{RunOptions}
 use Rattle.cmd_common.specs.declared.stop.Stop.{Stop}
@@ -68,7 +68,7 @@ stop_of_disk (Bad k) = BadDisk k
 stop_of_disk Memory = OutOfMemory
 
 abbrev pub DiskStops : List ℕ → Stop → Type 0
-DiskStops bytes stop = (fault : DiskFault) × IsFaultOf bytes fault × (stop ≡ stop_of_disk fault)
+DiskStops bytes stop = (fault : DiskFault) × IsDiskFaultOf bytes fault × (stop ≡ stop_of_disk fault)
 
 -- the bytes that fill the memory of an 8086
 unfoldable pub fill_by : ℕ → List ℕ

@@ -1,5 +1,8 @@
-// What the commands that run something have in common: the files of a run's devices, the run of either machine over them, what its end is
-// to a command, the disk that is kept, and what is said last.
+// The commands that run something: `run80` (a source on the tagged 8080), `run86` (an ASM-86 text on the 8086, by a choice of what the
+// manuals leave undefined) and `both` (the program of a source on the tagged 8080, and then the image of its lean text on the 8086, over
+// devices that the same bytes make, up to 16n + 16 instructions where the 8080 ran n), each over a small BDOS and ports. What they have in
+// common: the files of a run's devices, the run of either machine over them, what its end is to a command, the disk that is kept, and what
+// is said last.
 //
 // Proved: `read_supplies` reads those files (`IsSupplied`), or tells why not (`SupplyStops`). `devices_of` makes the devices, or tells the
 // first byte at which the disk's file cannot go on (`HasDisk`, `DiskStops`). `run_program` and `run_image` make the run of the definition
@@ -7,20 +10,41 @@
 // then writes the disk where the end of the run keeps it (`IsLeft`, `LeaveStops`); `close_work` says the last line, with its status
 // (`IsClosed`). What a command of this kind gives by its status is said once, of any such command (`WorkGives`), and so is the one thing
 // that it comes to (`RunCompletes`): a command gives its `RunKind`, which has what it loads and how that runs.
+//
+// Clause `gives` of each is `WorkGives` for its kind of run (`work80`, `work86`, `work_both`): the files of the words (source or text,
+// input, disk, port bytes) are each read to the end before a faulty line is reported; then the source or text is looked at (of a text the
+// lines and then the image), and then the disk's file; the run came to an end and its dialogue was said, the disk's file was written where
+// that end keeps it, and the last line was said; or a line of the run was not said, and nothing follows; or the command stops by a cause,
+// whose line is said. A run of the 8080 that leaves the profile names the line of the instruction at which the machine still stands, and
+// there is one (`IsLineOf`). The status of `both` is that of the 8080's run: both dialogues were said, each line after `80 ` or `86 `, and
+// the 8080's dialogue is the first part of the 8086's (`AreBothMade`, field `agree`); the disk that is kept is the 8080's. No file changes
+// but that of `--out-disk` (`files`: `DiskAlone`). Clause `completes` (`RunCompletes`, `BothComplete`): where no call of the host failed and
+// every file is told and within its limit, the status is that of the one thing that the files' whole bytes come to, or 5 for want of
+// memory; of `both` that of the one thing that `run80` comes to, or 13 where the code of the lean text is too large.
 #![tactic(auto)]
 
+mod both_inputs;
 mod ends;
 mod finishing;
 mod halt;
 mod keeping;
 mod last;
+mod lean;
+mod making;
+mod run_both;
+mod run_source;
+mod run_text;
 mod running;
 mod supplies;
+mod text_inputs;
 
 pub use ends::came_to;
 pub use finishing::{close_work, leave_runs};
 pub use halt::Halt;
 pub use keeping::kept_disk_name;
 pub use last::Last;
+pub use run_both::both;
+pub use run_source::{Named, line_of, read_program, run80};
+pub use run_text::run86;
 pub use running::{run_image, run_program};
 pub use supplies::{Supplies, devices_of, fill_of, read_supplies};

@@ -6,7 +6,7 @@ use Rattle.host.specs.Host.{HostState, Holds, Missing, IsFile, HasRisen, Says, O
 use Rattle.host.proofs.HostLemmas.{SameFaults-trans, risen_on, fault_after}
 use Rattle.asm86_line_types.specs.Image.{Assembles, image_of}
 use Rattle.asm86_line_types.specs.Written.{written_text}
-use Rattle.asm86_text.specs.Stream.{TextGives}
+use Rattle.asm86.specs.Stream.{TextGives}
 use Rattle.host_files.specs.Transfer.{CutsLine}
 use Rattle.asm80_program_types.specs.Program.{Program, IsProgram}
 use Rattle.asm80_text.specs.Intel.{intel_reading}

@@ -2,9 +2,8 @@ mod Stands
 mod Moves
 mod Sums
 mod Rows
-mod Within
 mod Calls
 mod Steps
 mod Running
-mod Starting
+pub mod Starting
 mod Following

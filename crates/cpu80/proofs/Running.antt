@@ -13,46 +13,46 @@ use Rattle.cpu80_tagged_def.specs.State.{State80}
 use Rattle.cpu80_tagged_def.specs.Step.{step80, machine80}
 use Rattle.cpu80_untagged_def.specs.State.{UntaggedState}
 use Rattle.cpu80_untagged_def.specs.Call.{Stop}
-use Rattle.cpu80_untagged_def.specs.Step.{program_fetch, step_untagged, untagged_machine}
-use Rattle.cpu80_untagged_def.specs.Follows.{WritesBytes}
+use Rattle.cpu80_untagged_def.specs.Step.{Fetch, step_untagged, untagged_machine}
+use Rattle.cpu80_untagged_def.specs.Follows.{WritesBytes, TakesProgram}
 use Rattle.dialogue.specs.Sight.{WhoSeesMoreAsksTheSame}
 use Rattle.cpu80.proofs.Stands.{StatesStand}
 use Rattle.cpu80.proofs.Calls.{IsAnswered, StepFollows}
 use Rattle.cpu80.proofs.Steps.{steps_follow}
 
 -- two runs, by the status of the first
-abbrev pub Together : Status Rule → Run State80 Rule → Run UntaggedState Stop → Type 0
-Together Going x y =
-    (y.status ≡ Going) × StatesStand x.state y.state × (y.dialogue ≡ x.dialogue) × (y.replies ≡ x.replies) × All WritesBytes x.replies
-Together Waiting x y = (y.status ≡ Waiting) × (y.dialogue ≡ x.dialogue)
-Together Over x y = (y.status ≡ Over) × (y.dialogue ≡ x.dialogue)
-Together (Stopped r) x y = Unit {0}
+abbrev pub Together : Program → (ℕ → ℕ) → Status Rule → Run State80 Rule → Run UntaggedState Stop → Type 0
+Together p held Going x y =
+    (y.status ≡ Going) × StatesStand p held x.state y.state × (y.dialogue ≡ x.dialogue) × (y.replies ≡ x.replies) × All WritesBytes x.replies
+Together p held Waiting x y = (y.status ≡ Waiting) × (y.dialogue ≡ x.dialogue)
+Together p held Over x y = (y.status ≡ Over) × (y.dialogue ≡ x.dialogue)
+Together p held (Stopped r) x y = Unit {0}
 
-abbrev pub AreTogether : Run State80 Rule → Run UntaggedState Stop → Type 0
-AreTogether x y = Together x.status x y
+abbrev pub AreTogether : Program → (ℕ → ℕ) → Run State80 Rule → Run UntaggedState Stop → Type 0
+AreTogether p held x y = Together p held x.status x y
 
-module _ (p : Program) (cs : List ℕ) where
+module _ (p : Program) (held : ℕ → ℕ) (fetch : Fetch) (cs : List ℕ) where
   abbrev M80 : Machine State80 Rule
   M80 = machine80 p
 
   abbrev M8 : Machine UntaggedState Stop
-  M8 = untagged_machine (program_fetch p)
+  M8 = untagged_machine fetch
 
   -- a reply that both take
-  takes : (x : Run State80 Rule) (y : Run UntaggedState Stop) (e : Event) (ys : List Reply) → x.status ≡ Going → IsAnswered p x.state y.state e → y.status ≡ Going → y.dialogue ≡ x.dialogue → All WritesBytes ys → AreTogether (take_reply M80 [] x e ys) (take_reply M8 cs y e ys)
+  takes : (x : Run State80 Rule) (y : Run UntaggedState Stop) (e : Event) (ys : List Reply) → x.status ≡ Going → IsAnswered p held fetch x.state y.state e → y.status ≡ Going → y.dialogue ≡ x.dialogue → All WritesBytes ys → AreTogether p held (take_reply M80 [] x e ys) (take_reply M8 cs y e ys)
   takes x y e [] going a status said bytes = (refl, said)
   takes x y e (z ∷ zs) going a status said bytes = by_fit (fits_event e z) refl
     where
-      by_fit : (b : Bool) → fits_event e z ≡ b → AreTogether (cond b (record x { state = M80.replied x.state e z (choice_at [] x.used); replies = zs; used = suc x.used }) (record x { status = Waiting })) (cond b (record y { state = M8.replied y.state e z (choice_at cs y.used); replies = zs; used = suc y.used }) (record y { status = Waiting }))
+      by_fit : (b : Bool) → fits_event e z ≡ b → AreTogether p held (cond b (record x { state = M80.replied x.state e z (choice_at [] x.used); replies = zs; used = suc x.used }) (record x { status = Waiting })) (cond b (record y { state = M8.replied y.state e z (choice_at cs y.used); replies = zs; used = suc y.used }) (record y { status = Waiting }))
       by_fit true fit =
-          subst (λ s. Together s (record x { state = M80.replied x.state e z (choice_at [] x.used); replies = zs; used = suc x.used }) (record y { state = M8.replied y.state e z (choice_at cs y.used); replies = zs; used = suc y.used })) (sym going)
+          subst (λ s. Together p held s (record x { state = M80.replied x.state e z (choice_at [] x.used); replies = zs; used = suc x.used }) (record y { state = M8.replied y.state e z (choice_at cs y.used); replies = zs; used = suc y.used })) (sym going)
           (status, a.after z (choice_at cs y.used) fit (All-head WritesBytes z zs bytes), said, refl, All-tail WritesBytes z zs bytes)
       by_fit false fit = (refl, said)
 
-  settles : (x : Run State80 Rule) (y : Run UntaggedState Stop) (a : Answer State80 Rule) (b : Answer UntaggedState Stop) → x.status ≡ Going → y.status ≡ Going → y.dialogue ≡ x.dialogue → y.replies ≡ x.replies → All WritesBytes x.replies → StepFollows p a b → AreTogether (settle M80 [] x a) (settle M8 cs y b)
+  settles : (x : Run State80 Rule) (y : Run UntaggedState Stop) (a : Answer State80 Rule) (b : Answer UntaggedState Stop) → x.status ≡ Going → y.status ≡ Going → y.dialogue ≡ x.dialogue → y.replies ≡ x.replies → All WritesBytes x.replies → StepFollows p held fetch a b → AreTogether p held (settle M80 [] x a) (settle M8 cs y b)
   settles x y (Stops r) b going status said left bytes h = tt
   settles x y (Ran s) (Ran u) going status said left bytes h =
-      subst (λ t. Together t (record x { state = s; used = suc x.used }) (record y { state = u; used = suc y.used })) (sym going) (status, h, said, left, bytes)
+      subst (λ t. Together p held t (record x { state = s; used = suc x.used }) (record y { state = u; used = suc y.used })) (sym going) (status, h, said, left, bytes)
   settles x y (Ran s) (Asks f u) going status said left bytes h = absurd h
   settles x y (Ran s) Ends going status said left bytes h = absurd h
   settles x y (Ran s) (Stops k) going status said left bytes h = absurd h
@@ -60,9 +60,9 @@ module _ (p : Program) (cs : List ℕ) where
   settles x y (Asks e s) (Asks f u) going status said left bytes h =
       let x' : Run State80 Rule = record x { state = s; dialogue = x.dialogue ++ e ∷ []; used = suc x.used } in
       let both = takes x' (record y { state = u; dialogue = x.dialogue ++ e ∷ []; used = suc y.used }) e x.replies going h.1 status refl bytes in
-      subst (λ k. AreTogether (settle M80 [] x (Asks e s)) (settle M8 cs y (Asks k u))) (sym h.0)
-      (subst (λ d. AreTogether (settle M80 [] x (Asks e s)) (take_reply M8 cs (record y { state = u; dialogue = d ++ e ∷ []; used = suc y.used }) e y.replies)) (sym said)
-      (subst (λ l. AreTogether (settle M80 [] x (Asks e s)) (take_reply M8 cs (record y { state = u; dialogue = x.dialogue ++ e ∷ []; used = suc y.used }) e l)) (sym left) both))
+      subst (λ k. AreTogether p held (settle M80 [] x (Asks e s)) (settle M8 cs y (Asks k u))) (sym h.0)
+      (subst (λ d. AreTogether p held (settle M80 [] x (Asks e s)) (take_reply M8 cs (record y { state = u; dialogue = d ++ e ∷ []; used = suc y.used }) e y.replies)) (sym said)
+      (subst (λ l. AreTogether p held (settle M80 [] x (Asks e s)) (take_reply M8 cs (record y { state = u; dialogue = x.dialogue ++ e ∷ []; used = suc y.used }) e l)) (sym left) both))
   settles x y (Asks e s) Ends going status said left bytes h = absurd h
   settles x y (Asks e s) (Stops k) going status said left bytes h = absurd h
   settles x y Ends (Ran u) going status said left bytes h = absurd h
@@ -70,22 +70,22 @@ module _ (p : Program) (cs : List ℕ) where
   settles x y Ends Ends going status said left bytes h = (refl, ap (λ d. d ++ End ∷ []) said)
   settles x y Ends (Stops k) going status said left bytes h = absurd h
 
-  module _ (g : IsProgram p) (same : WhoSeesMoreAsksTheSame) where
-    turn_together : (x : Run State80 Rule) (y : Run UntaggedState Stop) (st : Status Rule) → x.status ≡ st → Together st x y → AreTogether (turn_by M80 [] x st) (turn M8 cs y)
+  module _ (g : IsProgram p) (takes_program : TakesProgram fetch p held) (same : WhoSeesMoreAsksTheSame) where
+    turn_together : (x : Run State80 Rule) (y : Run UntaggedState Stop) (st : Status Rule) → x.status ≡ st → Together p held st x y → AreTogether p held (turn_by M80 [] x st) (turn M8 cs y)
     turn_together x y Going e h =
-        subst (λ t. AreTogether (turn_by M80 [] x Going) (turn_by M8 cs y t)) (sym h.0)
-        (settles x y (step80 p x.state) (step_untagged (program_fetch p) y.state (choice_at cs y.used)) e h.0 h.2 h.3 h.4 (steps_follow p g same x.state y.state (choice_at cs y.used) h.1))
-    turn_together x y Waiting e h = subst (λ t. Together t x (turn M8 cs y)) (sym e) (subst (λ t. Together Waiting x (turn_by M8 cs y t)) (sym h.0) h)
-    turn_together x y Over e h = subst (λ t. Together t x (turn M8 cs y)) (sym e) (subst (λ t. Together Over x (turn_by M8 cs y t)) (sym h.0) h)
-    turn_together x y (Stopped r) e h = subst (λ t. Together t x (turn M8 cs y)) (sym e) tt
+        subst (λ t. AreTogether p held (turn_by M80 [] x Going) (turn_by M8 cs y t)) (sym h.0)
+        (settles x y (step80 p x.state) (step_untagged fetch y.state (choice_at cs y.used)) e h.0 h.2 h.3 h.4 (steps_follow p g held fetch takes_program same x.state y.state (choice_at cs y.used) h.1))
+    turn_together x y Waiting e h = subst (λ t. Together p held t x (turn M8 cs y)) (sym e) (subst (λ t. Together p held Waiting x (turn_by M8 cs y t)) (sym h.0) h)
+    turn_together x y Over e h = subst (λ t. Together p held t x (turn M8 cs y)) (sym e) (subst (λ t. Together p held Over x (turn_by M8 cs y t)) (sym h.0) h)
+    turn_together x y (Stopped r) e h = subst (λ t. Together p held t x (turn M8 cs y)) (sym e) tt
 
-    pub turns_together : (n : ℕ) (x : Run State80 Rule) (y : Run UntaggedState Stop) → AreTogether x y → AreTogether (turns M80 [] n x) (turns M8 cs n y)
+    pub turns_together : (n : ℕ) (x : Run State80 Rule) (y : Run UntaggedState Stop) → AreTogether p held x y → AreTogether p held (turns M80 [] n x) (turns M8 cs n y)
     turns_together zero x y h = h
     turns_together (suc n) x y h = turns_together n (turn M80 [] x) (turn M8 cs y) (turn_together x y x.status refl h)
 
 -- what runs that are together have said
-pub together_said : (x : Run State80 Rule) (y : Run UntaggedState Stop) (st : Status Rule) → IsNotStopped st → Together st x y → (y.dialogue ≡ x.dialogue) × IsNotStopped y.status
-together_said x y Going n h = (h.2, subst IsNotStopped (sym h.0) tt)
-together_said x y Waiting n h = (h.1, subst IsNotStopped (sym h.0) tt)
-together_said x y Over n h = (h.1, subst IsNotStopped (sym h.0) tt)
-together_said x y (Stopped r) n h = absurd n
+pub together_said : (p : Program) (held : ℕ → ℕ) (x : Run State80 Rule) (y : Run UntaggedState Stop) (st : Status Rule) → IsNotStopped st → Together p held st x y → (y.dialogue ≡ x.dialogue) × IsNotStopped y.status
+together_said p held x y Going n h = (h.2, subst IsNotStopped (sym h.0) tt)
+together_said p held x y Waiting n h = (h.1, subst IsNotStopped (sym h.0) tt)
+together_said p held x y Over n h = (h.1, subst IsNotStopped (sym h.0) tt)
+together_said p held x y (Stopped r) n h = absurd n

@@ -1,6 +1,6 @@
 -- When bytes stand for what the tagged machine knows: a number is the byte; the halves of a place are those of its address, EXIT
 -- being 0; a flag byte has the flags that are known; of all else any byte may stand.
-use Rattle.std.proofs.Common.{◌≡◌, ℕ, ◌+◌, ◌*◌, ◌/◌, ◌%◌, ◌<◌, ◌==◌, Bool, true, false, cond, Ok, refl, ap, ◌∙◌, arith}
+use Rattle.std.proofs.Common.{◌≡◌, ℕ, ◌+◌, ◌*◌, ◌/◌, ◌%◌, ◌<◌, ◌==◌, Bool, true, false, cond, Ok, refl, ap, subst, ◌∙◌, arith}
 use Rattle.cells.specs.declared.Place.{Place}
 use Rattle.cells.specs.declared.Flags.{Flags}
 use Rattle.cells.specs.declared.Cell.{Cell}
@@ -12,6 +12,8 @@ use Rattle.i80.specs.declared.Reg.TheVariants.{A, B, C, D, E, H, L}
 use Rattle.dialogue.proofs.Tried.{ok_is, err_is_not, then_is}
 use Rattle.dialogue.specs.Tried.{try_then}
 use Rattle.dialogue.specs.ByteMemory.{put}
+use Rattle.std.proofs.lemmas.Bool.{eqb-true}
+use Rattle.asm80_program_types.specs.Program.{Program, is_code}
 use Rattle.cpu80_tagged_def.specs.State.{Regs80, State80, reg80, with_reg80, num_or}
 use Rattle.cpu80_tagged_def.specs.Memory.{put as put80}
 use Rattle.cpu80_untagged_def.specs.State.{UntaggedFlags, UntaggedRegs, UntaggedState, reg, with_reg}
@@ -44,13 +46,15 @@ pub record RegsStand (x : Regs80) (y : UntaggedRegs) : Type 0 where
   pub h : Stands x.h y.h
   pub l : Stands x.l y.l
 
-abbrev pub CellsStand : (ℕ → Cell) → (ℕ → ℕ) → Type 0
-CellsStand m n = (a : ℕ) → Stands (m a) (n a)
+-- the cells of the program's instructions, of which the tagged machine knows nothing, hold what they held at the start
+pub record CellsStand (p : Program) (held : ℕ → ℕ) (m : ℕ → Cell) (n : ℕ → ℕ) : Type 0 where
+  pub each : (a : ℕ) → Stands (m a) (n a)
+  pub code : (a : ℕ) → is_code p a ≡ true → n a ≡ held a
 
-pub record StatesStand (s : State80) (u : UntaggedState) : Type 0 where
+pub record StatesStand (p : Program) (held : ℕ → ℕ) (s : State80) (u : UntaggedState) : Type 0 where
   pub regs : RegsStand s.regs u.regs
   pub flags : FlagsStand s.flags u.flags
-  pub mem : CellsStand s.mem u.mem
+  pub mem : CellsStand p held s.mem u.mem
   pub sp : u.sp ≡ s.sp
   pub sp_small : s.sp < 0x10000
   pub place : u.place ≡ s.place
@@ -78,29 +82,39 @@ set_stands x y L v b h k = record { a = h.a; b = h.b; c = h.c; d = h.d; e = h.e;
 
 -- memory
 
-pub put_stands : (m : ℕ → Cell) (n : ℕ → ℕ) (a : ℕ) (v : Cell) (b : ℕ) → CellsStand m n → Stands v b → CellsStand (put80 m a v) (put n a b)
-put_stands m n a v b h k at = by_place (at == a)
-  where
-    by_place : (t : Bool) → Stands (cond t v (m at)) (cond t b (n at))
-    by_place true = k
-    by_place false = h at
+not_both : (b : Bool) → b ≡ true → b ≡ false → ⊥
+not_both true h k = absurd (cc)
+not_both false h k = absurd (cc)
 
--- states that differ in one part
+module _ {p : Program} {held : ℕ → ℕ} where
+  -- a cell that is none of an instruction is written
+  pub put_stands : (m : ℕ → Cell) (n : ℕ → ℕ) (a : ℕ) (v : Cell) (b : ℕ) → CellsStand p held m n → Stands v b → is_code p a ≡ false → CellsStand p held (put80 m a v) (put n a b)
+  put_stands m n a v b h k free = record { each = λ at. by_place at (at == a); code = λ at c. by_code at c (at == a) refl }
+    where
+      by_place : (at : ℕ) (t : Bool) → Stands (cond t v (m at)) (cond t b (n at))
+      by_place at true = k
+      by_place at false = h.each at
 
-pub sets_regs : (s : State80) (u : UntaggedState) (x : Regs80) (y : UntaggedRegs) → StatesStand s u → RegsStand x y → StatesStand (record s { regs = x }) (record u { regs = y })
-sets_regs s u x y d h = record { regs = h; flags = d.flags; mem = d.mem; sp = d.sp; sp_small = d.sp_small; place = d.place; dma = d.dma }
+      by_code : (at : ℕ) → is_code p at ≡ true → (t : Bool) → (at == a) ≡ t → cond t b (n at) ≡ held at
+      by_code at c true e = absurd (not_both (is_code p a) (subst (λ x. is_code p x ≡ true) (eqb-true at a e) c) free)
+      by_code at c false e = h.code at c
 
-pub sets_flags : (s : State80) (u : UntaggedState) (f : Flags) (g : UntaggedFlags) → StatesStand s u → FlagsStand f g → StatesStand (record s { flags = f }) (record u { flags = g })
-sets_flags s u f g d h = record { regs = d.regs; flags = h; mem = d.mem; sp = d.sp; sp_small = d.sp_small; place = d.place; dma = d.dma }
+  -- states that differ in one part
 
-pub sets_cells : (s : State80) (u : UntaggedState) (m : ℕ → Cell) (n : ℕ → ℕ) → StatesStand s u → CellsStand m n → StatesStand (record s { mem = m }) (record u { mem = n })
-sets_cells s u m n d h = record { regs = d.regs; flags = d.flags; mem = h; sp = d.sp; sp_small = d.sp_small; place = d.place; dma = d.dma }
+  pub sets_regs : (s : State80) (u : UntaggedState) (x : Regs80) (y : UntaggedRegs) → StatesStand p held s u → RegsStand x y → StatesStand p held (record s { regs = x }) (record u { regs = y })
+  sets_regs s u x y d h = record { regs = h; flags = d.flags; mem = d.mem; sp = d.sp; sp_small = d.sp_small; place = d.place; dma = d.dma }
 
-pub sets_sp : (s : State80) (u : UntaggedState) (w : ℕ) → StatesStand s u → w < 0x10000 → StatesStand (record s { sp = w }) (record u { sp = w })
-sets_sp s u w d h = record { regs = d.regs; flags = d.flags; mem = d.mem; sp = refl; sp_small = h; place = d.place; dma = d.dma }
+  pub sets_flags : (s : State80) (u : UntaggedState) (f : Flags) (g : UntaggedFlags) → StatesStand p held s u → FlagsStand f g → StatesStand p held (record s { flags = f }) (record u { flags = g })
+  sets_flags s u f g d h = record { regs = d.regs; flags = h; mem = d.mem; sp = d.sp; sp_small = d.sp_small; place = d.place; dma = d.dma }
 
-pub sets_place : (s : State80) (u : UntaggedState) (q : Place) → StatesStand s u → StatesStand (record s { place = q }) (record u { place = q })
-sets_place s u q d = record { regs = d.regs; flags = d.flags; mem = d.mem; sp = d.sp; sp_small = d.sp_small; place = refl; dma = d.dma }
+  pub sets_cells : (s : State80) (u : UntaggedState) (m : ℕ → Cell) (n : ℕ → ℕ) → StatesStand p held s u → CellsStand p held m n → StatesStand p held (record s { mem = m }) (record u { mem = n })
+  sets_cells s u m n d h = record { regs = d.regs; flags = d.flags; mem = h; sp = d.sp; sp_small = d.sp_small; place = d.place; dma = d.dma }
+
+  pub sets_sp : (s : State80) (u : UntaggedState) (w : ℕ) → StatesStand p held s u → w < 0x10000 → StatesStand p held (record s { sp = w }) (record u { sp = w })
+  sets_sp s u w d h = record { regs = d.regs; flags = d.flags; mem = d.mem; sp = refl; sp_small = h; place = d.place; dma = d.dma }
+
+  pub sets_place : (s : State80) (u : UntaggedState) (q : Place) → StatesStand p held s u → StatesStand p held (record s { place = q }) (record u { place = q })
+  sets_place s u q d = record { regs = d.regs; flags = d.flags; mem = d.mem; sp = d.sp; sp_small = d.sp_small; place = refl; dma = d.dma }
 
 -- numbers
 

@@ -29,4 +29,4 @@ pub use machine::{Untagged80, UntaggedStep};
 pub use memory::Memory;
 pub use plain::{Plain80, StepPlain};
 pub use processor::Processor;
-pub use start::start_processor;
+pub use start::{datum_or, start_processor};

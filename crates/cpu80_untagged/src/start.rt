@@ -32,8 +32,8 @@ fn address_of(place: Place) -> u16
     }
 }
 
-// The byte of a data cell; where there is none, this byte.
-fn datum_or(cell: Option<Cell>, byte: u8) -> u8
+/// The byte of a data cell, which is a number or the half of an 8080 address; where there is none, this byte.
+pub fn datum_or(cell: Option<Cell>, byte: u8) -> u8
     ensures { result ≡ datum_or cell byte }
 {
     match cell {

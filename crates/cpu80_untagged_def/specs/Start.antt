@@ -29,16 +29,24 @@ abbrev pub datum_or : Option Cell → ℕ → ℕ
 datum_or None byte = byte
 datum_or (Some v) byte = byte_of_cell v byte
 
--- the bytes at the start: the top of the area at 6, the page, zeros at T-2 and T-1, which are the return to the end, the
--- program's data; all others are the fill's
-abbrev pub start_byte : Program → List ℕ → List ℕ → ℕ → ℕ
-start_byte p page fill a =
-    if a == 6 then p.top % 256 else
-    if a == 7 then p.top / 256 else
+-- what the system puts over memory at the start: the top of the area at 6, the page, and zeros at T-2 and T-1, which are the
+-- return to the end
+abbrev pub system_byte : ℕ → List ℕ → (ℕ → ℕ) → ℕ → ℕ
+system_byte top page under a =
+    if a == 6 then top % 256 else
+    if a == 7 then top / 256 else
     if nat_le 0x5C a && nat_lt a 0x100 then slice_index page (a - 0x5C) else
-    if a == p.top - 2 then 0 else
-    if a == p.top - 1 then 0 else
-    datum_or (cell_at p a) (slice_index fill a)
+    if a == top - 2 then 0 else
+    if a == top - 1 then 0 else
+    under a
+
+-- a program's data over a fill
+abbrev pub data_over : Program → List ℕ → ℕ → ℕ
+data_over p fill a = datum_or (cell_at p a) (slice_index fill a)
+
+-- the bytes at the start: the system's, the program's data; all others are the fill's
+abbrev pub start_byte : Program → List ℕ → List ℕ → ℕ → ℕ
+start_byte p page fill = system_byte p.top page (data_over p fill)
 
 -- the start over a memory, in the area below a top: A B C D E H L are bytes 8 to 14 of the fill, and S Z AC P CY are bits 0 to
 -- 4 of its byte 15

@@ -2,7 +2,7 @@
 use Rattle.std.specs.Prelude.{◌≢◌, ℕ, ◌-◌, ◌/◌, ◌%◌, ◌^◌, ◌<◌, ◌&&◌, nat_lt, nat_le, cond, List, [], ◌∷◌, All, Option, slice_index}
 use Rattle.i86.specs.declared.Instr86.{Instr86}
 use Rattle.dialogue.specs.declared.request.Reply.{Reply}
-use Rattle.dialogue.specs.ByteMemory.{put}
+use Rattle.dialogue.specs.ByteMemory.{put_cells}
 use Rattle.asm86_line_types.specs.Image.{Image}
 use Rattle.dialogue.specs.Run.{Run, turns, start_run}
 use Rattle.cpu86_def.specs.State.{State86}
@@ -42,11 +42,6 @@ pub record AreChoices (choices : List ℕ) : Type 0 where
 -- the fill, and the page over it
 abbrev pub start_byte : List ℕ → List ℕ → ℕ → ℕ
 start_byte fill page a = cond (nat_le 0x5C a && nat_lt a 0x100) (slice_index page (a - 0x5C)) (slice_index fill a)
-
--- data cells over memory
-abbrev pub put_cells : (ℕ → ℕ) → List (ℕ × ℕ) → ℕ → ℕ
-put_cells mem [] = mem
-put_cells mem (c ∷ cs) = put_cells (put mem c.0 c.1) cs
 
 abbrev pub start86 : Image → List ℕ → List ℕ → Start → State86
 start86 image page fill r = record {

@@ -2,17 +2,9 @@
 use Rattle.std.proofs.Common.{◌≡◌, ℕ, ◌+◌, ◌<◌, ◌==◌, Bool, true, false, cond, List, [], ◌∷◌, length, get_or, drop, refl, sym, ap, ◌∙◌, arith}
 use mathlib.Core.Path.{fun_ext}
 use Rattle.std.proofs.lemmas.Bool.Decides.{nat_tests}
-use Rattle.std.proofs.lemmas.List.{drop_more}
 use Rattle.dialogue.specs.ByteMemory.{put, put_bytes}
 use Rattle.dialogue.specs.Words.{wrap}
-use Rattle.cpu86_def.specs.Start.{put_cells}
 use Rattle.cpu86_step.specs.System.{six_at}
-
--- one more cell
-pub put_cells_more : (m m' : ℕ → ℕ) (cs : List (ℕ × ℕ)) (i : ℕ) (d : ℕ × ℕ) → i < length cs → m' ≡ put m (get_or cs i d).0 (get_or cs i d).1 → put_cells m' (drop (i + 1) cs) ≡ put_cells m (drop i cs)
-put_cells_more m m' cs i d h f =
-    ap (λ w. put_cells w (drop (i + 1) cs)) f
-    ∙ ap (put_cells m) (sym (drop_more cs i d h))
 
 -- bytes written back over bytes written: the lowest address is looked at last
 kept : (b a a' : ℕ) (m : ℕ → ℕ) (rest : ℕ) → a' ≡ a → ((b == a') ≡ false → rest ≡ m b) → cond (b == a') (m a) rest ≡ m b

@@ -5,6 +5,7 @@ pub mod ByteMemory
 pub mod Pages
 pub mod Tried
 pub mod Lines
+pub mod Within
 pub mod Turns
 pub mod Called
 mod Sight

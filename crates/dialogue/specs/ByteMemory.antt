@@ -18,6 +18,11 @@ abbrev pub put_bytes : (ℕ → ℕ) → ℕ → List ℕ → ℕ → ℕ
 put_bytes mem a [] = mem
 put_bytes mem a (b ∷ bs) = put_bytes (put mem a b) ((a + 1) % 0x10000) bs
 
+-- cells of an address and a byte each, in their order
+abbrev pub put_cells : (ℕ → ℕ) → List (ℕ × ℕ) → ℕ → ℕ
+put_cells mem [] = mem
+put_cells mem (c ∷ cs) = put_cells (put mem c.0 c.1) cs
+
 -- what a reply writes
 abbrev pub put_blocks : (ℕ → ℕ) → List Block → ℕ → ℕ
 put_blocks mem [] = mem

@@ -1,2 +1,8 @@
+pub mod Turning
+pub mod OneRun
+pub mod Said
+pub mod Advances
+pub mod Exact
+pub mod Ends
 pub mod Machine80
 pub mod Machine86

@@ -3,7 +3,7 @@ use Rattle.std.proofs.Common.{◌≡◌, ℕ, suc, List, [], ◌∷◌, ◌++◌
 use Rattle.std.specs.List.{AllByRecursion}
 use Rattle.hex_file.specs.declared.fault.HexFault.TheVariants.{Bad}
 use Rattle.hex_file.specs.Records.{Record, IsDataLine, IsEndLine}
-use Rattle.hex_file.specs.HexFile.{IsHex, ended, more, cells_of, IsHexOf, HasData, BeginsWithMisfit, IsFaultOf}
+use Rattle.hex_file.specs.HexFile.{IsHex, ended, more, cells_of, IsHexOf, HasData, BeginsWithMisfit, IsHexFaultOf}
 use Rattle.hex_file.proofs.Cutting.{one_way}
 use Rattle.hex_file.proofs.RecordBytes.{one_spelt}
 
@@ -39,7 +39,7 @@ same_count [] (line ∷ others) after rest e h k m n = absurd (no_misfit line (o
 same_count (line ∷ before) [] after rest e h k m n = absurd (no_misfit line (before ++ after) rest (sym e) h.0 n)
 same_count (line ∷ before) (other ∷ others) after rest e h k m n = ap suc (same_count before others after rest (cc) h.1 k.1 m n)
 
-pub one_fault : (bytes : List ℕ) (j k : ℕ) → IsFaultOf bytes (Bad j) → IsFaultOf bytes (Bad k) → j ≡ k
+pub one_fault : (bytes : List ℕ) (j k : ℕ) → IsHexFaultOf bytes (Bad j) → IsHexFaultOf bytes (Bad k) → j ≡ k
 one_fault bytes j k h i =
     let first = h.2 in
     let second = i.2 in
@@ -58,7 +58,7 @@ has_no_misfit [] (line ∷ after) (r ∷ records) h m (more _ _ _ _ k rest) = (m
 has_no_misfit (line ∷ before) after [] h m (ended _ _ r k) = apart line h.0.0 r h.0.1 k
 has_no_misfit (line ∷ before) after (r ∷ records) h m (more _ _ _ _ k rest) = has_no_misfit before after records h.1 m rest
 
-pub not_both : (bytes : List ℕ) (cells : List (ℕ × ℕ)) (n : ℕ) → IsHexOf bytes cells → IsFaultOf bytes (Bad n) → ⊥
+pub not_both : (bytes : List ℕ) (cells : List (ℕ × ℕ)) (n : ℕ) → IsHexOf bytes cells → IsHexFaultOf bytes (Bad n) → ⊥
 not_both bytes cells n h k =
     let first = k.2 in
     has_no_misfit first.before first.after h.records first.data_lines first.misfit

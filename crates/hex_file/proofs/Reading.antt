@@ -8,7 +8,7 @@ use Rattle.std.proofs.lemmas.List.Sums.{fold-append}
 use Rattle.hex_file.specs.declared.fault.HexFault.TheVariants.{Bad}
 use Rattle.hex_file.specs.Records.{Record, HasRecord, IsData, IsEnd}
 use Rattle.hex_file.specs.Lines.{AreLines, FirstLine}
-use Rattle.hex_file.specs.HexFile.{IsHex, ended, more, record_cells, put_cell, IsHexOf, BeginsWithMisfit, FirstMisfit, IsFaultOf}
+use Rattle.hex_file.specs.HexFile.{IsHex, ended, more, record_cells, put_cell, IsHexOf, BeginsWithMisfit, FirstMisfit, IsHexFaultOf}
 use Rattle.hex_file.proofs.Cutting.{no_line, some_way}
 use Rattle.hex_file.proofs.RecordBytes.{one_spelt}
 use Rattle.hex_file.proofs.Running.{enumerate_push}
@@ -34,7 +34,7 @@ abbrev pub Reads : List ℕ → List ℕ → List (ℕ × ℕ) → Type 0
 Reads bytes rest cells = (lines : List (List ℕ)) (records : List Record) → AreLines rest lines → IsHex lines records → IsHexOf bytes (fold put_cell cells (flat_map record_cells records))
 
 abbrev pub Fails : List ℕ → List ℕ → ℕ → Type 0
-Fails bytes rest number = (lines : List (List ℕ)) (n : ℕ) → AreLines rest lines → FirstMisfit lines (suc n) → IsFaultOf bytes (Bad (number + n))
+Fails bytes rest number = (lines : List (List ℕ)) (n : ℕ) → AreLines rest lines → FirstMisfit lines (suc n) → IsHexFaultOf bytes (Bad (number + n))
 
 pub reads_first : (bytes : List ℕ) (cells : List (ℕ × ℕ)) → cells ≡ [] → Reads bytes bytes cells
 reads_first bytes cells none = λ lines records cut hex.
@@ -55,7 +55,7 @@ pub fails_more : (bytes rest line after : List ℕ) (number : ℕ) (r : Record) 
 fails_more bytes rest line after number r first spells has_data fails = λ lines n cut misfit.
     let e : number + suc n ≡ number + 1 + n = omega arith in
     let count : suc (suc n) ≡ suc (length misfit.before) + 1 = let number = misfit.number in omega (arith, number) in
-    subst (λ m. IsFaultOf bytes (Bad m)) e
+    subst (λ m. IsHexFaultOf bytes (Bad m)) e
     (fails (line ∷ lines) (suc n) (first.goes_on lines cut) (record {
       before = line ∷ misfit.before;
       after = misfit.after;
@@ -74,22 +74,22 @@ reads_end bytes rest line after cells r first spells ends reads =
 
 -- a line that fits nowhere, or no line
 
-fails_here : (bytes rest : List ℕ) (number : ℕ) (lines : List (List ℕ)) → AreLines rest lines → BeginsWithMisfit lines → Fails bytes rest number → IsFaultOf bytes (Bad number)
+fails_here : (bytes rest : List ℕ) (number : ℕ) (lines : List (List ℕ)) → AreLines rest lines → BeginsWithMisfit lines → Fails bytes rest number → IsHexFaultOf bytes (Bad number)
 fails_here bytes rest number lines cut misfit fails =
     let e : number + 0 ≡ number = omega arith in
-    subst (λ m. IsFaultOf bytes (Bad m)) e
+    subst (λ m. IsHexFaultOf bytes (Bad m)) e
     (fails lines 0 cut (record { before = []; after = lines; whole = refl; data_lines = tt; number = refl; misfit = misfit }))
 
-pub fails_spelling : (bytes rest line after : List ℕ) (number : ℕ) → FirstLine rest line after → ((r : Record) → HasRecord line r → ⊥) → Fails bytes rest number → IsFaultOf bytes (Bad number)
+pub fails_spelling : (bytes rest line after : List ℕ) (number : ℕ) → FirstLine rest line after → ((r : Record) → HasRecord line r → ⊥) → Fails bytes rest number → IsHexFaultOf bytes (Bad number)
 fails_spelling bytes rest line after number first none fails =
     let following = some_way after in
     fails_here bytes rest number (line ∷ following.0) (first.goes_on following.0 following.1) (λ r. (λ h. none r h.spells, λ h. none r h.spells)) fails
 
-pub fails_kind : (bytes rest line after : List ℕ) (number : ℕ) (r : Record) → FirstLine rest line after → HasRecord line r → (IsData r → ⊥) → (IsEnd r → ⊥) → Fails bytes rest number → IsFaultOf bytes (Bad number)
+pub fails_kind : (bytes rest line after : List ℕ) (number : ℕ) (r : Record) → FirstLine rest line after → HasRecord line r → (IsData r → ⊥) → (IsEnd r → ⊥) → Fails bytes rest number → IsHexFaultOf bytes (Bad number)
 fails_kind bytes rest line after number r first spells no_data no_end fails =
     let following = some_way after in
     fails_here bytes rest number (line ∷ following.0) (first.goes_on following.0 following.1)
     (λ s. (λ h. no_data (subst IsData (one_spelt line s r h.spells spells) h.has_data), λ h. no_end (subst IsEnd (one_spelt line s r h.spells spells) h.ends))) fails
 
-pub fails_ended : (bytes rest : List ℕ) (number : ℕ) → rest ≡ [] → Fails bytes rest number → IsFaultOf bytes (Bad number)
+pub fails_ended : (bytes rest : List ℕ) (number : ℕ) → rest ≡ [] → Fails bytes rest number → IsHexFaultOf bytes (Bad number)
 fails_ended bytes rest number none fails = fails_here bytes rest number [] (subst (λ t. AreLines t []) (sym none) no_line) tt fails

@@ -53,6 +53,6 @@ pub record FirstMisfit (lines : List (List ℕ)) (n : ℕ) : Type 0 where
   pub misfit : BeginsWithMisfit after
 
 -- why bytes are not read as a file
-abbrev pub IsFaultOf : List ℕ → HexFault → Type 0
-IsFaultOf bytes (Bad n) = (lines : List (List ℕ)) × AreLines bytes lines × FirstMisfit lines n
-IsFaultOf bytes Memory = Unit {0}
+abbrev pub IsHexFaultOf : List ℕ → HexFault → Type 0
+IsHexFaultOf bytes (Bad n) = (lines : List (List ℕ)) × AreLines bytes lines × FirstMisfit lines n
+IsHexFaultOf bytes Memory = Unit {0}

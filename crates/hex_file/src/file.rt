@@ -4,7 +4,7 @@ ghost use Rattle.std.specs.List.{fold};
 ghost use Rattle.std.specs.List.Sorted.{IsStrictlyIncreasing};
 ghost use Rattle.std.specs.Map.{keys_of};
 ghost use Rattle.hex_file.specs.Records.{IsData};
-ghost use Rattle.hex_file.specs.HexFile.{record_cells, put_cell, IsHexOf, IsFaultOf};
+ghost use Rattle.hex_file.specs.HexFile.{record_cells, put_cell, IsHexOf, IsHexFaultOf};
 
 use crate::fault::HexFault;
 use crate::lines::first_line;
@@ -36,7 +36,7 @@ impl HexFile {
     /// byte for a cell replaces an earlier one.
     pub fn read(alloc: Global, bytes: &[u8]) -> Result<HexFile, HexFault>
         requires { length bytes.now ≤ 2 ^ 31 }
-        ensures { MatchResult result (IsHexOf bytes.now) (IsFaultOf bytes.now) }
+        ensures { MatchResult result (IsHexOf bytes.now) (IsHexFaultOf bytes.now) }
     {
         let mut cells = BTreeMap::new(alloc);
         let mut number = 1;

@@ -16,27 +16,27 @@ use Rattle.i80_encoding.specs.declared.decoding.WordForm.{WordForm}
 use Rattle.i80_encoding.specs.declared.decoding.WordForm.TheVariants.{Lxi as WordLxi, Lda as WordLda, Sta as WordSta, Lhld as WordLhld, Shld as WordShld, Jmp as WordJmp, Jif as WordJif, Call as WordCall, Cif as WordCif}
 use Rattle.i80_encoding.specs.Enc80.{address_of, with_word, enc80}
 use Rattle.i80_encoding.specs.Decoded.{goal_at, as_told, IsPrefix, StandsFirst, IsDecoded, IsPrefixFree}
-use Rattle.i80_encoding.specs.Decoder.{form_of, instruction_with_byte, instruction_with_word, by_form, decoded}
+use Rattle.i80_encoding.specs.Decoder.{form_of, instruction_with_byte, instruction_with_word, by_form80, decoded80}
 use Rattle.i80_encoding.proofs.Tables.{byte_opcode, word_opcode, byte_form, word_form, mov_found, alu_found, inr_found, dcr_found, inx_found, dcx_found, dad_found, push_found, pop_found, rif_found, ldax_found, stax_found, Says, form_says}
 
 -- from an encoding to what is decoded
 
-at_alone : (opcode : ℕ) (rest : List ℕ) (i : Instr80) → form_of opcode ≡ Some (Alone i) → decoded (opcode ∷ rest) ≡ Some i
-unfolding decoded
-at_alone opcode rest i e = ap (λ f. by_form f (slice_get (opcode ∷ rest) 1) (slice_get (opcode ∷ rest) 2)) e
+at_alone : (opcode : ℕ) (rest : List ℕ) (i : Instr80) → form_of opcode ≡ Some (Alone i) → decoded80 (opcode ∷ rest) ≡ Some i
+unfolding decoded80
+at_alone opcode rest i e = ap (λ f. by_form80 f (slice_get (opcode ∷ rest) 1) (slice_get (opcode ∷ rest) 2)) e
 
-at_byte : (f : ByteForm) (n : ℕ) (rest : List ℕ) → decoded (byte_opcode f ∷ (n ∷ rest)) ≡ Some (instruction_with_byte f n)
-unfolding decoded
-at_byte f n rest = ap (λ g. by_form g (Some n) (slice_get (byte_opcode f ∷ (n ∷ rest)) 2)) (byte_form f)
+at_byte : (f : ByteForm) (n : ℕ) (rest : List ℕ) → decoded80 (byte_opcode f ∷ (n ∷ rest)) ≡ Some (instruction_with_byte f n)
+unfolding decoded80
+at_byte f n rest = ap (λ g. by_form80 g (Some n) (slice_get (byte_opcode f ∷ (n ∷ rest)) 2)) (byte_form f)
 
 word_parts : (w : ℕ) → 256 * (w / 256) + w % 256 ≡ w
 word_parts w = omega arith
 
-at_word : (f : WordForm) (w : ℕ) (rest : List ℕ) → decoded (with_word (word_opcode f) w ++ rest) ≡ Some (instruction_with_word f w)
-unfolding decoded
-at_word f w rest = ap (λ g. by_form g (Some (w % 256)) (Some (w / 256))) (word_form f) ∙ ap (λ v. Some (instruction_with_word f v)) (word_parts w)
+at_word : (f : WordForm) (w : ℕ) (rest : List ℕ) → decoded80 (with_word (word_opcode f) w ++ rest) ≡ Some (instruction_with_word f w)
+unfolding decoded80
+at_word f w rest = ap (λ g. by_form80 g (Some (w % 256)) (Some (w / 256))) (word_form f) ∙ ap (λ v. Some (instruction_with_word f v)) (word_parts w)
 
-pub complete : (i : Instr80) (rest : List ℕ) → is_well_formed i ≡ true → decoded (enc80 i ++ rest) ≡ Some (as_told i)
+pub complete : (i : Instr80) (rest : List ℕ) → is_well_formed i ≡ true → decoded80 (enc80 i ++ rest) ≡ Some (as_told i)
 complete Nop rest h = at_alone 0x00 rest Nop refl
 complete (Mov to from) rest h = at_alone _ rest (Mov to from) (mov_found to from h)
 complete (Mvi to n) rest h = at_byte (ByteMvi to) n rest
@@ -155,7 +155,7 @@ word_stands opcode f l h rest e small =
       ),
     )
 
-form_stands : (opcode : ℕ) (rest : List ℕ) (f : Form) (j : Instr80) → Says opcode f → ((k : ℕ) → get_or (opcode ∷ rest) k 0 < 256) → by_form (Some f) (slice_get (opcode ∷ rest) 1) (slice_get (opcode ∷ rest) 2) ≡ Some j → StandsFirst (opcode ∷ rest) j
+form_stands : (opcode : ℕ) (rest : List ℕ) (f : Form) (j : Instr80) → Says opcode f → ((k : ℕ) → get_or (opcode ∷ rest) k 0 < 256) → by_form80 (Some f) (slice_get (opcode ∷ rest) 1) (slice_get (opcode ∷ rest) 2) ≡ Some j → StandsFirst (opcode ∷ rest) j
 form_stands opcode rest (Alone i) j says fits e =
     let is : i ≡ j = cc in
     subst (StandsFirst (opcode ∷ rest)) is (alone_stands opcode rest i says)
@@ -169,25 +169,25 @@ form_stands opcode (l ∷ (h ∷ rest)) (Word f) j says fits e =
     let is : instruction_with_word f (256 * h + l) ≡ j = cc in
     subst (StandsFirst (opcode ∷ (l ∷ (h ∷ rest)))) is (word_stands opcode f l h rest says (fits 1))
 
-pub sound : (bytes : List ℕ) (j : Instr80) → ((k : ℕ) → get_or bytes k 0 < 256) → decoded bytes ≡ Some j → StandsFirst bytes j
-unfolding decoded
+pub sound : (bytes : List ℕ) (j : Instr80) → ((k : ℕ) → get_or bytes k 0 < 256) → decoded80 bytes ≡ Some j → StandsFirst bytes j
+unfolding decoded80
 sound [] j fits e = absurd (cc)
 sound (opcode ∷ rest) j fits e = by_form_of (form_of opcode) refl e
   where
-    by_form_of : (o : Option Form) → form_of opcode ≡ o → by_form o (slice_get (opcode ∷ rest) 1) (slice_get (opcode ∷ rest) 2) ≡ Some j → StandsFirst (opcode ∷ rest) j
+    by_form_of : (o : Option Form) → form_of opcode ≡ o → by_form80 o (slice_get (opcode ∷ rest) 1) (slice_get (opcode ∷ rest) 2) ≡ Some j → StandsFirst (opcode ∷ rest) j
     by_form_of None h e = absurd (cc)
     by_form_of (Some f) h e = form_stands opcode rest f j (form_says opcode f (fits 0) h) fits e
 
 -- what stands first is decoded
-stands_decoded : (bytes : List ℕ) (i : Instr80) → StandsFirst bytes i → decoded bytes ≡ Some (as_told i)
-stands_decoded bytes i h = ap decoded h.1.1 ∙ complete i h.1.0 h.0
+stands_decoded : (bytes : List ℕ) (i : Instr80) → StandsFirst bytes i → decoded80 bytes ≡ Some (as_told i)
+stands_decoded bytes i h = ap decoded80 h.1.1 ∙ complete i h.1.0 h.0
 
 -- the answers of decoding
-pub is_the_one : (bytes : List ℕ) (i : Instr80) (n : ℕ) → ((k : ℕ) → get_or bytes k 0 < 256) → decoded bytes ≡ Some i → n ≡ length (enc80 i) → IsDecoded bytes (Some (i, n))
+pub is_the_one : (bytes : List ℕ) (i : Instr80) (n : ℕ) → ((k : ℕ) → get_or bytes k 0 < 256) → decoded80 bytes ≡ Some i → n ≡ length (enc80 i) → IsDecoded bytes (Some (i, n))
 is_the_one bytes i n fits h e = (sound bytes i fits h, e, λ j g. let same : Some (as_told j) ≡ Some i = sym (stands_decoded bytes j g) ∙ h in cc)
 
-pub none_stands : (bytes : List ℕ) → decoded bytes ≡ None → IsDecoded bytes None
-none_stands bytes h = λ i g. let found : decoded bytes ≡ Some (as_told i) = stands_decoded bytes i g in absurd (cc)
+pub none_stands : (bytes : List ℕ) → decoded80 bytes ≡ None → IsDecoded bytes None
+none_stands bytes h = λ i g. let found : decoded80 bytes ≡ Some (as_told i) = stands_decoded bytes i g in absurd (cc)
 
 -- the length of an encoding is the table's
 pub encoding_length : (i : Instr80) → length (enc80 i) ≡ length80 i
@@ -234,6 +234,6 @@ encoding_length (Out port) = refl
 
 pub prefix_free : IsPrefixFree
 prefix_free i j h good =
-    let itself = ap decoded (sym (append-nil (enc80 j))) ∙ complete j [] good in
+    let itself = ap decoded80 (sym (append-nil (enc80 j))) ∙ complete j [] good in
     let same : Some (as_told i) ≡ Some (as_told j) = sym (stands_decoded (enc80 j) i h) ∙ itself in
     cc

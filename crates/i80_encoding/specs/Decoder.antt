@@ -24,8 +24,8 @@ use Rattle.i80_encoding.specs.declared.decoding.WordForm.{WordForm}
 use Rattle.i80_encoding.specs.declared.decoding.WordForm.TheVariants.{Lxi as WordLxi, Lda as WordLda, Sta as WordSta, Lhld as WordLhld, Shld as WordShld, Jmp as WordJmp, Jif as WordJif, Call as WordCall, Cif as WordCif}
 
 -- what the fields of an opcode name
-abbrev pub operand_of : ℕ → Src
-operand_of n =
+abbrev pub operand80_of : ℕ → Src
+operand80_of n =
     cond (n == 0) (Reg B)
     (cond (n == 1) (Reg C)
     (cond (n == 2) (Reg D) (cond (n == 3) (Reg E) (cond (n == 4) (Reg H) (cond (n == 5) (Reg L) (cond (n == 6) Mem (Reg A)))))))
@@ -75,12 +75,12 @@ low_form n kind =
     (cond (kind == 1) (Some (by_parity n (Word (WordLxi (pair_of (n / 2)))) (Alone (Dad (pair_of (n / 2))))))
     (cond (kind == 2) (Some (memory_form n))
     (cond (kind == 3) (Some (by_parity n (Alone (Inx (pair_of (n / 2)))) (Alone (Dcx (pair_of (n / 2))))))
-    (cond (kind == 4) (Some (Alone (Inr (operand_of n))))
-    (cond (kind == 5) (Some (Alone (Dcr (operand_of n)))) (cond (kind == 6) (Some (Byte (ByteMvi (operand_of n)))) (Some (Alone (on_a n)))))))))
+    (cond (kind == 4) (Some (Alone (Inr (operand80_of n))))
+    (cond (kind == 5) (Some (Alone (Dcr (operand80_of n)))) (cond (kind == 6) (Some (Byte (ByteMvi (operand80_of n)))) (Some (Alone (on_a n)))))))))
 
 -- from 40H to 7FH: MOV, where there is no MOV M,M
 abbrev pub mov_form : ℕ → ℕ → Option Form
-mov_form to from = cond (to == 6) (cond (from == 6) None (Some (Alone (Mov (operand_of to) (operand_of from))))) (Some (Alone (Mov (operand_of to) (operand_of from))))
+mov_form to from = cond (to == 6) (cond (from == 6) None (Some (Alone (Mov (operand80_of to) (operand80_of from))))) (Some (Alone (Mov (operand80_of to) (operand80_of from))))
 
 -- RET, PCHL and SPHL
 abbrev pub return_form : ℕ → Option Form
@@ -109,7 +109,7 @@ abbrev pub form_of : ℕ → Option Form
 form_of opcode =
     cond (opcode / 64 == 0) (low_form (opcode / 8 % 8) (opcode % 8))
     (cond (opcode / 64 == 1) (mov_form (opcode / 8 % 8) (opcode % 8))
-    (cond (opcode / 64 == 2) (Some (Alone (Alu (operation_of (opcode / 8 % 8)) (operand_of (opcode % 8))))) (high_form (opcode / 8 % 8) (opcode % 8))))
+    (cond (opcode / 64 == 2) (Some (Alone (Alu (operation_of (opcode / 8 % 8)) (operand80_of (opcode % 8))))) (high_form (opcode / 8 % 8) (opcode % 8))))
 
 abbrev pub instruction_with_byte : ByteForm → ℕ → Instr80
 instruction_with_byte (ByteMvi to) n = Mvi to n
@@ -133,16 +133,16 @@ abbrev pub word_from : Option ℕ → Option ℕ → Option ℕ
 word_from low high = option_and_then (λ (l : ℕ). option_map (λ h. 256 * h + l) high) low
 
 -- the instruction of a form, by the two bytes that follow the opcode
-abbrev pub by_form : Option Form → Option ℕ → Option ℕ → Option Instr80
-by_form None second third = None
-by_form (Some (Alone i)) second third = Some i
-by_form (Some (Byte f)) second third = option_map (instruction_with_byte f) second
-by_form (Some (Word f)) second third = option_map (instruction_with_word f) (word_from second third)
+abbrev pub by_form80 : Option Form → Option ℕ → Option ℕ → Option Instr80
+by_form80 None second third = None
+by_form80 (Some (Alone i)) second third = Some i
+by_form80 (Some (Byte f)) second third = option_map (instruction_with_byte f) second
+by_form80 (Some (Word f)) second third = option_map (instruction_with_word f) (word_from second third)
 
 abbrev pub by_first : Option ℕ → Option ℕ → Option ℕ → Option Instr80
 by_first None second third = None
-by_first (Some opcode) second third = by_form (form_of opcode) second third
+by_first (Some opcode) second third = by_form80 (form_of opcode) second third
 
 -- the instruction that stands first in the bytes
-unfoldable pub decoded : List ℕ → Option Instr80
-decoded bytes = by_first (slice_get bytes 0) (slice_get bytes 1) (slice_get bytes 2)
+unfoldable pub decoded80 : List ℕ → Option Instr80
+decoded80 bytes = by_first (slice_get bytes 0) (slice_get bytes 1) (slice_get bytes 2)

@@ -2,7 +2,7 @@
 ghost use Rattle.std.specs.Prelude.{◌≡◌, ◌<◌, slice_get, IfSome, IsTrue};
 ghost use Rattle.i80.specs.Columns.{is_well_formed};
 ghost use Rattle.i80_encoding.specs.Decoded.{IsDecoded, goal_at};
-ghost use Rattle.i80_encoding.specs.Decoder.{operand_of, pair_of, stack_pair_of, condition_of, operation_of, memory_form, on_a, low_form, mov_form, return_form, jump_form, high_form, form_of, instruction_with_byte, instruction_with_word, word_from, by_form, decoded};
+ghost use Rattle.i80_encoding.specs.Decoder.{operand80_of, pair_of, stack_pair_of, condition_of, operation_of, memory_form, on_a, low_form, mov_form, return_form, jump_form, high_form, form_of, instruction_with_byte, instruction_with_word, word_from, by_form80, decoded80};
 
 use cells::Cond;
 use i80::{Goal, Instr80, Op, Pair, Reg, Src, StackPair, Word, length};
@@ -54,12 +54,12 @@ pub fn decode80(bytes: &[u8]) -> Option<(Instr80, u8)>
 }
 
 // The instruction that stands first in the bytes.
-#[tactic(auto, unfolding(crate::specs::Decoder::decoded))]
+#[tactic(auto, unfolding(crate::specs::Decoder::decoded80))]
 fn instruction_in(bytes: &[u8]) -> Option<Instr80>
-    ensures { result ≡ decoded bytes.now }
+    ensures { result ≡ decoded80 bytes.now }
 {
     let form = form_of(byte_at(bytes, 0)?)?;
-    by_form(form, byte_at(bytes, 1), byte_at(bytes, 2))
+    by_form80(form, byte_at(bytes, 1), byte_at(bytes, 2))
 }
 
 // The byte at a place, if there is one.
@@ -70,8 +70,8 @@ fn byte_at(bytes: &[u8], at: usize) -> Option<u8>
 }
 
 // The instruction of a form, by the bytes after the opcode as far as they are there.
-fn by_form(form: Form, second: Option<u8>, third: Option<u8>) -> Option<Instr80>
-    ensures { result ≡ by_form (Some form) second third }
+fn by_form80(form: Form, second: Option<u8>, third: Option<u8>) -> Option<Instr80>
+    ensures { result ≡ by_form80 (Some form) second third }
 {
     match form {
         Form::Alone(instr) => Some(instr),
@@ -265,7 +265,7 @@ fn jumps(number: u8) -> Option<Form>
 }
 
 fn operand(code: u8) -> Src
-    ensures { result ≡ operand_of code }
+    ensures { result ≡ operand80_of code }
 {
     match code {
         0 => Src::Reg(Reg::B),

@@ -30,7 +30,7 @@ use Rattle.dialogue.specs.Sight.{SeesMore, KnowsMore, WhoSeesMoreAsksTheSame}
 use Rattle.simulation_def.specs.States.{IsCell}
 use Rattle.dialogue.proofs.Tried.{then_is, ok_is, err_is_not}
 use Rattle.sym_sound.proofs.Machine86.Words.{eq_false}
-use Rattle.simulation_law.proofs.Writes.{AreWithin, fit_within}
+use Rattle.dialogue.proofs.Within.{AreWithin, call_writes, fit_within}
 
 -- the 8080
 
@@ -160,43 +160,6 @@ asks_same same p offset t u cs back a choice sight =
 
 -- what a reply to such a request writes
 
-range_passes : (passes : ℕ → Bool) (rule : Rule) (o : Option Range) (r : Range) → range_within passes rule o ≡ Ok r → is_within passes r ≡ true
-range_passes passes rule None r h = absurd (err_is_not rule r h)
-range_passes passes rule (Some q) r h = by_pass (is_within passes q) refl h
-  where
-    by_pass : (b : Bool) → is_within passes q ≡ b → cond b (Ok q) (Err rule) ≡ Ok r → is_within passes r ≡ true
-    by_pass true e g = subst (λ x. is_within passes x ≡ true) (ok_is q r g) e
-    by_pass false e g = absurd (err_is_not rule r g)
-
-ranges_pass : (passes : ℕ → Bool) (rule : Rule) (view : Seen) (de dma : ℕ) (xs : List Extent) (rs : List Range) → ranges_within passes rule view de dma xs ≡ Ok rs → All (λ r. is_within passes r ≡ true) rs
-ranges_pass passes rule view de dma [] rs h = subst (λ q. All (λ r. is_within passes r ≡ true) q) (ok_is [] rs h) (All-nil (λ r. is_within passes r ≡ true))
-ranges_pass passes rule view de dma (x ∷ xs) rs h =
-    let a = then_is (range_within passes rule (range_of view de dma x)) _ rs h in
-    let b = then_is (ranges_within passes rule view de dma xs) _ rs a.2 in
-    subst (λ q. All (λ r. is_within passes r ≡ true) q) (ok_is _ rs b.2)
-    (All-cons (λ r. is_within passes r ≡ true) a.0 b.0 (range_passes passes rule (range_of view de dma x) a.0 a.1) (ranges_pass passes rule view de dma xs b.0 b.1))
-
-padded_pass : (P : Range → Type 0) (k : ℕ) (rs : List Range) → All P rs → All P (ranges (padded_to k rs))
-padded_pass P zero rs h = All-nil P
-padded_pass P (suc k) [] h = padded_pass P k [] h
-padded_pass P (suc k) (r ∷ rs) h = All-cons P r (ranges (padded_to k rs)) (All-head P r rs h) (padded_pass P k rs (All-tail P r rs h))
-
-shape_writes : (f : ℕ) (d e : Option ℕ) (dma : ℕ) (view : Seen) (shape : Shape) (row : Row) → shape_by f row d e dma view ≡ Ok shape → All (λ r. is_within view.writable r ≡ true) (ranges shape.writes)
-shape_writes f d e dma view shape row h =
-    let a = then_is (argument_of row.argument d e) _ shape h in
-    let r = then_is (ranges_within (is_readable view) P10 view (argument_address a.0) dma row.reads) _ shape a.2 in
-    let x = then_is (has_room view (argument_address a.0) row.writes) _ shape r.2 in
-    let w = then_is (ranges_within view.writable P11 view (argument_address a.0) dma x.0) _ shape x.2 in
-    subst (λ (q : Shape). All (λ r. is_within view.writable r ≡ true) (ranges q.writes)) (ok_is _ shape w.2)
-    (padded_pass (λ r. is_within view.writable r ≡ true) 2 w.0 (ranges_pass view.writable P11 view (argument_address a.0) dma x.0 w.0 w.1))
-
-call_writes : (f : ℕ) (d e : Option ℕ) (dma : ℕ) (view : Seen) (shape : Shape) → shape_of (Some f) d e dma view ≡ Ok shape → All (λ r. is_within view.writable r ≡ true) (ranges shape.writes)
-call_writes f d e dma view shape h = by_row (row_of f) h
-  where
-    by_row : (o : Option Row) → shape_by_row f o d e dma view ≡ Ok shape → All (λ r. is_within view.writable r ≡ true) (ranges shape.writes)
-    by_row None g = absurd (err_is_not P9 shape g)
-    by_row (Some row) g = shape_writes f d e dma view shape row g
-
 pub record ReplyFits (passes : ℕ → Bool) (q : Request) (y : Reply) : Type 0 where
   pub within : AreWithin passes y.writes
   pub answer : answer_fits (answer_kind_of q) y.answer ≡ true
@@ -209,7 +172,7 @@ fits_reply view shape y all h = by_row (row_of shape.function) refl h
     by_row (Some row) e g =
         let both = and_parts (answer_fits (kind_by row.answer shape.arg) y.answer) (cond (shape.function == 10) (line_fits (ranges shape.writes) y.writes) (writes_fit (ranges shape.writes) y.writes)) g in
         record {
-          within = fit_within view.writable (shape.function == 10) (ranges shape.writes) y.writes all both.1;
+          within = fit_within view.writable (request_of shape view) y all h;
           answer = subst (λ (r : Option Row). answer_fits (answer_in r shape.arg) y.answer ≡ true) (sym e) both.0;
         }
 

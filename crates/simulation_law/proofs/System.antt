@@ -32,7 +32,8 @@ use Rattle.sym_sound.proofs.Machine86.Words.{back_on, eq_true, lt_true, lt_false
 use Rattle.sym_sound.proofs.Machine86.Denoting.{word_put}
 use Rattle.simulation_def.specs.Cuts.{IsCut}
 use Rattle.simulation_law.proofs.Exits.{ComesBack}
-use Rattle.simulation_law.proofs.Writes.{AreWithin, blocks_past86}
+use Rattle.dialogue.proofs.Within.{AreWithin}
+use Rattle.simulation_law.proofs.Writes.{blocks_past86}
 use Rattle.simulation_law.proofs.Asking.{IsSight}
 use Rattle.simulation_law.proofs.Standing.{halves_place}
 

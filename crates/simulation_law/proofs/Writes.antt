@@ -10,7 +10,7 @@ use Rattle.dialogue.specs.declared.blocks.Block.{Block}
 use Rattle.dialogue.specs.declared.request.Range.{Range}
 use Rattle.dialogue.specs.Shape.{all_cells, is_within}
 use Rattle.dialogue.specs.Fits.{fills_range, writes_fit, line_bytes_fit, line_fits}
-use Rattle.dialogue.proofs.Lines.{line_short}
+use Rattle.dialogue.proofs.Within.{AreWithin}
 use Rattle.dialogue.specs.ByteMemory.{put, put_bytes, put_blocks}
 use Rattle.dialogue.specs.Words.{wrap}
 use Rattle.asm80_program_types.specs.Program.{Program}
@@ -21,60 +21,6 @@ use Rattle.sym_sound.proofs.Machine86.Words.{eq_false}
 use Rattle.simulation_law.specs.Replayed.{MemoryStands}
 use Rattle.simulation_law.proofs.Replaying.{put_stands}
 use Rattle.simulation_law.specs.Linking.{BlocksAreBytes}
-
--- each block is within memory, and its cells pass
-abbrev pub AreWithin : (ℕ → Bool) → List Block → Type 0
-AreWithin passes [] = Unit {0}
-AreWithin passes (b ∷ bs) =
-    (b.at + length b.bytes ≤ 0x10000) × ((a : ℕ) → b.at ≤ a → a < b.at + length b.bytes → passes a ≡ true) × AreWithin passes bs
-
--- those of a reply that fits
-
-cells_pass : (passes : ℕ → Bool) (k at a : ℕ) → all_cells passes k at ≡ true → at ≤ a → a < at + k → passes a ≡ true
-cells_pass passes zero at a h low high = absurd (omega (arith, low, high))
-cells_pass passes (suc k) at a h low high =
-    let p = and_parts (passes at) (all_cells passes k (at + 1)) h in
-    by_first (a == at) refl p.0 (λ later. cells_pass passes k (at + 1) a p.1 later (omega (arith, high)))
-  where
-    later : (a == at) ≡ false → at + 1 ≤ a
-    later e = grind (arith, low, e)
-
-    by_first : (b : Bool) → (a == at) ≡ b → passes at ≡ true → (at + 1 ≤ a → passes a ≡ true) → passes a ≡ true
-    by_first true e here rest = ap passes (eqb-true a at e) ∙ here
-    by_first false e here rest = rest (later e)
-
--- one block at a range, or in its first cells
-in_range : (passes : ℕ → Bool) (r : Range) (b : Block) (bs : List Block) → is_within passes r ≡ true → b.at ≡ r.at → length b.bytes ≤ r.len → AreWithin passes bs → AreWithin passes (b ∷ bs)
-in_range passes r b bs h at len rest =
-    let p = and_parts (nat_le (r.at + r.len) 0x10000) (all_cells passes r.len r.at) h in
-    let le = leb-true (r.at + r.len) 0x10000 p.0 in
-    (omega (arith, at, len, le), (λ a low high. cells_pass passes r.len r.at a p.1 (omega (arith, low, at)) (omega (arith, high, at, len))), rest)
-
-writes_are : (passes : ℕ → Bool) (rs : List Range) (bs : List Block) → All (λ r. is_within passes r ≡ true) rs → writes_fit rs bs ≡ true → AreWithin passes bs
-writes_are passes rs [] all h = tt
-writes_are passes [] (b ∷ bs) all h = absurd (cc)
-writes_are passes (r ∷ rs) (b ∷ bs) all h =
-    let rest = All-tail (λ r. is_within passes r ≡ true) r rs all in
-    by_fill (fills_range r b) refl h (writes_are passes rs bs rest) (writes_are passes rs (b ∷ bs) rest)
-  where
-    by_fill : (k : Bool) → fills_range r b ≡ k → cond k (writes_fit rs bs) (writes_fit rs (b ∷ bs)) ≡ true → (writes_fit rs bs ≡ true → AreWithin passes bs) → (writes_fit rs (b ∷ bs) ≡ true → AreWithin passes (b ∷ bs)) → AreWithin passes (b ∷ bs)
-    by_fill true e g next again =
-        let p = and_parts (b.at == r.at) (length b.bytes == r.len) e in
-        let same = eqb-true (length b.bytes) r.len p.1 in
-        in_range passes r b bs (All-head (λ r. is_within passes r ≡ true) r rs all) (eqb-true b.at r.at p.0) (omega (arith, same)) (next g)
-    by_fill false e g next again = again g
-
-line_is : (passes : ℕ → Bool) (rs : List Range) (bs : List Block) → All (λ r. is_within passes r ≡ true) rs → line_fits rs bs ≡ true → AreWithin passes bs
-line_is passes [] bs all h = absurd (cc)
-line_is passes (r ∷ rs) [] all h = tt
-line_is passes (r ∷ rs) (b ∷ []) all h =
-    let p = and_parts (b.at == r.at) (line_bytes_fit r.len b.bytes) h in
-    in_range passes r b [] (All-head (λ r. is_within passes r ≡ true) r rs all) (eqb-true b.at r.at p.0) (line_short r.len b.bytes p.1) tt
-line_is passes (r ∷ rs) (b ∷ (c ∷ bs)) all h = absurd (cc)
-
-pub fit_within : (passes : ℕ → Bool) (is_line : Bool) (rs : List Range) (bs : List Block) → All (λ r. is_within passes r ≡ true) rs → cond is_line (line_fits rs bs) (writes_fit rs bs) ≡ true → AreWithin passes bs
-fit_within passes true rs bs all h = line_is passes rs bs all h
-fit_within passes false rs bs all h = writes_are passes rs bs all h
 
 -- what blocks do not reach
 

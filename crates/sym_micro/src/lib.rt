@@ -1,6 +1,6 @@
 // Micro-operations over the ids of shared terms, and one machine that performs them, whose registers hold terms: each instruction of either
 // processor is a short list of them, so that what touches the pool is proved once. The lists of what both processors do alike stand here,
-// on a register of either (`arithmetic`, `moves`); the others are in `sym_step80` and `sym_step86`.
+// on a register of either (`arithmetic`, `moves`); the others are in `sym_step`.
 //
 // Proved: `perform` leaves the machine that the list leaves over terms, as the 8080 sees it and as the 8086 does; at most as many nodes
 // join as the operations weigh, each id that was given keeps its term, and there is no answer only where no node has room (`GoesOn`).

@@ -22,7 +22,7 @@ use cells::{Keep, Place};
 use i86::Instr86;
 use sym_block_def::Reason;
 use sym_micro::{Run, Way, begin};
-use sym_step86::{offset, step};
+use sym_step::{offset, step86};
 use sym_terms::{Head, Terms};
 
 // Whether INT 224 is a call of the system that comes back: the function in CL is a number other than 0.
@@ -98,7 +98,7 @@ fn run_instr<'a>(
         | Instr86::JmpShort(_)
         | Instr86::CallNear(_) => Some(Next::Ends(Err(Reason::Form))),
         _ => {
-            step(terms, run, instr)?;
+            step86(terms, run, instr)?;
             Some(Next::GoesOn(rest))
         }
     }

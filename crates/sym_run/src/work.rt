@@ -19,7 +19,7 @@ use std::alloc::{AllocError, Global};
 use std::marker::Model;
 use sym_block_def::Reason;
 use sym_micro::{Action, Exit, Held, Run, Way};
-use sym_step80::run_block;
+use sym_step::run_block;
 use sym_terms::{Head, Term, Terms};
 use xlt_pool::Mark;
 

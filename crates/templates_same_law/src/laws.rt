@@ -6,7 +6,7 @@ ghost use Rattle.asm80_program_types.specs.Program.{Program, IsProgram};
 ghost use Rattle.asm86_line_types.specs.declared.line.Line86.{Line86};
 ghost use Rattle.asm86_line_types.specs.Image.{Assembles, image_of, statements};
 ghost use Rattle.asm86_line_types.specs.Written.{written_text};
-ghost use Rattle.asm86_text.specs.Stream.{TextGives};
+ghost use Rattle.asm86.specs.Stream.{TextGives};
 ghost use Rattle.flow.specs.Blocks.{blocks};
 ghost use Rattle.flow.specs.Solving.{Needs, AreAllNeeds};
 ghost use Rattle.templates.specs.Plain.{plain};

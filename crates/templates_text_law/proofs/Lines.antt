@@ -15,8 +15,8 @@ use Rattle.asm80_program_types.specs.Program.{Program, IsProgram}
 use Rattle.flow.specs.Blocks.{BlocksCut}
 use Rattle.templates.specs.Plain.{data_from, ending, numbered_from}
 use Rattle.templates.specs.Style.{Style, styled_statements, styled}
-use Rattle.asm86_text.specs.Back.{AreWritten}
-use Rattle.asm86_text.specs.Stream.{has_end}
+use Rattle.asm86.specs.Back.{AreWritten}
+use Rattle.asm86.specs.Stream.{has_end}
 use Rattle.sym_block_def.specs.Sorts.{IsCoded86, StatementIsCoded, StatementsAreCoded}
 use Rattle.simulation_def.specs.Matches.{DatumIsCoded, DataAreCoded}
 use Rattle.templates.proofs.NumberedLines.{statements-numbered}

@@ -20,15 +20,15 @@ ghost use Rattle.flow.specs.Solving.{Needs};
 ghost use Rattle.templates.specs.Plain.{plain_statements, plain};
 ghost use Rattle.templates.specs.Style.{Style, plain_style, styled_statements, styled};
 ghost use Rattle.templates.specs.Lean.{lean_style, lean};
-ghost use Rattle.asm86_text.specs.Stream.{TextGives};
+ghost use Rattle.asm86.specs.Stream.{TextGives};
 ghost use Rattle.asm86.specs.declared.fault.ImageFault.TheVariants.{CodeTooLarge};
 ghost use Rattle.asm86.specs.Refusals.{ImageRefused};
 ghost use Rattle.templates_text_law.specs.Fits.{StyleFits};
 ghost use Rattle.templates_text_law.specs.Reach.{JumpsReach};
 ghost use Rattle.templates_text_law.specs.Own.{IsOwnText};
 
+use asm86::written_text_reads_back;
 use asm86_line_types::cells_are_sorted;
-use asm86_text::written_text_reads_back;
 use flow::blocks_cut_the_program;
 
 /// A law, of every program and every style: its text reads back, and has the opening, the runtime and the data of the program; where

@@ -16,9 +16,9 @@ use Rattle.cmd_flags.specs.Listing as listing
 use Rattle.cmd_runs.specs.Keeping.{DiskAlone}
 use Rattle.cmd_runs.specs.Kinds as running_one
 use Rattle.cmd_runs.specs.Works as running
-use Rattle.cmd_both.specs.Loads as running_both
+use Rattle.cmd_runs.specs.Loads as running_both
 use Rattle.cmd_makes.specs.Makes as files
-use Rattle.cmd_cmd.specs.Cmds.{HasCommandFile}
+use Rattle.cmd_makes.specs.Cmds.{HasCommandFile}
 use Rattle.xlt_app.specs.Top.{Headline, CheckedHeadline, IsStatus, refused as words_are_refused, no_memory as words_want_memory, Outcomes, CommandAnswers}
 use Rattle.xlt_app.proofs.Statuses.{of_5, of_words, of_answer}
 

@@ -14,14 +14,14 @@ use Rattle.cmd_runs.specs.Ends.{unsaid_status}
 use Rattle.cmd_runs.specs.Lasts.{steps_line, SaysEnd}
 use Rattle.cmd_runs.specs.Works as running
 use Rattle.cmd_runs.specs.Works.{RunWork, WorkGives, came_by}
-use Rattle.cmd_run80.specs.Runs80.{work80}
-use Rattle.cmd_run86.specs.Runs86.{work86}
-use Rattle.cmd_both.specs.Runs.{work_both}
+use Rattle.cmd_runs.specs.Runs80.{work80}
+use Rattle.cmd_runs.specs.Runs86.{work86}
+use Rattle.cmd_runs.specs.BothRuns.{work_both}
 use Rattle.cmd_makes.specs.Kinds.{MakeKind}
 use Rattle.cmd_makes.specs.Makes as files
 use Rattle.cmd_makes.specs.Makes.{MakeGives}
-use Rattle.cmd_cmd.specs.Cmds.{cmd_kind}
-use Rattle.cmd_cmdshow.specs.Shows.{cmd_show_kind}
+use Rattle.cmd_makes.specs.Cmds.{cmd_kind}
+use Rattle.cmd_makes.specs.Shows.{cmd_show_kind}
 use Rattle.cmd_translate.specs.Translates as translation
 use Rattle.cmd_check.specs.Checks as checking
 use Rattle.cmd_flags.specs.Listing as listing

@@ -21,13 +21,13 @@ use Rattle.cmd_flags.specs.Listing as listing
 use Rattle.cmd_runs.specs.Keeping.{DiskAlone}
 use Rattle.cmd_runs.specs.Works.{WorkGives}
 use Rattle.cmd_runs.specs.Outcomes.{RunCompletes}
-use Rattle.cmd_run80.specs.Runs80.{kind80, work80}
-use Rattle.cmd_run86.specs.Runs86.{kind86, work86}
-use Rattle.cmd_both.specs.Runs.{work_both}
-use Rattle.cmd_both.specs.Completes.{BothComplete}
+use Rattle.cmd_runs.specs.Runs80.{kind80, work80}
+use Rattle.cmd_runs.specs.Runs86.{kind86, work86}
+use Rattle.cmd_runs.specs.BothRuns.{work_both}
+use Rattle.cmd_runs.specs.BothCompletes.{BothComplete}
 use Rattle.cmd_makes.specs.Makes.{MakeGives, MakeCompletes}
-use Rattle.cmd_cmd.specs.Cmds.{cmd_kind, HasCommandFile}
-use Rattle.cmd_cmdshow.specs.Shows.{cmd_show_kind}
+use Rattle.cmd_makes.specs.Cmds.{cmd_kind, HasCommandFile}
+use Rattle.cmd_makes.specs.Shows.{cmd_show_kind}
 
 -- the headline: the source's file, where the host tells it, is the source of a program; the output's file holds a text with an
 -- image, whose code is read in one way; and the image makes the same system calls as the program, in the same order, and ends

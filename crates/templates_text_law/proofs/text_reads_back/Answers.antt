@@ -1,7 +1,7 @@
 use Rattle.std.proofs.Common.{List, Ok, ap, subst}
 use Rattle.asm86_line_types.specs.declared.line.Line86.{Line86}
 use Rattle.asm86_line_types.specs.Written.{written_text}
-use Rattle.asm86_text.specs.Stream.{TextGives}
+use Rattle.asm86.specs.Stream.{TextGives}
 use Rattle.templates.specs.Plain.{numbered_from}
 use Rattle.templates.specs.Style.{plain_style}
 use Rattle.templates.specs.Lean.{lean_style}

@@ -1,7 +1,7 @@
 use Rattle.std.proofs.Common.{◌≡◌, ◌<◌, length, get_or, set, sym, ap, ◌∙◌, arith}
 use Rattle.std.specs.Prelude.{slice_index, slice_set}
 use Rattle.std.proofs.lemmas.List.{length-replicate, length-set, drop_all}
-use Rattle.cpu86_def.specs.Start.{put_cells}
+use Rattle.dialogue.specs.ByteMemory.{put_cells}
 use Rattle.cmd_file.proofs.Cells.{cells_below, none_put, put_more, all_put}
 use Rattle.cmd_file.proofs.file.data_bytes.Goals as goal
 

@@ -1,6 +1,6 @@
 use Rattle.std.proofs.Common.{◌≡◌, length, drop}
 use Rattle.std.specs.Prelude.{slice_index}
-use Rattle.cpu86_def.specs.Start.{put_cells}
+use Rattle.dialogue.specs.ByteMemory.{put_cells}
 use Rattle.cmd_file.specs.Written.{data_end}
 use Rattle.cmd_file.proofs.file.data_bytes.Given as goal
 

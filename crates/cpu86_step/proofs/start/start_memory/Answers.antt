@@ -1,7 +1,7 @@
 use Rattle.std.proofs.Common.{ap, ◌∙◌}
-use Rattle.cpu86_def.specs.Start.{put_cells}
+use Rattle.dialogue.specs.ByteMemory.{put_cells}
 use Rattle.cpu86_step.specs.State.{memory_of_86}
-use Rattle.cpu86_step.proofs.Writes.{put_cells_more}
+use Rattle.dialogue.proofs.ByteMemory.{put_cells_more}
 use Rattle.cpu86_step.proofs.start.start_memory.Goals as goal
 
 pub loop-at-init : goal.loop-at-init

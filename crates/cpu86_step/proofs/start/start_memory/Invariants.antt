@@ -1,6 +1,7 @@
 use Rattle.std.proofs.Common.{◌≡◌, drop}
 use Rattle.cpu86_step.specs.State.{memory_of_86}
-use Rattle.cpu86_def.specs.Start.{start_byte, put_cells}
+use Rattle.cpu86_def.specs.Start.{start_byte}
+use Rattle.dialogue.specs.ByteMemory.{put_cells}
 use Rattle.cpu86_step.proofs.start.start_memory.Given as goal
 
 abbrev pub invariant-loop-at : goal.invariant-loop-at

@@ -137,24 +137,24 @@ returns-in-OutAl c =
     advances_as old old r r (λ on. run_by w on rest s c.args.instr) (λ on. port_way w rest s way) (Some (EndsSo c.port-in-OutAl.result)) (λ on. ap (run_by w on rest s) c.in-OutAl.is)
     (ends_here old r (port_way w rest s way) c.port-in-OutAl.result c.requires.ready (c.port-in-OutAl.ensures (way (AtPlace w.after)) (λ pool. record { given = tt; is = refl }) old r c.requires.ready))
 
-pub returns-in_err-step-in_default : goal.returns-in_err-step-in_default
-returns-in_err-step-in_default c =
+pub returns-in_err-step86-in_default : goal.returns-in_err-step86-in_default
+returns-in_err-step86-in_default c =
     let old = c.args.terms.now in
-    let new = c.step.new.terms in
+    let new = c.step86.new.terms in
     let r = c.args.run.now in
     let s = as86 (machine_of old r) in
     let w = surroundings_of c.args.around.now in
     let tree : OnTo → Result Outcome Reason = λ on. run_by w on c.args.rest.now s c.args.instr in
-    subst (λ x. Advances old new r c.step.new.run tree x) (sym c.from_residual-in_err-step-in_default.ensures)
-    (step_missing old new r c.step.new.run (λ m. as86 m ≡ effect86 s c.args.instr) tree c.in_err-step-in_default.ensures)
+    subst (λ x. Advances old new r c.step86.new.run tree x) (sym c.from_residual-in_err-step86-in_default.ensures)
+    (step_missing old new r c.step86.new.run (λ m. as86 m ≡ effect86 s c.args.instr) tree c.in_err-step86-in_default.ensures)
 
-pub returns-in_ok-step-in_default : goal.returns-in_ok-step-in_default
-returns-in_ok-step-in_default c =
+pub returns-in_ok-step86-in_default : goal.returns-in_ok-step86-in_default
+returns-in_ok-step86-in_default c =
     let r = c.args.run.now in
     let s = as86 (machine_of c.args.terms.now r) in
     let w = surroundings_of c.args.around.now in
     let rest = c.args.rest.now in
-    let g = c.in_ok-step-in_default.ensures in
+    let g = c.in_ok-step86-in_default.ensures in
     let d = c.in_default in
     record {
       grows = g.grows;

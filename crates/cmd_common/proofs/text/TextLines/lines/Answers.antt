@@ -1,5 +1,5 @@
 use Rattle.std.proofs.Common.{subst, Err}
-use Rattle.asm86_text.specs.Reader.{FinishesText}
+use Rattle.asm86.specs.Reader.{FinishesText}
 use Rattle.cmd_common.specs.Texts.{breaks}
 use Rattle.cmd_common.proofs.text.TextLines.lines.Goals as goal
 

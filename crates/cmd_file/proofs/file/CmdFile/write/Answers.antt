@@ -1,6 +1,6 @@
 use Rattle.std.proofs.Common.{◌≡◌, ◌-◌, ◌++◌, length, take, replicate, vec_len, sym, ap, ◌∙◌, subst, arith}
 use Rattle.cmd_file.specs.CommandFile.{CommandFile, IsCommandFile}
-use Rattle.cmd_file.specs.Written.{filled, written}
+use Rattle.cmd_file.specs.Written.{zero_filled, written}
 use Rattle.cmd_file.proofs.ReadBack.{written_is_file, filled_is_written}
 use Rattle.cmd_file.proofs.file.CmdFile.write.Goals as goal
 
@@ -19,7 +19,7 @@ is_written c =
     let b = c.in_ok-extend_from_slice.ensures.len in
     filled_is_written (file_is c) c.to_bytes.result c.to_bytes-2.result c.resize.new.self.items c.fill.new.bytes.items (vec_len c.extend_from_slice.new.self) c.to_bytes.ensures c.to_bytes-2.ensures (omega (arith, first, second, a, b))
     (c.in_ok-resize.ensures.items ∙ ap (λ l. take 128 l ++ replicate (128 - vec_len c.extend_from_slice.new.self) 0) (c.in_ok-extend_from_slice.ensures.items ∙ ap (λ l. l ++ c.to_bytes-2.result) c.in_ok-bytes.ensures.items))
-    (c.in_ok-fill.ensures ∙ ap (filled 128) (c.in_ok-extend_from_slice-3.ensures.items ∙ ap (λ l. l ++ c.data_part-data.result.now) c.in_ok-extend_from_slice-2.ensures.items))
+    (c.in_ok-fill.ensures ∙ ap (zero_filled 128) (c.in_ok-extend_from_slice-3.ensures.items ∙ ap (λ l. l ++ c.data_part-data.result.now) c.in_ok-extend_from_slice-2.ensures.items))
 
 pub returns-clause-written : goal.returns-clause-written
 returns-clause-written c = is_written c ∙ ap written (is_file c)

@@ -1,8 +1,0 @@
--- What a setting stands for.
-use Rattle.base_types.specs.Addresses.{has_address}
-use Rattle.asm80_names.specs.Scopes.{scope_of}
-use Rattle.asm80_operands.specs.declared.setting.Setting.{Setting}
-use Rattle.asm80_source_def.specs.Items.{Setting as Seen}
-
-abbrev pub setting_of : Setting → Seen
-setting_of t = record { scope = scope_of t.scope; is_start = has_address t.starts.now }

@@ -1,0 +1,81 @@
+use Rattle.std.proofs.Common.{◌≡◌, ◌∷◌, drop, length, true, false, ap, sym, ◌∙◌, arith, rules}
+use Rattle.std.proofs.lemmas.Result.{err_from_is_err_and}
+use Rattle.asm80_text.proofs.Chain.{spells_shorter, begins_shorter}
+use Rattle.asm80_text.proofs.Cases.{digits_read, number_read, here_read, name_read, register_read, parens_read, signed_never, added, taken_off, tighter_read, tighter_never, unsigned_read, unsigned_never, chain_starts, chain_never, chain_goes_on, chain_breaks, chain_ends, gives_on, fails_on}
+use Rattle.asm80_text.proofs.Inverted.{row_read, row_fails}
+use Rattle.asm80_statement_types.specs.contracts.expr.Two.{the_type}
+use denote.Enum.Bare.{same_true}
+use Rattle.asm80_text.proofs.parser.+expression.Goals as goal
+
+not_false : false ≡ true → ⊥
+not_false e = cc
+
+pub begin_at-returns-in_default : goal.begin_at-returns-in_default
+begin_at-returns-in_default t c = gives_on _ _ _ _ c.expression_at.result (λ e r s. tighter_read c.args.level _ r e (omega arith) (omega arith) (omega arith) s) (λ n. tighter_never c.args.level _ (omega arith) (omega arith) (omega arith) n) c.expression_at.ensures
+
+pub expression_at-returns-in_err-left : goal.expression_at-returns-in_err-left
+expression_at-returns-in_err-left t c =
+    let p = err_from_is_err_and c.from_residual.result c.from_residual.ensures.1 in
+    rw (p.1, p.2) (fails_on _ _ _ _ c.in_err-left.field-0.0 (chain_never _ _) c.in_err-left.ensures)
+
+pub expression_at-loop-op-init : goal.expression_at-loop-op-init
+expression_at-loop-op-init t c = record { chained = chain_starts _ _ _ _ c.in_ok-left.ensures; shorter = omega (arith, begins_shorter c.in_ok-left.ensures.holds) }
+
+pub expression_at-returns-in_err-right : goal.expression_at-returns-in_err-right
+expression_at-returns-in_err-right t c =
+    let p = err_from_is_err_and c.from_residual-in_err-right.result c.from_residual-in_err-right.ensures.1 in
+    rw (p.1, p.2) (fails_on _ _ _ _ c.in_err-right.field-0.0 (chain_breaks _ _ _ _ _ _ c.loop-op.invariant.chained c.in-Some.ensures.0 c.in-Some.ensures.1) c.in_err-right.ensures)
+
+pub expression_at-loop-op-smaller : goal.expression_at-loop-op-smaller
+expression_at-loop-op-smaller t c = omega (arith, spells_shorter c.in_ok-right.ensures.holds, ap length c.in-Some.ensures.0)
+
+pub expression_at-loop-op-preserved : goal.expression_at-loop-op-preserved
+expression_at-loop-op-preserved t c = record {
+  chained = rw (c.in_ok-new.ensures.ok, c.in_ok-new-2.ensures.ok) (chain_goes_on _ _ _ _ _ _ _ _ c.loop-op.invariant.chained c.in-Some.ensures.0 c.in-Some.ensures.1 c.in_ok-right.ensures);
+  shorter = omega (arith, spells_shorter c.in_ok-right.ensures.holds, ap length c.in-Some.ensures.0);
+}
+
+pub expression_at-returns : goal.expression_at-returns
+expression_at-returns t c = chain_ends _ _ _ _ c.loop-op.invariant.chained c.in_default.ensures
+
+pub inverted_at-returns-in_err-sum : goal.inverted_at-returns-in_err-sum
+inverted_at-returns-in_err-sum t c =
+    let p = err_from_is_err_and c.from_residual.result c.from_residual.ensures.1 in
+    rw (p.1, p.2) (row_fails _ _ c.in_err-sum.field-0.0 (c.split_at.ensures.back ∙ ap (λ n. drop n c.args.tokens.now) c.nots_len-count.ensures.value) c.in_err-sum.ensures)
+
+pub inverted_at-returns : goal.inverted_at-returns
+inverted_at-returns t c =
+    rw (c.in_ok-inverted.ensures, c.nots_len-count.ensures.value)
+    (row_read _ _ _ (rw (c.split_at.ensures.back, c.nots_len-count.ensures.value) at c.in_ok-sum.ensures))
+
+pub operand_at-returns-in-Digits : goal.operand_at-returns-in-Digits
+operand_at-returns-in-Digits t c = digits_read _ _ _ (c.in-Some.ensures ∙ ap (λ x. x ∷ c.in-Some.rest.now) c.in-Digits.is)
+
+pub operand_at-returns-in-Num : goal.operand_at-returns-in-Num
+operand_at-returns-in-Num t c = number_read _ _ _ (c.in-Some.ensures ∙ ap (λ x. x ∷ c.in-Some.rest.now) c.in-Num.is)
+
+pub operand_at-returns-in-Here : goal.operand_at-returns-in-Here
+operand_at-returns-in-Here t c = here_read _ _ (c.in-Some.ensures ∙ ap (λ x. x ∷ c.in-Some.rest.now) c.in-Here.is)
+
+pub operand_at-returns-in-Word : goal.operand_at-returns-in-Word
+operand_at-returns-in-Word t c = name_read _ _ _ (c.in-Some.ensures ∙ ap (λ x. x ∷ c.in-Some.rest.now) c.in-Word.is)
+
+pub operand_at-returns-in-Register : goal.operand_at-returns-in-Register
+operand_at-returns-in-Register t c = register_read _ _ _ (c.in-Some.ensures ∙ ap (λ x. x ∷ c.in-Some.rest.now) c.in-Register.is)
+
+pub parenthesized-returns : goal.parenthesized-returns
+parenthesized-returns t c = parens_read _ _ _ _ c.in-Some.ensures c.in_ok-inside.ensures
+
+pub signed_at-returns-in_default : goal.signed_at-returns-in_default
+signed_at-returns-in_default t c = gives_on _ _ _ _ c.expression_at.result (λ e r s. unsigned_read _ r e c.in_default.ensures s) (λ n. unsigned_never _ c.in_default.ensures n) c.expression_at.ensures
+
+pub signed_at-returns-in_err-term : goal.signed_at-returns-in_err-term
+signed_at-returns-in_err-term t c =
+    let p = err_from_is_err_and c.from_residual.result c.from_residual.ensures.1 in
+    rw (p.1, p.2) (fails_on _ _ _ _ c.in_err-term.field-0.0 (signed_never _ _ _ c.in-Some.ensures.0) c.in_err-term.ensures)
+
+pub signed_at-returns-then-eq : goal.signed_at-returns-then-eq
+signed_at-returns-then-eq t c = added _ _ _ _ _ (same_true the_type (search rules) _ _ (sym c.if-eq.ensures)) c.in-Some.ensures.0 c.in_ok-term.ensures
+
+pub signed_at-returns : goal.signed_at-returns
+signed_at-returns t c = rw c.in_ok-new.ensures.ok (taken_off _ _ _ _ _ c.in-Some.ensures.1 (λ e. let h = c.if-eq.ensures in not_false (rw e at h)) c.in-Some.ensures.0 c.in_ok-term.ensures)

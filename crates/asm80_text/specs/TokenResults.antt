@@ -1,0 +1,87 @@
+-- What the functions return, by the definitions.
+use Rattle.std.specs.Prelude.{◌≡◌, ℕ, List, [], ◌∷◌, Bool, true, false, zero, suc, Option, Some, None, Result, Ok, Err, ◌||◌, map}
+use Rattle.std.specs.Borrow.{Bor}
+use Rattle.std.specs.Global.{Vec}
+use Rattle.asm80_statement_types.specs.declared.expr.Expr.{Expr}
+use Rattle.asm80_statement_types.specs.declared.expr.Two.{Two}
+use Rattle.asm80_text.specs.declared.token.Token.{Token}
+use Rattle.asm80_text.specs.declared.token.Token.TheVariants as tokens
+use Rattle.asm80_text.specs.declared.fault.ScanFault.{ScanFault}
+use Rattle.asm80_text.specs.declared.fault.ScanFault.TheVariants as scan
+use Rattle.asm80_text.specs.declared.fault.ParseFault.{ParseFault}
+use Rattle.asm80_text.specs.declared.fault.ParseFault.TheVariants as parse
+use Rattle.asm80_text.specs.Letters.{is_upper, is_lower}
+use Rattle.asm80_text.specs.Strings.{quoted}
+use Rattle.asm80_text.specs.Spelling.{Spelling}
+use Rattle.asm80_text.specs.Tokens.{Scanned, Got, Bad, token_at}
+use Rattle.asm80_statement_types.specs.declared.arg.Arg.{Arg}
+use Rattle.asm80_statement_types.specs.Tree.{Tree, tree_of, Inverted, Operand, operand_of}
+use Rattle.asm80_text.specs.Grammar.{level_of, next_operator}
+
+-- ---- tokens
+
+-- What a function returned is what stands there, unless memory ran out.
+abbrev pub Finds : Scanned → Result (Token × Bor (List ℕ)) ScanFault → Type 0
+Finds scanned (Ok x) = scanned ≡ Got x.0 x.1.now
+Finds scanned (Err scan.Memory) = Unit {0}
+Finds scanned (Err (scan.Rule r)) = scanned ≡ Bad r
+
+-- the same of the token at the front of bytes
+abbrev pub FindsFirst : Spelling → List ℕ → Result (Token × Bor (List ℕ)) ScanFault → Type 0
+FindsFirst s [] r = Unit {0}
+FindsFirst s (b ∷ bytes) r = Finds (token_at s b bytes) r
+
+-- what stands before a closing quote and behind it, if there is one
+abbrev pub IsQuoted : Option (Vec ℕ × Bor (List ℕ)) → List ℕ → Type 0
+IsQuoted None bytes = quoted bytes ≡ None
+IsQuoted (Some p) bytes = quoted bytes ≡ Some (p.0.items, p.1.now)
+
+-- a letter stands at the front
+abbrev pub BeginsWithLetter : List ℕ → Type 0
+BeginsWithLetter [] = ⊥
+BeginsWithLetter (b ∷ bytes) = (is_upper b || is_lower b) ≡ true
+
+-- ---- expressions
+
+-- The rule holds of this tree and this rest, at which it may end, and of no other with a rest at which it may end.
+pub record Sure (rule : Tree → List Token → Type 0) (ends : List Token → Type 0) (e : Tree) (rest : List Token) : Type 0 where
+  pub holds : rule e rest
+  pub ended : ends rest
+  pub only : (other : Tree) (r : List Token) → rule other r → ends r → (e ≡ other) × (rest ≡ r)
+
+-- The rule holds of no tree with a rest at which it may end.
+abbrev pub Never : (Tree → List Token → Type 0) → (List Token → Type 0) → Type 0
+Never rule ends = (e : Tree) (r : List Token) → rule e r → ends r → ⊥
+
+-- What a parser of a rule returned: the one tree and its rest, or that there is none, unless memory ran out.
+abbrev pub Gives : (Tree → List Token → Type 0) → (List Token → Type 0) → Result (Expr × Bor (List Token)) ParseFault → Type 0
+Gives rule ends (Ok x) = Sure rule ends (tree_of x.0) x.1.now
+Gives rule ends (Err parse.Memory) = Unit {0}
+Gives rule ends (Err parse.Malformed) = Never rule ends
+
+-- an operator, if there is one, is not of level k
+abbrev pub IsNotOf : ℕ → Option Two → Type 0
+IsNotOf k None = Unit {0}
+IsNotOf k (Some o) = level_of o ≡ k → ⊥
+
+-- the next token is no operator of level k
+abbrev pub Stops : ℕ → List Token → Type 0
+Stops k ts = IsNotOf k (next_operator ts)
+
+abbrev pub is_not : Token → Bool
+is_not tokens.Not = true
+is_not _ = false
+
+-- an expression under some number of NOTs
+abbrev pub inverted : ℕ → Tree → Tree
+inverted zero e = e
+inverted (suc n) e = Inverted (inverted n e)
+
+-- ---- statements
+
+-- What was read of the word and the tokens of a statement: its operation and its operands, or that the form is none, unless memory
+-- ran out.
+abbrev pub GivesOperation : Spelling → List ℕ → List Token → Result (List ℕ × Vec Arg) ParseFault → Type 0
+GivesOperation s word ts (Ok x) = s.forms word ts x.0 (map operand_of x.1.items)
+GivesOperation s word ts (Err parse.Memory) = Unit {0}
+GivesOperation s word ts (Err parse.Malformed) = (op : List ℕ) (args : List Operand) → s.forms word ts op args → ⊥

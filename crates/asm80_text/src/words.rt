@@ -1,0 +1,111 @@
+//! Names and reserved words.
+
+ghost use Rattle.std.specs.Prelude.{◌≡◌, ◌+◌, IfOk, Some, length};
+ghost use Rattle.asm80_text.specs.Letters.{inside_len};
+ghost use Rattle.asm80_statement_types.specs.Name.{IsName};
+ghost use Rattle.asm80_text.specs.TokenResults.{BeginsWithLetter, Finds};
+ghost use Rattle.asm80_text.specs.Tokens.{IsLawful, word_at};
+ghost use Rattle.asm80_text.specs.Words.{as_operation, if_operation, name_token, operator_name, word_token};
+
+use crate::fault::ScanFault;
+use crate::letters::{inside_len, significant};
+use crate::notation::Notation;
+use crate::token::Token;
+use asm80_statement_types::{LineRule, Name80, Two};
+use std::alloc::Global;
+
+/// The name at the front of the bytes, which begin with a letter, and the bytes behind it.
+#[tactic(auto, unfolding(crate::specs::Tokens::word_at))]
+pub fn word_at<N: Notation>(alloc: Global, bytes: &[u8]) -> Result<(Token, &[u8]), ScanFault>
+    requires { BeginsWithLetter bytes.now }
+    ensures value { Finds (word_at N.spelling bytes.now) result }
+    ensures lawful { IfOk result (λ x. IsLawful N.spelling x.0) }
+    ensures shorter { IfOk result (λ x. length x.1.now + inside_len bytes.now ≡ length bytes.now) }
+{
+    let (text, rest) = bytes.split_at(inside_len(bytes));
+    let name = significant(alloc, text)?;
+    if name.len() > 16 {
+        return Err(ScanFault::Rule(LineRule::L4));
+    }
+    Ok((word_token::<N>(&name), rest))
+}
+
+// The token that a word is.
+#[tactic(auto, unfolding(crate::specs::Words::word_token))]
+fn word_token<N: Notation>(name: &[u8]) -> Token
+    requires { IsName name.now }
+    ensures value { result ≡ word_token N.spelling name.now }
+    ensures lawful { IsLawful N.spelling result }
+{
+    if name == b"MOD".as_slice() {
+        Token::Op(Two::Mod)
+    } else if name == b"SHL".as_slice() {
+        Token::Op(Two::Shl)
+    } else if name == b"SHR".as_slice() {
+        Token::Op(Two::Shr)
+    } else if name == b"AND".as_slice() {
+        Token::Op(Two::And)
+    } else if name == b"OR".as_slice() {
+        Token::Op(Two::Or)
+    } else if name == b"XOR".as_slice() {
+        Token::Op(Two::Xor)
+    } else if name == b"NOT".as_slice() {
+        Token::Not
+    } else {
+        name_token::<N>(name)
+    }
+}
+
+// The token of a word that is no operator.
+fn name_token<N: Notation>(name: &[u8]) -> Token
+    requires { IsName name.now }
+    ensures value { result ≡ name_token N.spelling name.now }
+    ensures lawful { IsLawful N.spelling result }
+{
+    if N::is_operation(name) {
+        Token::Operation(Name80::of(name))
+    } else if N::is_register(name) {
+        Token::Register(Name80::of(name))
+    } else {
+        Token::Word(Name80::of(name))
+    }
+}
+
+/// The word that a token is where a statement has its operation.
+pub fn as_operation<N: Notation>(token: &Token) -> Option<Name80>
+    ensures { result ≡ as_operation N.spelling token.now }
+{
+    match token {
+        Token::Operation(word) => Some(*word),
+        Token::Op(op) => if_operation::<N>(operator_name(*op)?),
+        Token::Not => if_operation::<N>(Name80::of(b"NOT")),
+        _ => None,
+    }
+}
+
+// A word, where it is an operation.
+fn if_operation<N: Notation>(word: Name80) -> Option<Name80>
+    ensures { result ≡ if_operation N.spelling (Some word) }
+{
+    if N::is_operation(word.as_slice()) {
+        Some(word)
+    } else {
+        None
+    }
+}
+
+// The name of an operator of two operands that is a name.
+#[tactic(auto, using(crate::proofs::Names::letters_are_name))]
+fn operator_name(op: Two) -> Option<Name80>
+    ensures { result ≡ operator_name op }
+{
+    match op {
+        Two::Mod => Some(Name80::of(b"MOD")),
+        Two::Shl => Some(Name80::of(b"SHL")),
+        Two::Shr => Some(Name80::of(b"SHR")),
+        Two::And => Some(Name80::of(b"AND")),
+        Two::Or => Some(Name80::of(b"OR")),
+        Two::Xor => Some(Name80::of(b"XOR")),
+        _ => None,
+    }
+}

@@ -1,7 +1,0 @@
-use Rattle.std.proofs.Common.{◌≡◌}
-use Rattle.asm80_statement_types.specs.Tree.{tree_of}
-use Rattle.asm80_tokens.specs.Results.{inverted}
-use Rattle.asm80_tokens.proofs.parser.inverted.Given as goal
-
-abbrev pub invariant-loop-i : goal.invariant-loop-i
-invariant-loop-i l = tree_of l.whole ≡ inverted l._i (tree_of l.fn.e)

@@ -1,0 +1,5 @@
+use Rattle.asm86.proofs.Listings.{add_fails}
+use Rattle.asm86.proofs.listing.Listing.add.Goals as goal
+
+pub returns-in_err-push : goal.returns-in_err-push
+returns-in_err-push c = add_fails c.args.number c.loop-stmt.stmt-index c.args.stmts.now _ c.args.self.now c.loop-stmt.self c.push.new.self c.in_err-push.field-0.0 c.from_residual.result c.loop-stmt.invariant.lines c.loop-stmt-test.true c.in_err-push.ensures c.from_residual.ensures.1

@@ -1,4 +1,0 @@
-pub mod Place
-pub mod Stream
-pub mod Reader
-pub mod Back

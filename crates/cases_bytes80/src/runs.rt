@@ -1,0 +1,83 @@
+// What a machine does with the cells of a HEX file.
+use dialogue::{ArgWord, Blocks, Event, Page, Reply};
+use i80_bytes::{Byte80, HexFault, HexFile, StepBytes};
+use std::alloc::{AllocError, Global};
+
+/// The top of the area.
+const TOP: u16 = 0xF000;
+
+/// The most steps of a run.
+const LIMIT: u32 = 1000;
+
+/// What a HEX file does, of which a space parts the lines: what it asks, and how it ends; or the line that fits nowhere.
+pub fn answer(alloc: Global, file: &str) -> Result<String, AllocError> {
+    let mut bytes = Vec::new(alloc);
+    for line in file.split(' ') {
+        bytes.extend_from_slice(line.as_bytes())?;
+        bytes.push(b'\n')?;
+    }
+    let mut told = String::new(alloc);
+    if bytes.len() > 0x1_0000 {
+        told.push_str("too long")?;
+        return Ok(told);
+    }
+    match HexFile::read(alloc, bytes.as_slice()) {
+        Ok(hex) => push_run(alloc, &mut told, &hex)?,
+        Err(HexFault::Bad(line)) => write!(told, "refused: line {line}")?,
+        Err(HexFault::Memory) => told.push_str("out of memory")?,
+    }
+    Ok(told)
+}
+
+// Adds what the cells do, over a fill of 76H, which is no encoding, and with choices of 0.
+fn push_run(alloc: Global, told: &mut String, hex: &HexFile) -> Result<(), AllocError> {
+    let Some(page) = Page::of_tail(b"") else {
+        return told.push_str("no page");
+    };
+    let fill = vec![in alloc; 0x76u8; 0x1_0000]?;
+    let mut machine = Byte80::new(alloc, hex, TOP, &page, fill.as_slice())?;
+    for count in 0..LIMIT {
+        match machine.step(0) {
+            StepBytes::Ran => {}
+            StepBytes::Asked => push_talk(alloc, told, &mut machine)?,
+            StepBytes::Ended => return write!(told, "ended after {}", count + 1),
+            StepBytes::NoInstruction(at) => return write!(told, "no instruction at {at:04X}"),
+            StepBytes::OddCall(function) => return write!(told, "odd call {function}"),
+        }
+    }
+    write!(told, "at {:04X}", machine.pc())
+}
+
+// Adds what the machine asks, and gives an IN 41H, and all else 0.
+fn push_talk(alloc: Global, told: &mut String, machine: &mut Byte80) -> Result<(), AllocError> {
+    let Some(event) = machine.asked(alloc)? else {
+        return Ok(());
+    };
+    let answer = if matches!(event, Event::In(_)) {
+        0x41
+    } else {
+        0
+    };
+    push_event(told, &event)?;
+    let reply = Reply {
+        answer,
+        writes: Blocks::from_vec(Vec::new(alloc)),
+    };
+    if !machine.reply(&reply, 0) {
+        told.push_str("refused ")?;
+    }
+    Ok(())
+}
+
+fn push_event(told: &mut String, event: &Event) -> Result<(), AllocError> {
+    match event {
+        Event::Call(request) => match request.shape.arg {
+            ArgWord::None => write!(told, "call {} ", request.shape.function),
+            ArgWord::Byte(byte) => write!(told, "call {} {byte:02X} ", request.shape.function),
+            ArgWord::Word(word) => write!(told, "call {} {word:04X} ", request.shape.function),
+        },
+        Event::In(port) => write!(told, "in {port} "),
+        Event::Out(port, byte) => write!(told, "out {port} {byte:02X} "),
+        Event::End => told.push_str("end "),
+    }
+}

@@ -1,4 +1,0 @@
-pub mod Loads
-pub mod Runs
-pub mod Making
-pub mod Completes

@@ -1,0 +1,58 @@
+use Rattle.std.proofs.Common.{◌≡◌, [], ◌∷◌, sym, subst}
+use Rattle.emulators.specs.Starts.{start_by}
+use Rattle.cmd_arguments.specs.ReadCommands.{both_read}
+use Rattle.cmd_common.proofs.Told.{judged}
+use Rattle.cmd_runs.specs.Ends.{halt_of_talk}
+use Rattle.cmd_runs.specs.Supplies.{fill_by}
+use Rattle.cmd_runs.specs.Settings.{setting80, RunComesTo, IsRunCutOff}
+use Rattle.cmd_runs.specs.Works.{WorkHalts, HaltsFrom}
+use Rattle.cmd_runs.specs.BothLoads.{AreToRun}
+use Rattle.cmd_runs.specs.BothRuns.{prefix80, first_setting, work_both}
+use Rattle.cmd_runs.proofs.Running.{filled, first_halts, second_halts, both_made}
+use Rattle.cmd_runs.proofs.making.make_runs.Goals as goal
+
+-- a fault cut the 8080's run off
+pub returns-in_err-first-clause-halted : goal.returns-in_err-first-clause-halted
+returns-in_err-first-clause-halted g c =
+    let command = both_read c.args.command.now in
+    let start = g.H.Host.state c.args.host.now in
+    let new = g.H.Host.state c.run_program.new.host in
+    let l = c.args.loaded.now in
+    let fault = c.in_err-first.field-0.0 in
+    let cut : IsRunCutOff (first_setting command l.program) l.devices fault start new =
+    subst (λ n. IsRunCutOff (setting80 command.run.page l.program n prefix80) l.devices fault start new) c.from-steps.ensures c.in_err-first.ensures.cut in
+    judged c.from_residual.result (λ h. h ≡ halt_of_talk fault) (HaltsFrom (work_both command) (λ begin. AreToRun command begin l.program l.image l.devices) start new) c.from_residual.ensures.1
+    (λ h is begin read. subst (WorkHalts (work_both command) begin new) (sym is) (first_halts command begin start l.program l.image l.devices read new fault cut))
+
+-- a fault cut the 8086's run off
+pub returns-in_err-second-clause-halted : goal.returns-in_err-second-clause-halted
+returns-in_err-second-clause-halted g c =
+    let command = both_read c.args.command.now in
+    let start = g.H.Host.state c.args.host.now in
+    let mid = g.H.Host.state c.run_program.new.host in
+    let new = g.H.Host.state c.run_image.new.host in
+    let l = c.args.loaded.now in
+    let o = c.in_ok-first.first in
+    let left = c.run_program.new.devices in
+    let first : RunComesTo (first_setting command l.program) l.devices o left start mid =
+    subst (λ n. RunComesTo (setting80 command.run.page l.program n prefix80) l.devices o left start mid) c.from-steps.ensures c.in_ok-first.ensures.run in
+    let fault = c.in_err-second.field-0.0 in
+    judged c.from_residual-in_err-second.result (λ h. h ≡ halt_of_talk fault) (HaltsFrom (work_both command) (λ begin. AreToRun command begin l.program l.image l.devices) start new) c.from_residual-in_err-second.ensures.1
+    (λ h is begin read. subst (WorkHalts (work_both command) begin new) (sym is)
+    (second_halts command begin start l.program l.image l.devices read mid new o left l.second c.limit86-limit.result first c.requires.second c.limit86-limit.ensures fault c.in_err-second.ensures.cut))
+
+pub returns-clause-made : goal.returns-clause-made
+returns-clause-made g c = λ begin read.
+    let command = both_read c.args.command.now in
+    let start = g.H.Host.state c.args.host.now in
+    let mid = g.H.Host.state c.run_program.new.host in
+    let new = g.H.Host.state c.run_image.new.host in
+    let l = c.args.loaded.now in
+    let o = c.in_ok-first.first in
+    let left = c.run_program.new.devices in
+    let first : RunComesTo (first_setting command l.program) l.devices o left start mid =
+    subst (λ n. RunComesTo (setting80 command.run.page l.program n prefix80) l.devices o left start mid) c.from-steps.ensures c.in_ok-first.ensures.run in
+    let choice = c.args.command.now.choice in
+    both_made command begin start l.program l.image l.devices read mid new o left l.second c.limit86-limit.result first c.requires.second c.limit86-limit.ensures c.start_is_in_range.ensures.page
+    (filled choice l.fill.items c.as_slice-fill.result.now c.requires.fill c.requires.fill_len c.as_slice-fill.ensures.value c.start_is_in_range.ensures.fill) c.start_is_in_range.ensures.choice
+    (λ fetch. c.runs_are_one.ensures.of_86 fetch l.image c.args.command.now.run.page (fill_by choice) (start_by choice) (choice ∷ [])) c.line_of-line.result c.line_of-line.ensures c.in_ok-second.second c.run_image.new.devices c.in_ok-second.ensures.run

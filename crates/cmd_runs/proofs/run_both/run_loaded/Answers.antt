@@ -1,0 +1,48 @@
+use Rattle.std.proofs.Common.{◌≡◌, sym, subst}
+use Rattle.std.specs.Prelude.{option_copied}
+use Rattle.cmd_arguments.specs.ReadCommands.{both_read}
+use Rattle.cmd_common.proofs.Told.{judged}
+use Rattle.cmd_runs.specs.Works.{WorkHalts, HaltsFrom}
+use Rattle.cmd_runs.proofs.Working.{left_has, left_halts}
+use Rattle.cmd_runs.specs.BothLoads.{AreToRun}
+use Rattle.cmd_runs.specs.BothRuns.{work_both}
+use Rattle.cmd_runs.specs.BothMaking.{runs_made}
+use Rattle.cmd_runs.proofs.run_both.run_loaded.Goals as goal
+
+-- a run was cut off
+pub returns-in_err-made-clause-halted : goal.returns-in_err-made-clause-halted
+returns-in_err-made-clause-halted g c =
+    let command = both_read c.args.command.now in
+    let start = g.H.Host.state c.args.host.now in
+    let l = c.args.loaded.now in
+    let new = g.H.Host.state c.make_runs.new.host in
+    judged c.from_residual.result (λ h. h ≡ c.in_err-made.field-0.0) (HaltsFrom (work_both command) (λ begin. AreToRun command begin l.program l.image l.devices) start new) c.from_residual.ensures.1
+    (λ h is begin read. subst (WorkHalts (work_both command) begin new) (sym is) (c.in_err-made.ensures.halted begin read))
+
+pub returns-clause-came : goal.returns-clause-came
+returns-clause-came g c =
+    let command = both_read c.args.command.now in
+    let w = work_both command in
+    let start = g.H.Host.state c.args.host.now in
+    let mid = g.H.Host.state c.make_runs.new.host in
+    let new = g.H.Host.state c.leave_runs.new.host in
+    let l = c.args.loaded.now in
+    let m = runs_made c.in_ok-made.made c.make_runs.new.loaded.devices in
+    let came = c.came_to-came.result in
+    let name = option_copied c.kept_disk_name-name.result in
+    let disk = c.disk.result.now in
+    left_has w (λ begin. AreToRun command begin l.program l.image l.devices) start mid new m c.in_ok-made.ensures.made came name disk c.came_to-came.ensures c.kept_disk_name-name.ensures c.disk.ensures c.leave_runs.result c.leave_runs.ensures.left
+
+pub returns-clause-halted : goal.returns-clause-halted
+returns-clause-halted g c =
+    let command = both_read c.args.command.now in
+    let w = work_both command in
+    let start = g.H.Host.state c.args.host.now in
+    let mid = g.H.Host.state c.make_runs.new.host in
+    let new = g.H.Host.state c.leave_runs.new.host in
+    let l = c.args.loaded.now in
+    let m = runs_made c.in_ok-made.made c.make_runs.new.loaded.devices in
+    let came = c.came_to-came.result in
+    let name = option_copied c.kept_disk_name-name.result in
+    let disk = c.disk.result.now in
+    left_halts w (λ begin. AreToRun command begin l.program l.image l.devices) start mid new m c.in_ok-made.ensures.made came name disk c.came_to-came.ensures c.kept_disk_name-name.ensures c.disk.ensures c.leave_runs.result c.leave_runs.ensures.halted

@@ -1,0 +1,37 @@
+use Rattle.std.proofs.Common.{◌≡◌, sym, subst}
+use Rattle.cmd_arguments.specs.ReadCommands.{both_read}
+use Rattle.cmd_common.proofs.Told.{judged}
+use Rattle.cmd_runs.specs.Works.{WorkHalts}
+use Rattle.cmd_runs.proofs.Working.{unloaded_halts, begun_has, begun_halts}
+use Rattle.cmd_runs.specs.BothLoads.{AreToRun}
+use Rattle.cmd_runs.specs.BothRuns.{work_both}
+use Rattle.cmd_runs.proofs.run_both.work.Goals as goal
+
+pub returns-in_err-loaded-clause-halted : goal.returns-in_err-loaded-clause-halted
+returns-in_err-loaded-clause-halted g c =
+    let w = work_both (both_read c.args.command.now) in
+    let old = g.H.Host.state c.args.host.now in
+    let new = g.H.Host.state c.load.new.host in
+    let halt = c.in_err-loaded.field-0.0 in
+    judged c.from_residual.result (λ h. h ≡ halt) (WorkHalts w old new) c.from_residual.ensures.1
+    (λ h is. subst (WorkHalts w old new) (sym is) (unloaded_halts w old new halt c.in_err-loaded.ensures.only c.in_err-loaded.ensures.stopped))
+
+pub returns-clause-came : goal.returns-clause-came
+returns-clause-came g c =
+    let command = both_read c.args.command.now in
+    let old = g.H.Host.state c.args.host.now in
+    let start = g.H.Host.state c.load.new.host in
+    let new = g.H.Host.state c.run_loaded.new.host in
+    let l = c.in_ok-loaded.loaded in
+    let e = c.in_ok-loaded.ensures in
+    begun_has (work_both command) (λ begin. AreToRun command begin l.program l.image l.devices) old start new (record { stands = e.loaded; reads = e.only; counted = e.counted }) c.run_loaded.result c.run_loaded.ensures.came
+
+pub returns-clause-halted : goal.returns-clause-halted
+returns-clause-halted g c =
+    let command = both_read c.args.command.now in
+    let old = g.H.Host.state c.args.host.now in
+    let start = g.H.Host.state c.load.new.host in
+    let new = g.H.Host.state c.run_loaded.new.host in
+    let l = c.in_ok-loaded.loaded in
+    let e = c.in_ok-loaded.ensures in
+    begun_halts (work_both command) (λ begin. AreToRun command begin l.program l.image l.devices) old start new (record { stands = e.loaded; reads = e.only; counted = e.counted }) c.run_loaded.result c.run_loaded.ensures.halted

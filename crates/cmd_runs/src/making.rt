@@ -1,0 +1,101 @@
+// Both runs, of the program of a source and of the image of its lean text.
+ghost use Rattle.std.specs.Prelude.{◌≡◌, ◌^◌, ◌<◌, ◌≤◌, All, IfOk, IfErr, length};
+ghost use Rattle.host.specs.Host.{HostState};
+ghost use Rattle.cpu80_tagged_def.specs.Start.{IsPage};
+ghost use Rattle.cmd_arguments.specs.ReadCommands.{both_read};
+ghost use Rattle.cmd_runs.specs.Supplies.{fill_by};
+ghost use Rattle.cmd_runs.specs.Kinds.{HasRead};
+ghost use Rattle.cmd_runs.specs.Works.{HaltsFrom};
+ghost use Rattle.cmd_runs.specs.BothLoads.{AreToRun};
+ghost use Rattle.cmd_runs.specs.BothRuns.{limit86, AreBothMade, work_both};
+ghost use Rattle.cmd_runs.specs.BothMaking.{runs_made};
+
+use crate::both_inputs::Loaded;
+use crate::{Halt, line_of, run_image, run_program};
+use cmd_arguments::Both;
+use dialogue::Page;
+use emulators::{Conversation, runs_are_one};
+use host::Host;
+use std::alloc::Global;
+
+/// What both runs came to, and the line of the source that stands with the end of the 8080's.
+#[derive(Clone, Copy)]
+pub struct Made {
+    pub first: Conversation,
+    pub line: u32,
+    pub second: Conversation,
+}
+
+/// Makes both runs of what was loaded, the 8080's first.
+pub fn make_runs<'a, H: Host>(
+    alloc: Global,
+    host: &mut H,
+    command: &Both<'a>,
+    loaded: &mut Loaded,
+) -> Result<Made, Halt<'a>>
+    requires fill { loaded.old.fill.items ≡ fill_by command.now.choice }
+    requires fill_len { length loaded.old.fill.items ≡ 0x10000 }
+    requires second { loaded.old.second ≡ loaded.old.devices }
+    ensures made { IfOk result (λ made. (begin : HostState) → HasRead (AreToRun (both_read command.now) begin loaded.old.program loaded.old.image loaded.old.devices) begin (H.state host.old) → AreBothMade (both_read command.now) begin (H.state host.new) (runs_made made loaded.new.devices)) }
+    ensures halted { IfErr result (HaltsFrom (work_both (both_read command.now)) (λ begin. AreToRun (both_read command.now) begin loaded.old.program loaded.old.image loaded.old.devices) (H.state host.old) (H.state host.new)) }
+{
+    runs_are_one();
+    let page = &command.run.page;
+    let fill = loaded.fill.as_slice();
+    start_is_in_range(page, fill, command.choice);
+    let steps = u64::from(command.run.steps);
+    let first = run_program(
+        alloc,
+        host,
+        &loaded.program,
+        page,
+        &mut loaded.devices,
+        steps,
+        b"80 ",
+    )?;
+    let line = line_of(&loaded.program, first.end);
+    let limit = limit86(first.steps);
+    let second = run_image(
+        alloc,
+        host,
+        &loaded.image,
+        page,
+        fill,
+        command.choice,
+        &mut loaded.second,
+        limit,
+        b"86 ",
+    )?;
+    Ok(Made {
+        first,
+        line,
+        second,
+    })
+}
+
+// How many instructions of the 8086 may run, by how many of the 8080 ran: 16 for each of them, and 16 more.
+fn limit86(steps: u64) -> u64
+    requires { steps ≤ 0xFFFF_FFFF }
+    ensures { result ≡ limit86 steps }
+{
+    16 * steps + 16
+}
+
+// A law of what an 8086 starts with: the page is 164 bytes, the fill has bytes, and the choice is below 2^128.
+fn start_is_in_range(page: &Page, fill: &[u8], choice: u128)
+    ensures page { IsPage page.now }
+    ensures fill { All (λ n. n < 256) fill.now }
+    ensures choice { choice < 2 ^ 128 }
+{
+    bytes_are_in_range(page.bytes());
+    bytes_are_in_range(fill);
+}
+
+// A law too: its loop only leads the proof from byte to byte.
+fn bytes_are_in_range(bytes: &[u8])
+    ensures { All (λ n. n < 256) bytes.now }
+{
+    for byte in bytes {
+        let _byte = *byte;
+    }
+}

@@ -1,0 +1,162 @@
+// The work of `run80`: a source's program runs on the tagged 8080 over devices.
+ghost use Rattle.std.specs.Prelude.{◌≡◌, ℕ, true, IfOk, IfErr, OnOk};
+ghost use Rattle.host.specs.Host.{SameFaults, OnlyReads};
+ghost use Rattle.asm80_program_types.specs.Program.{is_top};
+ghost use Rattle.cmd_arguments.specs.ReadCommands.{run_options_read, run80_read};
+ghost use Rattle.emulators.specs.declared.running.RunEnd.TheVariants.{Stopped};
+ghost use Rattle.cmd_runs.specs.Ends.{Halts};
+ghost use Rattle.cmd_runs.specs.Keeping.{DiskAlone};
+ghost use Rattle.cmd_runs.specs.Lasts.{IsLastMade};
+ghost use Rattle.cmd_runs.specs.Supplies.{given_of};
+ghost use Rattle.cmd_runs.specs.Kinds.{IsNamed, IsToRun, NothingToRun};
+ghost use Rattle.cmd_runs.specs.Works.{WorkHasLast, WorkHalts, HasLastFrom, HaltsFrom, WorkGives};
+ghost use Rattle.cmd_runs.specs.Outcomes.{RunCompletes};
+ghost use Rattle.cmd_runs.specs.Runs80.{words_of, kind80, work80, IsLineAt, IsLineOf};
+
+use crate::{
+    Halt, Last, Supplies, came_to, close_work, devices_of, kept_disk_name, leave_runs,
+    read_supplies, run_program,
+};
+use asm80_program_types::Program80;
+use asm80_text::Lines;
+use asm80_values::source_has_one_outcome;
+use bdos_disk::disks_read_back;
+use bdos_small::Devices;
+use cells::Place;
+use cmd_arguments::{Run80, RunOptions};
+use cmd_common::read_source;
+use emulators::{RunEnd, Why};
+use host::Host;
+use std::alloc::Global;
+
+/// What the words of a source's run name: its program, and the bytes that the devices have.
+#[derive(Drop)]
+pub struct Named {
+    pub program: Program80,
+    pub supplies: Supplies,
+}
+
+// What there is before the run: the program, and the devices.
+#[derive(Drop)]
+struct Loaded {
+    program: Program80,
+    devices: Devices,
+}
+
+/// Runs the source of a command over devices, says each event of its dialogue and then what the run came to, and answers the
+/// status. The top of the program area is a multiple of 100H from 1000H to 0FF00H.
+pub fn run80<H: Host>(alloc: Global, host: &mut H, command: &Run80<'_>) -> u8
+    requires { is_top command.now.top ≡ true }
+    ensures gives { WorkGives (work80 (run80_read command.now)) (H.state host.old) (H.state host.new) result }
+    ensures files { DiskAlone (run80_read command.now).run.out_disk (H.state host.old) (H.state host.new) }
+    ensures completes { RunCompletes (kind80 (run80_read command.now)) (H.state host.old) (H.state host.new) result }
+{
+    source_has_one_outcome::<Lines>();
+    disks_read_back();
+    let worked = work(alloc, host, command);
+    close_work(alloc, host, worked)
+}
+
+// The work up to the last line, whose memory is taken before the disk is written.
+fn work<'a, H: Host>(alloc: Global, host: &mut H, command: &Run80<'a>) -> Result<Last<'a>, Halt<'a>>
+    requires { is_top command.now.top ≡ true }
+    ensures made { IfOk result IsLastMade }
+    ensures came { IfOk result (WorkHasLast (work80 (run80_read command.now)) (H.state host.old) (H.state host.new)) }
+    ensures halted { IfErr result (WorkHalts (work80 (run80_read command.now)) (H.state host.old) (H.state host.new)) }
+{
+    let mut loaded = load(alloc, host, command)?;
+    run_loaded(alloc, host, command, &mut loaded)
+}
+
+// The run of what was loaded, and the disk that it leaves.
+fn run_loaded<'a, H: Host>(
+    alloc: Global,
+    host: &mut H,
+    command: &Run80<'a>,
+    loaded: &mut Loaded,
+) -> Result<Last<'a>, Halt<'a>>
+    ensures made { IfOk result IsLastMade }
+    ensures came { IfOk result (HasLastFrom (work80 (run80_read command.now)) (λ begin. IsToRun (kind80 (run80_read command.now)) begin loaded.old.program loaded.old.devices) (H.state host.old) (H.state host.new)) }
+    ensures halted { IfErr result (HaltsFrom (work80 (run80_read command.now)) (λ begin. IsToRun (kind80 (run80_read command.now)) begin loaded.old.program loaded.old.devices) (H.state host.old) (H.state host.new)) }
+{
+    let limit = u64::from(command.run.steps);
+    let ran = run_program(
+        alloc,
+        host,
+        &loaded.program,
+        &command.run.page,
+        &mut loaded.devices,
+        limit,
+        b"",
+    )?;
+    let line = line_of(&loaded.program, ran.end);
+    let came = came_to(ran, command.run.steps, line);
+    let name = kept_disk_name(command.run.out_disk, ran.end);
+    leave_runs(alloc, host, came, None, name, loaded.devices.disk())
+}
+
+// Reads the files, the source one as its program, and makes the devices. That the source or the disk is refused is told once all of
+// them are read.
+fn load<'a, H: Host>(alloc: Global, host: &mut H, command: &Run80<'a>) -> Result<Loaded, Halt<'a>>
+    requires { is_top command.now.top ≡ true }
+    ensures only { OnlyReads (H.state host.old) (H.state host.new) }
+    ensures loaded { IfOk result (λ l. IsToRun (kind80 (run80_read command.now)) (H.state host.old) l.program l.devices) }
+    ensures counted { OnOk result (SameFaults (H.state host.old) (H.state host.new)) }
+    ensures stopped { IfErr result (Halts (NothingToRun (kind80 (run80_read command.now)) (H.state host.old) (H.state host.new))) }
+{
+    let named = read_program(alloc, host, command.source, command.top, &command.run)?;
+    let Named { program, supplies } = named;
+    let devices = devices_of(alloc, supplies)?;
+    Ok(Loaded { program, devices })
+}
+
+/// Reads the files, that of the source as its program, for a top of the program area, a multiple of 100H from 1000H to 0FF00H. That the
+/// source is refused is told once all of them are read.
+pub fn read_program<'a, H: Host>(
+    alloc: Global,
+    host: &mut H,
+    name: &'a str,
+    top: u16,
+    run: &RunOptions<'a>,
+) -> Result<Named, Halt<'a>>
+    requires { is_top top ≡ true }
+    ensures only { OnlyReads (H.state host.old) (H.state host.new) }
+    ensures named { IfOk result (λ n. IsNamed (kind80 (words_of name.now top (run_options_read run.now))) (H.state host.old) n.program (given_of n.supplies.input.items n.supplies.disk.items n.supplies.ports.items)) }
+    ensures counted { OnOk result (SameFaults (H.state host.old) (H.state host.new)) }
+    ensures stopped { IfErr result (Halts (NothingToRun (kind80 (words_of name.now top (run_options_read run.now))) (H.state host.old) (H.state host.new))) }
+{
+    let source = read_source(alloc, host, name, top)?;
+    let supplies = read_supplies(alloc, host, run)?;
+    let program = source?;
+    Ok(Named { program, supplies })
+}
+
+/// The line of the instruction at which a run left the profile; 0 where it did not.
+pub fn line_of(program: &Program80, end: RunEnd) -> u32
+    ensures { (line : ℕ) → IsLineOf program.now end line → result ≡ line }
+{
+    match end {
+        RunEnd::Stopped(why) => line_of_why(program, why),
+        RunEnd::Ended | RunEnd::StepLimit | RunEnd::InputEnded | RunEnd::NoDrive(_) => 0,
+    }
+}
+
+// The same of a machine that stopped.
+fn line_of_why(program: &Program80, why: Why) -> u32
+    ensures { (line : ℕ) → IsLineOf program.now (Stopped why) line → result ≡ line }
+{
+    match why {
+        Why::Left(place, _) => line_at(program, place),
+        Why::NoInstruction(_) | Why::StackSegment(_) | Why::OddCall(_, _) => 0,
+    }
+}
+
+// The line of the instruction at a place.
+fn line_at(program: &Program80, place: Place) -> u32
+    ensures { (line : ℕ) → IsLineAt program.now place line → result ≡ line }
+{
+    match place {
+        Place::At(at) => program.line_at(at).unwrap_or(0),
+        Place::Exit => 0,
+    }
+}

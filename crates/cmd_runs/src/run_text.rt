@@ -1,0 +1,71 @@
+// The work of `run86`: a text's image runs over devices, by a choice.
+ghost use Rattle.std.specs.Prelude.{◌≡◌, IfOk, IfErr, length};
+ghost use Rattle.cmd_arguments.specs.ReadCommands.{run86_read};
+ghost use Rattle.cmd_runs.specs.Keeping.{DiskAlone};
+ghost use Rattle.cmd_runs.specs.Supplies.{fill_by};
+ghost use Rattle.cmd_runs.specs.Lasts.{IsLastMade};
+ghost use Rattle.cmd_runs.specs.Kinds.{IsToRun};
+ghost use Rattle.cmd_runs.specs.Works.{WorkHasLast, WorkHalts, HasLastFrom, HaltsFrom, WorkGives};
+ghost use Rattle.cmd_runs.specs.Outcomes.{RunCompletes};
+ghost use Rattle.cmd_runs.specs.Runs86.{kind86, work86};
+
+use crate::text_inputs::{Loaded, load};
+use crate::{Halt, Last, came_to, close_work, kept_disk_name, leave_runs, run_image};
+use asm86::texts_have_one_image;
+use bdos_disk::disks_read_back;
+use cmd_arguments::Run86;
+use host::Host;
+use std::alloc::Global;
+
+/// Runs the text of a command over devices, says each event of its dialogue and then what the run came to, and answers the
+/// status.
+pub fn run86<H: Host>(alloc: Global, host: &mut H, command: &Run86<'_>) -> u8
+    ensures gives { WorkGives (work86 (run86_read command.now)) (H.state host.old) (H.state host.new) result }
+    ensures files { DiskAlone (run86_read command.now).run.out_disk (H.state host.old) (H.state host.new) }
+    ensures completes { RunCompletes (kind86 (run86_read command.now)) (H.state host.old) (H.state host.new) result }
+{
+    texts_have_one_image();
+    disks_read_back();
+    let worked = work(alloc, host, command);
+    close_work(alloc, host, worked)
+}
+
+// The work up to the last line, whose memory is taken before the disk is written.
+fn work<'a, H: Host>(alloc: Global, host: &mut H, command: &Run86<'a>) -> Result<Last<'a>, Halt<'a>>
+    ensures made { IfOk result IsLastMade }
+    ensures came { IfOk result (WorkHasLast (work86 (run86_read command.now)) (H.state host.old) (H.state host.new)) }
+    ensures halted { IfErr result (WorkHalts (work86 (run86_read command.now)) (H.state host.old) (H.state host.new)) }
+{
+    let mut loaded = load(alloc, host, command)?;
+    run_loaded(alloc, host, command, &mut loaded)
+}
+
+// The run of what was loaded, and the disk that it leaves.
+fn run_loaded<'a, H: Host>(
+    alloc: Global,
+    host: &mut H,
+    command: &Run86<'a>,
+    loaded: &mut Loaded,
+) -> Result<Last<'a>, Halt<'a>>
+    requires fill { loaded.old.fill.items ≡ fill_by command.now.choice }
+    requires fill_len { length loaded.old.fill.items ≡ 0x10000 }
+    ensures made { IfOk result IsLastMade }
+    ensures came { IfOk result (HasLastFrom (work86 (run86_read command.now)) (λ begin. IsToRun (kind86 (run86_read command.now)) begin loaded.old.image loaded.old.devices) (H.state host.old) (H.state host.new)) }
+    ensures halted { IfErr result (HaltsFrom (work86 (run86_read command.now)) (λ begin. IsToRun (kind86 (run86_read command.now)) begin loaded.old.image loaded.old.devices) (H.state host.old) (H.state host.new)) }
+{
+    let limit = u64::from(command.run.steps);
+    let ran = run_image(
+        alloc,
+        host,
+        &loaded.image,
+        &command.run.page,
+        loaded.fill.as_slice(),
+        command.choice,
+        &mut loaded.devices,
+        limit,
+        b"",
+    )?;
+    let came = came_to(ran, command.run.steps, 0);
+    let name = kept_disk_name(command.run.out_disk, ran.end);
+    leave_runs(alloc, host, came, None, name, loaded.devices.disk())
+}

@@ -1,0 +1,4 @@
+pub mod Fetch
+pub mod Start
+pub mod Cells
+pub mod Follows

@@ -1,0 +1,6 @@
+mod Encodings
+mod Lookup
+pub mod CellBytes
+mod Small
+mod Following
+mod Ascending

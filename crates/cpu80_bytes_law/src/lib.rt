@@ -1,0 +1,28 @@
+// The law that the 8080 that fetches bytes follows the tagged 8080.
+//
+// Law `bytes_follow`, of every fetch that takes instructions from the bytes of memory, every program, start page, fill of memory, list of
+// choices, list of replies of bytes and number of turns: where the run of the tagged 8080 has stayed in the profile, the run over the
+// program's cells, its encodings and data as bytes, has the same dialogue and has not stopped (`BytesFollow`). Law
+// `program_cells_are_cells`: they are bytes at addresses that ascend.
+#![tactic(auto)]
+
+ghost use Rattle.asm80_program_types.specs.Program.{Program, IsProgram};
+ghost use Rattle.hex_file.specs.Written.{AreCells};
+ghost use Rattle.cpu80_bytes_def.specs.Cells.{program_cells};
+ghost use Rattle.cpu80_bytes_def.specs.Follows.{BytesFollow};
+
+use cpu80::fetches_follow;
+
+/// A law, of every program, start page, fill of memory, list of choices, list of replies of bytes, and number of turns: where the
+/// tagged machine's run has stayed in the profile, an 8080 that takes its instructions from the bytes of memory has the same dialogue
+/// over the program's cells, and has not stopped.
+pub fn bytes_follow()
+    ensures { BytesFollow }
+{
+    fetches_follow();
+}
+
+/// A law: the cells of a program are bytes at 16-bit addresses that ascend, so that a HEX file has them.
+pub fn program_cells_are_cells()
+    ensures { (p : Program) → IsProgram p → AreCells (program_cells p) }
+{}

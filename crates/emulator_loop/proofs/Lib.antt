@@ -1,6 +1,0 @@
-pub mod Turning
-pub mod OneRun
-pub mod Said
-pub mod Advances
-pub mod Exact
-pub mod Ends

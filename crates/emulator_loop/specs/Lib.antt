@@ -1,4 +1,0 @@
-pub mod Lines
-pub mod Talk
-pub mod Turns
-pub mod Advance

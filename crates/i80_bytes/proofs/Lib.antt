@@ -1,0 +1,3 @@
+mod Fetched
+mod Written
+mod Texts

@@ -1,0 +1,5 @@
+use Rattle.i80_bytes.specs.Fetch.{fetch_of_bytes}
+use Rattle.i80_bytes.proofs.machine.Byte80.reply.Goals as goal
+
+pub returns-clause-machine : goal.returns-clause-machine
+returns-clause-machine c of = c.reply.ensures.machine fetch_of_bytes of

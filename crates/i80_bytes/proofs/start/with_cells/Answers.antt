@@ -1,0 +1,9 @@
+use Rattle.std.proofs.Common.{◌∙◌}
+use Rattle.cpu80_untagged.specs.State.{untagged_memory}
+use Rattle.dialogue.proofs.ByteMemory.{put_cells_more}
+use Rattle.i80_bytes.proofs.start.with_cells.Goals as goal
+
+pub loop-at-preserved : goal.loop-at-preserved
+loop-at-preserved c =
+    put_cells_more (untagged_memory c.loop-at.memory) (untagged_memory c.set.new.self) c.args.cells.now c.loop-at.at-index (0, 0) c.loop-at-test.true c.set.ensures
+    ∙ c.loop-at.invariant

@@ -1,0 +1,8 @@
+-- The fetch of the machine: what the decoder makes of the bytes from an address on. Law `memory_is_fetched` says what it is by the
+-- encodings alone.
+use Rattle.i80_encoding.specs.Decoder.{decoded80}
+use Rattle.cpu80_untagged_def.specs.Step.{Fetch}
+use Rattle.cpu80_bytes_def.specs.Fetch.{bytes_from}
+
+abbrev pub fetch_of_bytes : Fetch
+fetch_of_bytes u a = decoded80 (bytes_from u.mem a)

@@ -1,0 +1,33 @@
+// What the machine takes its instructions from.
+ghost use Rattle.i80_bytes.specs.Fetch.{fetch_of_bytes};
+ghost use Rattle.cpu80_bytes_def.specs.Fetch.{IsFetchOfBytes};
+
+use cpu80_untagged::{Fetch80, Processor};
+use i80::Instr80;
+use i80_encoding::decode80;
+
+/// The bytes of memory, whatever put them there.
+pub struct Bytes;
+
+impl Fetch80 for Bytes {
+    ghost fetch = { λ _. fetch_of_bytes };
+
+    fn fetch(&self, processor: &Processor, at: u16) -> Option<Instr80> {
+        let second = at.wrapping_add(1);
+        let bytes = [
+            processor.memory.get(at),
+            processor.memory.get(second),
+            processor.memory.get(second.wrapping_add(1)),
+        ];
+        match decode80(&bytes) {
+            Some((instr, _)) => Some(instr),
+            None => None,
+        }
+    }
+}
+
+/// A law: in each state, and at each address, the machine takes the instruction whose encoding the bytes of memory begin with there, and
+/// none where they begin with no encoding.
+pub fn memory_is_fetched()
+    ensures { IsFetchOfBytes fetch_of_bytes }
+{}

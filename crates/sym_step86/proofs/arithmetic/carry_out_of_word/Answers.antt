@@ -1,4 +1,0 @@
-use Rattle.sym_step86.proofs.arithmetic.carry_out_of_word.Goals as goal
-
-pub returns : goal.returns
-returns c = c.perform.ensures.on_86
