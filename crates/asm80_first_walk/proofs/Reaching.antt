@@ -1,7 +1,8 @@
 -- The state behind one statement more.
-use Rattle.std.proofs.Common.{◌≡◌, ℕ, ◌+◌, ◌<◌, ◌⊎◌, inl, inr, drop, drop-cons, add-one, arith, List, [], ◌∷◌, ◌++◌, length, map, get_or, Bool, true, false, refl, sym, ap, subst, ◌∙◌, append_assoc}
+use Rattle.std.proofs.Common.{◌≡◌, ℕ, ◌+◌, ◌<◌, inl, inr, drop, drop-cons, add-one, arith, List, [], ◌∷◌, ◌++◌, length, map, get_or, Bool, true, false, refl, sym, ap, subst, ◌∙◌, append_assoc}
 use Rattle.std.specs.Prelude.{filter}
 use Rattle.std.proofs.lemmas.List.{append-nil, length-map, get_or-map, get_or_default}
+use Rattle.std.proofs.lemmas.Bool.{cases_Bool}
 use Rattle.asm80_statement_types.specs.declared.stmt.Stmt80.{Stmt80}
 use Rattle.asm80_statement_types.specs.Tree.{Statement, statement_of}
 use Rattle.asm80_source_def.specs.Walk.{Walk, WalkRow, is_taken, walk_after, ends, rows_from, walk_after_all, rows, walked, row_is_taken}
@@ -75,12 +76,8 @@ module _ (statements : List Stmt80) (index : ℕ) (s : Statement) (old new : Sta
     fault = fault_now;
   }
 
-two_cases : (b : Bool) → (b ≡ true) ⊎ (b ≡ false)
-two_cases true = inl refl
-two_cases false = inr refl
-
 reached : (statements : List Stmt80) (index : ℕ) (s : Statement) (old new : State) (more left : List Statement) → Reaches statements old (s ∷ more) → Steps index s old new → Follows (walk_of old) s more left → index < length statements → ((d : Stmt80) → statement_of (get_or statements index d) ≡ s) → Reaches statements new left
-reached statements index s old new more left h k f within is = elim (two_cases (is_taken (walk_of old) s)) [
+reached statements index s old new more left h k f within is = elim (cases_Bool (is_taken (walk_of old) s)) [
   | inl e ↦ reached_by statements index s old new more left h k f within is true e
   | inr e ↦ reached_by statements index s old new more left h k f within is false e
 ]

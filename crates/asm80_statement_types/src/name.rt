@@ -1,6 +1,6 @@
 //! Names.
 
-ghost use Rattle.std.specs.Prelude.{◌≡◌, ◌≤◌, ◌<◌, List, length, take, ℕ, ◌++◌, replicate, ◌-◌};
+ghost use Rattle.std.specs.Prelude.{◌≡◌, List, length, take, ℕ, ◌-◌};
 ghost use Rattle.asm80_statement_types.specs.Name.{IsName};
 
 use std::marker::Model;

@@ -1,8 +1,9 @@
 -- The bytes that count of a word are a name.
-use Rattle.std.proofs.Common.{◌≡◌, ℕ, suc, ◌+◌, ◌<◌, ◌≤◌, List, [], ◌∷◌, Bool, true, false, eqb, length, take, refl, arith, inl, inr, ◌⊎◌, ◌||◌}
+use Rattle.std.proofs.Common.{◌≡◌, ℕ, suc, ◌+◌, ◌<◌, ◌≤◌, List, [], ◌∷◌, true, false, eqb, length, take, refl, arith, inl, inr, ◌||◌}
 use Rattle.std.specs.List.{AllByRecursion, list_all}
 use Rattle.std.proofs.lemmas.Bool.Decides.{nat_tests}
 use Rattle.std.proofs.lemmas.List.Elements.{All-from_recursion}
+use Rattle.std.proofs.lemmas.Bool.{cases_Bool}
 use Rattle.asm80_statement_types.specs.Name.{IsNameByte, IsName}
 use Rattle.asm80_text.specs.Letters.{is_upper, is_lower, is_inside, upper, significant, inside_len}
 use Rattle.asm80_text.specs.TokenResults.{BeginsWithLetter}
@@ -10,13 +11,9 @@ use Rattle.asm80_text.specs.TokenResults.{BeginsWithLetter}
 upper_is : (b : ℕ) → is_inside b ≡ true → eqb b 36 ≡ false → IsNameByte (upper b)
 upper_is b h ne = grind (arith, nat_tests)
 
-two_cases : (b : Bool) → (b ≡ true) ⊎ (b ≡ false)
-two_cases true = inl refl
-two_cases false = inr refl
-
 each_kept : (b : ℕ) (rest : List ℕ) → is_inside b ≡ true → AllByRecursion IsNameByte (significant rest) → AllByRecursion IsNameByte (significant (b ∷ rest))
 unfolding significant
-each_kept b rest h all = elim (two_cases (eqb b 36)) [ inl e ↦ rw e all | inr e ↦ rw e (upper_is b h e, all) ]
+each_kept b rest h all = elim (cases_Bool (eqb b 36)) [ inl e ↦ rw e all | inr e ↦ rw e (upper_is b h e, all) ]
 
 taken : (b : ℕ) (bytes : List ℕ) → is_inside b ≡ true → take (inside_len (b ∷ bytes)) (b ∷ bytes) ≡ b ∷ take (inside_len bytes) bytes
 taken b bytes e = let one : 1 + inside_len bytes ≡ suc (inside_len bytes) = omega arith in rw (e, one) refl
@@ -27,7 +24,7 @@ none_taken b bytes e = rw e refl
 pub each_named : (bytes : List ℕ) → AllByRecursion IsNameByte (significant (take (inside_len bytes) bytes))
 unfolding significant
 each_named [] = tt
-each_named (b ∷ bytes) = elim (two_cases (is_inside b)) [
+each_named (b ∷ bytes) = elim (cases_Bool (is_inside b)) [
   | inl e ↦ rw (taken b bytes e) (each_kept b (take (inside_len bytes) bytes) e (each_named bytes))
   | inr e ↦ rw (none_taken b bytes e) tt
 ]
@@ -52,7 +49,7 @@ is_name bytes h le = record { some = one_at_least bytes h; at_most = le; each = 
 
 all_name_bytes : (bytes : List ℕ) → list_all is_upper bytes ≡ true → AllByRecursion IsNameByte bytes
 all_name_bytes [] h = tt
-all_name_bytes (b ∷ bytes) h = elim (two_cases (is_upper b)) [
+all_name_bytes (b ∷ bytes) h = elim (cases_Bool (is_upper b)) [
   | inl e ↦ (grind (arith, nat_tests), all_name_bytes bytes (rw e at h))
   | inr e ↦ absurd (false_true (rw e at h))
 ]

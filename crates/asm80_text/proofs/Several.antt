@@ -1,10 +1,11 @@
 -- The statements of a line, one after the other.
-use Rattle.std.proofs.Common.{◌≡◌, ℕ, zero, suc, ◌+◌, ◌<◌, List, [], ◌∷◌, ◌++◌, map, take, get_or, length, Bool, true, false, Result, Ok, Err, refl, sym, ap, ◌∙◌, append_assoc, arith, All, Bor, ◌||◌, inl, inr, ◌⊎◌}
+use Rattle.std.proofs.Common.{◌≡◌, ℕ, zero, suc, ◌+◌, ◌<◌, List, [], ◌∷◌, ◌++◌, map, take, get_or, length, Bool, Result, Ok, Err, refl, sym, ap, ◌∙◌, append_assoc, arith, All, Bor, ◌||◌, inl, inr}
 use Rattle.std.specs.Global.{Vec}
 use Rattle.std.specs.Prelude.{IfOk}
 use Rattle.std.specs.List.{list_any, onto_first, AllByRecursion}
 use Rattle.std.proofs.lemmas.List.{append-nil, map_push, take_more, get_or-map, length-map}
 use Rattle.std.proofs.lemmas.List.Elements.{All-from_recursion, recursion_from_All}
+use Rattle.std.proofs.lemmas.Bool.{cases_Bool}
 use Rattle.asm80_text.specs.declared.token.Token.{Token}
 use Rattle.asm80_text.specs.declared.fault.ParseFault.{ParseFault}
 use Rattle.asm80_text.specs.declared.fault.ParseFault.TheVariants as faults
@@ -46,17 +47,13 @@ any_target f (x ∷ parts) = ap (λ (b : Bool). f x.now || b) (any_target f part
 
 -- ---- lawful tokens in parts
 
-two_cases : (b : Bool) → (b ≡ true) ⊎ (b ≡ false)
-two_cases true = inl refl
-two_cases false = inr refl
-
 onto_lawful : (s : Spelling) (t : Token) (parts : List (List Token)) → IsLawful s t → AllByRecursion (AllByRecursion (IsLawful s)) parts → AllByRecursion (AllByRecursion (IsLawful s)) (onto_first t parts)
 onto_lawful s t [] h a = ((h, tt), tt)
 onto_lawful s t (part ∷ parts) h a = ((h, a.0), a.1)
 
 split_lawful : (s : Spelling) (ts : List Token) → AllByRecursion (IsLawful s) ts → AllByRecursion (AllByRecursion (IsLawful s)) (parts_of ts)
 split_lawful s [] h = (tt, tt)
-split_lawful s (t ∷ ts) h = elim (two_cases (is_bang t)) [
+split_lawful s (t ∷ ts) h = elim (cases_Bool (is_bang t)) [
   | inl e ↦ rw e (tt, split_lawful s ts h.1)
   | inr e ↦ rw e (onto_lawful s t (parts_of ts) h.0 (split_lawful s ts h.1))
 ]

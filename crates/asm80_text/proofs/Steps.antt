@@ -1,7 +1,7 @@
 -- What a reader holds after one more byte.
-use Rattle.std.proofs.Common.{◌≡◌, ◌≢◌, ℕ, ◌<◌, ◌+◌, List, [], ◌∷◌, ◌++◌, length, map, Bool, true, false, eqb, ◌-◌, Option, Some, None, Err, refl, sym, ap, subst, ◌∙◌, append_assoc, arith, inl, inr, ◌⊎◌}
+use Rattle.std.proofs.Common.{◌≡◌, ◌≢◌, ℕ, ◌<◌, ◌+◌, List, [], ◌∷◌, ◌++◌, length, map, Bool, true, false, eqb, ◌-◌, Option, Some, None, Err, refl, sym, ap, subst, ◌∙◌, append_assoc, arith, inl, inr}
 use Rattle.std.specs.Prelude.{is_some, slice_index}
-use Rattle.std.proofs.lemmas.Bool.{cases_eq, cases_lt, lt-ltb, le-ltb}
+use Rattle.std.proofs.lemmas.Bool.{cases_eq, cases_lt, lt-ltb, le-ltb, cases_Bool}
 use Rattle.std.proofs.lemmas.List.{length-take, append-nil, length-append, map-append}
 use Rattle.asm80_statement_types.specs.declared.fault.LineRule.{LineRule}
 use Rattle.asm80_statement_types.specs.declared.fault.ReadFault.{ReadFault}
@@ -27,10 +27,6 @@ cut_of : {stream rest : List ℕ} {raw : List (List ℕ)} {k : Bool} → IsStrea
 cut_of (open_yet c) e = c
 cut_of (closed text more c p) e = absurd cc
 
-two_cases : (b : Bool) → (b ≡ true) ⊎ (b ≡ false)
-two_cases true = inl refl
-two_cases false = inr refl
-
 no_fault : (n : ℕ) (r : LineRule) → ◌≡◌ {A = Option ReadFault} (Some (Syntax n r)) None → ⊥
 no_fault n r e = cc
 
@@ -41,7 +37,7 @@ holds_long : (rest : List ℕ) → HoldsLine None rest → 256 < length rest
 holds_long rest h = h
 
 without_cr_long : (rest : List ℕ) → 256 < length rest → 255 < length (without_cr rest)
-without_cr_long rest h = elim (two_cases (eqb (slice_index rest (length rest - 1)) 13)) [
+without_cr_long rest h = elim (cases_Bool (eqb (slice_index rest (length rest - 1)) 13)) [
   | inl e ↦ rw e (omega (arith, length-take (length rest - 1) rest))
   | inr e ↦ rw e (omega arith)
 ]

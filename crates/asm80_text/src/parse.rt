@@ -1,6 +1,6 @@
 //! Statements of tokens.
 
-ghost use Rattle.std.specs.Prelude.{◌≡◌, ◌≢◌, [], ◌∷◌, ℕ, All, IfOk, List, MatchOption, Option};
+ghost use Rattle.std.specs.Prelude.{◌≡◌, ◌≢◌, ◌∷◌, ℕ, All, IfOk, List, MatchOption, Option};
 ghost use Rattle.asm80_text.specs.declared.token.Token.{Token};
 ghost use Rattle.asm80_text.specs.Tokens.{IsLawful};
 ghost use Rattle.asm80_statement_types.specs.Tree.{Operand, statement_of};

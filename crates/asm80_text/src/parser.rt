@@ -1,6 +1,6 @@
 //! Expressions of tokens.
 
-ghost use Rattle.std.specs.Prelude.{◌≡◌, ◌≢◌, ◌≤◌, ◌<◌, List, [], ◌∷◌, IfOk, MatchOption, ℕ, length};
+ghost use Rattle.std.specs.Prelude.{◌≡◌, ◌≢◌, ◌≤◌, ◌<◌, List, [], ◌∷◌, IfOk, MatchOption, length};
 ghost use Rattle.std.specs.List.{prefix_len};
 ghost use Rattle.asm80_text.specs.declared.token.Token.{Token};
 ghost use Rattle.asm80_statement_types.specs.Tree.{Tree, tree_of};

@@ -1,6 +1,6 @@
 //! Strings.
 
-ghost use Rattle.std.specs.Prelude.{◌≡◌, ◌≢◌, ◌≤◌, ◌<◌, ◌∷◌, [], ℕ, List, IfOk, IfSome, MatchOption, length};
+ghost use Rattle.std.specs.Prelude.{◌≡◌, ◌≢◌, ◌≤◌, ◌<◌, ◌∷◌, ℕ, List, IfOk, IfSome, MatchOption, length};
 ghost use Rattle.std.specs.List.{list_all};
 ghost use Rattle.asm80_text.specs.Letters.{is_printable};
 ghost use Rattle.asm80_text.specs.TokenResults.{Finds, IsQuoted};

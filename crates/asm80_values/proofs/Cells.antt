@@ -3,6 +3,7 @@ use Rattle.std.proofs.Common.{◌≡◌, ℕ, zero, suc, ◌+◌, ◌-◌, ◌%�
 use Rattle.std.specs.List.{list_any}
 use Rattle.std.proofs.lemmas.Bool.Decides.{nat_tests}
 use Rattle.std.proofs.lemmas.List.Folds.{list_any-append, list_any_at}
+use mathlib.Core.Bool.{or-true}
 use Rattle.asm80_source_def.specs.Layout.{counted_from, is_outside}
 
 pub counted_more : (at k : ℕ) → counted_from at (suc k) ≡ counted_from at k ++ ((at + k) % 0x10000) ∷ []
@@ -65,10 +66,6 @@ inside top at (suc n) low fits small =
     let here : at % 0x10000 ≡ at = omega arith in
     let good : is_outside top at ≡ false = grind (arith, nat_tests) in
     rw (here, good) (inside top (at + 1) n (omega arith) (omega arith) small)
-
-or-true : (b : Bool) → (b || true) ≡ true
-or-true true = refl
-or-true false = refl
 
 -- one of them is not, if not the first then another
 or_later :

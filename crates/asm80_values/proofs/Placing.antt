@@ -8,6 +8,7 @@ use Rattle.std.proofs.lemmas.Bool.Decides.{nat_tests}
 use Rattle.std.proofs.lemmas.List.Elements.{All-nil, All-head, All-tail, All-cons, All-append, All-weaker}
 use Rattle.std.proofs.lemmas.List.Folds.{list_any-append}
 use Rattle.std.proofs.lemmas.List.Sorted.{All-permutation, list_any-IsPermutation, IsPermutation-sym}
+use mathlib.Core.Bool.{or-true}
 use Rattle.cells.specs.declared.Cell.{Cell}
 use Rattle.cells.proofs.Options.{if_none}
 use Rattle.i80.specs.declared.Instr80.{Instr80}
@@ -222,10 +223,6 @@ start_cons a (Some x) xs true rest here later h = start_head (x.at == a) (here r
     start_head true h = refl
     start_head false h = absurd (cc)
 start_cons a (Some x) xs false rest here later h = rw (later h) (or-true (x.at == a))
-  where
-    or-true : (b : Bool) → (b || true) ≡ true
-    or-true true = refl
-    or-true false = refl
 
 start_all : (top a : ℕ) (is : List Item) → All IsSound is → find (breaks top S1) is ≡ None → list_any (starts_item a) is ≡ true → list_any (λ (x : Placed). x.at == a) (filter_map placed_item is) ≡ true
 start_all top a [] sound native h = absurd (cc)

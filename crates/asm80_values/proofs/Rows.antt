@@ -1,5 +1,6 @@
 -- The items of rows, from the forms of their operands.
-use Rattle.std.proofs.Common.{◌≡◌, Bool, true, false, ◌||◌, List, Option, Some, Result, Ok, refl, subst}
+use Rattle.std.proofs.Common.{◌≡◌, true, List, Option, Some, Result, Ok, refl, subst}
+use mathlib.Core.Bool.{or-true}
 use Rattle.asm80_statement_types.specs.Tree.{Operand}
 use Rattle.asm80_values.specs.declared.fault.FormFault.{FormFault}
 use Rattle.asm80_values.specs.declared.form.Form.{Form}
@@ -22,10 +23,6 @@ given t0 t o args0 args r same same_args h =
 
 pub item_given : (t : Setting) (r : WalkRow) (o : Operation) (f : Form) (i : Option Item) → row_operation r ≡ Some o → GivesForm t o r.statement.args (Ok f) → IsItemOf t r i → GivesItem t r (Ok i)
 item_given t r o f i is h item = (rw is h.0, item)
-
-or-true : (b : Bool) → (b || true) ≡ true
-or-true true = refl
-or-true false = refl
 
 pub instruction_fills : (t : Setting) (o : Operation) (args : List Operand) (oo : Option Operation) (i : Instr) → oo ≡ Some o → IsForm t o args (Instruction i) → fills_cells oo ≡ true
 instruction_fills t o args oo i is h = rw (is, h.0) refl

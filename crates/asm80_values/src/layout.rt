@@ -1,7 +1,6 @@
 // The rules of the layout and of this project's profile.
-ghost use Rattle.std.specs.Prelude.{◌≡◌, ◌||◌, ℕ, [], ◌++◌, cond, find, List, IfOk, Some, None};
+ghost use Rattle.std.specs.Prelude.{◌≡◌, ◌||◌, ℕ, [], ◌++◌, find, List, IfOk, Some, None};
 ghost use Rattle.std.specs.List.{list_any};
-ghost use Rattle.std.specs.Option.{option_or};
 ghost use Rattle.base_types.specs.Addresses.{has_address, IsSetOf};
 ghost use Rattle.asm80_source_def.specs.Walk.{Walk, WalkRow};
 ghost use Rattle.asm80_source_def.specs.Items.{item_rows as rows_that_fill, starts_in};

@@ -5,7 +5,7 @@ ghost use Rattle.asm80_statement_types.specs.Tree.{operand_of};
 ghost use Rattle.asm80_values.specs.Settings.{setting_of};
 ghost use Rattle.asm80_source_def.specs.Items.{is_data_op};
 ghost use Rattle.asm80_source_def.specs.Operands as operands;
-ghost use Rattle.asm80_source_def.specs.Layout.{is_foreign_by, misses, misses_by, computes, computes_by, has_code_inside, loads_code, loads_code_by, loads_sp, operands_by, same_kind};
+ghost use Rattle.asm80_source_def.specs.Layout.{is_foreign_by, misses, misses_by, computes, computes_by, loads_code, loads_code_by, loads_sp, operands_by, same_kind};
 
 use crate::kinds::kinds_of;
 use crate::registers::pair_of;

@@ -2,7 +2,7 @@
 ghost use Rattle.std.specs.Prelude.{◌≡◌, ◌++◌, option_to_list, IfOk, OnOk};
 ghost use Rattle.std.specs.List.{filter_map, flat_map};
 ghost use Rattle.std.specs.List.Sorted.{IsPermutation, IsNonDecreasingBy};
-ghost use Rattle.asm80_program_types.specs.Program.{Program, IsProgram};
+ghost use Rattle.asm80_program_types.specs.Program.{IsProgram};
 ghost use Rattle.asm80_source_def.specs.Items.{laid_from};
 ghost use Rattle.asm80_values.specs.Programs.{AreLawful, placed_item, data_item};
 

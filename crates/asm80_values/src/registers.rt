@@ -3,7 +3,7 @@ ghost use Rattle.std.specs.Prelude.{◌≡◌, option_map};
 ghost use Rattle.asm80_statement_types.specs.Tree.{operand_of};
 ghost use Rattle.asm80_source_def.specs.Operands.{register_name, src_named, pair_named, indirect_named, stack_named, src_of, pair_of_operand, indirect_of, stack_of};
 
-use asm80_statement_types::{Arg, Expr, Name80};
+use asm80_statement_types::{Arg, Expr};
 use i80::{Pair, Reg, Src, StackPair};
 
 // The name that an operand is.

@@ -5,7 +5,7 @@ ghost use Rattle.asm80_statement_types.specs.Tree.{operand_of};
 ghost use Rattle.asm80_first_walk.specs.Scopes.{scope_of};
 ghost use Rattle.asm80_source_def.specs.declared.rule.AsmRule.TheVariants.{V1, V3, V4};
 ghost use Rattle.asm80_source_def.specs.FirstFaults.{rule_if};
-ghost use Rattle.asm80_source_def.specs.Operands.{is_value_kind, values_break, is_of_kind, are_of_kinds, moves_memory, fits_byte, fits_kind, is_unfit, rule_of_values, rule_of_instruction, is_no_byte_item, item_is_unfit, rule_of_bytes, rule_of_words, rule_of_operands};
+ghost use Rattle.asm80_source_def.specs.Operands.{is_value_kind, values_break, is_of_kind, are_of_kinds, moves_memory, fits_byte, fits_kind, is_unfit, rule_of_instruction, is_no_byte_item, item_is_unfit, rule_of_bytes, rule_of_words, rule_of_operands};
 ghost use Rattle.asm80_source_def.specs.Values.{is_no_value, operand_has_unknown, operand_divides_by_zero};
 
 use crate::kinds::{is_value_kind, kinds_of};

@@ -2,8 +2,9 @@
 use Rattle.std.proofs.Common.{◌≡◌, ℕ, suc, ◌-◌, ◌||◌, ◌&&◌, List, [], ◌∷◌, ◌++◌, length, map, Bool, true, false, not, Ok, refl, sym, ap, ◌∙◌, append_assoc, arith, inl, inr}
 use Rattle.std.specs.List.{flat_map, AllByRecursion}
 use Rattle.std.proofs.Math.Seq.{take-append_seam, get_or-append_seam}
-use Rattle.std.proofs.lemmas.Bool.{or_parts}
+use Rattle.std.proofs.lemmas.Bool.{or_parts, cases_Bool}
 use Rattle.std.proofs.lemmas.List.{append-nil, length-append, map-append}
+use mathlib.Core.Bool.{or-true}
 use Rattle.asm86_line_types.specs.declared.line.Line86.{Line86}
 use Rattle.asm86_line_types.specs.declared.line.Stmt86.{Stmt86}
 use Rattle.asm86_line_types.specs.Image.{statements}
@@ -19,7 +20,6 @@ use Rattle.asm86.proofs.Ends.{line_ends}
 use Rattle.asm86.proofs.Lines.{true_false}
 use Rattle.asm86.proofs.Listings.{not_in_order_on}
 use Rattle.asm86.proofs.Orders.{rest_in_order}
-use Rattle.asm86.proofs.Steps.{two_cases}
 
 -- ---- the written lines
 
@@ -81,7 +81,7 @@ bodies n (x ∷ xs) h = ap (λ (t : List ℕ). t ∷ map without_cr (raw_of (suc
 -- ---- the lines
 
 first_in_order : (before more : List Line86) → are_in_order (before ++ more) ≡ true → are_in_order before ≡ true
-first_in_order before more h = elim (two_cases (are_in_order before)) [
+first_in_order before more h = elim (cases_Bool (are_in_order before)) [
   | inl e ↦ e
   | inr e ↦ absurd (true_false (are_in_order (before ++ more)) h (not_in_order_on before more e))
 ]
@@ -100,10 +100,6 @@ end_is_last : (r : Reading) (before : List Stmt86) (x : Stmt86) (more : List Stm
 end_is_last r [] x more h e = empty_is more (none_behind (may_stand r x) (ends_text x) (has_no_statement more) (in_order (reading_after r x) more) h e)
 end_is_last r (y ∷ before) x more h e = end_is_last (reading_after r y) before x more (rest_in_order (may_stand r y) (ends_text y) (has_no_statement (before ++ x ∷ more)) (in_order (reading_after r y) (before ++ x ∷ more)) h) e
 
-or_true : (b : Bool) → (b || true) ≡ true
-or_true true = refl
-or_true false = refl
-
 no_lines : (xs : List Line86) → statements xs ≡ [] → xs ≡ []
 no_lines [] e = refl
 no_lines (x ∷ xs) e = absurd cc
@@ -111,7 +107,7 @@ no_lines (x ∷ xs) e = absurd cc
 -- END among statements that are in order, with one more behind them
 end_comes : (before : List Line86) (x : Line86) → ends_text x.stmt ≡ true → has_end (before ++ x ∷ []) ≡ true
 end_comes [] x e = rw e refl
-end_comes (y ∷ before) x e = rw (end_comes before x e) (or_true (ends_text y.stmt))
+end_comes (y ∷ before) x e = rw (end_comes before x e) (or-true (ends_text y.stmt))
 
 none_comes : (before : List Line86) (x : Line86) → has_end before ≡ false → ends_text x.stmt ≡ false → has_end (before ++ x ∷ []) ≡ false
 none_comes [] x h e = rw e refl
@@ -127,7 +123,7 @@ gives_back n before (x ∷ xs) h b o e =
     let one : before ++ lines_of_number n (x.stmt ∷ []) ≡ before ++ x ∷ [] = rw (← h.0) refl in
     let whole : before ++ x ∷ xs ≡ (before ++ x ∷ []) ++ xs = sym (append_assoc before (x ∷ []) xs) in
     let adds : AddsLine before n h.1.body (before ++ x ∷ []) = record { given = x.stmt ∷ []; reads = h.1.reads; whole = sym one; in_order = first_in_order (before ++ x ∷ []) xs (rw whole at o) } in
-    elim (two_cases (ends_text x.stmt)) [
+    elim (cases_Bool (ends_text x.stmt)) [
       | inl k ↦ last_ends n before xs x h.1.body (bodies_of (suc n) xs h.2) (no_lines xs (end_is_last at_start (statements before) x.stmt (statements xs) (rw (map-append (λ (l : Line86). l.stmt) before (x ∷ xs)) at o) k)) adds k
       | inr k ↦ rw whole (next adds (none_comes before x b k) (gives_back (suc n) (before ++ x ∷ []) xs h.2 (none_comes before x b k) (rw whole at o) (rw k at e)))
     ]

@@ -1,8 +1,8 @@
 -- What a reader holds after one more byte.
-use Rattle.std.proofs.Common.{◌≡◌, ◌≢◌, ℕ, ◌<◌, ◌+◌, ◌||◌, List, [], ◌∷◌, ◌++◌, take, length, map, Bool, true, false, Option, Some, None, refl, sym, ap, subst, ◌∙◌, append_assoc, arith, inl, inr, ◌⊎◌}
+use Rattle.std.proofs.Common.{◌≡◌, ◌≢◌, ℕ, ◌<◌, ◌+◌, ◌||◌, List, [], ◌∷◌, ◌++◌, take, length, map, Bool, true, false, Option, Some, None, refl, sym, ap, subst, ◌∙◌, append_assoc, arith, inl, inr}
 use Rattle.std.specs.Prelude.{is_some}
 use Rattle.std.proofs.Math.ListN.{get_or}
-use Rattle.std.proofs.lemmas.Bool.{cases_eq}
+use Rattle.std.proofs.lemmas.Bool.{cases_eq, cases_Bool}
 use Rattle.std.proofs.lemmas.List.{take_more, length-map, append-nil, length-append}
 use Rattle.asm86_line_types.specs.declared.line.Line86.{Line86}
 use Rattle.asm86.specs.declared.text_fault.TextFault.{TextFault}
@@ -25,10 +25,6 @@ after_none reader lines number held fault = record {
   lines = none_left;
   behind = (fault, lines, number, rw held refl);
 }
-
-pub two_cases : (b : Bool) → (b ≡ true) ⊎ (b ≡ false)
-two_cases true = inl refl
-two_cases false = inr refl
 
 pub no_fault : (f : TextFault) → ◌≡◌ {A = Option TextFault} (Some f) None → ⊥
 no_fault f e = cc
@@ -73,7 +69,7 @@ pub record Given (line : List ℕ) (s new : TextReader) : Type 0 where
   pub goes_on : ending ≡ Open → (new.number ≡ s.number + 1) × (new.held ≡ Some [])
 
 given_by : (line : List ℕ) (s new : TextReader) (f : Option TextFault) → new.fault ≡ f → f ≢ Some Memory → ReadsBy line s new f → Given line s new
-given_by line s new None e ne a = elim (two_cases (has_end new.lines)) [
+given_by line s new None e ne a = elim (cases_Bool (has_end new.lines)) [
   | inl k ↦ record { found = new.lines; ending = Ended; gives = ends a.0 k; is = (e, refl); goes_on = λ x. absurd (open_not_ended (sym x)) }
   | inr k ↦ record { found = new.lines; ending = Open; gives = next a.0 k none_left; is = (e, refl); goes_on = λ _. (a.1, a.2) }
 ]

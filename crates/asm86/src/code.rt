@@ -1,5 +1,5 @@
 // The bytes of the code.
-ghost use Rattle.std.specs.Prelude.{◌≡◌, ℕ, ◌+◌, ◌%◌, ◌<◌, ◌≤◌, ◌++◌, length, MatchOption, IfOk, OnOk};
+ghost use Rattle.std.specs.Prelude.{◌≡◌, ◌+◌, ◌%◌, ◌<◌, ◌++◌, length, MatchOption, IfOk, OnOk};
 ghost use Rattle.asm86_line_types.specs.declared.line.Label.{Label};
 ghost use Rattle.asm86_line_types.specs.Image.{statements, short_reaches, jump_reaches, AllReach};
 ghost use Rattle.asm86_line_types.specs.Layout.{size_of, sizes_of, bytes_at, instr_of, code_from, distance16};

@@ -1,5 +1,5 @@
 // The data cells.
-ghost use Rattle.std.specs.Prelude.{◌≡◌, ℕ, ◌+◌, ◌*◌, ◌^◌, ◌<◌, ◌≤◌, true, [], ◌∷◌, length, IfOk, IfErr, OnOk};
+ghost use Rattle.std.specs.Prelude.{◌≡◌, ◌+◌, ◌^◌, ◌<◌, ◌≤◌, true, [], ◌∷◌, length, IfOk, IfErr, OnOk};
 ghost use Rattle.std.specs.List.{fold};
 ghost use Rattle.asm86_line_types.specs.declared.line.Label.{Label};
 ghost use Rattle.asm86_line_types.specs.Order.{Reading, at_start, may_stand, reading_after, in_order};

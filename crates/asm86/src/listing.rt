@@ -1,5 +1,5 @@
 // The statements of the lines that are complete.
-ghost use Rattle.std.specs.Prelude.{◌≡◌, ◌+◌, ◌<◌, ◌^◌, ℕ, List, [], ◌∷◌, length, Err, IfOk, MatchResult};
+ghost use Rattle.std.specs.Prelude.{◌≡◌, ◌+◌, ◌<◌, ℕ, List, [], ◌∷◌, length, Err, IfOk, MatchResult};
 ghost use Rattle.asm86.specs.Reader.{IsListed, ListsLine, ListsMore, ReadsNumbered};
 ghost use Rattle.asm86.specs.Stream.{has_end};
 ghost use Rattle.asm86.specs.declared.text_fault.TextFault.TheVariants.{Memory};

@@ -1,5 +1,5 @@
 // The offset of each label, found by a hash.
-ghost use Rattle.std.specs.Prelude.{◌≡◌, ◌≢◌, ◌++◌, [], ◌∷◌, Ok, true, is_some, not, IfOk};
+ghost use Rattle.std.specs.Prelude.{◌≡◌, ◌++◌, [], ◌∷◌, Ok, true, is_some, not, IfOk};
 ghost use Rattle.asm86_line_types.specs.Image.{offset_in};
 ghost use Rattle.asm86.specs.Places.{label_place};
 

@@ -1,7 +1,7 @@
 //! The forms of operations on registers: ADD and the like, INC and DEC, NOT, the rotations, XCHG, PUSH and POP.
 
 ghost use Rattle.std.specs.Prelude.{◌≡◌};
-ghost use Rattle.asm86_line_reader.specs.Forms.{by_one, computed, counted, exchanged, inverted, on_al, on_reg16, on_reg8, or_cl, popped, pushed, rotated, stacked, with_reg16, with_reg8};
+ghost use Rattle.asm86_line_reader.specs.Forms.{computed, counted, exchanged, inverted, on_al, on_reg16, on_reg8, or_cl, popped, pushed, rotated, stacked};
 ghost use Rattle.asm86_line_reader.specs.Results.{checked, or_m2};
 
 use crate::bytes::byte;

@@ -1,6 +1,6 @@
 //! The forms of a statement: an operation with its operands.
 
-ghost use Rattle.std.specs.Prelude.{◌≡◌, option_map};
+ghost use Rattle.std.specs.Prelude.{◌≡◌};
 ghost use Rattle.asm86_line_reader.specs.Forms.{bare, interrupt, jumped, label_in, number_in, single, with_one, with_two};
 ghost use Rattle.asm86_line_reader.specs.Results.{checked, or_m2};
 

@@ -1,7 +1,7 @@
 //! The forms of IN and OUT.
 
 ghost use Rattle.std.specs.Prelude.{◌≡◌};
-ghost use Rattle.asm86_line_reader.specs.Forms.{into_al, received, sent, to_port};
+ghost use Rattle.asm86_line_reader.specs.Forms.{received, sent};
 ghost use Rattle.asm86_line_reader.specs.Results.{checked};
 
 use crate::bytes::byte;

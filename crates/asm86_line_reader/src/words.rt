@@ -3,7 +3,7 @@
 ghost use Rattle.std.specs.Prelude.{◌≡◌, map, option_map};
 ghost use Rattle.std.specs.List.{find};
 ghost use Rattle.std.specs.Str.{bytes_eq};
-ghost use Rattle.asm86_line_reader.specs.Words.{label_or_unknown, lettered, word_in_table, name_token, numbered_label, instruction_words, others, word_token};
+ghost use Rattle.asm86_line_reader.specs.Words.{lettered, word_in_table, name_token, numbered_label, instruction_words, others, word_token};
 
 use crate::numbers::{number_of, value_in};
 use crate::token::{Operation, Token};

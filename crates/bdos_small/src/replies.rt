@@ -1,7 +1,7 @@
 // What a call brings, and replies that write.
 ghost use Rattle.std.specs.Prelude.{◌≡◌, IfOk, [], ◌∷◌};
 ghost use Rattle.bdos_small.specs.Console.{place_in};
-ghost use Rattle.bdos_small.specs.Calls.{block_read, first_place, second_place, telling, reply_writing, writing_both};
+ghost use Rattle.bdos_small.specs.Calls.{block_read, telling, reply_writing, writing_both};
 
 use dialogue::{Block, Blocks, Bytes, Range, Reply, Request};
 use std::alloc::{AllocError, Global};

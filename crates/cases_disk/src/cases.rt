@@ -1,12 +1,10 @@
 // What a case asks for, and its answer.
-ghost use Rattle.std.specs.Prelude.{◌≡◌, ◌≢◌};
-ghost use Rattle.dialogue.specs.Lawful.{IsLawfulRequest};
 
 use crate::memory::{Memory, request};
 use crate::shown::{bytes_text, disk_text, reply_text};
 use anyhow::bail;
 use bdos_small::{Answer, Bdos, Disk, DiskFault};
-use dialogue::{Page, Request, dma_after};
+use dialogue::{Page, dma_after};
 use std::alloc::{AllocError, Global};
 
 /// Where the cases have their file control block.

@@ -1,5 +1,5 @@
 // The memory of a program, and the requests of its calls.
-ghost use Rattle.std.specs.Prelude.{◌≡◌, IfOk, IfSome};
+ghost use Rattle.std.specs.Prelude.{IfOk, IfSome};
 ghost use Rattle.dialogue.specs.Lawful.{IsLawfulRequest};
 
 use dialogue::{Block, Request, View, request_of, shape_of};

@@ -9,25 +9,10 @@ use cells::{Part, Place};
 use sym_run::{Action, Exit, Way, Work};
 use sym_terms::Term;
 
-const PARTS: [Part; 12] = [
-    Part::A,
-    Part::B,
-    Part::C,
-    Part::D,
-    Part::E,
-    Part::H,
-    Part::L,
-    Part::S,
-    Part::Z,
-    Part::Ac,
-    Part::P,
-    Part::Cy,
-];
-
 fn parts_agree(work: &Work) -> bool
     requires { BothAreGiven work.now }
 {
-    for part in PARTS {
+    for part in Part::ALL {
         let first = work.first().part(part);
         let second = work.second().part(part);
         if !work.agree(first, second) {
@@ -64,14 +49,6 @@ fn actions_agree(work: &Work, first: &[Action], second: &[Action]) -> bool
     }
 }
 
-fn is_same(a: Place, b: Place) -> bool {
-    match (a, b) {
-        (Place::At(a), Place::At(b)) => a == b,
-        (Place::Exit, Place::Exit) => true,
-        _ => false,
-    }
-}
-
 fn ways_agree(work: &Work, first: Way, second: Way) -> bool
     requires first { WayIsGiven work.now.terms first }
     requires second { WayIsGiven work.now.terms second }
@@ -91,7 +68,7 @@ fn ways_agree(work: &Work, first: Way, second: Way) -> bool
 
 fn is_goto(way: Way, wanted: Place) -> bool {
     match way {
-        Way::Goto(place) => is_same(place, wanted),
+        Way::Goto(place) => place.is_same(wanted),
         _ => false,
     }
 }
@@ -109,28 +86,28 @@ fn by_terms_agree(work: &Work, high: Term, low: Term, second: Way) -> bool
 
 fn is_call(way: Way, wanted: Place, wanted_back: Place) -> bool {
     match way {
-        Way::Call(place, back) => is_same(place, wanted) && is_same(back, wanted_back),
+        Way::Call(place, back) => place.is_same(wanted) && back.is_same(wanted_back),
         _ => false,
     }
 }
 
 fn is_sys(way: Way, wanted: Place) -> bool {
     match way {
-        Way::Sys(back) => is_same(back, wanted),
+        Way::Sys(back) => back.is_same(wanted),
         _ => false,
     }
 }
 
 fn is_in(way: Way, wanted: u8, wanted_next: Place) -> bool {
     match way {
-        Way::In(port, next) => port == wanted && is_same(next, wanted_next),
+        Way::In(port, next) => port == wanted && next.is_same(wanted_next),
         _ => false,
     }
 }
 
 fn is_out(way: Way, wanted: u8, wanted_next: Place) -> bool {
     match way {
-        Way::Out(port, next) => port == wanted && is_same(next, wanted_next),
+        Way::Out(port, next) => port == wanted && next.is_same(wanted_next),
         _ => false,
     }
 }

@@ -1,5 +1,5 @@
 -- The rules that `clap` makes of what it is asked, and which of them a word finds.
-use Rattle.std.proofs.Common.{◌≡◌, ℕ, List, [], ◌∷◌, ◌++◌, Bool, true, false, Option, Some, None, refl, ap, ap₂, sym, ◌∙◌, map, codes, cond, ◌||◌, ◌+◌, ◌<◌, fold, get_or, length, take}
+use Rattle.std.proofs.Common.{◌≡◌, ℕ, List, [], ◌∷◌, ◌++◌, Bool, true, false, Option, Some, None, refl, ap, ap₂, sym, ◌∙◌, map, codes, cond, ◌+◌, ◌<◌, fold, get_or, length, take}
 use Rattle.std.specs.Prelude.{find, option_map}
 use Rattle.std.specs.Str.{bytes_eq}
 use Rattle.std.specs.Option.{option_or}
@@ -7,6 +7,7 @@ use Rattle.std.proofs.lemmas.List.Folds.{find-append}
 use Rattle.std.proofs.lemmas.List.Sums.{fold_push}
 use Rattle.std.proofs.lemmas.Option.{none-some, same_Some}
 use Rattle.std.proofs.lemmas.List.{map-append, take_more}
+use mathlib.Core.Bool.{or-false}
 use Rattle.clap.specs.Words.{Rule, Text, App, with_rule}
 use Rattle.clap.specs.Walk.{arg_by_id, arg_by_index, arg_by_long}
 use Rattle.clap.specs.Simple.{Shape, built, new_shape, is_simple}
@@ -121,10 +122,6 @@ find_same : {X : Type 0} (p q : X → Bool) (xs : List X) → ((x : X) → p x �
 find_same p q [] e = refl
 find_same p q (x ∷ xs) e = ap₂ (λ b o. cond b (Some x) o) (e x) (find_same p q xs e)
 
-or_no : (b : Bool) → (b || false) ≡ b
-or_no true = refl
-or_no false = refl
-
 -- the rule that a name finds: a flag's, or an option's
 abbrev pub looked_up : CommandName → Text → Option Rule
 looked_up c n = option_or (option_map flag_built (named_among (flag_words c) (0x2D ∷ (0x2D ∷ n)))) (option_map option_built (named_among (options_of c) (0x2D ∷ (0x2D ∷ n))))
@@ -144,7 +141,7 @@ pub by_long : (c : CommandName) (n : Text) → arg_by_long (rules c) n ≡ looke
 unfolding rules
 by_long c n =
     find-append _ (map flag_built (flag_words c)) (map option_built (options_of c))
-    ∙ ap₂ option_or (found_in _ flag_built (flag_words c) n (λ o. or_no _)) (found_in _ option_built (options_of c) n (λ o. or_no _))
+    ∙ ap₂ option_or (found_in _ flag_built (flag_words c) n (λ o. or-false _)) (found_in _ option_built (options_of c) n (λ o. or-false _))
 
 by_id : (c : CommandName) (n : Text) → bytes_eq (codes "names") n ≡ false → arg_by_id (rules c) n ≡ looked_up c n
 unfolding rules

@@ -1,6 +1,6 @@
 -- The items of a command as uses of `clap`'s arguments: their rows, and whether each option stands once.
 use Rattle.std.proofs.Common.{◌≡◌, List, [], ◌∷◌, ◌++◌, Bool, true, false, not, Option, Some, None, refl, ap, ap₂, sym, ◌∙◌, cond, ◌&&◌, ◌||◌, ◌⊎◌, inl, inr, codes, fold, map, append_assoc}
-use Rattle.std.proofs.lemmas.Bool.{and_parts, false≢true}
+use Rattle.std.proofs.lemmas.Bool.{and_parts, false≢true, not-true}
 use Rattle.std.proofs.lemmas.List.{append-nil}
 use Rattle.std.specs.Prelude.{option_and_then, option_map, slice_get, unwrap_or}
 use Rattle.std.specs.Str.{bytes_eq}
@@ -36,10 +36,6 @@ names_pass rows (w ∷ ws) = names_pass (item_rows rows (Name w)) ws
 -- what `clap` keeps of an option's text
 abbrev pub kept_text : OptionName → Word → Word
 kept_text o text = cond (is_flag o) (codes "true") text
-
-pub is_off : (b : Bool) → not b ≡ true → b ≡ false
-is_off true e = cc
-is_off false e = refl
 
 -- the first use of an option
 first_setting : (o : OptionName) (text : Word) (rows : List Row) → has_row (long_name o) rows ≡ false → item_rows rows (Setting o text) ≡ with_values (long_name o) AsWritten CommandLine (kept_text o text ∷ []) rows
@@ -77,7 +73,7 @@ stays o (Name w ∷ items) rows has pass =
     (rest.0 ∙ ap of_row (name_first o w rows), rest.1, rest.2)
 stays o (Setting p text ∷ items) rows has pass =
     let parts = and_parts _ _ pass in
-    let fresh = is_off _ parts.0 in
+    let fresh = not-true _ parts.0 in
     go _ refl fresh (λ r. stays o items (item_rows rows (Setting p text)) r parts.1)
   where
     go : (b : Bool) → bytes_eq (long_name p) (long_name o) ≡ b → has_row (long_name p) rows ≡ false
@@ -99,7 +95,7 @@ is_read o [] rows fresh pass = inl (refl, none_first (long_name o) rows fresh, f
 is_read o (Name w ∷ items) rows fresh pass = is_read o items (item_rows rows (Name w)) (name_row o w rows ∙ fresh) pass
 is_read o (Setting p text ∷ items) rows fresh pass =
     let parts = and_parts _ _ pass in
-    let new = is_off _ parts.0 in
+    let new = not-true _ parts.0 in
     go _ refl new parts.1 (λ r. is_read o items (item_rows rows (Setting p text)) r parts.1)
   where
     go : (b : Bool) → bytes_eq (long_name p) (long_name o) ≡ b → has_row (long_name p) rows ≡ false → items_pass (item_rows rows (Setting p text)) items ≡ true
@@ -126,6 +122,6 @@ names_read_of (Name w ∷ items) rows pass =
     ∙ append_assoc (values_at (codes "names") rows) (w ∷ []) (names_of items)
 names_read_of (Setting p text ∷ items) rows pass =
     let parts = and_parts _ _ pass in
-    let new = is_off _ parts.0 in
+    let new = not-true _ parts.0 in
     names_read_of items (item_rows rows (Setting p text)) parts.1
     ∙ ap (λ vs. vs ++ names_of items) (ap (values_at (codes "names")) (first_setting p text rows new) ∙ ap (λ o. unwrap_or (option_map (λ r. r.values) o) []) (others_stay (long_name p) (codes "names") AsWritten CommandLine (kept_text p text ∷ []) rows (apart_names p)))

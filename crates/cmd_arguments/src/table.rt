@@ -1,7 +1,7 @@
 //! The table of the commands.
 
 ghost use Rattle.std.specs.Prelude.{◌≡◌};
-ghost use Rattle.cmd_arguments.specs.Table.{command_named, command_word, commands, flag_words, long_name, options_of};
+ghost use Rattle.cmd_arguments.specs.Table.{command_named, command_word, flag_words, long_name, options_of};
 
 /// A command's name.
 #[derive(Clone, Copy)]

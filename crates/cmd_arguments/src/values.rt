@@ -1,8 +1,6 @@
 //! The values that the texts of options stand for.
 
-ghost use Rattle.std.specs.Prelude.{◌≡◌, ◌<◌, ◌≤◌, ◌^◌, IfSome, option_map, option_copied};
-ghost use Rattle.std.specs.List.{list_all};
-ghost use Rattle.std.specs.Char.{is_digit};
+ghost use Rattle.std.specs.Prelude.{◌≡◌, ◌<◌, ◌≤◌, option_copied};
 ghost use Rattle.cmd_arguments.specs.Values.{choice_value, file_name, number_in, steps_value, count_value, top_value};
 
 /// The most steps that a run may be given.

@@ -3,13 +3,12 @@ use Rattle.std.proofs.Common.{◌≡◌, ◌∙◌, ℕ, ◌⊎◌, inl, inr, �
 use Rattle.std.specs.Prelude.{Result, Ok, Err}
 use Rattle.host.specs.Host.{HostState}
 use Rattle.asm86_line_types.specs.declared.line.Line86.{Line86}
-use Rattle.asm86_line_types.specs.declared.line.TextRule.{TextRule}
 use Rattle.asm86_line_types.specs.Image.{Assembles, image_of}
 use Rattle.asm86.specs.Stream.{TextGives}
-use Rattle.asm86.proofs.Outcomes.{same_lines, same_fault, no_lines}
+use Rattle.asm86.proofs.Outcomes.{same_lines}
 use Rattle.asm86.specs.declared.fault.ImageFault.{ImageFault}
-use Rattle.asm86.specs.declared.fault.ImageFault.TheVariants.{Line}
-use Rattle.asm86.specs.Refusals.{ImageRefused, OneRefusal, NotBoth}
+use Rattle.asm86.specs.Refusals.{OneRefusal, NotBoth}
+use Rattle.asm86.proofs.OneOutcome.{OneReading, never_both, one_fault}
 use Rattle.asm80_program_types.specs.Program.{Program}
 use Rattle.asm80_text.specs.Intel.{intel_reading}
 use Rattle.asm80_source_def.specs.Source.{IsSource, SourceRule, IsNoSource, OfLine, OfProgram}
@@ -20,19 +19,19 @@ use Rattle.cmd_common.specs.declared.stop.Stop.TheVariants.{OutOfMemory, NotShow
 use Rattle.cmd_common.specs.Lines.{status_of}
 use Rattle.cmd_common.specs.Said.{IsDone, whole, failed, no_memory, Closes}
 use Rattle.cmd_common.specs.Files.{NoneFailed, FileIsTold, input_limit, text_limit}
+use Rattle.cmd_common.specs.OneEnd.{came_status, IsOnlyEnd, HasStatus}
 use Rattle.cmd_common.specs.Sources.{of_line, of_program, stop_of_rule}
 use Rattle.cmd_common.specs.Texts.{stop_of_image}
-use Rattle.asm86.specs.Images.{IsNoImage, unread, refused as image_refused}
+use Rattle.asm86.specs.Images.{IsNoImage}
+use Rattle.cmd_common.proofs.SourceLaw.{SourceLaw}
 use Rattle.cmd_common.proofs.Told.{told_whole, read_stops, not_unsaid, closes_reads, closes_status, memory_status}
 use Rattle.cmd_check.specs.Checks.{Reads, Loads, Shows, not_shown, no_memory as memory_wanting, Stops, no_source, no_text, refused as source_refused, no_image as image_wanting, unlike, out_of_memory, CheckGives, shown, stopped}
-use Rattle.cmd_check.specs.Completes.{found_count, CheckComesTo, refused, no_image, found, status_of_check, IsOnlyFinding, CheckCompletes}
+use Rattle.cmd_check.specs.Completes.{found_count, CheckComesTo, refused, no_image, found, CheckCompletes}
 
 -- what is known of sources and texts
 pub record Laws : Type 0 where
-  pub program : (bytes : List ℕ) (top : ℕ) (p q : Program) → IsSource intel_reading bytes top p → IsSource intel_reading bytes top q → p ≡ q
-  pub refusal : (bytes : List ℕ) (top m n : ℕ) (r s : SourceRule) → IsNoSource intel_reading bytes top m r → IsNoSource intel_reading bytes top n s → (m ≡ n) × (r ≡ s)
-  pub apart : (bytes : List ℕ) (top n : ℕ) (p : Program) (r : SourceRule) → IsSource intel_reading bytes top p → IsNoSource intel_reading bytes top n r → ⊥
-  pub reading : (text : List ℕ) (a b : Result (List Line86) (ℕ × TextRule)) → TextGives text a → TextGives text b → a ≡ b
+  pub source : SourceLaw
+  pub reading : OneReading
   pub refuses : OneRefusal
   pub not_both : NotBoth
   pub finding : OneFinding
@@ -40,43 +39,33 @@ pub record Laws : Type 0 where
 module _ (law : Laws) (c : Check) where
   -- a text that has an image has no fault
   pub has_none : (text : List ℕ) (lines : List Line86) (fault : ImageFault) → TextGives text (Ok lines) → Assembles lines → IsNoImage text fault → ⊥
-  has_none text lines _ gives stands (unread {line = n} {rule = r} y) = no_lines lines (n, r) (law.reading text (Ok lines) (Err (n, r)) gives y)
-  has_none text lines fault gives stands (image_refused others y r) =
-      law.not_both lines (image_of lines) fault (record { assembles = stands; is = refl })
-      (subst (λ l. ImageRefused l fault) (same_lines others lines (law.reading text (Ok others) (Ok lines) y gives)) r)
-
-  one_fault : (text : List ℕ) (a b : ImageFault) → IsNoImage text a → IsNoImage text b → a ≡ b
-  one_fault text _ _ (unread {line = n} {rule = r} x) (unread {line = m} {rule = s} y) =
-      ap (λ (z : ℕ × TextRule). Line z.0 z.1) (same_fault (n, r) (m, s) (law.reading text (Err (n, r)) (Err (m, s)) x y))
-  one_fault text _ b (unread {line = n} {rule = r} x) (image_refused lines y s) = absurd (no_lines lines (n, r) (law.reading text (Ok lines) (Err (n, r)) y x))
-  one_fault text a _ (image_refused lines x r) (unread {line = n} {rule = s} y) = absurd (no_lines lines (n, s) (law.reading text (Ok lines) (Err (n, s)) x y))
-  one_fault text a b (image_refused lines x r) (image_refused others y s) =
-      law.refuses others a b (subst (λ l. ImageRefused l a) (same_lines lines others (law.reading text (Ok lines) (Ok others) x y)) r) s
+  has_none text lines fault gives stands none =
+      never_both law.reading law.not_both text (image_of lines) fault (record { lines = lines; reads = gives; assembled = record { assembles = stands; is = refl } }) none
 
   -- each outcome is the only one
   after_refusal : (source text : List ℕ) (line : ℕ) (rule : SourceRule) → IsNoSource intel_reading source c.top line rule → (r : Result ℕ Stop) → CheckComesTo c source text r → r ≡ Err (stop_of_rule line rule)
   after_refusal source text line rule none r (refused n s other e) =
-      let same = law.refusal source c.top n line s rule other none in
+      let same = law.source.refusal source c.top n line s rule other none in
       e ∙ (ap (λ k. Err (stop_of_rule k s)) same.0 ∙ ap (λ k. Err (stop_of_rule line k)) same.1)
-  after_refusal source text line rule none r (no_image p fault is n e) = absurd (law.apart source c.top line p rule is none)
-  after_refusal source text line rule none r (found p lines f is gives stands h e) = absurd (law.apart source c.top line p rule is none)
+  after_refusal source text line rule none r (no_image p fault is n e) = absurd (law.source.apart source c.top line p rule is none)
+  after_refusal source text line rule none r (found p lines f is gives stands h e) = absurd (law.source.apart source c.top line p rule is none)
 
   after_fault : (source text : List ℕ) (p : Program) (fault : ImageFault) → IsSource intel_reading source c.top p → IsNoImage text fault → (r : Result ℕ Stop) → CheckComesTo c source text r → r ≡ Err (stop_of_image fault)
-  after_fault source text p fault is none r (refused n s other e) = absurd (law.apart source c.top n p s is other)
-  after_fault source text p fault is none r (no_image q other also n e) = e ∙ ap (λ k. Err (stop_of_image k)) (one_fault text other fault n none)
+  after_fault source text p fault is none r (refused n s other e) = absurd (law.source.apart source c.top n p s is other)
+  after_fault source text p fault is none r (no_image q other also n e) = e ∙ ap (λ k. Err (stop_of_image k)) (one_fault law.reading law.refuses text other fault n none)
   after_fault source text p fault is none r (found q lines f also gives stands h e) = absurd (has_none text lines fault gives stands none)
 
   after_finding : (source text : List ℕ) (p : Program) (lines : List Line86) (f : Finding) → IsSource intel_reading source c.top p → TextGives text (Ok lines) → Assembles lines → IsFinding p lines f → (r : Result ℕ Stop) → CheckComesTo c source text r → r ≡ found_count f
-  after_finding source text p lines f is gives stands h r (refused n s other e) = absurd (law.apart source c.top n p s is other)
+  after_finding source text p lines f is gives stands h r (refused n s other e) = absurd (law.source.apart source c.top n p s is other)
   after_finding source text p lines f is gives stands h r (no_image q fault also n e) = absurd (has_none text lines fault gives stands n)
   after_finding source text p lines f is gives stands h r (found q others g also give stand k e) =
-      let one = law.program source c.top q p also is in
+      let one = law.source.program source c.top q p also is in
       let same = same_lines others lines (law.reading text (Ok others) (Ok lines) give gives) in
       e ∙ ap found_count (law.finding p lines g f (subst (λ l. IsFinding p l g) same (subst (λ (z : Program). IsFinding z others g) one k)) h)
 
   module _ (old new : HostState) (none : NoneFailed old new) (source text : List ℕ) (first : FileIsTold old c.source input_limit source) (second : FileIsTold old c.text text_limit text) (status : ℕ) where
     abbrev Answer : Type 0
-    Answer = (status ≡ 5) ⊎ ((r : Result ℕ Stop) × IsOnlyFinding c source text r × (status ≡ status_of_check r))
+    Answer = HasStatus (CheckComesTo c source text) status
 
     source_is : (mid : HostState) (s t : List ℕ) → Reads c old mid s t → s ≡ source
     source_is mid s t r = told_whole old c.source input_limit source s first r.source_file
@@ -84,13 +73,13 @@ module _ (law : Laws) (c : Check) where
     text_is : (mid : HostState) (s t : List ℕ) → Reads c old mid s t → t ≡ text
     text_is mid s t r = told_whole old c.text text_limit text t second r.text_file
 
-    by_finding : (mid : HostState) (p : Program) (lines : List Line86) (l : Loads c old mid p lines) (f : Finding) → IsFinding p lines f → status ≡ status_of_check (found_count f) → Answer
+    by_finding : (mid : HostState) (p : Program) (lines : List Line86) (l : Loads c old mid p lines) (f : Finding) → IsFinding p lines f → status ≡ came_status (found_count f) → Answer
     by_finding mid p lines l f h e =
         let is = subst (λ b. IsSource intel_reading b c.top p) (source_is mid l.source l.text l.reads) l.is_source in
         let gives = subst (λ b. TextGives b (Ok lines)) (text_is mid l.source l.text l.reads) l.gives in
         inr (found_count f, record { comes = found p lines f is gives l.stands.made.assembles h refl; only = after_finding source text p lines f is gives l.stands.made.assembles h }, e)
 
-    stopping : (stop : Stop) (is : IsOnlyFinding c source text (Err stop)) → (status ≡ 5) ⊎ (status ≡ status_of stop) → Answer
+    stopping : (stop : Stop) (is : IsOnlyEnd (CheckComesTo c source text) (Err stop)) → (status ≡ 5) ⊎ (status ≡ status_of stop) → Answer
     stopping stop is s = ⊎_elim (λ e. inl e) (λ e. inr (Err stop, is, e)) s
 
     by_refusal : (mid : HostState) (s t : List ℕ) → Reads c old mid s t → (line : ℕ) (rule : SourceRule) → IsNoSource intel_reading s c.top line rule → (status ≡ 5) ⊎ (status ≡ status_of (stop_of_rule line rule)) → Answer

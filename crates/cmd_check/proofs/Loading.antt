@@ -1,9 +1,8 @@
 -- From what was read to why it is not checked.
-use Rattle.std.proofs.Common.{◌∙◌, ℕ, ◌<◌, inl, inr, ⊎_elim, List, length, refl, sym, ap, subst, arith}
+use Rattle.std.proofs.Common.{◌∙◌, ℕ, ◌<◌, ⊎_elim, List, length, refl, sym, ap, subst, arith}
 use Rattle.std.specs.Prelude.{Ok}
-use Rattle.host.specs.Host.{HostState, IsFile, HasRisen, OnlyReads, SameFaults}
+use Rattle.host.specs.Host.{HostState, OnlyReads, SameFaults}
 use Rattle.host.proofs.HostLemmas.{OnlyReads-trans, SameFaults-trans}
-use Rattle.host_files.specs.Transfer.{IsLonger}
 use Rattle.asm86_line_types.specs.declared.line.Line86.{Line86}
 use Rattle.asm86.specs.Stream.{TextGives}
 use Rattle.asm86.specs.declared.fault.ImageFault.TheVariants.{Line}
@@ -13,26 +12,11 @@ use Rattle.asm80_source_def.specs.Source.{IsSource}
 use Rattle.cmd_arguments.specs.Words.{Check}
 use Rattle.cmd_common.specs.declared.stop.Stop.{Stop}
 use Rattle.cmd_common.specs.Lines.{shown_line}
-use Rattle.cmd_common.specs.Files.{IsWholeFile, ReadStops, failed, too_long, no_memory, input_limit, text_limit}
+use Rattle.cmd_common.specs.Files.{IsWholeFile, input_limit, text_limit}
 use Rattle.cmd_common.specs.Texts.{ImageStops, stop_of_image, LinesStop, breaks}
 use Rattle.asm86.specs.Images.{unread, refused as image_refused}
+use Rattle.cmd_common.proofs.Before.{whole_before}
 use Rattle.cmd_check.specs.Checks.{Reads, Stops, no_source, no_text, refused, no_image, unlike, out_of_memory}
-
-module _ (old mid new : HostState) (first : OnlyReads old mid) (counted : SameFaults old mid) where
-  -- what is told of a file behind a first read is told before it
-  pub whole_before : (name : List ℕ) (limit : ℕ) (bytes : List ℕ) → IsWholeFile mid name limit bytes → IsWholeFile old name limit bytes
-  whole_before name limit bytes w = (subst (λ f. IsFile f bytes) (first.files name) w.0, w.1)
-
-  pub faults_before : SameFaults mid new → SameFaults old new
-  faults_before s = SameFaults-trans counted s
-
-  pub reads_before : OnlyReads mid new → OnlyReads old new
-  reads_before s = OnlyReads-trans first s
-
-  pub stops_before : (name : List ℕ) (limit : ℕ) (stop : Stop) → ReadStops name limit mid new stop → ReadStops name limit old new stop
-  stops_before name limit _ (failed e f) = failed e (⊎_elim (λ r. inl (subst (λ n. HasRisen n new.read_faults) counted.reads r)) (λ m. inr (sym (first.files name) ∙ m)) f)
-  stops_before name limit _ (too_long e l s) = too_long e (subst (λ f. IsLonger f limit) (first.files name) l) (faults_before s)
-  stops_before name limit _ no_memory = no_memory
 
 module _ (c : Check) (old new : HostState) (source text : List ℕ) (reads : Reads c old new source text) where
   -- a text of which a line breaks a rule
@@ -67,7 +51,7 @@ line_some blocks = omega arith
 pub both_read : (c : Check) (old mid new : HostState) (source text : List ℕ) → OnlyReads old mid → SameFaults old mid → IsWholeFile old c.source input_limit source → OnlyReads mid new → SameFaults mid new → IsWholeFile mid c.text text_limit text → Reads c old new source text
 both_read c old mid new source text first counted file then same other = record {
   source_file = file;
-  text_file = whole_before old mid new first counted c.text text_limit text other;
-  only = reads_before old mid new first counted then;
-  counted = faults_before old mid new first counted same;
+  text_file = whole_before old mid first c.text text_limit text other;
+  only = OnlyReads-trans first then;
+  counted = SameFaults-trans counted same;
 }

@@ -13,7 +13,8 @@ use Rattle.templates.specs.Translation.{IsText, CodeFits}
 use Rattle.xlt_core.specs.Names.{Finding, Shown, IsFinding}
 use Rattle.cmd_arguments.specs.Words.{Check}
 use Rattle.cmd_common.specs.declared.stop.Stop.{Stop}
-use Rattle.cmd_check.specs.Completes.{found_count, CheckComesTo, refused, no_image, found, status_of_check, CheckCompletes}
+use Rattle.cmd_common.specs.OneEnd.{came_status}
+use Rattle.cmd_check.specs.Completes.{found_count, CheckComesTo, refused, no_image, found, CheckCompletes}
 use Rattle.cmd_check.specs.OwnTexts.{IsTranslation, ShowsOwnText}
 use Rattle.cmd_check.proofs.Completing.{Laws, has_none}
 
@@ -35,12 +36,12 @@ module _ (law : Laws) (own : OwnLaws) (c : Check) (source text : List ℕ) (t : 
       own.shown t.mode t.program t.lines f t.is_source.program.program.lawful t.is_text t.fits
       (subst (λ l. IsFinding t.program l f) same (subst (λ (q : Program). IsFinding q lines f) program h))
 
-  came : (r : Result ℕ Stop) → CheckComesTo c source text r → status_of_check r ≡ 0
-  came r (refused line rule none e) = absurd (law.apart source c.top line t.program rule t.is_source none)
+  came : (r : Result ℕ Stop) → CheckComesTo c source text r → came_status r ≡ 0
+  came r (refused line rule none e) = absurd (law.source.apart source c.top line t.program rule t.is_source none)
   came r (no_image p fault is none e) = absurd (has_none law c text t.lines fault gives stands none)
   came r (found p lines f is give stand h e) =
-      let shown = found_shown p lines f (law.program source c.top p t.program is t.is_source) (same_lines lines t.lines (law.reading text (Ok lines) (Ok t.lines) give gives)) h in
-      ap status_of_check (e ∙ ap found_count shown.1)
+      let shown = found_shown p lines f (law.source.program source c.top p t.program is t.is_source) (same_lines lines t.lines (law.reading text (Ok lines) (Ok t.lines) give gives)) h in
+      ap came_status (e ∙ ap found_count shown.1)
 
 pub shows_own_text : Laws → OwnLaws → (c : Check) (old new : HostState) (status : ℕ) → CheckCompletes c old new status → ShowsOwnText c old new status
 shows_own_text law own c old new status completes none source text first second t =

@@ -1,5 +1,5 @@
 -- The one thing that `check` comes to by the whole bytes of its files, where no call of the host fails.
-use Rattle.std.specs.Prelude.{◌≡◌, ℕ, ◌⊎◌, List, Result, Ok, Err}
+use Rattle.std.specs.Prelude.{◌≡◌, ℕ, List, Result, Ok, Err}
 use Rattle.host.specs.Host.{HostState}
 use Rattle.asm86_line_types.specs.declared.line.Line86.{Line86}
 use Rattle.asm86_line_types.specs.Image.{Assembles}
@@ -12,8 +12,8 @@ use Rattle.xlt_core.specs.Names.{Finding, Shown, NotShown as NotFound, IsFinding
 use Rattle.cmd_arguments.specs.Words.{Check}
 use Rattle.cmd_common.specs.declared.stop.Stop.{Stop}
 use Rattle.cmd_common.specs.declared.stop.Stop.TheVariants.{NotShown}
-use Rattle.cmd_common.specs.Lines.{status_of}
 use Rattle.cmd_common.specs.Files.{NoneFailed, FileIsTold, input_limit, text_limit}
+use Rattle.cmd_common.specs.OneEnd.{HasStatus}
 use Rattle.cmd_common.specs.Sources.{stop_of_rule}
 use Rattle.cmd_common.specs.Texts.{stop_of_image}
 use Rattle.asm86.specs.Images.{IsNoImage}
@@ -29,18 +29,7 @@ pub data CheckComesTo (c : Check) (source text : List ℕ) : Result ℕ Stop →
   no_image : {r : Result ℕ Stop} (p : Program) (fault : ImageFault) → IsSource intel_reading source c.top p → IsNoImage text fault → r ≡ Err (stop_of_image fault) → CheckComesTo c source text r
   found : {r : Result ℕ Stop} (p : Program) (lines : List Line86) (f : Finding) → IsSource intel_reading source c.top p → TextGives text (Ok lines) → Assembles lines → IsFinding p lines f → r ≡ found_count f → CheckComesTo c source text r
 
--- the status of what it comes to
-abbrev pub status_of_check : Result ℕ Stop → ℕ
-status_of_check (Ok blocks) = 0
-status_of_check (Err stop) = status_of stop
-
--- this alone is what it comes to
-pub record IsOnlyFinding (c : Check) (source text : List ℕ) (r : Result ℕ Stop) : Type 0 where
-  pub comes : CheckComesTo c source text r
-  pub only : (other : Result ℕ Stop) → CheckComesTo c source text other → other ≡ r
-
 -- where both files are told and within their limits, the status is that of the one thing, want of memory aside
 abbrev pub CheckCompletes : Check → HostState → HostState → ℕ → Type 0
 CheckCompletes c old new status =
-    NoneFailed old new → (source text : List ℕ) → FileIsTold old c.source input_limit source → FileIsTold old c.text text_limit text →
-    (status ≡ 5) ⊎ ((r : Result ℕ Stop) × IsOnlyFinding c source text r × (status ≡ status_of_check r))
+    NoneFailed old new → (source text : List ℕ) → FileIsTold old c.source input_limit source → FileIsTold old c.text text_limit text → HasStatus (CheckComesTo c source text) status

@@ -1,4 +1,6 @@
+pub mod Before
 pub mod Giving
+pub mod SourceLaw
 pub mod Told
 pub mod Texts
 pub mod Said

@@ -4,7 +4,7 @@ use Rattle.std.specs.Prelude.{Ok}
 use Rattle.asm86_line_types.specs.declared.line.Line86.{Line86}
 use Rattle.asm86.specs.Stream.{TextGives}
 use Rattle.asm86.specs.declared.fault.ImageFault.{ImageFault}
-use Rattle.asm86.specs.declared.fault.ImageFault.TheVariants.{Line, Memory}
+use Rattle.asm86.specs.declared.fault.ImageFault.TheVariants.{Line}
 use Rattle.asm86.specs.Images.{IsNoImage, unread, refused}
 use Rattle.cmd_common.specs.declared.stop.Stop.{Stop}
 use Rattle.cmd_common.specs.declared.stop.Stop.TheVariants.{OutOfMemory}

@@ -1,5 +1,5 @@
 // The files that a command reads.
-ghost use Rattle.std.specs.Prelude.{◌≡◌, ◌^◌, ◌≤◌, IfOk, IfErr, OnOk, option_copied};
+ghost use Rattle.std.specs.Prelude.{◌^◌, ◌≤◌, IfOk, IfErr, OnOk, option_copied};
 ghost use Rattle.host.specs.Host.{SameFaults, OnlyReads};
 ghost use Rattle.host_files.specs.Transfer.{GivesFile};
 ghost use Rattle.cmd_common.specs.Files.{IsWholeFile, IsInput, ReadStops, InputStops};

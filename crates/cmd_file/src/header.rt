@@ -1,6 +1,6 @@
 // The header of a command file.
 ghost use Rattle.std.specs.Prelude.{◌≡◌, ◌+◌, ◌*◌, ◌/◌, ◌%◌, ◌<◌, length, slice_index_or, MatchResult};
-ghost use Rattle.cmd_file.specs.CommandFile.{Group, descriptor};
+ghost use Rattle.cmd_file.specs.CommandFile.{descriptor};
 ghost use Rattle.cmd_file.specs.Header.{AnyByte, allows, group_rules, may_stand, word_in, HasHeader};
 ghost use Rattle.cmd_file.specs.Reading.{IsCmdFaultOf};
 

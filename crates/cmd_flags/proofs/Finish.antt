@@ -2,7 +2,6 @@
 use Rattle.std.proofs.Common.{◌≡◌, ℕ, inl, inr, List, refl, sym, ap, ◌∙◌, subst, arith}
 use Rattle.std.specs.List.{concat}
 use Rattle.host.specs.Host.{HostState, OnlyReads, SameFaults, Says, said_more}
-use Rattle.asm80_program_types.specs.Program.{Program}
 use Rattle.asm80_text.specs.Intel.{intel_reading}
 use Rattle.asm80_source_def.specs.Source.{IsSource, SourceRule, IsNoSource, OfLine, OfProgram}
 use Rattle.cmd_arguments.specs.Words.{Flags}
@@ -12,16 +11,12 @@ use Rattle.cmd_common.specs.Lines.{status_of, line_of_stop}
 use Rattle.cmd_common.specs.Said.{SaysLine, IsDone, whole, failed, no_memory, Closes, said, unsaid}
 use Rattle.cmd_common.specs.Files.{NoneFailed, FileIsTold, IsWholeFile, input_limit}
 use Rattle.cmd_common.specs.Sources.{SourceStops, of_line, of_program, stop_of_rule}
+use Rattle.cmd_common.proofs.SourceLaw.{SourceLaw}
 use Rattle.cmd_common.proofs.Told.{told_whole, read_stops, not_unsaid, closes_reads, memory_status}
 use Rattle.cmd_common.proofs.Said.{line_after}
 use Rattle.cmd_flags.specs.Report.{AreLines}
 use Rattle.cmd_flags.specs.Listing.{HasLines, Stops, unread, refused, no_memory as no_room, FlagsGive, reported, stopped, Decides}
 use Rattle.cmd_flags.proofs.Gathering.{one_list}
-
-pub record SourceLaw : Type 0 where
-  pub program : (bytes : List ℕ) (top : ℕ) (p q : Program) → IsSource intel_reading bytes top p → IsSource intel_reading bytes top q → p ≡ q
-  pub refusal : (bytes : List ℕ) (top m n : ℕ) (r s : SourceRule) → IsNoSource intel_reading bytes top m r → IsNoSource intel_reading bytes top n s → (m ≡ n) × (r ≡ s)
-  pub apart : (bytes : List ℕ) (top n : ℕ) (p : Program) (r : SourceRule) → IsSource intel_reading bytes top p → IsNoSource intel_reading bytes top n r → ⊥
 
 -- a stop of the work changes no file
 pub stop_reads : (c : Flags) (old new : HostState) (stop : Stop) → Stops c old new stop → OnlyReads old new

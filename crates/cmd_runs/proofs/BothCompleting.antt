@@ -22,18 +22,20 @@ use Rattle.cmd_common.specs.declared.stop.Stop.TheVariants.{CodeTooLarge, OutOfM
 use Rattle.cmd_common.specs.Lines.{status_of}
 use Rattle.cmd_common.specs.Said.{Closes}
 use Rattle.cmd_common.specs.Files.{input_limit, NoneFailed, FileIsTold}
+use Rattle.cmd_common.specs.OneEnd.{IsOnlyEnd, HasStatus}
 use Rattle.cmd_common.specs.Sources.{SourceStops, of_line as LineStops, of_program as ProgramStops}
 use Rattle.cmd_common.proofs.Told.{told_whole, read_stops, not_unsaid, closes_reads, closes_status, memory_status}
 use Rattle.cmd_runs.specs.Supplies.{Given, SupplyIsTold, HasDisk, stop_of_disk, fill_by}
 use Rattle.cmd_runs.specs.Kinds.{NothingToRun, no_file, no_supply, is_refused, no_disk, no_memory as no_room_to_load}
-use Rattle.cmd_runs.specs.Outcomes.{IsOnlyEnd, HasStatus, FilesComeTo}
+use Rattle.cmd_runs.specs.Outcomes.{FilesComeTo}
 use Rattle.cmd_runs.specs.Works.{RunsMade, came_by, WorkGives}
 use Rattle.cmd_runs.proofs.Told.{told_given, supply_stops}
 use Rattle.cmd_runs.proofs.Disks.{DiskLaw, disk_or_none}
+use Rattle.cmd_common.proofs.SourceLaw.{SourceLaw}
 use Rattle.cmd_runs.proofs.Completing.{work_completes}
 use Rattle.cmd_runs.proofs.OneOutcome as kind
 use Rattle.cmd_runs.specs.Runs80.{kind80}
-use Rattle.cmd_runs.proofs.Laws80.{OneProgram, OneRefusal, NotBoth, laws80}
+use Rattle.cmd_runs.proofs.Laws80.{laws80}
 use Rattle.templates.specs.declared.translation.Mode.TheVariants.{Lean}
 use Rattle.templates.specs.Translation.{IsText, code_size, CodeFits, IsTooLarge}
 use Rattle.templates_same_law.proofs.OneText.{OneText}
@@ -41,7 +43,7 @@ use Rattle.cmd_runs.specs.BothLoads.{source_of, LeanStops, is_large, no_room, Ne
 use Rattle.cmd_runs.specs.BothRuns.{prefix80, AreBothMade, IsEitherCut, in_first, in_second, work_both}
 use Rattle.cmd_runs.specs.BothCompletes.{LeanFits, BothComeTo, as_run80, too_large, BothComplete}
 
-module _ (program_is : OneProgram) (refusal_is : OneRefusal) (apart : NotBoth) (disks : DiskLaw) (text_is : OneText) (c : Both) where
+module _ (law : SourceLaw) (disks : DiskLaw) (text_is : OneText) (c : Both) where
   module _ (source : List ℕ) (given : Given) where
     -- a text that fits is none that is too large
     not_large : (size : ℕ) (p : Program) (supply : Supply) → LeanFits c source given → IsSource intel_reading source c.top p → HasDisk given supply → IsTooLarge Lean p size → ⊥
@@ -65,13 +67,13 @@ module _ (program_is : OneProgram) (refusal_is : OneRefusal) (apart : NotBoth) (
     -- the code of a program fits, if that of one does
     fits_by : (p : Program) (lines : List Line86) → IsSource intel_reading source c.top p → IsText Lean p lines → CodeFits lines → LeanFits c source given
     fits_by p lines is text fits q supply others other has also =
-        let program : q ≡ p = program_is source c.top q p other is in
+        let program : q ≡ p = law.program source c.top q p other is in
         let same : others ≡ lines = text_is Lean p others lines (subst (λ x. IsText Lean x others) program also) text in
         subst CodeFits (sym same) fits
 
     -- no program, or no disk
     fits_nowhere : (line : ℕ) (rule : SourceRule) → IsNoSource intel_reading source c.top line rule → LeanFits c source given
-    fits_nowhere line rule none p supply lines is has text = absurd (apart source c.top line p rule is none)
+    fits_nowhere line rule none p supply lines is has text = absurd (law.apart source c.top line p rule is none)
 
     fits_no_disk : (k : ℕ) → IsBadAt given.disk k → LeanFits c source given
     fits_no_disk k bad p supply lines is has text = absurd (disk_or_none disks given supply k has bad)
@@ -84,7 +86,7 @@ module _ (program_is : OneProgram) (refusal_is : OneRefusal) (apart : NotBoth) (
     other_large : (p : Program) (supply : Supply) (size : ℕ) → IsSource intel_reading source c.top p → HasDisk given supply → IsTooLarge Lean p size → (other : Result ℕ Stop) → BothComeTo c source given other → other ≡ Err (CodeTooLarge size)
     other_large p supply size is has large other (as_run80 fits h) = absurd (not_large size p supply fits is has large)
     other_large p supply size is has large _ (too_large q s n also there more) =
-        let program : q ≡ p = program_is source c.top q p also is in
+        let program : q ≡ p = law.program source c.top q p also is in
         let lines : more.lines ≡ large.lines = text_is Lean p more.lines large.lines (subst (λ x. IsText Lean x more.lines) program more.text) large.text in
         let size_is : n ≡ size = more.is ∙ ap code_size lines ∙ sym large.is in
         ap (λ x. Err (CodeTooLarge x)) size_is
@@ -97,12 +99,12 @@ module _ (program_is : OneProgram) (refusal_is : OneRefusal) (apart : NotBoth) (
     -- the disk's file is none
     disk_status : (p : Program) (fault : DiskFault) (status : ℕ) → IsSource intel_reading source c.top p → IsDiskFaultOf given.disk fault → (status ≡ 5) ⊎ (status ≡ status_of (stop_of_disk fault)) → HasStatus (BothComeTo c source given) status
     disk_status p (Bad k) status is bad s =
-        status_fit status (fits_no_disk k bad) (kind.disk_status (kind80 (source_of c)) (laws80 program_is refusal_is apart (source_of c)) disks source given p (Bad k) status is bad s)
+        status_fit status (fits_no_disk k bad) (kind.disk_status (kind80 (source_of c)) (laws80 law (source_of c)) disks source given p (Bad k) status is bad s)
     disk_status p Memory status is bad s = ⊎_elim (λ e. inl e) (λ e. inl e) s
 
   module _ (old new : HostState) (none : NoneFailed old new) (source : List ℕ) (given : Given) (told : FileIsTold old c.source input_limit source) (fed : SupplyIsTold c.run old given) where
     laws : kind.KindLaws (kind80 (source_of c))
-    laws = laws80 program_is refusal_is apart (source_of c)
+    laws = laws80 law (source_of c)
 
     -- the runs that were made are those of these bytes
     only_both : (mid : HostState) (m : RunsMade) → AreBothMade c old mid m → IsOnlyEnd (BothComeTo c source given) (came_by (work_both c) m)

@@ -9,10 +9,10 @@ use Rattle.cmd_common.specs.declared.stop.Stop.{Stop}
 use Rattle.cmd_common.specs.declared.stop.Stop.TheVariants.{OutOfMemory}
 use Rattle.cmd_common.specs.Said.{whole, failed, no_memory as unfinished, Closes}
 use Rattle.cmd_common.specs.Files.{NoneFailed}
+use Rattle.cmd_common.specs.OneEnd.{IsOnlyEnd, HasStatus}
 use Rattle.cmd_common.proofs.Told.{not_unsaid, closes_status, memory_status}
 use Rattle.cmd_runs.specs.Keeping.{kept_disk_name}
 use Rattle.cmd_runs.specs.Lasts.{SaysEnd}
-use Rattle.cmd_runs.specs.Outcomes.{IsOnlyEnd, HasStatus}
 use Rattle.cmd_runs.specs.Works.{RunsMade, RunWork, came_by, RunsAreKept, WorkStops, unloaded, no_memory, no_line, unkept, WorkGives, ran, unsaid, stopped}
 use Rattle.cmd_runs.proofs.Kept.{kept_counted, lost_by_memory, closes_writes}
 

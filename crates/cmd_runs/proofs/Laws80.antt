@@ -3,7 +3,7 @@ use Rattle.std.proofs.Common.{◌≡◌, ℕ, List, refl, sym, ◌∙◌, Some}
 use Rattle.asm80_text.specs.Intel.{intel_reading}
 use Rattle.cells.specs.declared.Place.{Place}
 use Rattle.cells.specs.declared.Place.TheVariants.{At, Exit}
-use Rattle.asm80_source_def.specs.Source.{IsSource, IsNoSource, SourceRule, OfLine, OfProgram}
+use Rattle.asm80_source_def.specs.Source.{IsSource, OfLine, OfProgram}
 use Rattle.asm80_program_types.specs.Program.{Program}
 use Rattle.emulators.specs.declared.emulator.Why.TheVariants.{Left, NoInstruction, StackSegment, OddCall}
 use Rattle.emulators.specs.declared.running.RunEnd.{RunEnd}
@@ -12,18 +12,9 @@ use Rattle.emulators.specs.Courses.{course80}
 use Rattle.cmd_arguments.specs.Words.{Run80}
 use Rattle.cmd_common.specs.declared.stop.Stop.{Stop}
 use Rattle.cmd_common.specs.Sources.{SourceStops, of_line, of_program}
+use Rattle.cmd_common.proofs.SourceLaw.{SourceLaw}
 use Rattle.cmd_runs.specs.Runs80.{IsLineAt, IsLineOf, kind80}
 use Rattle.cmd_runs.proofs.OneOutcome.{KindLaws}
-
--- what is known of sources
-abbrev pub OneProgram : Type 0
-OneProgram = (bytes : List ℕ) (top : ℕ) (p q : Program) → IsSource intel_reading bytes top p → IsSource intel_reading bytes top q → p ≡ q
-
-abbrev pub OneRefusal : Type 0
-OneRefusal = (bytes : List ℕ) (top m n : ℕ) (r s : SourceRule) → IsNoSource intel_reading bytes top m r → IsNoSource intel_reading bytes top n s → (m ≡ n) × (r ≡ s)
-
-abbrev pub NotBoth : Type 0
-NotBoth = (bytes : List ℕ) (top n : ℕ) (p : Program) (r : SourceRule) → IsSource intel_reading bytes top p → IsNoSource intel_reading bytes top n r → ⊥
 
 -- an end has one line
 one_line_at : (p : Program) (q : Place) (m n : ℕ) → IsLineAt p q m → IsLineAt p q n → m ≡ n
@@ -40,34 +31,34 @@ one_line p StepLimit m n x y = x ∙ sym y
 one_line p InputEnded m n x y = x ∙ sym y
 one_line p (NoDrive function) m n x y = x ∙ sym y
 
-module _ (program_is : OneProgram) (refusal_is : OneRefusal) (apart : NotBoth) where
+module _ (law : SourceLaw) where
   not_both : (bytes : List ℕ) (top : ℕ) (p : Program) (stop : Stop) → IsSource intel_reading bytes top p → SourceStops intel_reading bytes top stop → ⊥
-  not_both bytes top p _ is (of_line {line = n} {rule = r} h) = apart bytes top n p (OfLine r) is h
-  not_both bytes top p _ is (of_program {line = n} {rule = r} h) = apart bytes top n p (OfProgram r) is h
+  not_both bytes top p _ is (of_line {line = n} {rule = r} h) = law.apart bytes top n p (OfLine r) is h
+  not_both bytes top p _ is (of_program {line = n} {rule = r} h) = law.apart bytes top n p (OfProgram r) is h
 
   one_stop : (bytes : List ℕ) (top : ℕ) (s t : Stop) → SourceStops intel_reading bytes top s → SourceStops intel_reading bytes top t → s ≡ t
   one_stop bytes top _ _ (of_line {line = m} {rule = r} x) (of_line {line = n} {rule = s} y) =
-      let e = refusal_is bytes top m n (OfLine r) (OfLine s) x y in
+      let e = law.refusal bytes top m n (OfLine r) (OfLine s) x y in
       let lines : m ≡ n = e.0 in
       let rules : OfLine r ≡ OfLine s = e.1 in
       cc
   one_stop bytes top _ _ (of_line {line = m} {rule = r} x) (of_program {line = n} {rule = s} y) =
-      let e = refusal_is bytes top m n (OfLine r) (OfProgram s) x y in
+      let e = law.refusal bytes top m n (OfLine r) (OfProgram s) x y in
       let rules : OfLine r ≡ OfProgram s = e.1 in
       cc
   one_stop bytes top _ _ (of_program {line = m} {rule = r} x) (of_line {line = n} {rule = s} y) =
-      let e = refusal_is bytes top m n (OfProgram r) (OfLine s) x y in
+      let e = law.refusal bytes top m n (OfProgram r) (OfLine s) x y in
       let rules : OfProgram r ≡ OfLine s = e.1 in
       cc
   one_stop bytes top _ _ (of_program {line = m} {rule = r} x) (of_program {line = n} {rule = s} y) =
-      let e = refusal_is bytes top m n (OfProgram r) (OfProgram s) x y in
+      let e = law.refusal bytes top m n (OfProgram r) (OfProgram s) x y in
       let lines : m ≡ n = e.0 in
       let rules : OfProgram r ≡ OfProgram s = e.1 in
       cc
 
   pub laws80 : (c : Run80) → KindLaws (kind80 c)
   laws80 c = record {
-    one = λ bytes p q x y. program_is bytes c.top p q x y;
+    one = λ bytes p q x y. law.program bytes c.top p q x y;
     refusal = λ bytes s t x y. one_stop bytes c.top s t x y;
     apart = λ bytes p stop is stops. not_both bytes c.top p stop is stops;
     course = λ p readable. (course80 p c.run.page, refl);

@@ -1,30 +1,18 @@
 -- An 8080 that leaves its profile stands at an instruction of its program.
-use Rattle.std.proofs.Common.{◌≡◌, ℕ, zero, suc, ◌+◌, ◌==◌, ◌||◌, Bool, true, false, cond, List, [], ◌∷◌, ◌++◌, refl, sym, ap, ◌∙◌, subst, Option, Some, None, Result, Ok, Err, is_some}
+use Rattle.std.proofs.Common.{◌≡◌, ℕ, zero, suc, ◌+◌, Bool, true, false, cond, List, [], ◌∷◌, ◌++◌, refl, sym, ap, ◌∙◌, subst, Option, Some, None, Result, Ok, Err, is_some}
 use Rattle.cells.specs.declared.Place.{Place}
 use Rattle.cells.specs.declared.Place.TheVariants.{At, Exit}
-use Rattle.cells.specs.declared.Cell.TheVariants.{Lo, Hi}
 use Rattle.cells.specs.declared.Rule.{Rule}
-use Rattle.cells.specs.declared.Rule.TheVariants.{P1, P9, P12}
-use Rattle.i80.specs.declared.Goal.{Goal}
-use Rattle.i80.specs.declared.Goal.TheVariants.{At as Instr, Boot, Bdos}
-use Rattle.i80.specs.declared.Instr80.{Instr80}
-use Rattle.i80.specs.declared.Instr80.TheVariants.{Pchl, Jmp, Jif, Call, Cif, Ret, Rif, Rst0, In, Out}
-use Rattle.i80.specs.Columns.{length80}
-use Rattle.dialogue.specs.declared.request.Shape.{Shape}
 use Rattle.dialogue.specs.declared.request.Reply.{Reply}
 use Rattle.dialogue.specs.declared.request.Event.{Event}
 use Rattle.dialogue.specs.declared.request.Event.TheVariants.{Call as Asked, In as AskedIn, Out as AskedOut, End}
-use Rattle.dialogue.specs.Shape.{shape_of}
 use Rattle.dialogue.specs.Fits.{fits_event}
-use Rattle.dialogue.specs.Table.{row_of}
 use Rattle.dialogue.specs.Run.{Answer, Ran, Asks, Ends, Stops, Status, Going, Waiting, Over, Stopped, Run, take_reply, settle, turn_by, turn, turns, start_run}
 use Rattle.asm80_program_types.specs.declared.program.Placed.{Placed}
-use Rattle.asm80_program_types.specs.Program.{Program, IsProgram, instr_at, is_start, line_of_placed, placed_in}
-use Rattle.cpu80_tagged_def.specs.State.{State80, num_of}
-use Rattle.cpu80_tagged_def.specs.Effect.{effect, push}
-use Rattle.cpu80_tagged_def.specs.Call.{Return, ask, ask_after, call_by, is_just_below, seen_by_tagged, is_place, place_in, popped_return, return_after}
-use Rattle.cells.specs.Conditions.{holds}
-use Rattle.cpu80_tagged_def.specs.Step.{go_to, go_on, leave_to, go_by, go_back, jump, enter, call, where_holds, ask_event, ask_port, sent, act, act_at, step_at, step80, return_at, replied_to, replied80, machine80}
+use Rattle.asm80_program_types.specs.Program.{Program, IsProgram, line_of_placed, placed_in}
+use Rattle.cpu80_tagged_def.specs.State.{State80}
+use Rattle.cpu80_tagged_def.specs.Call.{Return, is_place}
+use Rattle.cpu80_tagged_def.specs.Step.{step_at, step80, return_at, replied_to, replied80, machine80}
 use Rattle.cpu80_tagged_def.specs.Start.{start80, run80}
 use Rattle.cpu80_tagged.proofs.Places.{GoesOn, Returns, goes_on, returns_to}
 use Rattle.emulators.specs.declared.emulator.Why.TheVariants.{Left, NoInstruction, StackSegment, OddCall}
@@ -39,110 +27,6 @@ use Rattle.cmd_arguments.specs.Words.{Run80}
 use Rattle.cmd_runs.specs.Settings.{RunComesTo}
 use Rattle.cmd_runs.specs.Kinds.{run_setting}
 use Rattle.cmd_runs.specs.Runs80.{IsLineAt, IsLineOf, kind80}
-
--- ---- a step that asks changes nothing
-
-abbrev StaysAt : State80 → Answer State80 Rule → Type 0
-StaysAt s (Ran t) = Unit {0}
-StaysAt s (Asks e t) = t ≡ s
-StaysAt s Ends = Unit {0}
-StaysAt s (Stops x) = Unit {0}
-
-to_start : (p : Program) (s t : State80) (a : ℕ) → StaysAt s (go_to p t a)
-to_start p s t a = by_start (is_start p a)
-  where
-    by_start : (b : Bool) → StaysAt s (cond b (Ran (record t { place = At a })) (Stops P1))
-    by_start true = tt
-    by_start false = tt
-
-on_from : (p : Program) (s : State80) (a : ℕ) (r : Result State80 Rule) → StaysAt s (go_on p a r)
-on_from p s a (Ok t) = to_start p s t a
-on_from p s a (Err r) = tt
-
-left_to : (s t : State80) (sp : ℕ) (q : Place) → StaysAt s (leave_to t sp q)
-left_to s t sp (At a) = tt
-left_to s t sp Exit = tt
-
-gone_by : (s : State80) (sp : ℕ) (r : Result Place Rule) → StaysAt s (go_by s sp r)
-gone_by s sp (Ok q) = left_to s s sp q
-gone_by s sp (Err r) = tt
-
-back_to : (s : State80) (r : Result Return Rule) → StaysAt s (go_back s r)
-back_to s (Ok back) = left_to s s back.sp back.place
-back_to s (Err r) = tt
-
-asks_by : (p : Program) (s : State80) (is_popped : Bool) (r : Result Shape Rule) → StaysAt s (ask p s is_popped r)
-asks_by p s is_popped (Ok shape) = refl
-asks_by p s is_popped (Err r) = tt
-
-asks_after : (p : Program) (s : State80) (f : ℕ) (back : Result Return Rule) → StaysAt s (ask_after p s f back)
-asks_after p s f (Err r) = tt
-asks_after p s f (Ok back) = by_below (is_just_below s.sp 6 || is_just_below s.sp 7)
-  where
-    by_below : (b : Bool) → StaysAt s (cond b (Stops P12) (ask p s back.is_popped (shape_of (Some f) (num_of s.regs.d) (num_of s.regs.e) s.dma (seen_by_tagged p s back.is_popped))))
-    by_below true = tt
-    by_below false = asks_by p s back.is_popped (shape_of (Some f) (num_of s.regs.d) (num_of s.regs.e) s.dma (seen_by_tagged p s back.is_popped))
-
-calls_by : (p : Program) (s : State80) (back : Result Return Rule) (f : Option ℕ) → StaysAt s (call_by p s back f)
-calls_by p s back None = tt
-calls_by p s back (Some f) = by_row (is_some (row_of f)) (f == 0)
-  where
-    by_row : (b z : Bool) → StaysAt s (cond b (cond z Ends (ask_after p s f back)) (Stops P9))
-    by_row true true = tt
-    by_row true false = asks_after p s f back
-    by_row false z = tt
-
-jumped : (p : Program) (s : State80) (t : Goal) → StaysAt s (jump p s t)
-jumped p s (Instr t) = to_start p s s t
-jumped p s Boot = tt
-jumped p s Bdos = calls_by p s (popped_return p s) (num_of s.regs.c)
-
-entered : (p : Program) (s : State80) (t a : ℕ) (r : Result State80 Rule) → StaysAt s (enter p t a r)
-entered p s t a (Err r) = tt
-entered p s t a (Ok u) = by_start (is_start p a)
-  where
-    by_start : (b : Bool) → StaysAt s (cond b (go_to p u t) (Stops P1))
-    by_start true = to_start p s u t
-    by_start false = tt
-
-called : (p : Program) (s : State80) (a : ℕ) (t : Goal) → StaysAt s (call p s a t)
-called p s a (Instr t) = entered p s t a (push p s (Hi (At a)) (Lo (At a)))
-called p s a Boot = tt
-called p s a Bdos = calls_by p s (return_after p s a) (num_of s.regs.c)
-
-where_it_holds : (p : Program) (s : State80) (a : ℕ) (b : Option Bool) (go : Answer State80 Rule) → StaysAt s go → StaysAt s (where_holds p s a b go)
-where_it_holds p s a None go h = tt
-where_it_holds p s a (Some true) go h = h
-where_it_holds p s a (Some false) go h = to_start p s s a
-
-asked_of : (p : Program) (s : State80) (a : ℕ) (e : Result Event Rule) → StaysAt s (ask_port p s a e)
-asked_of p s a e = by_start (is_start p a) e
-  where
-    by_start : (b : Bool) (e : Result Event Rule) → StaysAt s (cond b (ask_event s e) (Stops P1))
-    by_start true (Ok e) = refl
-    by_start true (Err r) = tt
-    by_start false e = tt
-
-acted : (p : Program) (s : State80) (a : ℕ) (i : Instr80) → StaysAt s (act p s a i)
-acted p s a Pchl = gone_by s s.sp (place_in p s.regs.h s.regs.l)
-acted p s a (Jmp t) = jumped p s t
-acted p s a (Jif c t) = where_it_holds p s a (holds s.flags c) (jump p s t) (jumped p s t)
-acted p s a (Call t) = called p s a t
-acted p s a (Cif c t) = where_it_holds p s a (holds s.flags c) (call p s a t) (called p s a t)
-acted p s a Ret = back_to s (popped_return p s)
-acted p s a (Rif c) = where_it_holds p s a (holds s.flags c) (go_back s (popped_return p s)) (back_to s (popped_return p s))
-acted p s a Rst0 = tt
-acted p s a (In port) = asked_of p s a (Ok (AskedIn port))
-acted p s a (Out port) = asked_of p s a (sent s port)
-acted p s a i = on_from p s a (effect p s i)
-
-acted_at : (p : Program) (s : State80) (at : ℕ) (i : Option Instr80) → StaysAt s (act_at p s at i)
-acted_at p s at None = tt
-acted_at p s at (Some i) = acted p s (at + length80 i) i
-
-stepped_at : (p : Program) (s : State80) (q : Place) → StaysAt s (step_at p s q)
-stepped_at p s Exit = tt
-stepped_at p s (At a) = acted_at p s a (instr_at p a)
 
 -- at the place of the end nothing stops
 at_exit : (p : Program) (s : State80) (q : Place) (x : Rule) → q ≡ Exit → step_at p s q ≡ Stops x → ⊥
@@ -175,15 +59,15 @@ module _ (p : Program) where
       by_fit true = record { place = replied_place r.state e y h; stopped = λ x s q. let f : Going ≡ Stopped x = sym going ∙ s in cc }
       by_fit false = record { place = h; stopped = λ x s q. cc }
 
-  settles : (r : Run State80 Rule) (a : Answer State80 Rule) → r.status ≡ Going → step80 p r.state ≡ a → is_place p r.state.place ≡ true → GoesOn p a → StaysAt r.state a → Stands p (settle (machine80 p) [] r a)
-  settles r (Ran t) going e h goes keeps = record { place = goes; stopped = λ x s q. let f : Going ≡ Stopped x = sym going ∙ s in cc }
-  settles r (Asks q t) going e h goes keeps =
-      takes (record r { state = t; dialogue = r.dialogue ++ q ∷ []; used = suc r.used }) q r.replies going (subst (λ (s : State80). is_place p s.place ≡ true) (sym keeps) h)
-  settles r Ends going e h goes keeps = record { place = h; stopped = λ x s q. cc }
-  settles r (Stops x) going e h goes keeps = record { place = h; stopped = λ y s exit. at_exit p r.state r.state.place x exit e }
+  settles : (r : Run State80 Rule) (a : Answer State80 Rule) → r.status ≡ Going → step80 p r.state ≡ a → is_place p r.state.place ≡ true → GoesOn p r.state a → Stands p (settle (machine80 p) [] r a)
+  settles r (Ran t) going e h goes = record { place = goes; stopped = λ x s q. let f : Going ≡ Stopped x = sym going ∙ s in cc }
+  settles r (Asks q t) going e h goes =
+      takes (record r { state = t; dialogue = r.dialogue ++ q ∷ []; used = suc r.used }) q r.replies going (subst (λ (s : State80). is_place p s.place ≡ true) (sym goes) h)
+  settles r Ends going e h goes = record { place = h; stopped = λ x s q. cc }
+  settles r (Stops x) going e h goes = record { place = h; stopped = λ y s exit. at_exit p r.state r.state.place x exit e }
 
   turned : (r : Run State80 Rule) (status : Status Rule) → r.status ≡ status → Stands p r → Stands p (turn_by (machine80 p) [] r status)
-  turned r Going e h = settles r (step80 p r.state) e refl h.place (goes_on p r.state) (stepped_at p r.state r.state.place)
+  turned r Going e h = settles r (step80 p r.state) e refl h.place (goes_on p r.state)
   turned r Waiting e h = h
   turned r Over e h = h
   turned r (Stopped x) e h = h

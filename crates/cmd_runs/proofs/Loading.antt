@@ -1,43 +1,30 @@
 -- The files of a run, read one after the other.
-use Rattle.std.proofs.Common.{ℕ, inl, inr, ⊎_elim, List, sym, ◌∙◌, subst}
+use Rattle.std.proofs.Common.{ℕ, List}
 use Rattle.std.specs.Prelude.{Option, Some, None}
-use Rattle.host.specs.Host.{HostState, HasRisen, OnlyReads, SameFaults}
-use Rattle.host.proofs.HostLemmas.{SameFaults-trans}
-use Rattle.host_files.specs.Transfer.{IsLonger}
+use Rattle.host.specs.Host.{HostState, OnlyReads, SameFaults}
 use Rattle.cmd_arguments.specs.Words.{RunOptions}
 use Rattle.cmd_common.specs.declared.stop.Stop.{Stop}
-use Rattle.cmd_common.specs.Files.{IsWholeFile, IsInput, ReadStops, failed, too_long, no_memory, InputStops, input_limit}
-use Rattle.host.specs.Host.{IsFile}
+use Rattle.cmd_common.specs.Files.{IsInput, InputStops, input_limit}
+use Rattle.cmd_common.proofs.Before.{whole_before, stops_before}
 use Rattle.cmd_runs.specs.Supplies.{Given, IsDiskFile, DiskFileStops, IsSupplied, SupplyStops, no_input, no_disk_file, no_ports}
 
 module _ (old mid new : HostState) (only : OnlyReads old mid) (counted : SameFaults old mid) where
   -- what is told of the files after a first read is told before it
-  pub whole_before : (name : List ℕ) (limit : ℕ) (bytes : List ℕ) → IsWholeFile mid name limit bytes → IsWholeFile old name limit bytes
-  whole_before name limit bytes w = (subst (λ f. IsFile f bytes) (only.files name) w.0, w.1)
-
   pub input_before : (i : Option (List ℕ)) (bytes : List ℕ) → IsInput mid i bytes → IsInput old i bytes
   input_before None bytes w = w
-  input_before (Some name) bytes w = whole_before name input_limit bytes w
-
-  pub faults_before : SameFaults mid new → SameFaults old new
-  faults_before s = SameFaults-trans counted s
-
-  stops_before : (name : List ℕ) (limit : ℕ) (stop : Stop) → ReadStops name limit mid new stop → ReadStops name limit old new stop
-  stops_before name limit _ (failed e f) = failed e (⊎_elim (λ r. inl (subst (λ n. HasRisen n new.read_faults) counted.reads r)) (λ m. inr (sym (only.files name) ∙ m)) f)
-  stops_before name limit _ (too_long e l s) = too_long e (subst (λ f. IsLonger f limit) (only.files name) l) (faults_before s)
-  stops_before name limit _ no_memory = no_memory
+  input_before (Some name) bytes w = whole_before old mid only name input_limit bytes w
 
   pub input_stops_before : (i : Option (List ℕ)) (stop : Stop) → InputStops i mid new stop → InputStops i old new stop
   input_stops_before None stop s = absurd s
-  input_stops_before (Some name) stop s = stops_before name input_limit stop s
+  input_stops_before (Some name) stop s = stops_before old mid new only counted name input_limit stop s
 
   pub disk_before : (name : Option (List ℕ)) (bytes : List ℕ) → IsDiskFile mid name bytes → IsDiskFile old name bytes
   disk_before None bytes w = w
-  disk_before (Some name) bytes w = whole_before name input_limit bytes w
+  disk_before (Some name) bytes w = whole_before old mid only name input_limit bytes w
 
   pub disk_stops_before : (name : Option (List ℕ)) (stop : Stop) → DiskFileStops name mid new stop → DiskFileStops name old new stop
   disk_stops_before None stop s = s
-  disk_stops_before (Some name) stop s = stops_before name input_limit stop s
+  disk_stops_before (Some name) stop s = stops_before old mid new only counted name input_limit stop s
 
   pub supply_before : (run : RunOptions) (given : Given) → IsSupplied run mid given → IsSupplied run old given
   supply_before run given s = record { input = input_before run.input given.input s.input; disk = disk_before run.disk given.disk s.disk; ports = input_before run.ports given.ports s.ports }

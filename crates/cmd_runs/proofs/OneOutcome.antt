@@ -20,12 +20,13 @@ use Rattle.cmd_common.specs.declared.stop.Stop.TheVariants.{BadDisk, OutOfMemory
 use Rattle.cmd_common.specs.Lines.{status_of}
 use Rattle.cmd_common.specs.Said.{Closes}
 use Rattle.cmd_common.specs.Files.{NoneFailed, FileIsTold}
+use Rattle.cmd_common.specs.OneEnd.{IsOnlyEnd, HasStatus}
 use Rattle.cmd_common.proofs.Told.{told_whole, read_stops, not_unsaid, closes_reads, closes_status, memory_status}
 use Rattle.cmd_runs.specs.Ends.{came_to}
 use Rattle.cmd_runs.specs.Supplies.{Given, SupplyIsTold, HasDisk, stop_of_disk}
 use Rattle.cmd_runs.specs.Settings.{RunComesTo}
 use Rattle.cmd_runs.specs.Kinds.{RunKind, run_setting, IsToRun, NothingToRun, no_file, no_supply, is_refused, no_disk, no_memory}
-use Rattle.cmd_runs.specs.Outcomes.{ComesTo, IsOnlyEnd, HasStatus, FilesComeTo, refuses, of_disk, runs, RunCompletes}
+use Rattle.cmd_runs.specs.Outcomes.{ComesTo, FilesComeTo, refuses, of_disk, runs, RunCompletes}
 use Rattle.cmd_runs.specs.Works.{RunsMade, WorkGives, IsRunMade, IsRunCut, work_of_one}
 use Rattle.cmd_runs.proofs.Told.{told_given, supply_stops}
 use Rattle.cmd_runs.proofs.Disks.{DiskLaw, one_supply, disk_or_none}

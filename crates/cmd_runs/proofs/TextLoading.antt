@@ -1,5 +1,5 @@
 -- The files of a text's run, of which the text is refused.
-use Rattle.std.proofs.Common.{◌≡◌, ⊎_elim, ℕ, List, sym, subst}
+use Rattle.std.proofs.Common.{⊎_elim, ℕ, List, sym, subst}
 use Rattle.std.specs.Prelude.{Ok}
 use Rattle.host.specs.Host.{HostState, SameFaults}
 use Rattle.asm86_line_types.specs.declared.line.Line86.{Line86}

@@ -10,8 +10,9 @@ use Rattle.cmd_arguments.specs.Words.{Both}
 use Rattle.cmd_common.specs.declared.stop.Stop.{Stop}
 use Rattle.cmd_common.specs.declared.stop.Stop.TheVariants.{CodeTooLarge}
 use Rattle.cmd_common.specs.Files.{input_limit, NoneFailed, FileIsTold}
+use Rattle.cmd_common.specs.OneEnd.{HasStatus}
 use Rattle.cmd_runs.specs.Supplies.{Given, SupplyIsTold, HasDisk}
-use Rattle.cmd_runs.specs.Outcomes.{FilesComeTo, HasStatus}
+use Rattle.cmd_runs.specs.Outcomes.{FilesComeTo}
 use Rattle.cmd_runs.specs.Runs80.{kind80}
 use Rattle.templates.specs.declared.translation.Mode.TheVariants.{Lean}
 use Rattle.templates.specs.Translation.{IsText, CodeFits, IsTooLarge}

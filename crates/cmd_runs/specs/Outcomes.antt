@@ -1,5 +1,5 @@
 -- The one thing that a command that runs something comes to, by the whole bytes of its files, where no call of the host fails.
-use Rattle.std.specs.Prelude.{◌≡◌, ℕ, ◌⊎◌, List, Result, Ok, Err}
+use Rattle.std.specs.Prelude.{◌≡◌, ℕ, List, Result, Err}
 use Rattle.dialogue.specs.declared.request.Reply.{Reply}
 use Rattle.host.specs.Host.{HostState}
 use Rattle.bdos_disk.specs.DiskFile.{IsBadAt}
@@ -8,8 +8,8 @@ use Rattle.emulators.specs.declared.running.Conversation.{Conversation}
 use Rattle.emulators.specs.Talk.{SeenRun, IsOutcome}
 use Rattle.cmd_common.specs.declared.stop.Stop.{Stop}
 use Rattle.cmd_common.specs.declared.stop.Stop.TheVariants.{BadDisk}
-use Rattle.cmd_common.specs.Lines.{status_of}
 use Rattle.cmd_common.specs.Files.{NoneFailed, FileIsTold}
+use Rattle.cmd_common.specs.OneEnd.{HasStatus}
 use Rattle.cmd_runs.specs.Ends.{came_to}
 use Rattle.cmd_runs.specs.Supplies.{Given, SupplyIsTold, HasDisk}
 use Rattle.cmd_runs.specs.Kinds.{RunKind}
@@ -17,20 +17,6 @@ use Rattle.cmd_runs.specs.Kinds.{RunKind}
 -- a run over devices comes to this
 abbrev pub ComesTo : (List Reply → ℕ → SeenRun) → Supply → ℕ → Conversation → Type 0
 ComesTo course supply limit o = (run : SeenRun) × IsOutcome course supply limit o run
-
--- the status of a run that ended after so many instructions, or of a stop
-abbrev pub came_status : Result ℕ Stop → ℕ
-came_status (Ok steps) = 0
-came_status (Err stop) = status_of stop
-
--- this alone is what the work comes to
-pub record IsOnlyEnd (Comes : Result ℕ Stop → Type 0) (r : Result ℕ Stop) : Type 0 where
-  pub comes : Comes r
-  pub only : (other : Result ℕ Stop) → Comes other → other ≡ r
-
--- the status is that of the one thing that the work comes to, want of memory aside
-abbrev pub HasStatus : (Result ℕ Stop → Type 0) → ℕ → Type 0
-HasStatus Comes status = (status ≡ 5) ⊎ ((r : Result ℕ Stop) × IsOnlyEnd Comes r × (status ≡ came_status r))
 
 -- ---- a command that makes one run
 

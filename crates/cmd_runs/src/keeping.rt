@@ -1,6 +1,5 @@
 // The disk that is left after a run.
 ghost use Rattle.std.specs.Prelude.{◌≡◌, IfErr, OnOk, option_copied};
-ghost use Rattle.host.specs.Host.{OnlyWrites};
 ghost use Rattle.cmd_runs.specs.Keeping.{is_disk_kept, kept_disk_name, HasKeptDisk, KeepsDisk, DiskWriteStops, DiskKeepStops};
 
 use bdos_small::Disk;

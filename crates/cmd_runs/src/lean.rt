@@ -1,5 +1,5 @@
 // The image of a program's lean text.
-ghost use Rattle.std.specs.Prelude.{◌≡◌, ◌^◌, ◌<◌, IfOk, IfErr, length, vec_len};
+ghost use Rattle.std.specs.Prelude.{◌^◌, ◌<◌, IfOk, IfErr, length, vec_len};
 ghost use Rattle.asm80_program_types.specs.Program.{Program, IsProgram};
 ghost use Rattle.asm86_line_types.specs.Image.{Assembles, IsImage};
 ghost use Rattle.templates.specs.declared.translation.Mode.TheVariants.{Lean};

@@ -1,10 +1,11 @@
 -- A name with a digit in it is no reserved word.
-use Rattle.std.proofs.Common.{◌≡◌, ℕ, List, [], ◌∷◌, Bool, true, false, ◌||◌, refl, sym, ap, ◌∙◌, le-leb, length, arith, ◌<◌, inl, inr, ◌⊎◌}
+use Rattle.std.proofs.Common.{◌≡◌, ℕ, List, [], ◌∷◌, Bool, true, false, ◌||◌, refl, sym, ap, ◌∙◌, le-leb, length, arith, ◌<◌, inl, inr}
 use Rattle.std.specs.Prelude.{codes}
 use Rattle.std.specs.List.{list_any, AllByRecursion}
 use Rattle.std.specs.Str.{bytes_eq}
 use Rattle.std.proofs.lemmas.Slice.Eq.{bytes_eq-Decides}
 use Rattle.std.proofs.Math.Bool.{true≢false}
+use Rattle.std.proofs.lemmas.Bool.{cases_Bool}
 use Rattle.asm80_text.specs.declared.token.Token.TheVariants.{Word}
 use Rattle.asm80_text.specs.Letters.{is_digit}
 use Rattle.asm80_statement_types.specs.Words.{operations, registers}
@@ -15,19 +16,15 @@ use Rattle.cmd_sample.proofs.Decimals.{IsDigit}
 abbrev has_digit : List ℕ → Bool
 has_digit name = list_any is_digit name
 
-either : (b : Bool) → (b ≡ true) ⊎ (b ≡ false)
-either true = inl refl
-either false = inr refl
-
 differs : (word name : List ℕ) → has_digit word ≡ false → has_digit name ≡ true → bytes_eq word name ≡ false
-differs word name lacks has = elim (either (bytes_eq word name)) [
+differs word name lacks has = elim (cases_Bool (bytes_eq word name)) [
   | inl e ↦ absurd (true≢false (sym has ∙ sym (ap has_digit ((bytes_eq-Decides word name).0 e)) ∙ lacks))
   | inr e ↦ e
 ]
 
 none_of : (words : List (List ℕ)) (name : List ℕ) → list_any has_digit words ≡ false → has_digit name ≡ true → list_any (λ word. bytes_eq word name) words ≡ false
 none_of [] name h d = refl
-none_of (w ∷ words) name h d = elim (either (has_digit w)) [
+none_of (w ∷ words) name h d = elim (cases_Bool (has_digit w)) [
   | inl e ↦ absurd (true≢false (rw e at h))
   | inr e ↦ rw (differs w name e d) (none_of words name (rw e at h) d)
 ]
@@ -42,7 +39,7 @@ no_register_has = refl
 
 -- none of the operators that are words
 no_operator : (name : List ℕ) → has_digit name ≡ true → (word : List ℕ) → has_digit word ≡ false → bytes_eq name word ≡ false
-no_operator name d word h = elim (either (bytes_eq name word)) [
+no_operator name d word h = elim (cases_Bool (bytes_eq name word)) [
   | inl e ↦ absurd (true≢false (sym d ∙ ap has_digit ((bytes_eq-Decides name word).0 e) ∙ h))
   | inr e ↦ e
 ]

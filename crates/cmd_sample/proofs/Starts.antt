@@ -1,7 +1,6 @@
 -- Where the instructions of the made source begin, and that its lines do not overlap.
-use Rattle.std.proofs.Common.{◌≡◌, ℕ, zero, suc, ◌+◌, ◌<◌, ◌≤◌, ◌⊎◌, inl, inr, ◌==◌, ◌||◌, Bool, true, false, cond, List, [], ◌∷◌, ◌++◌, map, refl, ap, subst, arith, rules}
-use Rattle.std.proofs.lemmas.Bool.{cases_lt}
-use Rattle.std.proofs.lemmas.Bool.Decides.{nat_tests}
+use Rattle.std.proofs.Common.{◌≡◌, ℕ, zero, suc, ◌+◌, ◌<◌, ◌≤◌, ◌⊎◌, inl, inr, ◌==◌, ◌||◌, Bool, true, false, cond, List, [], ◌∷◌, ◌++◌, map, refl, ap, subst, arith}
+use Rattle.std.proofs.lemmas.Bool.{cases_lt, eq-eqb, or_right}
 use Rattle.asm80_source_def.specs.Operations.{operation_table}
 use Rattle.asm80_source_def.specs.Walk.{Walk, WalkRow}
 use Rattle.asm80_source_def.specs.Items.{is_instruction, fills_cells, address, starts_in, starts_at}
@@ -25,19 +24,12 @@ starts_right : {a : ℕ} (xs : List Spot) {ys : List Spot} → Starts a ys → S
 starts_right [] s = s
 starts_right (x ∷ xs) s = later (starts_right xs s)
 
-same : (a : ℕ) → (a == a) ≡ true
-same a = search (rules, nat_tests)
-
 first_by : (b : Bool) (r : WalkRow) (rs : List WalkRow) → b ≡ true → starts_at (map address (cond b (r ∷ rs) rs)) (address r) ≡ true
-first_by b r rs e = rw e (ap (λ t. t || starts_at (map address rs) (address r)) (same (address r)))
+first_by b r rs e = rw e (ap (λ t. t || starts_at (map address rs) (address r)) (eq-eqb (address r) (address r) refl))
 
 later_by : (b : Bool) (r : WalkRow) (rs : List WalkRow) (a : ℕ) → starts_at (map address rs) a ≡ true → starts_at (map address (cond b (r ∷ rs) rs)) a ≡ true
 later_by false r rs a e = e
-later_by true r rs a e = either (address r == a) e
-  where
-    either : (t : Bool) → starts_at (map address rs) a ≡ true → (t || starts_at (map address rs) a) ≡ true
-    either true e = refl
-    either false e = e
+later_by true r rs a e = or_right (address r == a) (starts_at (map address rs) a) e
 
 pub is_start : {a : ℕ} {xs : List Spot} → Starts a xs → (l : ℕ) → starts_at (starts_in (rows_of l xs)) a ≡ true
 is_start (here {x} {xs} is) l = first_by (is_instruction (row_of l x)) (row_of l x) _ (is l)

@@ -1,5 +1,5 @@
 // The work of `sample`: the made source out.
-ghost use Rattle.std.specs.Prelude.{◌≡◌, IfOk, IfErr};
+ghost use Rattle.std.specs.Prelude.{IfOk, IfErr};
 ghost use Rattle.std.specs.String.{string_bytes};
 ghost use Rattle.cmd_arguments.specs.ReadCommands.{sample_read};
 ghost use Rattle.cmd_sample.specs.Samples.{IsCount, SampleGives, Completes};

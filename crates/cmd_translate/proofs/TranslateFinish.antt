@@ -22,6 +22,7 @@ use Rattle.cmd_common.specs.declared.stop.Stop.{Stop}
 use Rattle.cmd_common.specs.declared.stop.Stop.TheVariants.{CodeTooLarge}
 use Rattle.cmd_common.specs.Lines.{named_line, memory_line}
 use Rattle.cmd_common.specs.Said.{SaysLine, SaysLast, IsDone, whole, failed, no_memory, Closes, said, unsaid}
+use Rattle.cmd_common.proofs.SourceLaw.{SourceLaw}
 use Rattle.cmd_common.proofs.Said.{line_after}
 use Rattle.cmd_common.specs.Files.{ReadStops, failed as read_failed, too_long as file_too_long, no_memory as no_memory_to_read, NoneFailed, FileIsTold, input_limit}
 use Rattle.cmd_common.specs.Sources.{stop_of_rule, refusal_line}
@@ -36,12 +37,6 @@ pub record TextLaw : Type 0 where
   pub assembles : (mode : Mode) (p : Program) (lines : List Line86) → IsProgram p → IsText mode p lines → CodeFits lines → Assembles lines
   pub reader : (mode : Mode) (p : Program) (lines : List Line86) → IsProgram p → IsText mode p lines → CodeFits lines → HasReader (image_of lines).code
   pub same : (mode : Mode) (p : Program) (lines : List Line86) → IsProgram p → IsText mode p lines → CodeFits lines → Same p (image_of lines)
-
--- the law of sources
-pub record SourceLaw : Type 0 where
-  pub program : (bytes : List ℕ) (top : ℕ) (p q : Program) → IsSource intel_reading bytes top p → IsSource intel_reading bytes top q → p ≡ q
-  pub refusal : (bytes : List ℕ) (top m n : ℕ) (r s : SourceRule) → IsNoSource intel_reading bytes top m r → IsNoSource intel_reading bytes top n s → (m ≡ n) × (r ≡ s)
-  pub apart : (bytes : List ℕ) (top n : ℕ) (p : Program) (r : SourceRule) → IsSource intel_reading bytes top p → IsNoSource intel_reading bytes top n r → ⊥
 
 -- code that fits is not too large
 not_both : OneText → (mode : Mode) (p : Program) (lines : List Line86) (size : ℕ) → IsText mode p lines → CodeFits lines → IsTooLarge mode p size → ⊥

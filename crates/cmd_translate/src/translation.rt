@@ -1,7 +1,7 @@
 // The work of `translate`: the source in, its text out.
 ghost use Rattle.std.specs.Prelude.{◌≡◌, ◌^◌, ◌<◌, true, IfOk, IfErr, OnOk, length, vec_len};
 ghost use Rattle.std.specs.String.{string_bytes};
-ghost use Rattle.host.specs.Host.{SameFaults, OnlyWrites, Rewrites, WriteFailed};
+ghost use Rattle.host.specs.Host.{SameFaults, OnlyWrites, Rewrites};
 ghost use Rattle.asm86_line_types.specs.Written.{written_text};
 ghost use Rattle.asm80_program_types.specs.Program.{Program, is_top};
 ghost use Rattle.templates.specs.declared.translation.Mode.{Mode};

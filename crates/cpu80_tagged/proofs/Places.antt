@@ -28,12 +28,12 @@ use Rattle.cells.specs.Places.{same_place}
 use Rattle.cpu80_tagged_def.specs.Call.{Return, ask, ask_after, call_by, is_just_below, seen_by_tagged, place_if, is_place, place_in, popped_return, return_after}
 use Rattle.cpu80_tagged_def.specs.Step.{go_to, go_on, leave_to, go_by, go_back, jump, enter, call, where_holds, ask_event, ask_port, sent, act, act_at, step_at, step80, return_of, return_at}
 
--- where the answer ran on, an instruction comes next, or the end
-abbrev pub GoesOn : Program → Answer State80 Rule → Type 0
-GoesOn p (Ran t) = is_place p t.place ≡ true
-GoesOn p (Asks e t) = Unit {0}
-GoesOn p Ends = Unit {0}
-GoesOn p (Stops x) = Unit {0}
+-- where the answer ran on, an instruction comes next, or the end; and where it asks, the state is as before
+abbrev pub GoesOn : Program → State80 → Answer State80 Rule → Type 0
+GoesOn p s (Ran t) = is_place p t.place ≡ true
+GoesOn p s (Asks e t) = t ≡ s
+GoesOn p s Ends = Unit {0}
+GoesOn p s (Stops x) = Unit {0}
 
 -- a place that is tested passes
 abbrev pub Passes : Program → Result Place Rule → Type 0
@@ -44,16 +44,16 @@ abbrev pub Returns : Program → Result Return Rule → Type 0
 Returns p (Ok back) = is_place p back.place ≡ true
 Returns p (Err r) = Unit {0}
 
-to_start : (p : Program) (s : State80) (a : ℕ) → GoesOn p (go_to p s a)
-to_start p s a = by_start (is_start p a) refl
+to_start : (p : Program) (s t : State80) (a : ℕ) → GoesOn p s (go_to p t a)
+to_start p s t a = by_start (is_start p a) refl
   where
-    by_start : (b : Bool) → is_start p a ≡ b → GoesOn p (cond b (Ran (record s { place = At a })) (Stops P1))
+    by_start : (b : Bool) → is_start p a ≡ b → GoesOn p s (cond b (Ran (record t { place = At a })) (Stops P1))
     by_start true e = e
     by_start false e = tt
 
-on_from : (p : Program) (a : ℕ) (r : Result State80 Rule) → GoesOn p (go_on p a r)
-on_from p a (Ok t) = to_start p t a
-on_from p a (Err r) = tt
+on_from : (p : Program) (s : State80) (a : ℕ) (r : Result State80 Rule) → GoesOn p s (go_on p a r)
+on_from p s a (Ok t) = to_start p s t a
+on_from p s a (Err r) = tt
 
 tested : (p : Program) (q : Place) (a b : Bool) → is_place p q ≡ b → Passes p (place_if (a && b) q)
 tested p q true true e = e
@@ -72,11 +72,11 @@ named p (Lo q) low = tt
 named p (Psw f) low = tt
 named p Junk low = tt
 
-left_to : (p : Program) (s : State80) (sp : ℕ) (q : Place) → is_place p q ≡ true → GoesOn p (leave_to s sp q)
+left_to : (p : Program) (s : State80) (sp : ℕ) (q : Place) → is_place p q ≡ true → GoesOn p s (leave_to s sp q)
 left_to p s sp (At a) h = h
 left_to p s sp Exit h = tt
 
-gone_by : (p : Program) (s : State80) (sp : ℕ) (r : Result Place Rule) → Passes p r → GoesOn p (go_by s sp r)
+gone_by : (p : Program) (s : State80) (sp : ℕ) (r : Result Place Rule) → Passes p r → GoesOn p s (go_by s sp r)
 gone_by p s sp (Ok q) h = left_to p s sp q h
 gone_by p s sp (Err r) h = tt
 
@@ -98,65 +98,63 @@ start_passes p a false e = tt
 after : (p : Program) (s : State80) (a : ℕ) → Returns p (return_after p s a)
 after p s a = returned p (place_if (is_start p a) (At a)) s.sp false (start_passes p a (is_start p a) refl)
 
-back_to : (p : Program) (s : State80) (r : Result Return Rule) → Returns p r → GoesOn p (go_back s r)
+back_to : (p : Program) (s : State80) (r : Result Return Rule) → Returns p r → GoesOn p s (go_back s r)
 back_to p s (Ok back) h = left_to p s back.sp back.place h
 back_to p s (Err r) h = tt
 
--- a call of the system does not run on
-asks_by : (p : Program) (s : State80) (is_popped : Bool) (r : Result Shape Rule) → GoesOn p (ask p s is_popped r)
-asks_by p s is_popped (Ok shape) = tt
+asks_by : (p : Program) (s : State80) (is_popped : Bool) (r : Result Shape Rule) → GoesOn p s (ask p s is_popped r)
+asks_by p s is_popped (Ok shape) = refl
 asks_by p s is_popped (Err r) = tt
 
-asks_after : (p : Program) (s : State80) (f : ℕ) (back : Result Return Rule) → GoesOn p (ask_after p s f back)
+asks_after : (p : Program) (s : State80) (f : ℕ) (back : Result Return Rule) → GoesOn p s (ask_after p s f back)
 asks_after p s f (Err r) = tt
 asks_after p s f (Ok back) = by_below (is_just_below s.sp 6 || is_just_below s.sp 7)
   where
-    by_below : (b : Bool) → GoesOn p (cond b (Stops P12) (ask p s back.is_popped (shape_of (Some f) (num_of s.regs.d) (num_of s.regs.e) s.dma (seen_by_tagged p s back.is_popped))))
+    by_below : (b : Bool) → GoesOn p s (cond b (Stops P12) (ask p s back.is_popped (shape_of (Some f) (num_of s.regs.d) (num_of s.regs.e) s.dma (seen_by_tagged p s back.is_popped))))
     by_below true = tt
     by_below false = asks_by p s back.is_popped (shape_of (Some f) (num_of s.regs.d) (num_of s.regs.e) s.dma (seen_by_tagged p s back.is_popped))
 
-calls_by : (p : Program) (s : State80) (back : Result Return Rule) (f : Option ℕ) → GoesOn p (call_by p s back f)
+calls_by : (p : Program) (s : State80) (back : Result Return Rule) (f : Option ℕ) → GoesOn p s (call_by p s back f)
 calls_by p s back None = tt
 calls_by p s back (Some f) = by_row (is_some (row_of f)) (f == 0)
   where
-    by_row : (b z : Bool) → GoesOn p (cond b (cond z Ends (ask_after p s f back)) (Stops P9))
+    by_row : (b z : Bool) → GoesOn p s (cond b (cond z Ends (ask_after p s f back)) (Stops P9))
     by_row true true = tt
     by_row true false = asks_after p s f back
     by_row false z = tt
 
-jumped : (p : Program) (s : State80) (t : Goal) → GoesOn p (jump p s t)
-jumped p s (Instr t) = to_start p s t
+jumped : (p : Program) (s : State80) (t : Goal) → GoesOn p s (jump p s t)
+jumped p s (Instr t) = to_start p s s t
 jumped p s Boot = tt
 jumped p s Bdos = calls_by p s (popped_return p s) (num_of s.regs.c)
 
-entered : (p : Program) (t a : ℕ) (r : Result State80 Rule) → GoesOn p (enter p t a r)
-entered p t a (Err r) = tt
-entered p t a (Ok s) = by_start (is_start p a)
+entered : (p : Program) (s : State80) (t a : ℕ) (r : Result State80 Rule) → GoesOn p s (enter p t a r)
+entered p s t a (Err r) = tt
+entered p s t a (Ok u) = by_start (is_start p a)
   where
-    by_start : (b : Bool) → GoesOn p (cond b (go_to p s t) (Stops P1))
-    by_start true = to_start p s t
+    by_start : (b : Bool) → GoesOn p s (cond b (go_to p u t) (Stops P1))
+    by_start true = to_start p s u t
     by_start false = tt
 
-called : (p : Program) (s : State80) (a : ℕ) (t : Goal) → GoesOn p (call p s a t)
-called p s a (Instr t) = entered p t a (push p s (Hi (At a)) (Lo (At a)))
+called : (p : Program) (s : State80) (a : ℕ) (t : Goal) → GoesOn p s (call p s a t)
+called p s a (Instr t) = entered p s t a (push p s (Hi (At a)) (Lo (At a)))
 called p s a Boot = tt
 called p s a Bdos = calls_by p s (return_after p s a) (num_of s.regs.c)
 
-where_it_holds : (p : Program) (s : State80) (a : ℕ) (b : Option Bool) (go : Answer State80 Rule) → GoesOn p go → GoesOn p (where_holds p s a b go)
+where_it_holds : (p : Program) (s : State80) (a : ℕ) (b : Option Bool) (go : Answer State80 Rule) → GoesOn p s go → GoesOn p s (where_holds p s a b go)
 where_it_holds p s a None go h = tt
 where_it_holds p s a (Some true) go h = h
-where_it_holds p s a (Some false) go h = to_start p s a
+where_it_holds p s a (Some false) go h = to_start p s s a
 
--- nor does what asks a port
-asked_of : (p : Program) (s : State80) (a : ℕ) (e : Result Event Rule) → GoesOn p (ask_port p s a e)
+asked_of : (p : Program) (s : State80) (a : ℕ) (e : Result Event Rule) → GoesOn p s (ask_port p s a e)
 asked_of p s a e = by_start (is_start p a) e
   where
-    by_start : (b : Bool) (e : Result Event Rule) → GoesOn p (cond b (ask_event s e) (Stops P1))
-    by_start true (Ok e) = tt
+    by_start : (b : Bool) (e : Result Event Rule) → GoesOn p s (cond b (ask_event s e) (Stops P1))
+    by_start true (Ok e) = refl
     by_start true (Err r) = tt
     by_start false e = tt
 
-acted : (p : Program) (s : State80) (a : ℕ) (i : Instr80) → GoesOn p (act p s a i)
+acted : (p : Program) (s : State80) (a : ℕ) (i : Instr80) → GoesOn p s (act p s a i)
 acted p s a Pchl = gone_by p s s.sp (place_in p s.regs.h s.regs.l) (named p s.regs.h s.regs.l)
 acted p s a (Jmp t) = jumped p s t
 acted p s a (Jif c t) = where_it_holds p s a (holds s.flags c) (jump p s t) (jumped p s t)
@@ -167,18 +165,18 @@ acted p s a (Rif c) = where_it_holds p s a (holds s.flags c) (go_back s (popped_
 acted p s a Rst0 = tt
 acted p s a (In port) = asked_of p s a (Ok (AskedIn port))
 acted p s a (Out port) = asked_of p s a (sent s port)
-acted p s a i = on_from p a (effect p s i)
+acted p s a i = on_from p s a (effect p s i)
 
-acted_at : (p : Program) (s : State80) (at : ℕ) (i : Option Instr80) → GoesOn p (act_at p s at i)
+acted_at : (p : Program) (s : State80) (at : ℕ) (i : Option Instr80) → GoesOn p s (act_at p s at i)
 acted_at p s at None = tt
 acted_at p s at (Some i) = acted p s (at + length80 i) i
 
-stepped_at : (p : Program) (s : State80) (q : Place) → GoesOn p (step_at p s q)
+stepped_at : (p : Program) (s : State80) (q : Place) → GoesOn p s (step_at p s q)
 stepped_at p s Exit = tt
 stepped_at p s (At a) = acted_at p s a (instr_at p a)
 
--- a step goes on to an instruction, or to the end
-pub goes_on : (p : Program) (s : State80) → GoesOn p (step80 p s)
+-- a step goes on to an instruction, or to the end, or asks
+pub goes_on : (p : Program) (s : State80) → GoesOn p s (step80 p s)
 goes_on p s = stepped_at p s s.place
 
 -- so does the return of a call

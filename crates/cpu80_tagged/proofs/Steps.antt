@@ -23,7 +23,7 @@ use Rattle.cpu80_tagged.specs.Machine.{IsCalling, WaitsBy, IsPhase, IsMachineOf,
 use Rattle.cpu80_tagged.proofs.Places.{GoesOn, goes_on}
 
 pub ran_place : (p : Program) (s t : State80) → Ran t ≡ step80 p s → is_place p t.place ≡ true
-ran_place p s t e = subst (GoesOn p) (sym e) (goes_on p s)
+ran_place p s t e = subst (GoesOn p s) (sym e) (goes_on p s)
 
 -- a call that has a shape waits
 calling : (p : Program) (s : State80) (kept : KeptReturn) → ask p s kept.is_popped (shape_at p s kept.is_popped) ≡ step80 p s → return_at p s s.place ≡ Ok (return_of_turn kept) → is_ok (shape_at p s kept.is_popped) ≡ true → num_of s.regs.c ≢ Some 0 → IsCalling p s kept

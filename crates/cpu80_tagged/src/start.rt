@@ -1,6 +1,5 @@
 // The start of a program.
 ghost use Rattle.std.specs.Prelude.{◌≡◌, ◌<◌, ◌≤◌, length, IfOk};
-ghost use Rattle.asm80_program_types.specs.Program.{IsProgram};
 ghost use Rattle.cpu80_tagged_def.specs.Memory.{is_closed};
 ghost use Rattle.cpu80_tagged_def.specs.Start.{start_cell80};
 ghost use Rattle.cpu80_tagged_step.specs.Area.{HasClosed};

@@ -1,7 +1,5 @@
 // The stack (8080 Assembly Language Programming Manual, "PUSH", "POP").
-ghost use Rattle.std.specs.Prelude.{◌≡◌, ◌+◌};
-ghost use Rattle.dialogue.specs.Words.{wrap};
-ghost use Rattle.cpu80_untagged_def.specs.State.{with_bc, with_de};
+ghost use Rattle.std.specs.Prelude.{◌≡◌};
 ghost use Rattle.cpu80_untagged_def.specs.Effect.{push, push_pair, popped, pop_pair};
 ghost use Rattle.cpu80_untagged.specs.State.{untagged_state};
 

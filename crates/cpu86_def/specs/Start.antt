@@ -1,5 +1,5 @@
 -- The start of an image, and its run.
-use Rattle.std.specs.Prelude.{◌≢◌, ℕ, ◌-◌, ◌/◌, ◌%◌, ◌^◌, ◌<◌, ◌&&◌, nat_lt, nat_le, cond, List, [], ◌∷◌, All, Option, slice_index}
+use Rattle.std.specs.Prelude.{◌≢◌, ℕ, ◌-◌, ◌/◌, ◌%◌, ◌^◌, ◌<◌, ◌&&◌, nat_lt, nat_le, cond, List, [], All, Option, slice_index}
 use Rattle.i86.specs.declared.Instr86.{Instr86}
 use Rattle.dialogue.specs.declared.request.Reply.{Reply}
 use Rattle.dialogue.specs.ByteMemory.{put_cells}

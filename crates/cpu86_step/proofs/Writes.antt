@@ -1,8 +1,8 @@
 -- Bytes written one after another.
-use Rattle.std.proofs.Common.{◌≡◌, ℕ, ◌+◌, ◌<◌, ◌==◌, Bool, true, false, cond, List, [], ◌∷◌, length, get_or, drop, refl, sym, ap, ◌∙◌, arith}
+use Rattle.std.proofs.Common.{◌≡◌, ℕ, ◌+◌, ◌==◌, Bool, true, false, cond, [], ◌∷◌, refl, ap, ◌∙◌, arith}
 use mathlib.Core.Path.{fun_ext}
 use Rattle.std.proofs.lemmas.Bool.Decides.{nat_tests}
-use Rattle.dialogue.specs.ByteMemory.{put, put_bytes}
+use Rattle.dialogue.specs.ByteMemory.{put_bytes}
 use Rattle.dialogue.specs.Words.{wrap}
 use Rattle.cpu86_step.specs.System.{six_at}
 

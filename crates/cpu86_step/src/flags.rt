@@ -1,6 +1,6 @@
 // The flags (Intel 8086 Family User's Manual, "Flags").
-ghost use Rattle.std.specs.Prelude.{◌≡◌, ◌+◌, ◌<◌, ◌≤◌};
-ghost use Rattle.base_arithmetic_def.specs.Arithmetic.{as_bit, has_even_parity};
+ghost use Rattle.std.specs.Prelude.{◌≡◌, ◌+◌, ◌<◌};
+ghost use Rattle.base_arithmetic_def.specs.Arithmetic.{has_even_parity};
 ghost use Rattle.cpu86_def.specs.Flags.{flags_by, flags_by_word, chosen_flags, flag_byte, flags_of_byte, jumps};
 ghost use Rattle.cpu86_step.specs.State.{flags_of_86};
 

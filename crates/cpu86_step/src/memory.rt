@@ -1,5 +1,5 @@
 // The 64K of memory.
-ghost use Rattle.std.specs.Prelude.{◌≡◌, ℕ, length};
+ghost use Rattle.std.specs.Prelude.{◌≡◌, length};
 
 use dialogue::{Block, View, choice_byte, join};
 

@@ -1,5 +1,5 @@
 // The processor: what an instruction reads and writes.
-ghost use Rattle.std.specs.Prelude.{◌≡◌, ◌+◌};
+ghost use Rattle.std.specs.Prelude.{◌≡◌};
 ghost use Rattle.cpu86_step.specs.State.{state_of_86, flags_of_86, with_mem};
 ghost use Rattle.dialogue.specs.ByteMemory.{put};
 ghost use Rattle.cpu86_def.specs.State.{reg8, reg16, with16, pointed, operand8, with_operand8, operand16, push, put_word};

@@ -1,6 +1,6 @@
 // What a reply may answer and write, and what it leaves.
 ghost use Rattle.std.specs.Prelude.{◌≡◌};
-ghost use Rattle.dialogue.specs.Fits.{answer_fits, fills_range, writes_fit, line_bytes_fit, line_fits, fits, fits_event, kind_by, answer_kind_of, dma_after, writes_nothing};
+ghost use Rattle.dialogue.specs.Fits.{answer_fits, fills_range, writes_fit, line_bytes_fit, line_fits, fits, fits_event, kind_by, answer_kind_of, dma_after};
 ghost use Rattle.dialogue.specs.Shape.{ranges};
 
 use crate::blocks::Block;

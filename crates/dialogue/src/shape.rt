@@ -1,7 +1,7 @@
 // What a call asks for: its shape, or the rule that it breaks; and its request.
 ghost use Rattle.std.specs.Prelude.{◌≡◌, ◌<◌, ◌≤◌, ◌+◌, ◌-◌, Some, [], ◌∷◌, ◌++◌, map, IfSome, IfOk, IsTrue};
 ghost use Rattle.std.specs.List.{list_all};
-ghost use Rattle.dialogue.specs.Shape.{seen_by_view, argument_of, argument_address, text_length, range_of, range_within, line_room, all_cells, shape_of, ranges, block_seen, request_of};
+ghost use Rattle.dialogue.specs.Shape.{seen_by_view, argument_of, argument_address, text_length, range_of, line_room, all_cells, shape_of, ranges, block_seen, request_of};
 ghost use Rattle.dialogue.specs.Places.{passes, rule_of, has_cells, HaveCells, in_memory, place_within, places_within, room_at, shape_by_places};
 ghost use Rattle.dialogue.specs.Lawful.{IsShapeOver, IsLawfulRequest};
 

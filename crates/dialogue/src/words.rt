@@ -1,5 +1,5 @@
 // Words of two bytes.
-ghost use Rattle.std.specs.Prelude.{◌≡◌, ◌+◌, ◌*◌, ◌≤◌};
+ghost use Rattle.std.specs.Prelude.{◌≡◌, ◌+◌, ◌*◌};
 ghost use Rattle.dialogue.specs.Words.{word};
 
 /// A word of two bytes.

@@ -1,5 +1,5 @@
 // The lines of events.
-ghost use Rattle.std.specs.Prelude.{◌≡◌, ◌<◌, ◌++◌, [], ◌∷◌, length, IfOk, IfErr, OnOk, codes};
+ghost use Rattle.std.specs.Prelude.{◌≡◌, ◌<◌, ◌++◌, IfOk, IfErr, OnOk};
 ghost use Rattle.host.specs.Host.{Says, SameFaults, OnlySays};
 ghost use Rattle.hex.specs.Hex.{encode_lower};
 ghost use Rattle.emulators.specs.Advance.{IsLineCutOff};

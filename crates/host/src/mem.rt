@@ -1,5 +1,5 @@
 // A host in memory, for tests: it tells everything, and fails where it is told to.
-ghost use Rattle.std.specs.Prelude.{◌≡◌, ◌≢◌, ◌+◌, ◌-◌, ◌<◌, ◌≤◌, ◌↔◌, ◌⊎◌, [], ◌∷◌, ◌++◌, min, take, drop, length, IsTrue, IsOk, IfOk, IfErr, IfSome, OnOk, OnErr, option_copied, unwrap_or};
+ghost use Rattle.std.specs.Prelude.{◌≡◌, ◌≢◌, ◌+◌, ◌-◌, ◌<◌, ◌↔◌, ◌⊎◌, [], ◌∷◌, ◌++◌, min, take, drop, length, IsTrue, IsOk, IfOk, IfErr, IfSome, OnOk, OnErr, option_copied, unwrap_or};
 ghost use Rattle.host.specs.Host.{one_more, failures_after, wants_after};
 ghost use Rattle.host.specs.MemHost.{file_in_mem_host, said_of, fails_of, calls_of, read_faults_of, write_faults_of, memory_faults_of, state_of_mem_host, NextFails, read_count_after, piece_of, CountsCall, CountsNothing, KeepsFiles, PutsFile};
 

@@ -1,5 +1,5 @@
 // The start: what memory holds.
-ghost use Rattle.std.specs.Prelude.{◌≡◌, ℕ, true, length, slice_index, IfOk};
+ghost use Rattle.std.specs.Prelude.{◌≡◌, true, length, slice_index, IfOk};
 ghost use Rattle.asm80_program_types.specs.Program.{is_top};
 ghost use Rattle.cpu80_untagged.specs.State.{untagged_memory};
 ghost use Rattle.cpu80_bytes_def.specs.Start.{start_bytes};

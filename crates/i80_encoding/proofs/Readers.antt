@@ -15,7 +15,7 @@ use Rattle.i80_encoding.specs.declared.decoding.ByteForm.TheVariants.{Mvi as Byt
 use Rattle.i80_encoding.specs.declared.decoding.WordForm.{WordForm}
 use Rattle.i80_encoding.specs.declared.decoding.WordForm.TheVariants.{Lxi as WordLxi, Lda as WordLda, Sta as WordSta, Lhld as WordLhld, Shld as WordShld, Jmp as WordJmp, Jif as WordJif, Call as WordCall, Cif as WordCif}
 use Rattle.i80_encoding.specs.Enc80.{address_of, with_word, enc80}
-use Rattle.i80_encoding.specs.Decoded.{goal_at, as_told, IsPrefix, StandsFirst, IsDecoded, IsPrefixFree}
+use Rattle.i80_encoding.specs.Decoded.{goal_at, as_told, StandsFirst, IsDecoded, IsPrefixFree}
 use Rattle.i80_encoding.specs.Decoder.{form_of, instruction_with_byte, instruction_with_word, by_form80, decoded80}
 use Rattle.i80_encoding.proofs.Tables.{byte_opcode, word_opcode, byte_form, word_form, mov_found, alu_found, inr_found, dcr_found, inx_found, dcx_found, dad_found, push_found, pop_found, rif_found, ldax_found, stax_found, Says, form_says}
 

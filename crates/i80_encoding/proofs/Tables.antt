@@ -12,7 +12,6 @@ use Rattle.i80.specs.declared.StackPair.{StackPair}
 use Rattle.i80.specs.declared.StackPair.TheVariants.{B as StackB, D as StackD, H as StackH, Psw}
 use Rattle.i80.specs.declared.Op.{Op}
 use Rattle.i80.specs.declared.Op.TheVariants.{Add, Adc, Sub, Sbb, Ana, Xra, Ora, Cmp}
-use Rattle.i80.specs.declared.Instr80.{Instr80}
 use Rattle.i80.specs.declared.Instr80.TheVariants.{Mov, Ldax, Stax, Alu, Inr, Dcr, Inx, Dcx, Dad, Push, Pop, Rif}
 use Rattle.i80.specs.Columns.{is_well_formed}
 use Rattle.i80_encoding.specs.declared.decoding.Form.{Form}

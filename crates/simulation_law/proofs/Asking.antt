@@ -1,21 +1,18 @@
 -- A call of the system on both machines: what the 8080 asks, the 8086 asks too.
-use Rattle.std.proofs.Common.{◌≡◌, ◌≢◌, ℕ, zero, suc, ◌<◌, ◌==◌, Bool, true, false, cond, List, [], ◌∷◌, Option, Some, None, Result, Ok, Err, refl, sym, ap, subst, ◌∙◌}
+use Rattle.std.proofs.Common.{◌≡◌, ◌≢◌, ℕ, ◌<◌, ◌==◌, Bool, true, false, cond, Option, Some, None, Result, Ok, Err, refl, sym, ap, subst, ◌∙◌}
 use Rattle.std.specs.Prelude.{All, ◌||◌, is_some}
 use Rattle.std.proofs.lemmas.Bool.{and_parts, eqb-true}
-use Rattle.std.proofs.lemmas.List.Elements.{All-nil, All-cons, All-head, All-tail}
 use Rattle.cells.specs.declared.Place.{Place}
 use Rattle.cells.specs.declared.Cell.{Cell}
 use Rattle.cells.specs.declared.Cell.TheVariants.{Num, Lo, Hi, Psw, Junk}
 use Rattle.cells.specs.declared.Rule.{Rule}
-use Rattle.cells.specs.declared.Rule.TheVariants.{P9, P10, P11, P12}
-use Rattle.dialogue.specs.declared.request.Range.{Range}
+use Rattle.cells.specs.declared.Rule.TheVariants.{P9, P12}
 use Rattle.dialogue.specs.declared.request.Shape.{Shape}
 use Rattle.dialogue.specs.declared.request.Reply.{Reply}
 use Rattle.dialogue.specs.declared.request.Request.{Request}
 use Rattle.dialogue.specs.declared.request.Event.TheVariants.{Call}
-use Rattle.dialogue.specs.declared.table.Extent.{Extent}
-use Rattle.dialogue.specs.Table.{Row, row_of, padded_to}
-use Rattle.dialogue.specs.Shape.{Seen, argument_of, argument_address, is_readable, range_of, is_within, range_within, ranges_within, has_room, ranges, shape_by, shape_by_row, shape_of, request_of}
+use Rattle.dialogue.specs.Table.{Row, row_of}
+use Rattle.dialogue.specs.Shape.{Seen, is_within, ranges, shape_of, request_of}
 use Rattle.dialogue.specs.Fits.{answer_fits, kind_by, line_fits, writes_fit, fits, fits_row, answer_in, answer_kind_of}
 use Rattle.dialogue.specs.ByteMemory.{seen_by as seen_by86}
 use Rattle.dialogue.specs.Run.{Answer, Asks, Ends, Stops}
@@ -28,7 +25,6 @@ use Rattle.cpu86_def.specs.Call.{OddCall, spoiled, ask as ask86, ask_system, cal
 use Rattle.sym_block_def.specs.Stands.{Stands}
 use Rattle.dialogue.specs.Sight.{SeesMore, KnowsMore, WhoSeesMoreAsksTheSame}
 use Rattle.simulation_def.specs.States.{IsCell}
-use Rattle.dialogue.proofs.Tried.{then_is, ok_is, err_is_not}
 use Rattle.sym_sound.proofs.Machine86.Words.{eq_false}
 use Rattle.dialogue.proofs.Within.{AreWithin, call_writes, fit_within}
 

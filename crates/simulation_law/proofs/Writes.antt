@@ -1,15 +1,11 @@
 -- What a reply writes, on both machines: blocks within memory, at cells that the call may write.
-use Rattle.std.proofs.Common.{◌≡◌, ◌≢◌, ℕ, zero, suc, ◌+◌, ◌≤◌, ◌<◌, ◌==◌, Bool, true, false, cond, List, [], ◌∷◌, length, Option, refl, sym, ap, subst, ◌∙◌, arith}
-use Rattle.std.specs.Prelude.{All, nat_le}
-use Rattle.std.proofs.lemmas.Bool.{and_parts, leb-true, eqb-true}
+use Rattle.std.proofs.Common.{◌≡◌, ◌≢◌, ℕ, ◌+◌, ◌≤◌, ◌<◌, ◌==◌, Bool, true, false, cond, List, [], ◌∷◌, length, Option, refl, sym, ap, subst, ◌∙◌, arith}
+use Rattle.std.specs.Prelude.{All}
 use Rattle.std.proofs.lemmas.List.Elements.{All-head, All-tail}
 use Rattle.cells.specs.declared.Place.{Place}
 use Rattle.cells.specs.declared.Cell.{Cell}
 use Rattle.cells.specs.declared.Cell.TheVariants.{Num}
 use Rattle.dialogue.specs.declared.blocks.Block.{Block}
-use Rattle.dialogue.specs.declared.request.Range.{Range}
-use Rattle.dialogue.specs.Shape.{all_cells, is_within}
-use Rattle.dialogue.specs.Fits.{fills_range, writes_fit, line_bytes_fit, line_fits}
 use Rattle.dialogue.proofs.Within.{AreWithin}
 use Rattle.dialogue.specs.ByteMemory.{put, put_bytes, put_blocks}
 use Rattle.dialogue.specs.Words.{wrap}

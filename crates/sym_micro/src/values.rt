@@ -4,7 +4,7 @@ ghost use Rattle.std.specs.Prelude.{◌≡◌, ◌<◌, cond, true};
 ghost use Rattle.cells.specs.declared.Part.TheVariants.{Cy};
 ghost use Rattle.sym_terms.specs.Term.{Num, Start, Unknown, is_flag};
 ghost use Rattle.sym_terms.specs.Trees.{tree_in, IsGiven, Makes};
-ghost use Rattle.sym_block_def.specs.Symbolic86.{pointed, turn_kind, turn_carry, brought_back};
+ghost use Rattle.sym_block_def.specs.Symbolic86.{pointed, turn_carry, brought_back};
 ghost use Rattle.sym_block_def.specs.Block80.{carry_in};
 ghost use Rattle.sym_micro.specs.Machine.{as86, byte_value, word_value, flag_value, wide_in, part_of_flag, ByteIsCoded, WordIsCoded};
 ghost use Rattle.sym_micro.specs.Stands.{id_after, machine_of, IsReady};

@@ -1,7 +1,6 @@
 // What a walk is in, and what it meets.
 
-ghost use Rattle.std.specs.Prelude.{◌≡◌, ◌||◌, not, Some, None, cond, option_map};
-ghost use Rattle.cells.specs.declared.Place.TheVariants.{At as AtPlace};
+ghost use Rattle.std.specs.Prelude.{◌≡◌, ◌||◌, not, Some, None, option_map};
 ghost use Rattle.sym_block_def.specs.Walk86.{after_label, way_to, is_passed, met, comes_next, back_from_call, back_from_system};
 ghost use Rattle.sym_run.specs.Around.{surroundings_of, met_of, IsWalkStep, WayMayBe, follows_by};
 

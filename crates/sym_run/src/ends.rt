@@ -1,7 +1,6 @@
 // Where a walk ends.
 
 ghost use Rattle.std.specs.Prelude.{◌≡◌, ◌||◌, not, Ok, Err, true, false, cond};
-ghost use Rattle.cells.specs.declared.Place.TheVariants.{At as AtPlace};
 ghost use Rattle.xlt_pool.specs.Contents.{Contents};
 ghost use Rattle.dialogue.specs.Tried.{try_then};
 ghost use Rattle.sym_block_def.specs.declared.reason.Reason.TheVariants.{Form};

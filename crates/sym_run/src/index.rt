@@ -1,6 +1,6 @@
 // The statements of a text in their order, and the place behind each label, found by a hash.
 
-ghost use Rattle.std.specs.Prelude.{◌≡◌, ◌≤◌, Some, cond, drop, length, IfOk, OnOk};
+ghost use Rattle.std.specs.Prelude.{◌≡◌, Some, cond, IfOk, OnOk};
 ghost use Rattle.asm86_line_types.specs.declared.line.Label.{Label};
 ghost use Rattle.asm86_line_types.specs.Layout.{marks};
 ghost use Rattle.asm86_line_types.specs.Image.{statements, offset_in};

@@ -3,7 +3,7 @@
 ghost use Rattle.std.specs.Prelude.{◌≡◌};
 ghost use Rattle.sym_terms.specs.Term.{Num, Unknown, same_term};
 ghost use Rattle.sym_terms.specs.Making.{half_of};
-ghost use Rattle.sym_terms.specs.Trees.{tree_in, IsGiven, AreTerms};
+ghost use Rattle.sym_terms.specs.Trees.{tree_in, IsGiven};
 ghost use Rattle.sym_run.specs.Seen.{tree_of_seen, SeenIsGiven};
 
 use sym_terms::{Head, Term, Terms};

@@ -1,6 +1,6 @@
 // The makers: each gives a term as the equations have it, and looks at its operands' heads alone, and at those of a Join's halves.
 
-ghost use Rattle.std.specs.Prelude.{◌≡◌, ◌<◌, ◌≤◌, ◌||◌, Bool, true, false, cond, ℕ};
+ghost use Rattle.std.specs.Prelude.{◌≡◌, ◌<◌, ◌≤◌, ◌||◌, true, cond};
 ghost use Rattle.sym_terms.specs.Term.{Num, Start, StartSp, Loaded8, Loaded16, Sum16, Code, Unknown, is_open, is_byte, is_bit, is_word, is_flag, leaves_flag};
 ghost use Rattle.sym_terms.specs.Making.{IsTermMade, alu, flag, sum16, regrouped, plus, high, low, half_of, join, bit, turn_or_turned, adjust};
 ghost use Rattle.sym_terms.specs.Heads.{opens, is_logic_head, is_addition_head};

@@ -1,6 +1,6 @@
 // The terms: nodes in a pool.
 
-ghost use Rattle.std.specs.Prelude.{◌≡◌, ◌+◌, ◌-◌, ◌<◌, ◌≤◌, ℕ, Bool, false, [], All, IfOk, length, take};
+ghost use Rattle.std.specs.Prelude.{◌≡◌, ◌+◌, ◌-◌, ◌<◌, ◌≤◌, false, [], All, IfOk, length, take};
 ghost use Rattle.xlt_pool.specs.Contents.{NodeStandsAt};
 ghost use Rattle.sym_terms.specs.Making.{IsTermMade};
 ghost use Rattle.sym_terms.specs.Term.{FlagByte, is_bit, is_adjusted};

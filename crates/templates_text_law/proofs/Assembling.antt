@@ -3,6 +3,7 @@
 use Rattle.std.proofs.Common.{◌≡◌, ◌≢◌, ℕ, ◌+◌, ◌≤◌, List, [], ◌∷◌, ◌++◌, Some, refl, ap, ◌∙◌, subst, arith, append_assoc, true, false, cond}
 use Rattle.std.specs.Prelude.{is_some, unwrap_or}
 use Rattle.std.proofs.lemmas.Bool.Decides.{nat_tests}
+use Rattle.std.proofs.lemmas.Bool.{eq-eqb, ne_eqb}
 use Rattle.i80.specs.declared.Goal.{Goal}
 use Rattle.i80.specs.declared.Goal.TheVariants.{At, Boot, Bdos}
 use Rattle.i80.specs.Columns.{length80}
@@ -21,7 +22,7 @@ use Rattle.asm80_program_types.specs.Program.{AreLaid}
 use Rattle.flow.proofs.Laid.{length80-positive}
 use Rattle.templates.specs.Template.{label_of_goal}
 use Rattle.templates_text_law.specs.Reach.{ShortenedReach}
-use Rattle.templates_text_law.proofs.Statements.{each-append, each-map, HaveLines, stands_behind, eq_true, eq_false}
+use Rattle.templates_text_law.proofs.Statements.{each-append, each-map, HaveLines, stands_behind}
 use Rattle.templates_text_law.proofs.Shapes.{IsStep, runs, loads, jumps, calls, AreSteps, HasShape, straight, past, short, step_marks_not, word_fits}
 use Rattle.templates_text_law.proofs.Body.{IsGroup, marked, bare, IsBody, none, more}
 use Rattle.templates_text_law.proofs.Placing.{group_marks_not}
@@ -137,7 +138,7 @@ module _ (G : Goal → Type 0) where
 
     -- the label behind a step that is jumped over
     skip_stands : (at : ℕ) (rest : List Stmt86) (k : ℕ) → is_some (offset_from k (Mark (Skip at) ∷ rest) (Skip at)) ≡ true
-    skip_stands at rest k = ap (λ b. is_some (cond b (Some k) (offset_from (k + 0) rest (Skip at)))) (eq_true at at refl)
+    skip_stands at rest k = ap (λ b. is_some (cond b (Some k) (offset_from (k + 0) rest (Skip at)))) (eq-eqb at at refl)
 
     shape_uses : (at : ℕ) (xs rest : List Stmt86) → HasShape G at xs → Within (xs ++ rest) → Uses xs
     shape_uses at _ rest (straight xs s) w = each-map (IsStep G) (λ x. AllDefined all (used_in x)) step_uses xs s
@@ -177,7 +178,7 @@ module _ (G : Goal → Type 0) where
     skip_at : (k at : ℕ) (j : Jump) (x : Stmt86) (ys : List Stmt86) → IsStep G x → offset_from k (Jcc j (Skip at) ∷ (x ∷ (Mark (Skip at) ∷ ys))) (Skip at) ≡ Some (k + 2 + size_of x)
     skip_at k at j x ys s =
         ap (λ b. cond b (Some (k + 2)) (offset_from (k + 2 + size_of x) (Mark (Skip at) ∷ ys) (Skip at))) (step_marks_not G (Skip at) x s)
-        ∙ ap (λ b. cond b (Some (k + 2 + size_of x)) (offset_from (k + 2 + size_of x + 0) ys (Skip at))) (eq_true at at refl)
+        ∙ ap (λ b. cond b (Some (k + 2 + size_of x)) (offset_from (k + 2 + size_of x + 0) ys (Skip at))) (eq-eqb at at refl)
 
     past_reaches : (k n to : ℕ) → n ≤ 3 → to ≡ k + 2 + n → jump_reaches (k + 2) to ≡ true
     past_reaches k n to h e = grind (arith, nat_tests)
@@ -218,7 +219,7 @@ module _ (G : Goal → Type 0) where
             let up = length80-positive x.instr in
             let above = laid.0 in
             let ne : x.at ≢ a = omega (arith, le, up) in
-            there a (omega (arith, le, above)) ∙ ap (λ o. unwrap_or o 0) (offset_past k (Skip a) ys (zs ++ rest) (group_marks_not G (Skip a) x.at refl (eq_false x.at a ne) ys g))
+            there a (omega (arith, le, above)) ∙ ap (λ o. unwrap_or o 0) (offset_past k (Skip a) ys (zs ++ rest) (group_marks_not G (Skip a) x.at refl (ne_eqb x.at a ne) ys g))
 
 -- statements that have no short jump reach, and those that use no label use none that is not defined
 pub reach_each : (off : Label → ℕ) (xs : List Stmt86) → Each (λ x. (at : ℕ) → short_reaches off at x ≡ true) xs → (at : ℕ) → AllReach off at xs

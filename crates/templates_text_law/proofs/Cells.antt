@@ -8,6 +8,7 @@ use Rattle.std.specs.Ordering.{nat_cmp}
 use Rattle.std.specs.declared.cmp.Ordering.TheVariants.{Less}
 use Rattle.std.proofs.lemmas.Bool.Decides.{nat_tests}
 use Rattle.std.proofs.lemmas.Map.Keys.{IsStrictlyIncreasing-from_sorted}
+use Rattle.std.proofs.lemmas.Bool.{ne_eqb}
 use Rattle.cells.specs.declared.Place.TheVariants.{At as AtPlace, Exit}
 use Rattle.cells.specs.declared.Cell.{Cell}
 use Rattle.cells.specs.declared.Cell.TheVariants.{Num, Lo, Hi, Psw, Junk}
@@ -27,7 +28,6 @@ use Rattle.simulation_def.specs.Linked.{places}
 use Rattle.simulation_def.specs.Runs86.{offsets_of}
 use Rattle.simulation_def.specs.Matches.{first_or, byte_at, DataStands}
 use Rattle.templates.proofs.NumberedLines.{statements-numbered}
-use Rattle.templates_text_law.proofs.Statements.{eq_false}
 use Rattle.templates_text_law.proofs.Leading.{Leads, held_leads}
 use Rattle.templates_text_law.proofs.Data.{byte_of, bytes_of, data_cells}
 use Rattle.templates_text_law.proofs.Programs.{Begins, program_data}
@@ -58,7 +58,7 @@ none_before off instrs from limit a (c ∷ cs) laid lt =
     let above = laid.0 in
     let ne : c.0 ≢ a = omega (arith, lt, above) in
     ap (λ o. first_or o (cond (c.0 == a) (Some (byte_of off c.1)) None)) (none_before off instrs (c.0 + 1) limit a cs laid.3 (omega (arith, lt, above)))
-    ∙ ap (λ t. cond t (Some (byte_of off c.1)) None) (eq_false c.0 a ne)
+    ∙ ap (λ t. cond t (Some (byte_of off c.1)) None) (ne_eqb c.0 a ne)
 
 -- the cell at an address gives the byte there
 byte_found : (off : Label → ℕ) (instrs : List Placed) (from limit a : ℕ) (v : Cell) (cs : List (ℕ × Cell)) → CellsAreLaid instrs from limit cs → cell_in cs a ≡ Some v → byte_at (bytes_of off cs) a ≡ Some (byte_of off v)

@@ -2,6 +2,7 @@
 use Rattle.std.proofs.Common.{◌≡◌, ◌≢◌, ℕ, ◌+◌, ◌%◌, ◌/◌, ◌≤◌, ◌<◌, List, [], ◌∷◌, ◌++◌, refl, sym, ap, ◌∙◌, subst, arith, append_assoc, Bool, true, false, cond, not, ◌==◌, ◌&&◌, ◌||◌, nat_lt, nat_le}
 use Rattle.std.specs.List.{list_any}
 use Rattle.std.proofs.lemmas.Bool.Decides.{nat_tests}
+use Rattle.std.proofs.lemmas.Bool.{eq-eqb, ne_eqb}
 use Rattle.cells.specs.declared.Place.TheVariants.{At as AtPlace}
 use Rattle.cells.specs.declared.Cell.{Cell}
 use Rattle.cells.specs.declared.Cell.TheVariants.{Num, Lo, Hi}
@@ -14,7 +15,7 @@ use Rattle.asm86_line_types.specs.Order.{Reading, DataGroup, in_order, is_free_c
 use Rattle.asm86_line_types.specs.Image.{cells_from, word_cells}
 use Rattle.asm86_line_types.proofs.Statements.{Each}
 use Rattle.templates.specs.Plain.{org_at, data_from, ending}
-use Rattle.templates_text_law.proofs.Statements.{each-append, eq_true, eq_false}
+use Rattle.templates_text_law.proofs.Statements.{each-append}
 
 -- bytes, and words that are offsets of code addresses of a kind, ascending from a place on and below a limit
 pub data HasData (G : ℕ → Type 0) (limit : ℕ) : ℕ → List (ℕ × Cell) → Type 0 where
@@ -26,7 +27,7 @@ pub data HasData (G : ℕ → Type 0) (limit : ℕ) : ℕ → List (ℕ × Cell)
 word_statement : (next a q : ℕ) (cs : List (ℕ × Cell)) → data_from next ((a, Lo (AtPlace q)) ∷ ((a + 1, Hi (AtPlace q)) ∷ cs)) ≡ org_at next a ++ (Dw (Offset (At q)) ∷ data_from (a + 2) cs)
 word_statement next a q cs =
     let e : a + 1 + 1 ≡ a + 2 = omega arith in
-    ap (λ b. org_at next a ++ (Dw (Offset (At q)) ∷ (cond b [] (Org (a + 1) ∷ []) ++ data_from (a + 1 + 1) cs))) (eq_true (a + 1) (a + 1) refl)
+    ap (λ b. org_at next a ++ (Dw (Offset (At q)) ∷ (cond b [] (Org (a + 1) ∷ []) ++ data_from (a + 1 + 1) cs))) (eq-eqb (a + 1) (a + 1) refl)
     ∙ ap (λ n. org_at next a ++ (Dw (Offset (At q)) ∷ data_from n cs)) e
 
 org_each : (P : Stmt86 → Type 0) (next a : ℕ) → P (Org a) → Each P (org_at next a)
@@ -64,7 +65,7 @@ none_there a [] h = refl
 none_there a (b ∷ bs) h =
     let lt = h.0 in
     let ne : b ≢ a = omega (arith, lt) in
-    ap (λ t. t || list_any (λ b. b == a) bs) (eq_false b a ne) ∙ none_there a bs h.1
+    ap (λ t. t || list_any (λ b. b == a) bs) (ne_eqb b a ne) ∙ none_there a bs h.1
 
 le_true : (a b : ℕ) → a ≤ b → nat_le a b ≡ true
 le_true a b h = grind (arith, nat_tests)

@@ -1,7 +1,7 @@
 -- Each place that a program's text names is the first of a block, and so has its label there.
 use Rattle.std.proofs.Common.{◌≡◌, ℕ, ◌+◌, ◌-◌, ◌≤◌, List, [], ◌∷◌, Some, refl, ap, ◌∙◌, arith, Bool, true, false, cond, ◌==◌, ◌||◌}
 use Rattle.std.specs.Prelude.{is_some, IfSome, filter, filter_map}
-use Rattle.std.proofs.lemmas.Bool.{or_left, or_right, eqb-true}
+use Rattle.std.proofs.lemmas.Bool.{or_left, or_right, eqb-true, eq-eqb, ne_eqb}
 use Rattle.std.proofs.lemmas.List.Folds.{list_any-append}
 use Rattle.base_types.specs.Addresses.{is_among}
 use Rattle.cells.specs.declared.Place.TheVariants.{At as AtPlace}
@@ -19,7 +19,6 @@ use Rattle.asm80_program_types.specs.Taken.{place_taken_by, place_placed, place_
 use Rattle.flow.specs.Blocks.{target_of, IsLeader, BlocksCut}
 use Rattle.flow.proofs.Entries.{among_cons, among_some, contained}
 use Rattle.flow.proofs.Laid.{length80-positive}
-use Rattle.templates_text_law.proofs.Statements.{eq_true, eq_false}
 use Rattle.templates_text_law.proofs.Shapes.{Names}
 use Rattle.templates_text_law.proofs.Body.{AreKnown}
 
@@ -72,7 +71,7 @@ module _ (p : Program) (is : IsProgram p) (cut : BlocksCut p) where
     takes : (q : ℕ) → is_among (filter_map place_placed xs) q ≡ true → is_among (filter_map place_placed p.instrs) q ≡ true
 
   instr_here : (from : ℕ) (x : Placed) (xs : List Placed) → Instrs from (x ∷ xs) → instr_at p x.at ≡ Some x.instr
-  instr_here from x xs f = ap instr_of_placed (f.sees x.at f.laid.0 ∙ ap (λ t. cond t (Some x) (placed_in xs x.at)) (eq_true x.at x.at refl))
+  instr_here from x xs f = ap instr_of_placed (f.sees x.at f.laid.0 ∙ ap (λ t. cond t (Some x) (placed_in xs x.at)) (eq-eqb x.at x.at refl))
 
   instrs_rest : (from : ℕ) (x : Placed) (xs : List Placed) → Instrs from (x ∷ xs) → Instrs (x.at + length80 x.instr) xs
   instrs_rest from x xs f = record {
@@ -81,7 +80,7 @@ module _ (p : Program) (is : IsProgram p) (cut : BlocksCut p) where
         let above = f.laid.0 in
         let longer = length80-positive x.instr in
         let ne : x.at ≡ a → ⊥ = λ same. omega (arith, le, longer, same) in
-        f.sees a (omega (arith, le, above)) ∙ ap (λ t. cond t (Some x) (placed_in xs a)) (eq_false x.at a ne);
+        f.sees a (omega (arith, le, above)) ∙ ap (λ t. cond t (Some x) (placed_in xs a)) (ne_eqb x.at a ne);
     takes = λ q h. f.takes q (among_cons (place_placed x) (filter_map place_placed xs) q h);
   }
 

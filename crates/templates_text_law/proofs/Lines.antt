@@ -1,6 +1,7 @@
 -- What follows of the written lines of a text: it reads back, its code has one reader, and its numbers are in their ranges.
-use Rattle.std.proofs.Common.{◌≡◌, ℕ, ◌+◌, List, [], ◌∷◌, ◌++◌, refl, sym, ap, subst, ◌∙◌, Bool, true, false, ◌||◌, add-one}
+use Rattle.std.proofs.Common.{◌≡◌, ℕ, ◌+◌, List, [], ◌∷◌, ◌++◌, refl, sym, ap, subst, ◌∙◌, Bool, true, ◌||◌, add-one}
 use Rattle.std.specs.List.{list_any}
+use mathlib.Core.Bool.{or-true}
 use Rattle.i86.specs.declared.Operand16.TheVariants.{Direct}
 use Rattle.i86.specs.declared.Instr86.{Instr86}
 use Rattle.i86.specs.declared.Instr86.TheVariants.{MovAlDirect, MovDirectAl, MovNum8, MovNum16, MovMemNum, MovReg16, MovDirect16, AluNum, InAl, OutAl}
@@ -28,13 +29,9 @@ numbered_written : (n : ℕ) (xs : List Stmt86) → HaveLines xs → AreWritten 
 numbered_written n [] h = tt
 numbered_written n (x ∷ xs) h = (refl, h.0, subst (λ k. AreWritten k (numbered_from (n + 1) xs)) (add-one n) (numbered_written (n + 1) xs h.1))
 
-or_true : (b : Bool) → (b || true) ≡ true
-or_true true = refl
-or_true false = refl
-
 any_last : (t : Stmt86 → Bool) (xs ys : List Stmt86) → list_any t ys ≡ true → list_any t (xs ++ ys) ≡ true
 any_last t [] ys h = h
-any_last t (x ∷ xs) ys h = ap (λ b. t x || b) (any_last t xs ys h) ∙ or_true (t x)
+any_last t (x ∷ xs) ys h = ap (λ b. t x || b) (any_last t xs ys h) ∙ or-true (t x)
 
 -- the numbers of an instruction that has a line are in their ranges
 instr_coded : (i : Instr86) → instr_fits i ≡ true → IsCoded86 i

@@ -3,6 +3,7 @@
 use Rattle.std.proofs.Common.{◌≡◌, ℕ, ◌+◌, ◌≤◌, List, [], ◌∷◌, ◌++◌, Option, Some, None, refl, sym, ap, ◌∙◌, subst, arith, append_assoc, Bool, true, false, cond}
 use Rattle.std.specs.Prelude.{is_some, unwrap_or}
 use Rattle.std.proofs.lemmas.Bool.Decides.{nat_tests}
+use Rattle.std.proofs.lemmas.Bool.{eq-eqb}
 use Rattle.i80.specs.declared.Goal.{Goal}
 use Rattle.i80.specs.declared.Goal.TheVariants.{At, Boot, Bdos}
 use Rattle.i86.specs.declared.Jump.{Jump}
@@ -18,7 +19,6 @@ use Rattle.templates.specs.Template.{label_of_goal}
 use Rattle.templates.specs.Lean.{may_be_short}
 use Rattle.templates_text_law.specs.Reach.{ShortenedReach}
 use Rattle.asm86.proofs.Texts.{absent}
-use Rattle.templates_text_law.proofs.Statements.{eq_true}
 use Rattle.templates_text_law.proofs.Jumps.{IsLong, not_shortened}
 
 -- statements of a kind that both have, and jumps that are long in the first and short in the second
@@ -127,7 +127,7 @@ module _ (long lean : List Stmt86) (once : IsDefinedOnce long) where
   -- a long jump's own label stands at its end
   skip_place : (before xs : List Stmt86) (at : ℕ) (j : Jump) (l : Label) → long ≡ before ++ (Jcc j (Skip at) ∷ (Jmp l ∷ (Mark (Skip at) ∷ xs))) → place_of long (Skip at) ≡ sizes_of before + 5
   skip_place before xs at j l is =
-      let same : same_label (Skip at) (Skip at) ≡ true = eq_true at at refl in
+      let same : same_label (Skip at) (Skip at) ≡ true = eq-eqb at at refl in
       let here : ◌≡◌ {A = ℕ} (cond (same_label (Skip at) (Skip at)) 1 0) 1 = ap (λ t. cond {A = ℕ} t 1 0) same in
       let most = once (Skip at) in
       let parts = ap (count_marks (Skip at)) is ∙ count_marks-append (Skip at) before (Jcc j (Skip at) ∷ (Jmp l ∷ (Mark (Skip at) ∷ xs))) in

@@ -2,6 +2,7 @@
 use Rattle.std.proofs.Common.{◌≡◌, ◌≢◌, ℕ, zero, suc, ◌+◌, ◌<◌, ◌≤◌, List, [], ◌∷◌, ◌++◌, get_or, length, map, Some, refl, ap, ◌∙◌, arith, append_assoc, Bool, true, false, cond, ◌==◌}
 use Rattle.std.specs.Prelude.{is_some}
 use Rattle.std.proofs.lemmas.Bool.Decides.{nat_tests}
+use Rattle.std.proofs.lemmas.Bool.{eq-eqb, ne_eqb}
 use Rattle.i80.specs.declared.Goal.{Goal}
 use Rattle.i80.specs.Columns.{length80}
 use Rattle.asm86_line_types.specs.declared.line.Label.{Label}
@@ -19,7 +20,7 @@ use Rattle.flow.specs.Blocks.{extent}
 use Rattle.flow.proofs.Cuts.{flat}
 use Rattle.flow.proofs.Laid.{length80-positive, found_start}
 use Rattle.templates.specs.Style.{Style, block_from, block_in_style, blocks_of}
-use Rattle.templates_text_law.proofs.Statements.{marks_not-append, stands_behind, eq_true, eq_false}
+use Rattle.templates_text_law.proofs.Statements.{marks_not-append, stands_behind}
 use Rattle.templates_text_law.proofs.Shapes.{HasShape, straight, past, short, step_marks_not, steps_mark_not, shape_marks_not}
 use Rattle.templates_text_law.proofs.Body.{IsGroup, marked, bare, IsBody, none, more}
 
@@ -31,7 +32,7 @@ leader_stands s [] i a n lt is some rest at = absurd (omega arith)
 leader_stands s ([] ∷ bs) zero a n lt is some rest at = let no : 0 ≡ n = ap (λ (b : ℕ × ℕ). b.1) is in absurd (omega (arith, no, some))
 leader_stands s ((x ∷ xs) ∷ bs) zero a n lt is some rest at =
     let same : x.at ≡ a = ap (λ (b : ℕ × ℕ). b.0) is in
-    ap (λ t. is_some (cond t (Some at) (offset_from (at + 0) ((block_from s false false (x ∷ xs) ++ blocks_of s bs) ++ rest) (Line a)))) (eq_true x.at a same)
+    ap (λ t. is_some (cond t (Some at) (offset_from (at + 0) ((block_from s false false (x ∷ xs) ++ blocks_of s bs) ++ rest) (Line a)))) (eq-eqb x.at a same)
 leader_stands s (b ∷ bs) (suc i) a n lt is some rest at =
     ap (λ ys. is_some (offset_from at ys (Line a))) (append_assoc (block_in_style s b) (blocks_of s bs) rest)
     ∙ stands_behind (Line a) (blocks_of s bs ++ rest) (leader_stands s bs i a n (omega arith) is some rest) (block_in_style s b) at
@@ -75,10 +76,10 @@ abbrev pub IsOf : ℕ → Label → Type 0
 IsOf a l = (b : ℕ) → b ≢ a → (same_label (Line b) l ≡ false) × (same_label (Skip b) l ≡ false)
 
 pub line_of : (a : ℕ) → IsOf a (Line a)
-line_of a b ne = (eq_false b a ne, refl)
+line_of a b ne = (ne_eqb b a ne, refl)
 
 pub skip_of : (a : ℕ) → IsOf a (Skip a)
-skip_of a b ne = (refl, eq_false b a ne)
+skip_of a b ne = (refl, ne_eqb b a ne)
 
 -- ---- how often labels stand
 

@@ -1,6 +1,6 @@
 -- What is known of a program's data cells.
 use Rattle.std.proofs.Common.{◌≡◌, ◌≢◌, ℕ, ◌+◌, ◌-◌, ◌≤◌, ◌<◌, ⊎_elim, List, [], ◌∷◌, Some, None, refl, sym, ap, ◌∙◌, subst, arith, Bool, true, false, cond, ◌==◌}
-use Rattle.std.proofs.lemmas.Bool.{cases_lt}
+use Rattle.std.proofs.lemmas.Bool.{cases_lt, eq-eqb, ne_eqb}
 use Rattle.std.proofs.lemmas.Bool.Decides.{nat_tests}
 use Rattle.cells.specs.declared.Place.TheVariants.{At as AtPlace, Exit}
 use Rattle.cells.specs.declared.Cell.{Cell}
@@ -9,7 +9,6 @@ use Rattle.i80.specs.declared.Goal.TheVariants.{At as AtInstr}
 use Rattle.asm80_program_types.specs.declared.program.Placed.{Placed}
 use Rattle.asm80_program_types.specs.Program.{Program, cell_in, cell_at, is_top, CellsAreLaid, IsDatum, AreData, IsProgram}
 use Rattle.flow.specs.Blocks.{BlocksCut}
-use Rattle.templates_text_law.proofs.Statements.{eq_true, eq_false}
 use Rattle.templates_text_law.proofs.Leading.{Leads, held_leads}
 use Rattle.templates_text_law.proofs.Data.{HasData, none, byte, word}
 
@@ -33,10 +32,10 @@ none_below instrs from limit x [] laid lt = refl
 none_below instrs from limit x (c ∷ cs) laid lt =
     let above = laid.0 in
     let ne : c.0 ≢ x = omega (arith, lt, above) in
-    ap (λ t. cond t (Some c.1) (cell_in cs x)) (eq_false c.0 x ne) ∙ none_below instrs (c.0 + 1) limit x cs laid.3 (omega (arith, lt, above))
+    ap (λ t. cond t (Some c.1) (cell_in cs x)) (ne_eqb c.0 x ne) ∙ none_below instrs (c.0 + 1) limit x cs laid.3 (omega (arith, lt, above))
 
 cell_here : (p : Program) (limit from : ℕ) (c : ℕ × Cell) (cs : List (ℕ × Cell)) → Cells p limit from (c ∷ cs) → cell_at p c.0 ≡ Some c.1
-cell_here p limit from c cs f = f.sees c.0 f.laid.0 ∙ ap (λ t. cond t (Some c.1) (cell_in cs c.0)) (eq_true c.0 c.0 refl)
+cell_here p limit from c cs f = f.sees c.0 f.laid.0 ∙ ap (λ t. cond t (Some c.1) (cell_in cs c.0)) (eq-eqb c.0 c.0 refl)
 
 cells_rest : (p : Program) (limit from : ℕ) (c : ℕ × Cell) (cs : List (ℕ × Cell)) → Cells p limit from (c ∷ cs) → Cells p limit (c.0 + 1) cs
 cells_rest p limit from c cs f = record {
@@ -44,7 +43,7 @@ cells_rest p limit from c cs f = record {
   sees = λ x le.
       let above = f.laid.0 in
       let ne : c.0 ≢ x = omega (arith, le) in
-      f.sees x (omega (arith, le, above)) ∙ ap (λ t. cond t (Some c.1) (cell_in cs x)) (eq_false c.0 x ne);
+      f.sees x (omega (arith, le, above)) ∙ ap (λ t. cond t (Some c.1) (cell_in cs x)) (ne_eqb c.0 x ne);
   values = f.values.1;
 }
 

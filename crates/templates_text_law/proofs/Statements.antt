@@ -1,7 +1,6 @@
 -- What holds of each statement of a text, and the labels that stand in it.
-use Rattle.std.proofs.Common.{◌≡◌, ◌≢◌, ℕ, ◌+◌, List, [], ◌∷◌, ◌++◌, Option, Some, refl, arith, Bool, false, cond, true, ◌==◌}
+use Rattle.std.proofs.Common.{◌≡◌, ℕ, ◌+◌, List, [], ◌∷◌, ◌++◌, Option, Some, refl, Bool, false, cond, true}
 use Rattle.std.specs.Prelude.{is_some}
-use Rattle.std.proofs.lemmas.Bool.Decides.{nat_tests}
 use Rattle.asm86_line_types.specs.declared.line.Label.{Label}
 use Rattle.asm86_line_types.specs.declared.line.Stmt86.{Stmt86}
 use Rattle.asm86_line_types.specs.Layout.{size_of, marks, offset_from}
@@ -47,9 +46,3 @@ some_step false at o h = h
 pub stands_behind : (l : Label) (ys : List Stmt86) → ((at : ℕ) → is_some (offset_from at ys l) ≡ true) → (xs : List Stmt86) (at : ℕ) → is_some (offset_from at (xs ++ ys) l) ≡ true
 stands_behind l ys h [] at = h at
 stands_behind l ys h (x ∷ xs) at = some_step (marks l x) at (offset_from (at + size_of x) (xs ++ ys) l) (stands_behind l ys h xs (at + size_of x))
-
-pub eq_true : (a b : ℕ) → a ≡ b → (a == b) ≡ true
-eq_true a b h = grind (arith, nat_tests)
-
-pub eq_false : (a b : ℕ) → a ≢ b → (a == b) ≡ false
-eq_false a b h = grind (arith, nat_tests)

@@ -1,5 +1,4 @@
 // A host that gives and takes one byte at a time.
-ghost use Rattle.std.specs.Prelude.{◌≡◌};
 
 use host::{Host, HostFault};
 

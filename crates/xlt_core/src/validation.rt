@@ -1,6 +1,6 @@
 // Whether a text means the same as its program.
-ghost use Rattle.std.specs.Prelude.{◌≡◌, ◌<◌, ◌^◌, IfOk, IsTrue, length};
-ghost use Rattle.asm86_line_types.specs.Image.{Assembles, IsImage, image_of, statements};
+ghost use Rattle.std.specs.Prelude.{◌<◌, ◌^◌, IfOk, length};
+ghost use Rattle.asm86_line_types.specs.Image.{Assembles, IsImage, image_of};
 ghost use Rattle.templates_same_law.specs.Names.{Same};
 ghost use Rattle.text_check.specs.Findings.{IsFinding, IfShown};
 ghost use Rattle.xlt_core.specs.Validation.{ShownIsSame};

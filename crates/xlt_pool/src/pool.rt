@@ -1,8 +1,7 @@
 // The pool: a list of nodes, and a table that finds each of them.
 
-ghost use Rattle.std.specs.Prelude.{◌≡◌, ◌≢◌, ◌+◌, ◌-◌, ◌*◌, ◌<◌, ◌≤◌, ◌⊎◌, [], ◌∷◌, ◌++◌, None, IfOk, MatchOption, length, take};
+ghost use Rattle.std.specs.Prelude.{◌≡◌, ◌+◌, ◌-◌, ◌*◌, ◌<◌, ◌≤◌, ◌⊎◌, [], None, IfOk, MatchOption, length, take};
 ghost use Rattle.xlt_pool.specs.Contents.{NodeStandsAt, AreDistinct, IsFound, IsAdded, HasNoRoom};
-ghost use Rattle.xlt_pool.specs.Table.{IsTable};
 
 use crate::node::{Id, Mark, Node};
 use crate::table::slot_of;

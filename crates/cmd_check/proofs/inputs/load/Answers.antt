@@ -1,4 +1,5 @@
 use Rattle.std.proofs.Common.{◌≡◌, List, sym, subst}
+use Rattle.host.proofs.HostLemmas.{OnlyReads-trans}
 use Rattle.asm86_line_types.specs.declared.line.Line86.{Line86}
 use Rattle.asm86_line_types.specs.Image.{IsImage}
 use Rattle.cmd_arguments.specs.ReadCommands.{check_read}
@@ -7,8 +8,9 @@ use Rattle.asm80_text.specs.Intel.{intel_reading}
 use Rattle.cmd_common.specs.Sources.{SourceGives}
 use Rattle.cmd_common.specs.Texts.{BytesGiveLines, HasOneImage}
 use Rattle.cmd_common.proofs.Told.{judged}
+use Rattle.cmd_common.proofs.Before.{stops_before}
 use Rattle.cmd_check.specs.Checks.{Loads, Stops, no_source, no_text, refused}
-use Rattle.cmd_check.proofs.Loading.{reads_before, stops_before, both_read, lines_stop, image_stop}
+use Rattle.cmd_check.proofs.Loading.{both_read, lines_stop, image_stop}
 use Rattle.cmd_check.proofs.inputs.load.Goals as goal
 
 pub returns-in_err-source-clause-stopped : goal.returns-in_err-source-clause-stopped
@@ -29,7 +31,7 @@ returns-in_err-text-clause-stopped g c =
     let stop = c.in_err-text.field-0.0 in
     judged c.from_residual-in_err-text.result (λ s. s ≡ stop) (Stops command old new) c.from_residual-in_err-text.ensures.1
     (λ s is. subst (Stops command old new) (sym is)
-    (no_text first.read.bytes first.read.file (reads_before old mid new first.only first.counted c.in_err-text.ensures.only)
+    (no_text first.read.bytes first.read.file (OnlyReads-trans first.only c.in_err-text.ensures.only)
     (stops_before old mid new first.only first.counted command.text text_limit stop c.in_err-text.ensures.stopped)))
 
 -- the source is refused, and both files were read

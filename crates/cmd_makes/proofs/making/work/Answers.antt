@@ -9,7 +9,6 @@ use Rattle.cmd_makes.specs.Makes.{MakeStops, unmade, no_file, is_refused, no_mem
 use Rattle.cmd_makes.proofs.Stopping.{write_stop, has_made}
 use Rattle.cmd_makes.specs.Cmds.{cmd_kind}
 use Rattle.cmd_makes.proofs.making.work.Goals as goal
-use Rattle.cmd_makes.proofs.making.work.Goals.{After-write_made}
 
 pub returns-in_err-text-clause-stopped : goal.returns-in_err-text-clause-stopped
 returns-in_err-text-clause-stopped g c =

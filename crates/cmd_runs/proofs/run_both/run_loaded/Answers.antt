@@ -19,8 +19,8 @@ returns-in_err-made-clause-halted g c =
     judged c.from_residual.result (λ h. h ≡ c.in_err-made.field-0.0) (HaltsFrom (work_both command) (λ begin. AreToRun command begin l.program l.image l.devices) start new) c.from_residual.ensures.1
     (λ h is begin read. subst (WorkHalts (work_both command) begin new) (sym is) (c.in_err-made.ensures.halted begin read))
 
-pub returns-clause-came : goal.returns-clause-came
-returns-clause-came g c =
+pub returns : goal.returns
+returns g c =
     let command = both_read c.args.command.now in
     let w = work_both command in
     let start = g.H.Host.state c.args.host.now in
@@ -31,18 +31,8 @@ returns-clause-came g c =
     let came = c.came_to-came.result in
     let name = option_copied c.kept_disk_name-name.result in
     let disk = c.disk.result.now in
-    left_has w (λ begin. AreToRun command begin l.program l.image l.devices) start mid new m c.in_ok-made.ensures.made came name disk c.came_to-came.ensures c.kept_disk_name-name.ensures c.disk.ensures c.leave_runs.result c.leave_runs.ensures.left
-
-pub returns-clause-halted : goal.returns-clause-halted
-returns-clause-halted g c =
-    let command = both_read c.args.command.now in
-    let w = work_both command in
-    let start = g.H.Host.state c.args.host.now in
-    let mid = g.H.Host.state c.make_runs.new.host in
-    let new = g.H.Host.state c.leave_runs.new.host in
-    let l = c.args.loaded.now in
-    let m = runs_made c.in_ok-made.made c.make_runs.new.loaded.devices in
-    let came = c.came_to-came.result in
-    let name = option_copied c.kept_disk_name-name.result in
-    let disk = c.disk.result.now in
-    left_halts w (λ begin. AreToRun command begin l.program l.image l.devices) start mid new m c.in_ok-made.ensures.made came name disk c.came_to-came.ensures c.kept_disk_name-name.ensures c.disk.ensures c.leave_runs.result c.leave_runs.ensures.halted
+    record {
+      made = c.leave_runs.ensures.made;
+      came = left_has w (λ begin. AreToRun command begin l.program l.image l.devices) start mid new m c.in_ok-made.ensures.made came name disk c.came_to-came.ensures c.kept_disk_name-name.ensures c.disk.ensures c.leave_runs.result c.leave_runs.ensures.left;
+      halted = left_halts w (λ begin. AreToRun command begin l.program l.image l.devices) start mid new m c.in_ok-made.ensures.made came name disk c.came_to-came.ensures c.kept_disk_name-name.ensures c.disk.ensures c.leave_runs.result c.leave_runs.ensures.halted;
+    }

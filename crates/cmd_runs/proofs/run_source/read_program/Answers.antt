@@ -1,4 +1,5 @@
 use Rattle.std.proofs.Common.{◌≡◌, sym, subst}
+use Rattle.host.proofs.HostLemmas.{SameFaults-trans}
 use Rattle.asm80_text.specs.Intel.{intel_reading}
 use Rattle.cmd_arguments.specs.ReadCommands.{run_options_read}
 use Rattle.cmd_arguments.specs.Words.{Run80}
@@ -9,7 +10,7 @@ use Rattle.cmd_common.specs.Sources.{SourceGives}
 use Rattle.cmd_runs.specs.Kinds.{NothingToRun, no_file, no_supply, is_refused}
 use Rattle.cmd_runs.specs.Runs80.{words_of, kind80}
 use Rattle.cmd_common.proofs.Told.{judged}
-use Rattle.cmd_runs.proofs.Loading.{supply_before, faults_before, supply_stops_before}
+use Rattle.cmd_runs.proofs.Loading.{supply_before, supply_stops_before}
 use Rattle.cmd_runs.proofs.run_source.read_program.Goals as goal
 
 pub returns-in_err-source-clause-stopped : goal.returns-in_err-source-clause-stopped
@@ -45,7 +46,7 @@ returns-in_err-program-clause-stopped g c =
     judged c.from_residual-in_err-program.result (λ h. h ≡ By c.in_err-program.field-0.0) (Halts (NothingToRun (kind80 command) old new)) c.from_residual-in_err-program.ensures.1
     (λ h is. subst (Halts (NothingToRun (kind80 command) old new)) (sym is)
     (is_refused first.read.bytes given first.read.file (supply_before old mid new first.only first.counted command.run given second.read)
-    (faults_before old mid new first.only first.counted second.counted)
+    (SameFaults-trans first.counted second.counted)
     (subst (SourceGives intel_reading first.read.bytes command.top) c.in_err-program.was first.read.gives)))
 
 pub returns-clause-named : goal.returns-clause-named

@@ -25,8 +25,8 @@ returns-in_err-ran-clause-halted g c =
     judged c.from_residual.result (λ h. h ≡ halt_of_talk fault) (HaltsFrom (work80 command) (λ begin. IsToRun (kind80 command) begin l.program l.devices) start new) c.from_residual.ensures.1
     (λ h is begin read. subst (WorkHalts (work80 command) begin new) (sym is) (run_cut_halts (kind80 command) begin start new l.program l.devices read fault cut))
 
-pub returns-clause-came : goal.returns-clause-came
-returns-clause-came g c =
+pub returns : goal.returns
+returns g c =
     let command = run80_read c.args.command.now in
     let kind = kind80 command in
     let w = work80 command in
@@ -45,26 +45,8 @@ returns-clause-came g c =
     let made = λ (begin : HostState) (read : HasRead (IsToRun kind begin l.program l.devices) begin start).
     run_is_made kind begin start mid l.program l.devices read o line left run
     (line_stands command l.program read.stands.named.gives.program.program.lawful [] l.devices left o start mid run line c.line_of-line.ensures) in
-    left_has w (λ begin. IsToRun kind begin l.program l.devices) start mid new (one_made kind o line left) made came name disk c.came_to-came.ensures c.kept_disk_name-name.ensures c.disk.ensures c.leave_runs.result c.leave_runs.ensures.left
-
-pub returns-clause-halted : goal.returns-clause-halted
-returns-clause-halted g c =
-    let command = run80_read c.args.command.now in
-    let kind = kind80 command in
-    let w = work80 command in
-    let start = g.H.Host.state c.args.host.now in
-    let mid = g.H.Host.state c.run_program.new.host in
-    let new = g.H.Host.state c.leave_runs.new.host in
-    let l = c.args.loaded.now in
-    let o = c.in_ok-ran.ran in
-    let left = c.run_program.new.devices in
-    let line = c.line_of-line.result in
-    let came = c.came_to-came.result in
-    let name = option_copied c.kept_disk_name-name.result in
-    let disk = c.disk.result.now in
-    let run : RunComesTo (run_setting kind [] l.program) l.devices o left start mid =
-    subst (λ n. RunComesTo (setting80 command.run.page l.program n []) l.devices o left start mid) c.from-limit.ensures c.in_ok-ran.ensures.run in
-    let made = λ (begin : HostState) (read : HasRead (IsToRun kind begin l.program l.devices) begin start).
-    run_is_made kind begin start mid l.program l.devices read o line left run
-    (line_stands command l.program read.stands.named.gives.program.program.lawful [] l.devices left o start mid run line c.line_of-line.ensures) in
-    left_halts w (λ begin. IsToRun kind begin l.program l.devices) start mid new (one_made kind o line left) made came name disk c.came_to-came.ensures c.kept_disk_name-name.ensures c.disk.ensures c.leave_runs.result c.leave_runs.ensures.halted
+    record {
+      made = c.leave_runs.ensures.made;
+      came = left_has w (λ begin. IsToRun kind begin l.program l.devices) start mid new (one_made kind o line left) made came name disk c.came_to-came.ensures c.kept_disk_name-name.ensures c.disk.ensures c.leave_runs.result c.leave_runs.ensures.left;
+      halted = left_halts w (λ begin. IsToRun kind begin l.program l.devices) start mid new (one_made kind o line left) made came name disk c.came_to-came.ensures c.kept_disk_name-name.ensures c.disk.ensures c.leave_runs.result c.leave_runs.ensures.halted;
+    }

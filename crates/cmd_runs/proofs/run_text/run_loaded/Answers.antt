@@ -24,8 +24,8 @@ returns-in_err-ran-clause-halted g c =
     judged c.from_residual.result (λ h. h ≡ halt_of_talk fault) (HaltsFrom (work86 command) (λ begin. IsToRun (kind86 command) begin l.image l.devices) start new) c.from_residual.ensures.1
     (λ h is begin read. subst (WorkHalts (work86 command) begin new) (sym is) (run_cut_halts (kind86 command) begin start new l.image l.devices read fault cut))
 
-pub returns-clause-came : goal.returns-clause-came
-returns-clause-came g c =
+pub returns : goal.returns
+returns g c =
     let command = run86_read c.args.command.now in
     let kind = kind86 command in
     let w = work86 command in
@@ -41,23 +41,8 @@ returns-clause-came g c =
     let run : RunComesTo (run_setting kind [] l.image) l.devices o left start mid =
     subst (λ n. RunComesTo (setting86 command.run.page command.choice l.image n []) l.devices o left start mid) c.from-limit.ensures c.in_ok-ran.ensures.run in
     let made = λ (begin : HostState) (read : HasRead (IsToRun kind begin l.image l.devices) begin start). run_is_made kind begin start mid l.image l.devices read o 0 left run refl in
-    left_has w (λ begin. IsToRun kind begin l.image l.devices) start mid new (one_made kind o 0 left) made came name disk c.came_to-came.ensures c.kept_disk_name-name.ensures c.disk.ensures c.leave_runs.result c.leave_runs.ensures.left
-
-pub returns-clause-halted : goal.returns-clause-halted
-returns-clause-halted g c =
-    let command = run86_read c.args.command.now in
-    let kind = kind86 command in
-    let w = work86 command in
-    let start = g.H.Host.state c.args.host.now in
-    let mid = g.H.Host.state c.run_image.new.host in
-    let new = g.H.Host.state c.leave_runs.new.host in
-    let l = c.args.loaded.now in
-    let o = c.in_ok-ran.ran in
-    let left = c.run_image.new.devices in
-    let came = c.came_to-came.result in
-    let name = option_copied c.kept_disk_name-name.result in
-    let disk = c.disk.result.now in
-    let run : RunComesTo (run_setting kind [] l.image) l.devices o left start mid =
-    subst (λ n. RunComesTo (setting86 command.run.page command.choice l.image n []) l.devices o left start mid) c.from-limit.ensures c.in_ok-ran.ensures.run in
-    let made = λ (begin : HostState) (read : HasRead (IsToRun kind begin l.image l.devices) begin start). run_is_made kind begin start mid l.image l.devices read o 0 left run refl in
-    left_halts w (λ begin. IsToRun kind begin l.image l.devices) start mid new (one_made kind o 0 left) made came name disk c.came_to-came.ensures c.kept_disk_name-name.ensures c.disk.ensures c.leave_runs.result c.leave_runs.ensures.halted
+    record {
+      made = c.leave_runs.ensures.made;
+      came = left_has w (λ begin. IsToRun kind begin l.image l.devices) start mid new (one_made kind o 0 left) made came name disk c.came_to-came.ensures c.kept_disk_name-name.ensures c.disk.ensures c.leave_runs.result c.leave_runs.ensures.left;
+      halted = left_halts w (λ begin. IsToRun kind begin l.image l.devices) start mid new (one_made kind o 0 left) made came name disk c.came_to-came.ensures c.kept_disk_name-name.ensures c.disk.ensures c.leave_runs.result c.leave_runs.ensures.halted;
+    }

@@ -16,22 +16,16 @@ returns-in_err-loaded-clause-halted g c =
     judged c.from_residual.result (λ h. h ≡ halt) (WorkHalts w old new) c.from_residual.ensures.1
     (λ h is. subst (WorkHalts w old new) (sym is) (unloaded_halts w old new halt c.in_err-loaded.ensures.only c.in_err-loaded.ensures.stopped))
 
-pub returns-clause-came : goal.returns-clause-came
-returns-clause-came g c =
+pub returns : goal.returns
+returns g c =
     let command = run86_read c.args.command.now in
     let old = g.H.Host.state c.args.host.now in
     let start = g.H.Host.state c.load.new.host in
     let new = g.H.Host.state c.run_loaded.new.host in
     let l = c.in_ok-loaded.loaded in
     let e = c.in_ok-loaded.ensures in
-    begun_has (work86 command) (λ begin. IsToRun (kind86 command) begin l.image l.devices) old start new (record { stands = e.loaded; reads = e.only; counted = e.counted }) c.run_loaded.result c.run_loaded.ensures.came
-
-pub returns-clause-halted : goal.returns-clause-halted
-returns-clause-halted g c =
-    let command = run86_read c.args.command.now in
-    let old = g.H.Host.state c.args.host.now in
-    let start = g.H.Host.state c.load.new.host in
-    let new = g.H.Host.state c.run_loaded.new.host in
-    let l = c.in_ok-loaded.loaded in
-    let e = c.in_ok-loaded.ensures in
-    begun_halts (work86 command) (λ begin. IsToRun (kind86 command) begin l.image l.devices) old start new (record { stands = e.loaded; reads = e.only; counted = e.counted }) c.run_loaded.result c.run_loaded.ensures.halted
+    record {
+      made = c.run_loaded.ensures.made;
+      came = begun_has (work86 command) (λ begin. IsToRun (kind86 command) begin l.image l.devices) old start new (record { stands = e.loaded; reads = e.only; counted = e.counted }) c.run_loaded.result c.run_loaded.ensures.came;
+      halted = begun_halts (work86 command) (λ begin. IsToRun (kind86 command) begin l.image l.devices) old start new (record { stands = e.loaded; reads = e.only; counted = e.counted }) c.run_loaded.result c.run_loaded.ensures.halted;
+    }

@@ -1,8 +1,8 @@
 use Rattle.std.specs.Prelude.{option_copied}
 use Rattle.std.proofs.lemmas.Result.{err_from_is_err_and}
-use Rattle.host.proofs.HostLemmas.{OnlyReads-trans}
+use Rattle.host.proofs.HostLemmas.{OnlyReads-trans, SameFaults-trans}
 use Rattle.cmd_runs.specs.Supplies.{no_input, no_disk_file, no_ports}
-use Rattle.cmd_runs.proofs.Loading.{input_before, disk_before, faults_before, input_stops_before, disk_stops_before}
+use Rattle.cmd_runs.proofs.Loading.{input_before, disk_before, input_stops_before, disk_stops_before}
 use Rattle.cmd_runs.proofs.supplies.read_supplies.Goals as goal
 
 pub returns-in_err-input-clause-stopped : goal.returns-in_err-input-clause-stopped
@@ -31,7 +31,7 @@ returns-in_err-ports-clause-stopped g c =
     let second = c.in_ok-disk.ensures in
     rw (p.1, p.2)
     (no_ports c.in_ok-input.input.items c.in_ok-disk.disk.items first.read (disk_before old mid next first.only first.counted (option_copied c.args.run.now.disk) c.in_ok-disk.disk.items second.read)
-    (input_stops_before old next new (OnlyReads-trans first.only second.only) (faults_before old mid next first.only first.counted second.counted) (option_copied c.args.run.now.ports) c.in_err-ports.field-0.0 c.in_err-ports.ensures.stopped))
+    (input_stops_before old next new (OnlyReads-trans first.only second.only) (SameFaults-trans first.counted second.counted) (option_copied c.args.run.now.ports) c.in_err-ports.field-0.0 c.in_err-ports.ensures.stopped))
 
 pub returns-clause-read : goal.returns-clause-read
 returns-clause-read g c =
@@ -44,7 +44,7 @@ returns-clause-read g c =
     record {
       input = first.read;
       disk = disk_before old mid next first.only first.counted (option_copied c.args.run.now.disk) c.in_ok-disk.disk.items second.read;
-      ports = input_before old next new (OnlyReads-trans first.only second.only) (faults_before old mid next first.only first.counted second.counted) (option_copied c.args.run.now.ports) c.in_ok-ports.ports.items c.in_ok-ports.ensures.read;
+      ports = input_before old next new (OnlyReads-trans first.only second.only) (SameFaults-trans first.counted second.counted) (option_copied c.args.run.now.ports) c.in_ok-ports.ports.items c.in_ok-ports.ensures.read;
     }
 
 pub returns-in_err-ports-clause-only : goal.returns-in_err-ports-clause-only

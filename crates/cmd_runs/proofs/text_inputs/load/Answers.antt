@@ -1,4 +1,5 @@
 use Rattle.std.proofs.Common.{◌≡◌, ⊎_elim, sym, subst}
+use Rattle.host.proofs.HostLemmas.{SameFaults-trans}
 use Rattle.cmd_arguments.specs.ReadCommands.{run86_read}
 use Rattle.cmd_runs.specs.declared.halt.Halt.TheVariants.{By}
 use Rattle.cmd_runs.specs.Ends.{Halts}
@@ -7,7 +8,7 @@ use Rattle.cmd_runs.specs.Supplies.{given_of}
 use Rattle.cmd_runs.specs.Kinds.{NothingToRun, no_file, no_supply, no_disk, no_memory}
 use Rattle.cmd_runs.specs.Runs86.{kind86}
 use Rattle.cmd_common.proofs.Told.{judged}
-use Rattle.cmd_runs.proofs.Loading.{supply_before, faults_before, supply_stops_before}
+use Rattle.cmd_runs.proofs.Loading.{supply_before, supply_stops_before}
 use Rattle.cmd_runs.proofs.TextLoading.{lines_stop, image_stops}
 use Rattle.cmd_runs.proofs.text_inputs.load.Goals as goal
 
@@ -42,7 +43,7 @@ returns-in_err-lines-clause-stopped g c =
     judged c.from_residual-in_err-lines.result (λ h. h ≡ By c.in_err-lines.field-0.0) (Halts (NothingToRun (kind86 command) old new)) c.from_residual-in_err-lines.ensures.1
     (λ h is. subst (Halts (NothingToRun (kind86 command) old new)) (sym is)
     (lines_stop command old new first.read.bytes given first.read.file (supply_before old mid new first.only first.counted command.run given second.read)
-    (faults_before old mid new first.only first.counted second.counted) c.in_err-lines.field-0.0
+    (SameFaults-trans first.counted second.counted) c.in_err-lines.field-0.0
     (subst (BytesGiveLines first.read.bytes) c.in_err-lines.was first.read.gives)))
 
 -- the lines have no image
@@ -59,7 +60,7 @@ returns-in_err-image-clause-stopped g c =
     judged c.from_residual-in_err-image.result (λ h. h ≡ By c.in_err-image.field-0.0) (Halts (NothingToRun (kind86 command) old new)) c.from_residual-in_err-image.ensures.1
     (λ h is. subst (Halts (NothingToRun (kind86 command) old new)) (sym is)
     (image_stops command old new first.read.bytes given first.read.file (supply_before old mid new first.only first.counted command.run given second.read)
-    (faults_before old mid new first.only first.counted second.counted)
+    (SameFaults-trans first.counted second.counted)
     c.in_ok-lines.lines.items (subst (BytesGiveLines first.read.bytes) c.in_ok-lines.was first.read.gives) c.in_err-image.field-0.0 c.in_err-image.ensures.stopped))
 
 -- the disk's file is none, or memory ran out
@@ -88,7 +89,7 @@ returns-in_err-equipment-clause-stopped g c =
       };
       supplied = supply_before old mid new first.only first.counted command.run given second.read;
     })
-    (faults_before old mid new first.only first.counted second.counted))
+    (SameFaults-trans first.counted second.counted))
     (λ m. subst (NothingToRun (kind86 command) old new) (sym m) no_memory)
     c.in_err-equipment.ensures.stopped))
 

@@ -1,6 +1,5 @@
 use Rattle.std.proofs.Common.{◌≡◌, ℕ, List, [], sym, ap, ◌∙◌, subst}
-use Rattle.std.specs.Prelude.{IfErr}
-use Rattle.std.proofs.lemmas.Result.{IfOk-weaker}
+use Rattle.std.specs.Prelude.{IfOk, IfErr}
 use Rattle.dialogue.specs.declared.request.Reply.{Reply}
 use Rattle.cpu80_tagged_def.specs.Start.{start80}
 use Rattle.cpu80_tagged_def.specs.Step.{machine80}
@@ -25,27 +24,23 @@ returns-in_err-machine-clause-cut g c =
     (λ h is. subst (IsCutOff (course80 p page) c.args.devices.now limit c.args.prefix.now host host) (sym is)
     (says_none (course80 p page) (one_run (machine80 p) [] why80 (start80 p page)) c.args.devices.now limit c.args.prefix.now host, SameFaults-refl host))
 
-pub returns-clause-cut : goal.returns-clause-cut
-returns-clause-cut g c =
+pub returns : goal.returns
+returns g c =
     let m = c.in_ok-machine.machine in
     let p = c.args.program.now in
     let page = c.args.page.now in
+    let given = c.args.devices.now in
     let limit = c.args.limit in
+    let prefix = c.args.prefix.now in
     let old = g.H.Host.state c.args.host.now in
     let new = g.H.Host.state c.converse.new.host in
-    let first : List Reply → ℕ → SeenRun = course80_from m.program.now (tagged_state m.cpu) no_past in
-    let is : first ≡ course80 p page = ap (λ q. course80_from q (tagged_state m.cpu) no_past) c.in_ok-machine.ensures.program ∙ ap (λ s. course80_from p s no_past) c.in_ok-machine.ensures.start in
-    subst (λ course. IfErr c.converse.result (IsCutOff course c.args.devices.now limit c.args.prefix.now old new)) is c.converse.ensures.cut
-
-pub returns-clause-run : goal.returns-clause-run
-returns-clause-run g c =
-    let m = c.in_ok-machine.machine in
-    let p = c.args.program.now in
-    let page = c.args.page.now in
-    let limit = c.args.limit in
-    let old = g.H.Host.state c.args.host.now in
-    let new = g.H.Host.state c.converse.new.host in
-    let first : List Reply → ℕ → SeenRun = course80_from m.program.now (tagged_state m.cpu) no_past in
-    let is : first ≡ course80 p page = ap (λ q. course80_from q (tagged_state m.cpu) no_past) c.in_ok-machine.ensures.program ∙ ap (λ s. course80_from p s no_past) c.in_ok-machine.ensures.start in
     let left = c.converse.new.devices in
-    IfOk-weaker c.converse.result (λ o. SaysRun first c.args.devices.now limit c.args.prefix.now o left old new) (λ o. SaysRun (course80 p page) c.args.devices.now limit c.args.prefix.now o left old new) (λ o h. subst (λ course. SaysRun course c.args.devices.now limit c.args.prefix.now o left old new) is h) c.converse.ensures.run
+    let first : List Reply → ℕ → SeenRun = course80_from m.program.now (tagged_state m.cpu) no_past in
+    let is : first ≡ course80 p page = ap (λ q. course80_from q (tagged_state m.cpu) no_past) c.in_ok-machine.ensures.program ∙ ap (λ s. course80_from p s no_past) c.in_ok-machine.ensures.start in
+    record {
+      run = subst (λ course. IfOk c.converse.result (λ o. SaysRun course given limit prefix o left old new)) is c.converse.ensures.run;
+      cut = subst (λ course. IfErr c.converse.result (IsCutOff course given limit prefix old new)) is c.converse.ensures.cut;
+      only = c.converse.ensures.only;
+      within = c.converse.ensures.within;
+      counted = c.converse.ensures.counted;
+    }

@@ -18,42 +18,33 @@ use Rattle.emulators.specs.Starts.{start_by}
 use Rattle.emulators.proofs.Machine86.{course86_is}
 use Rattle.emulators.proofs.commands.run_86.Goals as goal
 
-pub returns-clause-run : goal.returns-clause-run
-returns-clause-run g c =
+pub returns : goal.returns
+returns g c =
     let m = c.in_ok-machine.machine in
     let image = c.args.image.now in
     let page = c.args.page.now in
     let fill = c.args.fill.now in
     let choice = c.args.choice in
+    let given = c.args.devices.now in
     let limit = c.args.limit in
+    let prefix = c.args.prefix.now in
     let old = g.H.Host.state c.args.host.now in
     let new = g.H.Host.state c.converse.new.host in
-    let state : (standing m.cpu).state ≡ start86 image page fill (start_by choice) = c.in_ok-machine.ensures.state ∙ ap (start86 image page fill) c.start_by-start.ensures in
-    let first : List Reply → ℕ → SeenRun = course86_from (code_kept m.cpu) m.choice (standing m.cpu).state no_past in
-    let run : (fetch : ℕ → Option Instr86) → List Reply → ℕ → SeenRun = λ fetch. course86 fetch image page fill (start_by choice) (choice ∷ []) in
-    let given = c.args.devices.now in
     let left = c.converse.new.devices in
-    IfOk-weaker c.converse.result (λ o. SaysRun first given limit c.args.prefix.now o left old new) (λ o. (fetch : ℕ → Option Instr86) → ReadsCode image.code fetch → SaysRun (run fetch) given limit c.args.prefix.now o left old new) (λ o h fetch reads.
-    let is = course86_is fetch image page fill (start_by choice) choice m.choice (code_kept m.cpu) (standing m.cpu).state c.in_ok-machine.ensures.choice c.in_ok-machine.ensures.code state c.new.ensures.reader reads in
-    subst (λ course. SaysRun course given limit c.args.prefix.now o left old new) is h) c.converse.ensures.run
-
-pub returns-clause-cut : goal.returns-clause-cut
-returns-clause-cut g c =
-    let m = c.in_ok-machine.machine in
-    let image = c.args.image.now in
-    let page = c.args.page.now in
-    let fill = c.args.fill.now in
-    let choice = c.args.choice in
-    let limit = c.args.limit in
-    let old = g.H.Host.state c.args.host.now in
-    let new = g.H.Host.state c.converse.new.host in
     let state : (standing m.cpu).state ≡ start86 image page fill (start_by choice) = c.in_ok-machine.ensures.state ∙ ap (start86 image page fill) c.start_by-start.ensures in
     let first : List Reply → ℕ → SeenRun = course86_from (code_kept m.cpu) m.choice (standing m.cpu).state no_past in
     let run : (fetch : ℕ → Option Instr86) → List Reply → ℕ → SeenRun = λ fetch. course86 fetch image page fill (start_by choice) (choice ∷ []) in
-    let given = c.args.devices.now in
-    IfErr-weaker c.converse.result (IsCutOff first given limit c.args.prefix.now old new) (λ fault. (fetch : ℕ → Option Instr86) → ReadsCode image.code fetch → IsCutOff (run fetch) given limit c.args.prefix.now old new fault) (λ fault h fetch reads.
-    let is = course86_is fetch image page fill (start_by choice) choice m.choice (code_kept m.cpu) (standing m.cpu).state c.in_ok-machine.ensures.choice c.in_ok-machine.ensures.code state c.new.ensures.reader reads in
-    subst (λ course. IsCutOff course given limit c.args.prefix.now old new fault) is h) c.converse.ensures.cut
+    let is : (fetch : ℕ → Option Instr86) → ReadsCode image.code fetch → first ≡ run fetch =
+    λ fetch reads. course86_is fetch image page fill (start_by choice) choice m.choice (code_kept m.cpu) (standing m.cpu).state c.in_ok-machine.ensures.choice c.in_ok-machine.ensures.code state c.new.ensures.reader reads in
+    record {
+      run = IfOk-weaker c.converse.result (λ o. SaysRun first given limit prefix o left old new) (λ o. (fetch : ℕ → Option Instr86) → ReadsCode image.code fetch → SaysRun (run fetch) given limit prefix o left old new)
+          (λ o h fetch reads. subst (λ course. SaysRun course given limit prefix o left old new) (is fetch reads) h) c.converse.ensures.run;
+      cut = IfErr-weaker c.converse.result (IsCutOff first given limit prefix old new) (λ fault. (fetch : ℕ → Option Instr86) → ReadsCode image.code fetch → IsCutOff (run fetch) given limit prefix old new fault)
+          (λ fault h fetch reads. subst (λ course. IsCutOff course given limit prefix old new fault) (is fetch reads) h) c.converse.ensures.cut;
+      only = c.converse.ensures.only;
+      within = c.converse.ensures.within;
+      counted = c.converse.ensures.counted;
+    }
 
 pub returns-in_err-machine-clause-cut : goal.returns-in_err-machine-clause-cut
 returns-in_err-machine-clause-cut g c =
