@@ -8,7 +8,7 @@ ghost use Rattle.sym_block_def.specs.Block80.{MayRun, block80};
 ghost use Rattle.sym_micro.specs.Exits.{RunsTo};
 
 use crate::exits::exit;
-use crate::step80::step80;
+use crate::steps80::step80;
 use asm80_program_types::Program80;
 use cells::Keep;
 use i80::{Instr80, length};

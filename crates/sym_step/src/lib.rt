@@ -13,9 +13,9 @@ mod moves80;
 mod moves86;
 mod registers;
 mod stack;
-mod step80;
-mod step86;
+mod steps80;
+mod steps86;
 
 pub use block::run_block;
-pub use step80::step80;
-pub use step86::{offset, step86};
+pub use steps80::step80;
+pub use steps86::{offset, step86};

@@ -2,7 +2,7 @@
 use Rattle.std.proofs.Common.{ap₂}
 use Rattle.i80.specs.declared.Instr80.TheVariants.{Mov}
 use Rattle.sym_step.proofs.Seen80.{of_instr}
-use Rattle.sym_step.proofs.step80.move_source.Goals as goal
+use Rattle.sym_step.proofs.steps80.move_source.Goals as goal
 
 pub returns-in-Reg-from : goal.returns-in-Reg-from
 returns-in-Reg-from c = of_instr (ap₂ Mov c.in-Reg.is c.in-Reg-from.is) c.move_byte.ensures.on_80

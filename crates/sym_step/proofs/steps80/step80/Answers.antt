@@ -1,6 +1,6 @@
 -- What each arm calls ensures it of the arm's instruction. A search for that takes fourteen times as long.
 use Rattle.sym_step.proofs.Seen80.{of_instr, with_room}
-use Rattle.sym_step.proofs.step80.step80.Goals as goal
+use Rattle.sym_step.proofs.steps80.step80.Goals as goal
 
 pub returns-in-Mov : goal.returns-in-Mov
 returns-in-Mov c = of_instr c.in-Mov.is c.move_source.ensures

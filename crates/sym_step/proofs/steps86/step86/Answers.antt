@@ -7,7 +7,7 @@ use Rattle.sym_micro.specs.Machine.{as86}
 use Rattle.sym_micro.specs.Stands.{machine_of}
 use Rattle.sym_micro.proofs.Alike.{on_86}
 use Rattle.sym_step.proofs.Seen86.{of_instr}
-use Rattle.sym_step.proofs.step86.step86.Goals as goal
+use Rattle.sym_step.proofs.steps86.step86.Goals as goal
 
 pub returns-in-MovReg8 : goal.returns-in-MovReg8
 returns-in-MovReg8 c = of_instr c.in-MovReg8.is c.give_byte.ensures
