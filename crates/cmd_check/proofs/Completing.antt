@@ -30,7 +30,7 @@ use Rattle.cmd_check.specs.Completes.{found_count, CheckComesTo, refused, no_ima
 
 -- what is known of sources and texts
 pub record Laws : Type 0 where
-  pub source : SourceLaw
+  pub source : SourceLaw intel_reading
   pub reading : OneReading
   pub refuses : OneRefusal
   pub not_both : NotBoth

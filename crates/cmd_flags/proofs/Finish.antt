@@ -36,7 +36,7 @@ refusal : (bytes : List ℕ) (top : ℕ) (stop : Stop) → SourceStops intel_rea
 refusal bytes top _ (of_line {line = line} {rule = rule} n) = record { line = line; rule = OfLine rule; no_source = n; is = refl; status = refl }
 refusal bytes top _ (of_program {line = line} {rule = rule} n) = record { line = line; rule = OfProgram rule; no_source = n; is = refl; status = refl }
 
-module _ (law : SourceLaw) (c : Flags) (old new : HostState) (none : NoneFailed old new) (bytes : List ℕ) (told : FileIsTold old c.source input_limit bytes) (status : ℕ) (memory : status ≡ 5 → ⊥) where
+module _ (law : SourceLaw intel_reading) (c : Flags) (old new : HostState) (none : NoneFailed old new) (bytes : List ℕ) (told : FileIsTold old c.source input_limit bytes) (status : ℕ) (memory : status ≡ 5 → ⊥) where
   -- what was said behind reads alone
   said_behind : (mid : HostState) (text : List ℕ) → OnlyReads old mid → Says mid new text → Says old new text
   said_behind mid text only s = s ∙ ap (λ o. said_more o text) only.said

@@ -43,7 +43,7 @@ use Rattle.cmd_runs.specs.BothLoads.{source_of, LeanStops, is_large, no_room, Ne
 use Rattle.cmd_runs.specs.BothRuns.{prefix80, AreBothMade, IsEitherCut, in_first, in_second, work_both}
 use Rattle.cmd_runs.specs.BothCompletes.{LeanFits, BothComeTo, as_run80, too_large, BothComplete}
 
-module _ (law : SourceLaw) (disks : DiskLaw) (text_is : OneText) (c : Both) where
+module _ (law : SourceLaw intel_reading) (disks : DiskLaw) (text_is : OneText) (c : Both) where
   module _ (source : List ℕ) (given : Given) where
     -- a text that fits is none that is too large
     not_large : (size : ℕ) (p : Program) (supply : Supply) → LeanFits c source given → IsSource intel_reading source c.top p → HasDisk given supply → IsTooLarge Lean p size → ⊥

@@ -1,18 +1,15 @@
 -- What is known of sources makes `run80` come to one thing.
-use Rattle.std.proofs.Common.{◌≡◌, ℕ, List, refl, sym, ◌∙◌, Some}
+use Rattle.std.proofs.Common.{◌≡◌, ℕ, refl, sym, ◌∙◌, Some}
 use Rattle.asm80_text.specs.Intel.{intel_reading}
 use Rattle.cells.specs.declared.Place.{Place}
 use Rattle.cells.specs.declared.Place.TheVariants.{At, Exit}
-use Rattle.asm80_source_def.specs.Source.{IsSource, OfLine, OfProgram}
 use Rattle.asm80_program_types.specs.Program.{Program}
 use Rattle.emulators.specs.declared.emulator.Why.TheVariants.{Left, NoInstruction, StackSegment, OddCall}
 use Rattle.emulators.specs.declared.running.RunEnd.{RunEnd}
 use Rattle.emulators.specs.declared.running.RunEnd.TheVariants.{Ended, Stopped, StepLimit, InputEnded, NoDrive}
 use Rattle.emulators.specs.Courses.{course80}
 use Rattle.cmd_arguments.specs.Words.{Run80}
-use Rattle.cmd_common.specs.declared.stop.Stop.{Stop}
-use Rattle.cmd_common.specs.Sources.{SourceStops, of_line, of_program}
-use Rattle.cmd_common.proofs.SourceLaw.{SourceLaw}
+use Rattle.cmd_common.proofs.SourceLaw.{SourceLaw, not_source_and_stop, one_source_stop}
 use Rattle.cmd_runs.specs.Runs80.{IsLineAt, IsLineOf, kind80}
 use Rattle.cmd_runs.proofs.OneOutcome.{KindLaws}
 
@@ -31,36 +28,12 @@ one_line p StepLimit m n x y = x ∙ sym y
 one_line p InputEnded m n x y = x ∙ sym y
 one_line p (NoDrive function) m n x y = x ∙ sym y
 
-module _ (law : SourceLaw) where
-  not_both : (bytes : List ℕ) (top : ℕ) (p : Program) (stop : Stop) → IsSource intel_reading bytes top p → SourceStops intel_reading bytes top stop → ⊥
-  not_both bytes top p _ is (of_line {line = n} {rule = r} h) = law.apart bytes top n p (OfLine r) is h
-  not_both bytes top p _ is (of_program {line = n} {rule = r} h) = law.apart bytes top n p (OfProgram r) is h
-
-  one_stop : (bytes : List ℕ) (top : ℕ) (s t : Stop) → SourceStops intel_reading bytes top s → SourceStops intel_reading bytes top t → s ≡ t
-  one_stop bytes top _ _ (of_line {line = m} {rule = r} x) (of_line {line = n} {rule = s} y) =
-      let e = law.refusal bytes top m n (OfLine r) (OfLine s) x y in
-      let lines : m ≡ n = e.0 in
-      let rules : OfLine r ≡ OfLine s = e.1 in
-      cc
-  one_stop bytes top _ _ (of_line {line = m} {rule = r} x) (of_program {line = n} {rule = s} y) =
-      let e = law.refusal bytes top m n (OfLine r) (OfProgram s) x y in
-      let rules : OfLine r ≡ OfProgram s = e.1 in
-      cc
-  one_stop bytes top _ _ (of_program {line = m} {rule = r} x) (of_line {line = n} {rule = s} y) =
-      let e = law.refusal bytes top m n (OfProgram r) (OfLine s) x y in
-      let rules : OfProgram r ≡ OfLine s = e.1 in
-      cc
-  one_stop bytes top _ _ (of_program {line = m} {rule = r} x) (of_program {line = n} {rule = s} y) =
-      let e = law.refusal bytes top m n (OfProgram r) (OfProgram s) x y in
-      let lines : m ≡ n = e.0 in
-      let rules : OfProgram r ≡ OfProgram s = e.1 in
-      cc
-
+module _ (law : SourceLaw intel_reading) where
   pub laws80 : (c : Run80) → KindLaws (kind80 c)
   laws80 c = record {
     one = λ bytes p q x y. law.program bytes c.top p q x y;
-    refusal = λ bytes s t x y. one_stop bytes c.top s t x y;
-    apart = λ bytes p stop is stops. not_both bytes c.top p stop is stops;
+    refusal = λ bytes s t x y. one_source_stop law bytes c.top s t x y;
+    apart = λ bytes p stop is stops. not_source_and_stop law bytes c.top p stop is stops;
     course = λ p readable. (course80 p c.run.page, refl);
     line = one_line;
   }

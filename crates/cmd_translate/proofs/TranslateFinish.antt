@@ -115,7 +115,7 @@ module _ (c : Translate) (old mid new : HostState) where
   stopped _ (stop_no_memory only) status (unsaid n e l) = subst (TranslateGives c old new) (sym e) (quiet_end only l)
   stopped stop (stop_unwritten p lines accepts w) status closes = unwritten_end p lines accepts stop w status closes
 
-module _ (law : SourceLaw) (one : OneText) (c : Translate) (old new : HostState) (none : NoneFailed old new) (bytes : List ℕ) (told : FileIsTold old c.input input_limit bytes) where
+module _ (law : SourceLaw intel_reading) (one : OneText) (c : Translate) (old new : HostState) (none : NoneFailed old new) (bytes : List ℕ) (told : FileIsTold old c.input input_limit bytes) where
   -- the source's bytes are those that the host tells
   same_bytes : (others : List ℕ) → IsFile (old.file c.input) others → others ≡ bytes
   same_bytes others f = sym (subst (λ t. IsFile t others) told.0 f)
