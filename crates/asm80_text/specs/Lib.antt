@@ -8,12 +8,9 @@ pub mod Grammar
 pub mod TokenResults
 pub mod Small
 pub mod Coherent
-pub use Rattle.asm80_text.specs.Grammar
 pub use Rattle.asm80_statement_types.specs.Name
-pub use Rattle.asm80_text.specs.Tokens
 pub use Rattle.asm80_statement_types.specs.Tree
 pub use Rattle.asm80_statement_types.specs.WellFormed
-pub use Rattle.asm80_statement_types.specs.Words
 pub mod Statement
 pub mod Line
 pub mod Stream

@@ -1,7 +1,7 @@
 pub mod Agreement
 pub mod Running
 pub mod BothCompleting
-mod Loading
+mod TextLoading
 mod Laws86
 pub mod Leaving
 pub mod Laws80
