@@ -20,10 +20,10 @@ use Rattle.cpu86_def.specs.Call.{Stop}
 use Rattle.dialogue.specs.Fill.{IsFill}
 use Rattle.cpu86_def.specs.Start.{IsStart, AreChoices, run86}
 use Rattle.bdos_small.specs.Supply.{Supply}
-use Rattle.emulators.specs.declared.emulator.Why.{Why}
-use Rattle.emulators.specs.declared.running.Conversation.{Conversation}
+use Rattle.emulator_loop.specs.declared.emulator.Why.{Why}
+use Rattle.emulator_loop.specs.declared.running.Conversation.{Conversation}
 use Rattle.dialogue.specs.Replies.{IsReplyBlock as IsBlock, IsReply}
-use Rattle.emulators.specs.Talk.{SeenRun, told_status, replies_to, HasOneRun, SaysRun}
+use Rattle.emulator_loop.specs.Talk.{SeenRun, told_status, replies_to, HasOneRun, SaysRun}
 use Rattle.emulators.specs.Courses.{why80, course80, course86}
 use Rattle.emulators.specs.Starts.{start_by}
 use Rattle.templates_same_law.specs.Names.{IsReplyBlock as SameBlock, IsReply as SameReply, Same}

@@ -13,7 +13,7 @@ use Rattle.bdos_disk.specs.declared.fault.DiskFault.TheVariants.{Bad, Memory}
 use Rattle.bdos_disk.specs.DiskFile.{IsBadAt}
 use Rattle.bdos_disk.specs.Reading.{IsDiskFaultOf}
 use Rattle.bdos_small.specs.Supply.{Supply}
-use Rattle.emulators.specs.declared.fault.TalkFault.TheVariants.{Unsaid as Untold}
+use Rattle.emulator_loop.specs.declared.fault.TalkFault.TheVariants.{Unsaid as Untold}
 use Rattle.emulators.specs.Courses.{course80, course86}
 use Rattle.emulators.specs.Starts.{start_by}
 use Rattle.cmd_arguments.specs.Words.{Both}

@@ -4,7 +4,7 @@ use Rattle.std.specs.Prelude.{Result, Ok, Err}
 use Rattle.host.specs.declared.HostFault.TheVariants.{Failed as CallFailed, Memory as CallWantedMemory}
 use Rattle.host.proofs.HostLemmas.{SameFaults-trans}
 use Rattle.host.specs.Host.{HostState, SameFaults}
-use Rattle.emulators.specs.declared.fault.TalkFault.TheVariants.{Unsaid as Untold}
+use Rattle.emulator_loop.specs.declared.fault.TalkFault.TheVariants.{Unsaid as Untold}
 use Rattle.cmd_common.specs.declared.stop.Stop.{Stop}
 use Rattle.cmd_common.specs.declared.stop.Stop.TheVariants.{OutOfMemory}
 use Rattle.cmd_common.specs.Said.{whole, failed, no_memory as unfinished, Closes}

@@ -4,9 +4,9 @@ use Rattle.asm80_text.specs.Intel.{intel_reading}
 use Rattle.cells.specs.declared.Place.{Place}
 use Rattle.cells.specs.declared.Place.TheVariants.{At, Exit}
 use Rattle.asm80_program_types.specs.Program.{Program}
-use Rattle.emulators.specs.declared.emulator.Why.TheVariants.{Left, NoInstruction, StackSegment, OddCall}
-use Rattle.emulators.specs.declared.running.RunEnd.{RunEnd}
-use Rattle.emulators.specs.declared.running.RunEnd.TheVariants.{Ended, Stopped, StepLimit, InputEnded, NoDrive}
+use Rattle.emulator_loop.specs.declared.emulator.Why.TheVariants.{Left, NoInstruction, StackSegment, OddCall}
+use Rattle.emulator_loop.specs.declared.running.RunEnd.{RunEnd}
+use Rattle.emulator_loop.specs.declared.running.RunEnd.TheVariants.{Ended, Stopped, StepLimit, InputEnded, NoDrive}
 use Rattle.emulators.specs.Courses.{course80}
 use Rattle.cmd_arguments.specs.Words.{Run80}
 use Rattle.cmd_common.proofs.SourceLaw.{SourceLaw, not_source_and_stop, one_source_stop}

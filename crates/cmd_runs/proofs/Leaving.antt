@@ -15,13 +15,13 @@ use Rattle.cpu80_tagged_def.specs.Call.{Return, is_place}
 use Rattle.cpu80_tagged_def.specs.Step.{step_at, step80, return_at, replied_to, replied80, machine80}
 use Rattle.cpu80_tagged_def.specs.Start.{start80, run80}
 use Rattle.cpu80_tagged.proofs.Places.{GoesOn, Returns, goes_on, returns_to}
-use Rattle.emulators.specs.declared.emulator.Why.TheVariants.{Left, NoInstruction, StackSegment, OddCall}
-use Rattle.emulators.specs.declared.running.RunEnd.{RunEnd}
-use Rattle.emulators.specs.declared.running.RunEnd.TheVariants.{Ended, Stopped as HasStopped, StepLimit, InputEnded, NoDrive}
+use Rattle.emulator_loop.specs.declared.emulator.Why.TheVariants.{Left, NoInstruction, StackSegment, OddCall}
+use Rattle.emulator_loop.specs.declared.running.RunEnd.{RunEnd}
+use Rattle.emulator_loop.specs.declared.running.RunEnd.TheVariants.{Ended, Stopped as HasStopped, StepLimit, InputEnded, NoDrive}
 use Rattle.bdos_small.specs.Supply.{Supply}
-use Rattle.emulators.specs.Talk.{SeenRun, told_status, replies_to, IsRunAfter, IsCause}
+use Rattle.emulator_loop.specs.Talk.{SeenRun, told_status, replies_to, IsRunAfter, IsCause}
 use Rattle.emulators.specs.Courses.{why80, course80}
-use Rattle.emulators.specs.declared.running.Conversation.{Conversation}
+use Rattle.emulator_loop.specs.declared.running.Conversation.{Conversation}
 use Rattle.host.specs.Host.{HostState}
 use Rattle.cmd_arguments.specs.Words.{Run80}
 use Rattle.cmd_runs.specs.Settings.{RunComesTo}

@@ -11,10 +11,10 @@ use Rattle.base_types.proofs.Fronts.{one_place}
 use Rattle.bdos_disk.specs.DiskFile.{IsBadAt}
 use Rattle.bdos_disk.specs.Reading.{IsDiskFaultOf}
 use Rattle.bdos_small.specs.Supply.{Supply}
-use Rattle.emulators.specs.declared.fault.TalkFault.TheVariants.{Unsaid as Untold}
-use Rattle.emulators.specs.declared.running.Conversation.{Conversation}
-use Rattle.emulators.specs.declared.running.RunEnd.{RunEnd}
-use Rattle.emulators.specs.Talk.{SeenRun}
+use Rattle.emulator_loop.specs.declared.fault.TalkFault.TheVariants.{Unsaid as Untold}
+use Rattle.emulator_loop.specs.declared.running.Conversation.{Conversation}
+use Rattle.emulator_loop.specs.declared.running.RunEnd.{RunEnd}
+use Rattle.emulator_loop.specs.Talk.{SeenRun}
 use Rattle.cmd_common.specs.declared.stop.Stop.{Stop}
 use Rattle.cmd_common.specs.declared.stop.Stop.TheVariants.{BadDisk, OutOfMemory}
 use Rattle.cmd_common.specs.Lines.{status_of}

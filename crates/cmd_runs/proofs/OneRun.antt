@@ -2,8 +2,8 @@
 use Rattle.std.proofs.Common.{ℕ, [], None, refl, ◌∙◌}
 use Rattle.host.specs.Host.{HostState}
 use Rattle.bdos_small.specs.Supply.{Supply}
-use Rattle.emulators.specs.declared.fault.TalkFault.{TalkFault}
-use Rattle.emulators.specs.declared.running.Conversation.{Conversation}
+use Rattle.emulator_loop.specs.declared.fault.TalkFault.{TalkFault}
+use Rattle.emulator_loop.specs.declared.running.Conversation.{Conversation}
 use Rattle.cmd_runs.specs.Ends.{halt_of_talk}
 use Rattle.cmd_runs.specs.Settings.{RunComesTo, IsRunCutOff}
 use Rattle.cmd_runs.specs.Kinds.{RunKind, run_setting, HasRead, IsToRun}

@@ -8,9 +8,9 @@ use Rattle.host.specs.Host.{HostState}
 use Rattle.cpu80_tagged_def.specs.Start.{IsPage}
 use Rattle.dialogue.specs.Fill.{IsFill}
 use Rattle.bdos_small.specs.Supply.{Supply}
-use Rattle.emulators.specs.declared.fault.TalkFault.{TalkFault}
-use Rattle.emulators.specs.declared.running.Conversation.{Conversation}
-use Rattle.emulators.specs.Talk.{HasOneRun}
+use Rattle.emulator_loop.specs.declared.fault.TalkFault.{TalkFault}
+use Rattle.emulator_loop.specs.declared.running.Conversation.{Conversation}
+use Rattle.emulator_loop.specs.Talk.{HasOneRun}
 use Rattle.emulators.specs.Courses.{course86}
 use Rattle.emulators.specs.Starts.{start_by}
 use Rattle.cmd_arguments.specs.Words.{Both}

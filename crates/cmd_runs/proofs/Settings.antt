@@ -4,9 +4,9 @@ use Rattle.std.specs.Prelude.{Result, Ok, Err, IfOk, IfErr, OnOk}
 use Rattle.host.specs.Host.{HostState, SameFaults, OnlySays}
 use Rattle.dialogue.specs.declared.request.Reply.{Reply}
 use Rattle.bdos_small.specs.Supply.{Supply}
-use Rattle.emulators.specs.declared.fault.TalkFault.{TalkFault}
-use Rattle.emulators.specs.declared.running.Conversation.{Conversation}
-use Rattle.emulators.specs.Talk.{SeenRun, SaysRun, IsCutOff}
+use Rattle.emulator_loop.specs.declared.fault.TalkFault.{TalkFault}
+use Rattle.emulator_loop.specs.declared.running.Conversation.{Conversation}
+use Rattle.emulator_loop.specs.Talk.{SeenRun, SaysRun, IsCutOff}
 use Rattle.cmd_runs.specs.Settings.{RunSetting, RunComesTo, IsRunCutOff}
 
 module _ (setting : RunSetting) (supply left : Supply) (old new : HostState) where

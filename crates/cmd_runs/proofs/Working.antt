@@ -5,8 +5,8 @@ use Rattle.std.specs.Prelude.{Result, Ok, Err, IfOk, IfErr}
 use Rattle.std.proofs.lemmas.Result.{IfOk-weaker, IfErr-weaker}
 use Rattle.host.specs.Host.{HostState, SameFiles, OnlyReads}
 use Rattle.bdos_disk.specs.Stored.{Stored}
-use Rattle.emulators.specs.declared.fault.TalkFault.{TalkFault}
-use Rattle.emulators.specs.declared.fault.TalkFault.TheVariants.{Unsaid as Untold, Memory as NoMemory}
+use Rattle.emulator_loop.specs.declared.fault.TalkFault.{TalkFault}
+use Rattle.emulator_loop.specs.declared.fault.TalkFault.TheVariants.{Unsaid as Untold, Memory as NoMemory}
 use Rattle.cmd_common.specs.declared.stop.Stop.{Stop}
 use Rattle.cmd_common.proofs.Said.{closes_files}
 use Rattle.cmd_runs.specs.declared.halt.Halt.{Halt}

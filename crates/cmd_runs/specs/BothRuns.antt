@@ -8,9 +8,9 @@ use Rattle.asm80_program_types.specs.Program.{Program}
 use Rattle.asm86_line_types.specs.Image.{Image}
 use Rattle.host.specs.Host.{HostState}
 use Rattle.bdos_small.specs.Supply.{Supply}
-use Rattle.emulators.specs.declared.fault.TalkFault.{TalkFault}
-use Rattle.emulators.specs.declared.running.Conversation.{Conversation}
-use Rattle.emulators.specs.Talk.{SeenRun}
+use Rattle.emulator_loop.specs.declared.fault.TalkFault.{TalkFault}
+use Rattle.emulator_loop.specs.declared.running.Conversation.{Conversation}
+use Rattle.emulator_loop.specs.Talk.{SeenRun}
 use Rattle.cmd_arguments.specs.Words.{Both}
 use Rattle.cmd_runs.specs.Settings.{RunSetting, setting86, RunComesTo, IsRunCutOff}
 use Rattle.cmd_runs.specs.Kinds.{HasRead, run_setting}

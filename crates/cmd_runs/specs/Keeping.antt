@@ -7,10 +7,10 @@ use Rattle.host.specs.declared.HostFault.{HostFault}
 use Rattle.host.specs.declared.HostFault.TheVariants.{Failed, Memory}
 use Rattle.bdos_disk.specs.Stored.{Stored}
 use Rattle.bdos_disk.specs.DiskFile.{disk_file}
-use Rattle.emulators.specs.declared.emulator.Why.{Why}
-use Rattle.emulators.specs.declared.emulator.Why.TheVariants.{Left, NoInstruction, StackSegment, OddCall}
-use Rattle.emulators.specs.declared.running.RunEnd.{RunEnd}
-use Rattle.emulators.specs.declared.running.RunEnd.TheVariants.{Ended, Stopped, StepLimit, InputEnded, NoDrive}
+use Rattle.emulator_loop.specs.declared.emulator.Why.{Why}
+use Rattle.emulator_loop.specs.declared.emulator.Why.TheVariants.{Left, NoInstruction, StackSegment, OddCall}
+use Rattle.emulator_loop.specs.declared.running.RunEnd.{RunEnd}
+use Rattle.emulator_loop.specs.declared.running.RunEnd.TheVariants.{Ended, Stopped, StepLimit, InputEnded, NoDrive}
 use Rattle.host_files.specs.Transfer.{IsBeforeOrPart}
 use Rattle.cmd_common.specs.declared.stop.Stop.{Stop}
 use Rattle.cmd_common.specs.declared.stop.Stop.TheVariants.{WriteFailed, OutOfMemory}

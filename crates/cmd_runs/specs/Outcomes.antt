@@ -4,8 +4,8 @@ use Rattle.dialogue.specs.declared.request.Reply.{Reply}
 use Rattle.host.specs.Host.{HostState}
 use Rattle.bdos_disk.specs.DiskFile.{IsBadAt}
 use Rattle.bdos_small.specs.Supply.{Supply}
-use Rattle.emulators.specs.declared.running.Conversation.{Conversation}
-use Rattle.emulators.specs.Talk.{SeenRun, IsOutcome}
+use Rattle.emulator_loop.specs.declared.running.Conversation.{Conversation}
+use Rattle.emulator_loop.specs.Talk.{SeenRun, IsOutcome}
 use Rattle.cmd_common.specs.declared.stop.Stop.{Stop}
 use Rattle.cmd_common.specs.declared.stop.Stop.TheVariants.{BadDisk}
 use Rattle.cmd_common.specs.Files.{NoneFailed, FileIsTold}

@@ -6,9 +6,9 @@ use Rattle.asm80_program_types.specs.Program.{Program, line_at}
 use Rattle.asm80_text.specs.Intel.{intel_reading}
 use Rattle.asm80_source_def.specs.Source.{IsSource}
 use Rattle.cmd_arguments.specs.Words.{RunOptions, Run80}
-use Rattle.emulators.specs.declared.emulator.Why.TheVariants.{Left, NoInstruction, StackSegment, OddCall}
-use Rattle.emulators.specs.declared.running.RunEnd.{RunEnd}
-use Rattle.emulators.specs.declared.running.RunEnd.TheVariants.{Ended, Stopped, StepLimit, InputEnded, NoDrive}
+use Rattle.emulator_loop.specs.declared.emulator.Why.TheVariants.{Left, NoInstruction, StackSegment, OddCall}
+use Rattle.emulator_loop.specs.declared.running.RunEnd.{RunEnd}
+use Rattle.emulator_loop.specs.declared.running.RunEnd.TheVariants.{Ended, Stopped, StepLimit, InputEnded, NoDrive}
 use Rattle.cmd_common.specs.Files.{input_limit}
 use Rattle.cmd_common.specs.Sources.{SourceStops}
 use Rattle.cmd_runs.specs.Settings.{IsCourse80}

@@ -8,9 +8,9 @@ use Rattle.asm80_program_types.specs.Program.{Program}
 use Rattle.asm86_line_types.specs.Image.{Image}
 use Rattle.host.specs.Host.{HostState, SameFaults, OnlySays}
 use Rattle.bdos_small.specs.Supply.{Supply}
-use Rattle.emulators.specs.declared.fault.TalkFault.{TalkFault}
-use Rattle.emulators.specs.declared.running.Conversation.{Conversation}
-use Rattle.emulators.specs.Talk.{SeenRun, SaysRun, IsCutOff}
+use Rattle.emulator_loop.specs.declared.fault.TalkFault.{TalkFault}
+use Rattle.emulator_loop.specs.declared.running.Conversation.{Conversation}
+use Rattle.emulator_loop.specs.Talk.{SeenRun, SaysRun, IsCutOff}
 use Rattle.emulators.specs.Courses.{course80, course86}
 use Rattle.emulators.specs.Starts.{start_by}
 use Rattle.cmd_runs.specs.Supplies.{fill_by}

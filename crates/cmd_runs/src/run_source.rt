@@ -3,7 +3,7 @@ ghost use Rattle.std.specs.Prelude.{◌≡◌, ℕ, true, IfOk, IfErr, OnOk};
 ghost use Rattle.host.specs.Host.{SameFaults, OnlyReads};
 ghost use Rattle.asm80_program_types.specs.Program.{is_top};
 ghost use Rattle.cmd_arguments.specs.ReadCommands.{run_options_read, run80_read};
-ghost use Rattle.emulators.specs.declared.running.RunEnd.TheVariants.{Stopped};
+ghost use Rattle.emulator_loop.specs.declared.running.RunEnd.TheVariants.{Stopped};
 ghost use Rattle.cmd_runs.specs.Ends.{Halts};
 ghost use Rattle.cmd_runs.specs.Keeping.{DiskAlone};
 ghost use Rattle.cmd_runs.specs.Lasts.{IsLastMade};

@@ -1,8 +1,2 @@
-pub mod Turning
-pub mod OneRun
-pub mod Said
-pub mod Advances
-pub mod Exact
-pub mod Ends
 pub mod Machine80
 pub mod Machine86

@@ -10,11 +10,11 @@ use Rattle.cpu80_tagged_def.specs.State.{State80}
 use Rattle.cpu80_tagged_def.specs.Step.{step80, replied80, machine80}
 use Rattle.cpu80_tagged.specs.declared.processor.Step80.TheVariants.{Ran as DidRun, Asked, Ended as DidEnd, Left as DidLeave}
 use Rattle.cpu80_tagged.specs.Machine.{IsTaggedStep}
-use Rattle.emulators.specs.declared.emulator.Why.TheVariants.{Left}
-use Rattle.emulators.specs.declared.emulator.Turn.TheVariants.{Ran as HasRun, Asks as HasAsked, Ended, Stopped as HasStopped}
-use Rattle.emulators.specs.Turns.{Course, IsTurn}
+use Rattle.emulator_loop.specs.declared.emulator.Why.TheVariants.{Left}
+use Rattle.emulator_loop.specs.declared.emulator.Turn.TheVariants.{Ran as HasRun, Asks as HasAsked, Ended, Stopped as HasStopped}
+use Rattle.emulator_loop.specs.Turns.{Course, IsTurn}
 use Rattle.emulators.specs.Courses.{why80, course80_from}
-use Rattle.emulators.proofs.Turning.{turn_ran, turn_ended, turn_stopped, turn_asked}
+use Rattle.emulator_loop.proofs.Turning.{turn_ran, turn_ended, turn_stopped, turn_asked}
 
 module _ (p : Program) (s t : State80) (answered : Event → Reply → Course) where
   pub ran80 : IsTaggedStep (step80 p s) DidRun s t → IsTurn (course80_from p s) (course80_from p t) answered HasRun

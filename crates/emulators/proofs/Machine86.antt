@@ -14,10 +14,10 @@ use Rattle.cpu86_def.specs.State.{State86}
 use Rattle.cpu86_def.specs.Call.{Stop, replied86}
 use Rattle.cpu86_def.specs.Start.{Start, start86}
 use Rattle.cpu86_def.specs.Step.{step86, machine86}
-use Rattle.emulators.specs.declared.emulator.Turn.TheVariants.{Ran as HasRun, Asks as HasAsked, Ended, Stopped as HasStopped}
-use Rattle.emulators.specs.Turns.{no_past, Course, with_reply_taken, after_asked, IsTurn}
+use Rattle.emulator_loop.specs.declared.emulator.Turn.TheVariants.{Ran as HasRun, Asks as HasAsked, Ended, Stopped as HasStopped}
+use Rattle.emulator_loop.specs.Turns.{no_past, Course, with_reply_taken, after_asked, IsTurn}
 use Rattle.emulators.specs.Courses.{why86, course86, course86_from}
-use Rattle.emulators.proofs.Turning.{turn_ran, turn_ended, turn_stopped, turn_asked}
+use Rattle.emulator_loop.proofs.Turning.{turn_ran, turn_ended, turn_stopped, turn_asked}
 
 -- the one choice is every choice
 one_choice : (c k : ℕ) → choice_at (c ∷ []) k ≡ c

@@ -21,10 +21,10 @@ use Rattle.cpu80_tagged.specs.State.{tagged_state, asks}
 use Rattle.cpu80_tagged.specs.Machine.{IsMachineOf}
 use Rattle.cpu86.specs.declared.cpu.Cpu86.{Cpu86}
 use Rattle.cpu86.specs.Standing.{standing, code_kept}
-use Rattle.emulators.specs.declared.emulator.Why.{Why}
-use Rattle.emulators.specs.declared.emulator.Why.TheVariants.{Left, NoInstruction as HasNone, StackSegment as HasSegment, OddCall as HasOdd}
-use Rattle.emulators.specs.Talk.{SeenRun, seen}
-use Rattle.emulators.specs.Turns.{Course, course_from}
+use Rattle.emulator_loop.specs.declared.emulator.Why.{Why}
+use Rattle.emulator_loop.specs.declared.emulator.Why.TheVariants.{Left, NoInstruction as HasNone, StackSegment as HasSegment, OddCall as HasOdd}
+use Rattle.emulator_loop.specs.Talk.{SeenRun, seen}
+use Rattle.emulator_loop.specs.Turns.{Course, course_from}
 
 -- the 8080 left the profile by a rule, at its state's place
 abbrev pub why80 : State80 → Rule → Why

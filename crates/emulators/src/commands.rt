@@ -3,19 +3,19 @@ ghost use Rattle.std.specs.Prelude.{◌≡◌, ◌≤◌, ◌∷◌, [], ℕ, le
 ghost use Rattle.i86.specs.declared.Instr86.{Instr86};
 ghost use Rattle.i86.specs.Code.{ReadsCode};
 ghost use Rattle.host.specs.Host.{SameFaults, OnlySays};
-ghost use Rattle.emulators.specs.Talk.{SaysRun, IsCutOff};
+ghost use Rattle.emulator_loop.specs.Talk.{SaysRun, IsCutOff};
 ghost use Rattle.emulators.specs.Courses.{course80, course86};
 ghost use Rattle.emulators.specs.Starts.{start_by};
 ghost use Rattle.cpu86.specs.Starts.{start_of};
 
 use crate::running80::Running80;
 use crate::running86::Running86;
-use crate::{Conversation, TalkFault, converse};
 use asm80_program_types::Program80;
 use asm86::Image86;
 use bdos_small::Devices;
 use cpu86::Start86;
 use dialogue::Page;
+use emulator_loop::{Conversation, TalkFault, converse};
 use host::Host;
 use std::alloc::Global;
 

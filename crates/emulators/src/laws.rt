@@ -6,7 +6,7 @@ ghost use Rattle.i86.specs.Decoder.{decoded};
 ghost use Rattle.asm80_program_types.specs.Program.{Program};
 ghost use Rattle.asm86_line_types.specs.Image.{Image};
 ghost use Rattle.cpu86_def.specs.Start.{Start};
-ghost use Rattle.emulators.specs.Talk.{HasOneRun};
+ghost use Rattle.emulator_loop.specs.Talk.{HasOneRun};
 ghost use Rattle.emulators.specs.Courses.{course80, course86};
 
 /// A law: over any devices, each program of the 8080 and each image of the 8086 has one run.

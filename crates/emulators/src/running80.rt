@@ -1,10 +1,10 @@
 // The tagged 8080 with its program.
 ghost use Rattle.std.specs.Prelude.{◌≡◌, IfOk};
 
-use crate::{Emulator, Turn, Why};
 use asm80_program_types::Program80;
 use cpu80_tagged::{Cpu80, Step80};
 use dialogue::{Event, Page, Reply};
+use emulator_loop::{Emulator, Turn, Why};
 use std::alloc::{AllocError, Global};
 
 /// The tagged 8080 with its program.
@@ -40,7 +40,7 @@ impl<'a> Emulator for Running80<'a> {
     ghost use Rattle.cpu80_tagged.specs.State.{tagged_state};
     ghost use Rattle.cpu80_tagged.specs.Machine.{IsMachineOf};
     ghost use Rattle.emulators.specs.Courses.{why80, course80_from, Waits80};
-    ghost use Rattle.emulators.proofs.OneRun.{one_run};
+    ghost use Rattle.emulator_loop.proofs.OneRun.{one_run};
 
     ghost runs = { λ m. IsMachineOf m.program.now m.cpu };
 

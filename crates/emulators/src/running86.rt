@@ -2,10 +2,10 @@
 ghost use Rattle.std.specs.Prelude.{◌≡◌, ◌∷◌, [], length, IfOk};
 
 use crate::laws::decoded_is_only_reader;
-use crate::{Emulator, Turn, Why};
 use asm86::Image86;
 use cpu86::{Cpu86, Start86, Step86};
 use dialogue::{Event, Page, Reply};
+use emulator_loop::{Emulator, Turn, Why};
 use std::alloc::{AllocError, Global};
 
 /// The 8086 with the choice that it takes at every step.
@@ -52,7 +52,7 @@ impl Emulator for Running86 {
     ghost use Rattle.i86.specs.Decoder.{decoded};
     ghost use Rattle.cpu86_def.specs.Step.{machine86};
     ghost use Rattle.emulators.specs.Courses.{why86, course86_from, Runs86, Waits86};
-    ghost use Rattle.emulators.proofs.OneRun.{one_run};
+    ghost use Rattle.emulator_loop.proofs.OneRun.{one_run};
 
     ghost runs = { λ m. Runs86 m.cpu };
 

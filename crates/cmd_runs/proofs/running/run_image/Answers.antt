@@ -3,7 +3,7 @@ use Rattle.std.proofs.lemmas.Result.{IfOk-weaker, IfErr-weaker}
 use Rattle.i86.specs.declared.Instr86.{Instr86}
 use Rattle.i86.specs.Code.{ReadsCode}
 use Rattle.dialogue.specs.declared.request.Reply.{Reply}
-use Rattle.emulators.specs.Talk.{SeenRun, SaysRun, IsCutOff}
+use Rattle.emulator_loop.specs.Talk.{SeenRun, SaysRun, IsCutOff}
 use Rattle.emulators.specs.Courses.{course86}
 use Rattle.emulators.specs.Starts.{start_by}
 use Rattle.cmd_runs.specs.Settings.{IsCourse86, setting86}

@@ -1,7 +1,7 @@
 use Rattle.std.proofs.Common.{ℕ, List, sym, subst}
 use Rattle.std.proofs.lemmas.Result.{IfOk-weaker, IfErr-weaker}
 use Rattle.dialogue.specs.declared.request.Reply.{Reply}
-use Rattle.emulators.specs.Talk.{SeenRun, SaysRun, IsCutOff}
+use Rattle.emulator_loop.specs.Talk.{SeenRun, SaysRun, IsCutOff}
 use Rattle.emulators.specs.Courses.{course80}
 use Rattle.cmd_runs.specs.Settings.{IsCourse80, setting80}
 use Rattle.cmd_runs.proofs.Settings.{run_came, run_cut}

@@ -5,12 +5,12 @@ use Rattle.cpu80_tagged_def.specs.Start.{start80}
 use Rattle.cpu80_tagged_def.specs.Step.{machine80}
 use Rattle.cpu80_tagged.specs.State.{tagged_state}
 use Rattle.host.proofs.HostLemmas.{SameFaults-refl}
-use Rattle.emulators.specs.declared.fault.TalkFault.TheVariants.{Memory}
-use Rattle.emulators.specs.Talk.{SeenRun, SaysRun, IsCutOff}
-use Rattle.emulators.specs.Turns.{no_past}
-use Rattle.emulators.proofs.OneRun.{one_run}
-use Rattle.emulators.proofs.Exact.{says_none}
-use Rattle.emulators.proofs.Said.{on_fault}
+use Rattle.emulator_loop.specs.declared.fault.TalkFault.TheVariants.{Memory}
+use Rattle.emulator_loop.specs.Talk.{SeenRun, SaysRun, IsCutOff}
+use Rattle.emulator_loop.specs.Turns.{no_past}
+use Rattle.emulator_loop.proofs.OneRun.{one_run}
+use Rattle.emulator_loop.proofs.Exact.{says_none}
+use Rattle.emulator_loop.proofs.Said.{on_fault}
 use Rattle.emulators.specs.Courses.{why80, course80, course80_from}
 use Rattle.emulators.proofs.commands.run_80.Goals as goal
 

@@ -7,12 +7,12 @@ use Rattle.cpu86_def.specs.Start.{start86}
 use Rattle.cpu86_def.specs.Step.{machine86}
 use Rattle.cpu86.specs.Standing.{standing, code_kept}
 use Rattle.host.proofs.HostLemmas.{SameFaults-refl}
-use Rattle.emulators.specs.declared.fault.TalkFault.TheVariants.{Memory}
-use Rattle.emulators.specs.Talk.{SeenRun, SaysRun, IsCutOff}
-use Rattle.emulators.specs.Turns.{no_past}
-use Rattle.emulators.proofs.OneRun.{one_run}
-use Rattle.emulators.proofs.Exact.{says_none}
-use Rattle.emulators.proofs.Said.{on_fault}
+use Rattle.emulator_loop.specs.declared.fault.TalkFault.TheVariants.{Memory}
+use Rattle.emulator_loop.specs.Talk.{SeenRun, SaysRun, IsCutOff}
+use Rattle.emulator_loop.specs.Turns.{no_past}
+use Rattle.emulator_loop.proofs.OneRun.{one_run}
+use Rattle.emulator_loop.proofs.Exact.{says_none}
+use Rattle.emulator_loop.proofs.Said.{on_fault}
 use Rattle.emulators.specs.Courses.{why86, course86, course86_from}
 use Rattle.emulators.specs.Starts.{start_by}
 use Rattle.emulators.proofs.Machine86.{course86_is}

@@ -3,7 +3,7 @@ use Rattle.cpu80_tagged_def.specs.Start.{start80}
 use Rattle.cpu80_tagged_def.specs.Step.{machine80}
 use Rattle.cpu86_def.specs.Start.{start86}
 use Rattle.cpu86_def.specs.Step.{machine86}
-use Rattle.emulators.proofs.OneRun.{one_run}
+use Rattle.emulator_loop.proofs.OneRun.{one_run}
 use Rattle.emulators.specs.Courses.{why80, why86}
 use Rattle.emulators.proofs.laws.runs_are_one.Goals as goal
 

@@ -8,9 +8,9 @@ use Rattle.cpu86_def.specs.State.{State86}
 use Rattle.cpu86_def.specs.Call.{NoInstruction, StackSegment, OddCall, replied86}
 use Rattle.cpu86_def.specs.Step.{step86}
 use Rattle.cpu86.specs.Standing.{standing, code_kept}
-use Rattle.emulators.specs.declared.emulator.Why.TheVariants.{OddCall as HasOdd}
-use Rattle.emulators.specs.declared.emulator.Turn.TheVariants.{Ran, Asks as HasAsked, Stopped}
-use Rattle.emulators.specs.Turns.{IsTurn}
+use Rattle.emulator_loop.specs.declared.emulator.Why.TheVariants.{OddCall as HasOdd}
+use Rattle.emulator_loop.specs.declared.emulator.Turn.TheVariants.{Ran, Asks as HasAsked, Stopped}
+use Rattle.emulator_loop.specs.Turns.{IsTurn}
 use Rattle.emulators.specs.Courses.{course86_from}
 use Rattle.emulators.proofs.Machine86.{ran86, ended86, stopped86, asked86}
 use Rattle.emulators.proofs.running86.Running86Emulator.turn.Goals as goal

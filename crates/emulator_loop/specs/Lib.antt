@@ -1,0 +1,4 @@
+pub mod Lines
+pub mod Talk
+pub mod Turns
+pub mod Advance
