@@ -123,4 +123,6 @@ echo '|---|---|---|---|'
 loop_source >run.asm
 "$program" translate run.asm run.a86 >told
 run_row 'run80' run80 run.asm
+"$program" hex80 run.asm run.hex >said
+run_row 'runhex of its bytes' runhex run.hex
 run_row 'run86 of its lean text' run86 run.a86

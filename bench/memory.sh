@@ -82,7 +82,7 @@ printf '\tORG\t100H\n\tIN\t10H\n\tOUT\t11H\n\tJMP\t0\n' >"$room/laid/ports.asm"
 printf '\tORG\t100H\n\tXRA\tA\n\tINX\tH\n\tJZ\t0\n\tRET\n' >"$room/laid/saves.asm"
 printf '\tORG\t100H\n\tFOO\tBAR\n' >"$room/laid/faulty.asm"
 printf 'before' >"$room/laid/out"
-(cd "$room/laid" && "$program" translate letter.asm letter.a86 && "$program" cmd letter.a86 letter.cmd) >"$room/told" || exit 1
+(cd "$room/laid" && "$program" translate letter.asm letter.a86 && "$program" cmd letter.a86 letter.cmd && "$program" hex80 letter.asm letter.hex) >"$room/told" || exit 1
 sed 's/\(MOV.DL,\)041H/\1042H/' "$room/laid/letter.a86" >"$room/laid/other.a86"
 
 try 0 translate letter.asm out --plain
@@ -101,6 +101,9 @@ try 0 sample 1 out
 try 0 cmd letter.a86 out
 try 0 cmdshow letter.cmd
 try 15 cmdshow letter.asm
+try 0 hex80 letter.asm out
+try 0 runhex letter.hex
+try 16 runhex letter.asm
 try 1 translate faulty.asm out
 try 3 translate missing.asm out
 try 2 translate saves.asm out --top 1234

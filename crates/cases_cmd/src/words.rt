@@ -74,6 +74,19 @@ fn command_text(alloc: Global, command: &Command) -> Result<String, AllocError> 
         }
         Command::Cmd(command) => format!(in alloc; "cmd {} {}", command.text, command.output),
         Command::CmdShow(command) => format!(in alloc; "cmdshow {}", command.file),
+        Command::Hex80(command) => {
+            format!(in alloc;
+                "hex80 {} {} top {:x}",
+                command.source, command.output, command.top
+            )
+        }
+        Command::RunHex(command) => {
+            let run = run_text(alloc, &command.run)?;
+            format!(in alloc;
+                "runhex {} top {:x} choice {:x} {run}",
+                command.file, command.top, command.choice
+            )
+        }
     }
 }
 

@@ -9,7 +9,7 @@ use Rattle.std.proofs.lemmas.Option.{none-some, same_Some}
 use Rattle.std.proofs.lemmas.Slice.Eq.{bytes_eq-Decides}
 use Rattle.std.proofs.Math.Seq.{drop-cons}
 use Rattle.cmd_arguments.specs.declared.table.CommandName.{CommandName}
-use Rattle.cmd_arguments.specs.declared.table.CommandName.TheVariants.{Translate, Check, Flags, Run80, Run86, Both, Sample, Cmd, CmdShow}
+use Rattle.cmd_arguments.specs.declared.table.CommandName.TheVariants.{Translate, Check, Flags, Run80, Run86, Both, Sample, Cmd, CmdShow, Hex80, RunHex}
 use Rattle.cmd_arguments.specs.declared.table.OptionName.{OptionName}
 use Rattle.cmd_arguments.specs.declared.table.OptionName.TheVariants.{Top, Choice, Input, Disk, Ports, OutDisk, Tail, Steps, Plain}
 use Rattle.cmd_arguments.specs.Table.{Word, option_word, options_of, flag_words, named_among}
@@ -64,6 +64,8 @@ no_flag Both o p e = refl
 no_flag Sample o p e = refl
 no_flag Cmd o p e = refl
 no_flag CmdShow o p e = refl
+no_flag Hex80 o p e = refl
+no_flag RunHex o p e = refl
 
 -- what begins by the rules is what the form tells
 pub form_of_rule : {c : CommandName} {w : Word} {ws rest : List Word} {item : Item} → BeginsWithItem c (w ∷ ws) item rest → first_item c w ws ≡ Some (item, rest)
@@ -134,3 +136,5 @@ no_item_at_mark Both ws = refl
 no_item_at_mark Sample ws = refl
 no_item_at_mark Cmd ws = refl
 no_item_at_mark CmdShow ws = refl
+no_item_at_mark Hex80 ws = refl
+no_item_at_mark RunHex ws = refl

@@ -8,7 +8,7 @@ use Rattle.clap.specs.Walk.{has_row, with_default, with_values}
 use Rattle.clap.specs.declared.builder.value_parser.Reading.TheVariants.{AsWritten}
 use Rattle.clap.specs.declared.parser.matches.ValueSource.TheVariants.{DefaultValue}
 use Rattle.cmd_arguments.specs.declared.table.CommandName.{CommandName}
-use Rattle.cmd_arguments.specs.declared.table.CommandName.TheVariants.{Translate, Check, Flags, Run80, Run86, Both, Sample, Cmd, CmdShow}
+use Rattle.cmd_arguments.specs.declared.table.CommandName.TheVariants.{Translate, Check, Flags, Run80, Run86, Both, Sample, Cmd, CmdShow, Hex80, RunHex}
 use Rattle.cmd_arguments.specs.declared.table.OptionName.{OptionName}
 use Rattle.cmd_arguments.specs.declared.table.OptionName.TheVariants.{Top, Choice, Input, Disk, Ports, OutDisk, Tail, Steps, Plain}
 use Rattle.cmd_arguments.specs.Table.{Word, long_name, option_word, options_of, flag_words}
@@ -59,6 +59,8 @@ others_kept Both id rows apart = refl
 others_kept Sample id rows apart = refl
 others_kept Cmd id rows apart = refl
 others_kept CmdShow id rows apart = refl
+others_kept Hex80 id rows apart = refl
+others_kept RunHex id rows apart = refl
 
 -- a flag that was given keeps its text, and one that was not has none or says so
 flag_kept : (c : CommandName) (rows : List Row) → has_row (codes "plain") rows ≡ true → first_of (codes "plain") (with_flags c rows) ≡ first_of (codes "plain") rows
@@ -71,6 +73,8 @@ flag_kept Both rows has = refl
 flag_kept Sample rows has = refl
 flag_kept Cmd rows has = refl
 flag_kept CmdShow rows has = refl
+flag_kept Hex80 rows has = refl
+flag_kept RunHex rows has = refl
 
 no_flag_set : (c : CommandName) (rows : List Row) (set : Bool) → has_row (codes "plain") rows ≡ false → first_of (codes "plain") rows ≡ None → IsFlag (first_of (codes "plain") (with_flags c rows)) set → set ≡ false
 no_flag_set Translate rows set has first told =
@@ -85,6 +89,8 @@ no_flag_set Both rows set has first told = subst (λ o. IsFlag o set) first told
 no_flag_set Sample rows set has first told = subst (λ o. IsFlag o set) first told
 no_flag_set Cmd rows set has first told = subst (λ o. IsFlag o set) first told
 no_flag_set CmdShow rows set has first told = subst (λ o. IsFlag o set) first told
+no_flag_set Hex80 rows set has first told = subst (λ o. IsFlag o set) first told
+no_flag_set RunHex rows set has first told = subst (λ o. IsFlag o set) first told
 
 -- ---- the flag
 

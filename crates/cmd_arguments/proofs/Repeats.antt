@@ -7,7 +7,7 @@ use Rattle.std.proofs.lemmas.Bool.{false≢true, or_right}
 use Rattle.clap.specs.Words.{Row}
 use Rattle.clap.specs.Walk.{has_row}
 use Rattle.cmd_arguments.specs.declared.table.CommandName.{CommandName}
-use Rattle.cmd_arguments.specs.declared.table.CommandName.TheVariants.{Translate, Check, Flags, Run80, Run86, Both, Sample, Cmd, CmdShow}
+use Rattle.cmd_arguments.specs.declared.table.CommandName.TheVariants.{Translate, Check, Flags, Run80, Run86, Both, Sample, Cmd, CmdShow, Hex80, RunHex}
 use Rattle.cmd_arguments.specs.declared.table.OptionName.{OptionName}
 use Rattle.cmd_arguments.specs.declared.table.OptionName.TheVariants.{Top, Choice, Input, Disk, Ports, OutDisk, Tail, Steps, Plain}
 use Rattle.cmd_arguments.specs.Table.{Word, long_name, option_word, named_among, options_of, flag_words}
@@ -162,6 +162,24 @@ repeated CmdShow OutDisk g takes e = absurd (false≢true takes)
 repeated CmdShow Tail g takes e = absurd (false≢true takes)
 repeated CmdShow Steps g takes e = absurd (false≢true takes)
 repeated CmdShow Plain g takes e = absurd (false≢true takes)
+repeated Hex80 Top g takes e = no_map _ _ (no_end (two_files g.names) _ (λ x0. stops (top_of g) _ (no_top g e)))
+repeated Hex80 Choice g takes e = absurd (false≢true takes)
+repeated Hex80 Input g takes e = absurd (false≢true takes)
+repeated Hex80 Disk g takes e = absurd (false≢true takes)
+repeated Hex80 Ports g takes e = absurd (false≢true takes)
+repeated Hex80 OutDisk g takes e = absurd (false≢true takes)
+repeated Hex80 Tail g takes e = absurd (false≢true takes)
+repeated Hex80 Steps g takes e = absurd (false≢true takes)
+repeated Hex80 Plain g takes e = absurd (false≢true takes)
+repeated RunHex Top g takes e = no_map _ _ (no_end (one_file g.names) _ (λ x0. stops (top_of g) _ (no_top g e)))
+repeated RunHex Choice g takes e = no_map _ _ (no_end (one_file g.names) _ (λ x1. no_end (top_of g) _ (λ x0. stops (choice_of g) _ (no_choice g e))))
+repeated RunHex Input g takes e = no_map _ _ (no_end (one_file g.names) _ (λ x2. no_end (top_of g) _ (λ x1. no_end (choice_of g) _ (λ x0. stops (run_options_of g) _ (no_run_input g e)))))
+repeated RunHex Disk g takes e = no_map _ _ (no_end (one_file g.names) _ (λ x2. no_end (top_of g) _ (λ x1. no_end (choice_of g) _ (λ x0. stops (run_options_of g) _ (no_run_disk g e)))))
+repeated RunHex Ports g takes e = no_map _ _ (no_end (one_file g.names) _ (λ x2. no_end (top_of g) _ (λ x1. no_end (choice_of g) _ (λ x0. stops (run_options_of g) _ (no_run_ports g e)))))
+repeated RunHex OutDisk g takes e = no_map _ _ (no_end (one_file g.names) _ (λ x2. no_end (top_of g) _ (λ x1. no_end (choice_of g) _ (λ x0. stops (run_options_of g) _ (no_run_out_disk g e)))))
+repeated RunHex Tail g takes e = no_map _ _ (no_end (one_file g.names) _ (λ x2. no_end (top_of g) _ (λ x1. no_end (choice_of g) _ (λ x0. stops (run_options_of g) _ (no_run_tail g e)))))
+repeated RunHex Steps g takes e = no_map _ _ (no_end (one_file g.names) _ (λ x2. no_end (top_of g) _ (λ x1. no_end (choice_of g) _ (λ x0. stops (run_options_of g) _ (no_run_steps g e)))))
+repeated RunHex Plain g takes e = absurd (false≢true takes)
 
 of_gathered : (o : OptionName) (items : List Item) → of_option o (gathered items) ≡ occurrence (texts_of o items)
 of_gathered Top items = refl

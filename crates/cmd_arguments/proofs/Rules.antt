@@ -15,7 +15,7 @@ use Rattle.clap.specs.Faults.{is_simple_and_free}
 use Rattle.clap.proofs.WalkLemmas.{find-map}
 use Rattle.clap.specs.declared.builder.value_parser.ValueParser.TheVariants as vp
 use Rattle.cmd_arguments.specs.declared.table.CommandName.{CommandName}
-use Rattle.cmd_arguments.specs.declared.table.CommandName.TheVariants.{Translate, Check, Flags, Run80, Run86, Both, Sample, Cmd, CmdShow}
+use Rattle.cmd_arguments.specs.declared.table.CommandName.TheVariants.{Translate, Check, Flags, Run80, Run86, Both, Sample, Cmd, CmdShow, Hex80, RunHex}
 use Rattle.cmd_arguments.specs.declared.table.OptionName.{OptionName}
 use Rattle.cmd_arguments.specs.declared.table.OptionName.TheVariants.{Top, Choice, Input, Disk, Ports, OutDisk, Tail, Steps, Plain}
 use Rattle.cmd_arguments.specs.Table.{Word, command_word, long_name, option_word, options_of, flag_words, named_among}
@@ -51,6 +51,8 @@ built_is Both = refl
 built_is Sample = refl
 built_is Cmd = refl
 built_is CmdShow = refl
+built_is Hex80 = refl
+built_is RunHex = refl
 
 pub asked_simple : (c : CommandName) → is_simple (clap_command c) ≡ true
 asked_simple Translate = refl
@@ -62,6 +64,8 @@ asked_simple Both = refl
 asked_simple Sample = refl
 asked_simple Cmd = refl
 asked_simple CmdShow = refl
+asked_simple Hex80 = refl
+asked_simple RunHex = refl
 
 pub asked_free : (c : CommandName) → is_simple_and_free (clap_command c) ≡ true
 asked_free Translate = refl
@@ -73,6 +77,8 @@ asked_free Both = refl
 asked_free Sample = refl
 asked_free Cmd = refl
 asked_free CmdShow = refl
+asked_free Hex80 = refl
+asked_free RunHex = refl
 
 -- an option's word is two hyphens and its name
 pub word_is : (o : OptionName) → option_word o ≡ 0x2D ∷ (0x2D ∷ long_name o)
@@ -191,6 +197,8 @@ options_plain c w o e = plain_in c o (sym (ap (named_among (options_of c)) (name
     plain_in Sample Plain e = absurd (none-some _ e)
     plain_in Cmd Plain e = absurd (none-some _ e)
     plain_in CmdShow Plain e = absurd (none-some _ e)
+    plain_in Hex80 Plain e = absurd (none-some _ e)
+    plain_in RunHex Plain e = absurd (none-some _ e)
 
 pub flags_flag : (c : CommandName) (w : Word) (f : OptionName) → named_among (flag_words c) w ≡ Some f → is_flag f ≡ true
 flags_flag Translate w f e = only _ e
@@ -206,3 +214,5 @@ flags_flag Both w f e = absurd (none-some _ e)
 flags_flag Sample w f e = absurd (none-some _ e)
 flags_flag Cmd w f e = absurd (none-some _ e)
 flags_flag CmdShow w f e = absurd (none-some _ e)
+flags_flag Hex80 w f e = absurd (none-some _ e)
+flags_flag RunHex w f e = absurd (none-some _ e)

@@ -11,8 +11,10 @@ use Rattle.cmd_arguments.specs.declared.command.Both.{Both as ReadBoth}
 use Rattle.cmd_arguments.specs.declared.command.Sample.{Sample as ReadSample}
 use Rattle.cmd_arguments.specs.declared.command.Cmd.{Cmd as ReadCmd}
 use Rattle.cmd_arguments.specs.declared.command.CmdShow.{CmdShow as ReadCmdShow}
+use Rattle.cmd_arguments.specs.declared.command.Hex80.{Hex80 as ReadHex80}
+use Rattle.cmd_arguments.specs.declared.command.RunHex.{RunHex as ReadRunHex}
 use Rattle.cmd_arguments.specs.declared.command.RunOptions.{RunOptions as ReadRunOptions}
-use Rattle.cmd_arguments.specs.Words.{Translate, Check, Flags, RunOptions, Run80, Run86, Both, Sample, Cmd, CmdShow, Command, Translates, Checks, ListsFlags, Runs80, Runs86, RunsBoth, MakesSample, MakesCmd, ShowsCmd}
+use Rattle.cmd_arguments.specs.Words.{Translate, Check, Flags, RunOptions, Run80, Run86, Both, Sample, Cmd, CmdShow, Hex80, RunHex, Command, Translates, Checks, ListsFlags, Runs80, Runs86, RunsBoth, MakesSample, MakesCmd, ShowsCmd, WritesHex, RunsHex}
 
 abbrev pub translate_read : ReadTranslate → Translate
 translate_read c = record { input = c.input.now; output = c.output.now; plain = c.plain; top = c.top }
@@ -44,6 +46,12 @@ cmd_read c = record { text = c.text.now; output = c.output.now }
 abbrev pub cmd_show_read : ReadCmdShow → CmdShow
 cmd_show_read c = record { file = c.file.now }
 
+abbrev pub hex80_read : ReadHex80 → Hex80
+hex80_read c = record { source = c.source.now; output = c.output.now; top = c.top }
+
+abbrev pub run_hex_read : ReadRunHex → RunHex
+run_hex_read c = record { file = c.file.now; top = c.top; choice = c.choice; run = run_options_read c.run }
+
 abbrev pub command_read : ReadCommand → Command
 command_read (read.Translate c) = Translates (translate_read c)
 command_read (read.Check c) = Checks (check_read c)
@@ -54,3 +62,5 @@ command_read (read.Both c) = RunsBoth (both_read c)
 command_read (read.Sample c) = MakesSample (sample_read c)
 command_read (read.Cmd c) = MakesCmd (cmd_read c)
 command_read (read.CmdShow c) = ShowsCmd (cmd_show_read c)
+command_read (read.Hex80 c) = WritesHex (hex80_read c)
+command_read (read.RunHex c) = RunsHex (run_hex_read c)

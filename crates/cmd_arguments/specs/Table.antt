@@ -2,7 +2,7 @@
 use Rattle.std.specs.Prelude.{ℕ, List, [], ◌∷◌, codes, Option, find}
 use Rattle.std.specs.Str.{bytes_eq}
 use Rattle.cmd_arguments.specs.declared.table.CommandName.{CommandName}
-use Rattle.cmd_arguments.specs.declared.table.CommandName.TheVariants.{Translate, Check, Flags, Run80, Run86, Both, Sample, Cmd, CmdShow}
+use Rattle.cmd_arguments.specs.declared.table.CommandName.TheVariants.{Translate, Check, Flags, Run80, Run86, Both, Sample, Cmd, CmdShow, Hex80, RunHex}
 use Rattle.cmd_arguments.specs.declared.table.OptionName.{OptionName}
 use Rattle.cmd_arguments.specs.declared.table.OptionName.TheVariants.{Top, Choice, Input, Disk, Ports, OutDisk, Tail, Steps, Plain}
 
@@ -11,7 +11,7 @@ abbrev pub Word : Type 0
 Word = List ℕ
 
 abbrev pub commands : List CommandName
-commands = Translate ∷ (Check ∷ (Flags ∷ (Run80 ∷ (Run86 ∷ (Both ∷ (Sample ∷ (Cmd ∷ (CmdShow ∷ []))))))))
+commands = Translate ∷ (Check ∷ (Flags ∷ (Run80 ∷ (Run86 ∷ (Both ∷ (Sample ∷ (Cmd ∷ (CmdShow ∷ (Hex80 ∷ (RunHex ∷ []))))))))))
 
 abbrev pub command_word : CommandName → Word
 command_word Translate = codes "translate"
@@ -23,6 +23,8 @@ command_word Both = codes "both"
 command_word Sample = codes "sample"
 command_word Cmd = codes "cmd"
 command_word CmdShow = codes "cmdshow"
+command_word Hex80 = codes "hex80"
+command_word RunHex = codes "runhex"
 
 -- an option's name, which stands behind two hyphens in its word
 abbrev pub long_name : OptionName → Word
@@ -58,6 +60,8 @@ options_of Both = Top ∷ (Choice ∷ (Input ∷ (Disk ∷ (Ports ∷ (OutDisk �
 options_of Sample = []
 options_of Cmd = []
 options_of CmdShow = []
+options_of Hex80 = Top ∷ []
+options_of RunHex = Top ∷ (Choice ∷ (Input ∷ (Disk ∷ (Ports ∷ (OutDisk ∷ (Tail ∷ (Steps ∷ [])))))))
 
 -- the options without a value, its flags
 abbrev pub flag_words : CommandName → List OptionName
@@ -70,6 +74,8 @@ flag_words Both = []
 flag_words Sample = []
 flag_words Cmd = []
 flag_words CmdShow = []
+flag_words Hex80 = []
+flag_words RunHex = []
 
 -- the command of a word, which is exactly its word
 abbrev pub command_named : Word → Option CommandName

@@ -68,6 +68,19 @@ pub record Cmd : Type 0 where
 pub record CmdShow : Type 0 where
   pub file : Word
 
+-- `hex80 IN OUT [--top H]`
+pub record Hex80 : Type 0 where
+  pub source : Word
+  pub output : Word
+  pub top : ℕ
+
+-- `runhex FILE [--top H] [--choice H]` and run options
+pub record RunHex : Type 0 where
+  pub file : Word
+  pub top : ℕ
+  pub choice : ℕ
+  pub run : RunOptions
+
 pub data Command : Type 0 where
   Translates : (command : Translate) → Command
   Checks : (command : Check) → Command
@@ -78,6 +91,8 @@ pub data Command : Type 0 where
   MakesSample : (command : Sample) → Command
   MakesCmd : (command : Cmd) → Command
   ShowsCmd : (command : CmdShow) → Command
+  WritesHex : (command : Hex80) → Command
+  RunsHex : (command : RunHex) → Command
 
 infixl 10 ◌>>=◌
 abbrev pub ◌>>=◌ : {A B : Type 0} → Option A → (A → Option B) → Option B
@@ -205,6 +220,20 @@ cmd_show_of g = do
   file ← one_file g.names
   Some (record { file = file })
 
+abbrev pub hex80_of : Gathered → Option Hex80
+hex80_of g = do
+  files ← two_files g.names
+  top ← top_of g
+  Some (record { source = files.0; output = files.1; top = top })
+
+abbrev pub run_hex_of : Gathered → Option RunHex
+run_hex_of g = do
+  file ← one_file g.names
+  top ← top_of g
+  choice ← choice_of g
+  run ← run_options_of g
+  Some (record { file = file; top = top; choice = choice; run = run })
+
 -- the command that its name and what stands behind it make
 abbrev pub command_of : CommandName → Gathered → Option Command
 command_of named.Translate g = option_map Translates (translate_of g)
@@ -216,6 +245,8 @@ command_of named.Both g = option_map RunsBoth (both_of g)
 command_of named.Sample g = option_map MakesSample (sample_of g)
 command_of named.Cmd g = option_map MakesCmd (cmd_of g)
 command_of named.CmdShow g = option_map ShowsCmd (cmd_show_of g)
+command_of named.Hex80 g = option_map WritesHex (hex80_of g)
+command_of named.RunHex g = option_map RunsHex (run_hex_of g)
 
 -- the words are this command: the first is its name, and the others give its values
 pub record IsCommand (words : List Word) (c : Command) : Type 0 where

@@ -3,8 +3,8 @@
 ghost use Rattle.std.specs.Prelude.{◌≡◌, ℕ, List, Some, map, option_copied, option_map, IfOk, MatchOption};
 ghost use Rattle.std.specs.String.{string_bytes};
 ghost use Rattle.cmd_arguments.specs.Read.{count_and_file_of, files_of, input_of, names_read, option_read};
-ghost use Rattle.cmd_arguments.specs.ReadCommands.{both_read, check_read, cmd_read, cmd_show_read, command_read, flags_read, run80_read, run86_read, run_options_read, sample_read, translate_read};
-ghost use Rattle.cmd_arguments.specs.Words.{both_of, check_of, cmd_of, cmd_show_of, choice_of, command_of, count_and_file, flags_command_of, flag_of, input_file, one_file, page_of, run80_of, run86_of, run_options_of, sample_of, steps_of, text_or, top_of, translate_of, two_files, Command as CommandValue, IsCommand, IsNoCommand};
+ghost use Rattle.cmd_arguments.specs.ReadCommands.{both_read, check_read, cmd_read, cmd_show_read, command_read, flags_read, hex80_read, run80_read, run86_read, run_hex_read, run_options_read, sample_read, translate_read};
+ghost use Rattle.cmd_arguments.specs.Words.{both_of, check_of, cmd_of, cmd_show_of, choice_of, command_of, count_and_file, flags_command_of, flag_of, hex80_of, input_file, one_file, page_of, run80_of, run86_of, run_hex_of, run_options_of, sample_of, steps_of, text_or, top_of, translate_of, two_files, Command as CommandValue, IsCommand, IsNoCommand};
 
 use crate::given::{Given, Names};
 use crate::items::first_word;
@@ -25,6 +25,8 @@ pub enum Command<'a> {
     Sample(Sample<'a>),
     Cmd(Cmd<'a>),
     CmdShow(CmdShow<'a>),
+    Hex80(Hex80<'a>),
+    RunHex(RunHex<'a>),
 }
 
 /// `translate IN OUT [--plain] [--top H]`: a source's file, the file for its text, whether it is to be the plain one, and the top of
@@ -96,6 +98,23 @@ pub struct Cmd<'a> {
 #[derive(Clone, Copy)]
 pub struct CmdShow<'a> {
     pub file: &'a str,
+}
+
+/// `hex80 IN OUT [--top H]`: a source's file, the file for its HEX file, and the top of the program area.
+#[derive(Clone, Copy)]
+pub struct Hex80<'a> {
+    pub source: &'a str,
+    pub output: &'a str,
+    pub top: u16,
+}
+
+/// `runhex FILE [--top H] [--choice H]` and run options: a HEX file, the top of the program area, and what the manuals leave undefined.
+#[derive(Drop)]
+pub struct RunHex<'a> {
+    pub file: &'a str,
+    pub top: u16,
+    pub choice: u128,
+    pub run: RunOptions<'a>,
 }
 
 /// `[--input F] [--disk F] [--ports F] [--out-disk F] [--tail T] [--steps N]`: the files of the console's input, of the disk and of
@@ -295,6 +314,33 @@ impl<'a> Given<'a> {
         Some(CmdShow { file })
     }
 
+    fn hex80(&self) -> Option<Hex80<'a>>
+        ensures { option_map hex80_read result ≡ hex80_of self.now }
+    {
+        let (source, output) = self.names.two_files()?;
+        let top = self.top()?;
+        Some(Hex80 {
+            source,
+            output,
+            top,
+        })
+    }
+
+    fn run_hex(&self) -> Option<RunHex<'a>>
+        ensures { option_map run_hex_read result ≡ run_hex_of self.now }
+    {
+        let file = self.names.one_file()?;
+        let top = self.top()?;
+        let choice = self.choice()?;
+        let run = self.run_options()?;
+        Some(RunHex {
+            file,
+            top,
+            choice,
+            run,
+        })
+    }
+
     // The command of a name.
     fn command(&self, name: CommandName) -> Option<Command<'a>>
         ensures { option_map command_read result ≡ command_of name self.now }
@@ -309,6 +355,8 @@ impl<'a> Given<'a> {
             CommandName::Sample => Some(Command::Sample(self.sample()?)),
             CommandName::Cmd => Some(Command::Cmd(self.cmd()?)),
             CommandName::CmdShow => Some(Command::CmdShow(self.cmd_show()?)),
+            CommandName::Hex80 => Some(Command::Hex80(self.hex80()?)),
+            CommandName::RunHex => Some(Command::RunHex(self.run_hex()?)),
         }
     }
 }

@@ -3,7 +3,7 @@
 // Proved: `read_words` gives the command that the words are, with its values (`IsCommand`), None exactly where they are no command
 // (`IsNoCommand`), and otherwise only want of memory: names, options and flags in any order, each option once at most, values in their
 // ranges. Words of one hyphen and something else are refused before `clap` reads them. Law `words_are_one_command`: words are one command
-// at most. Seven commands are read: `translate` (plain or not), `check`, `flags`, `run80`, `run86`, `both` and `sample`.
+// at most. The table (`Table`) has the commands.
 #![tactic(auto)]
 
 mod asking;
@@ -14,6 +14,6 @@ mod table;
 mod values;
 
 pub use command::{
-    Both, Check, Cmd, CmdShow, Command, Flags, Run80, Run86, RunOptions, Sample, Translate,
-    read_words, words_are_one_command,
+    Both, Check, Cmd, CmdShow, Command, Flags, Hex80, Run80, Run86, RunHex, RunOptions, Sample,
+    Translate, read_words, words_are_one_command,
 };

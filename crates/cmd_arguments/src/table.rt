@@ -15,6 +15,8 @@ pub enum CommandName {
     Sample,
     Cmd,
     CmdShow,
+    Hex80,
+    RunHex,
 }
 
 /// An option's name, or a flag's.
@@ -31,7 +33,7 @@ pub enum OptionName {
     Plain,
 }
 
-const COMMANDS: [CommandName; 9] = [
+const COMMANDS: [CommandName; 11] = [
     CommandName::Translate,
     CommandName::Check,
     CommandName::Flags,
@@ -41,6 +43,8 @@ const COMMANDS: [CommandName; 9] = [
     CommandName::Sample,
     CommandName::Cmd,
     CommandName::CmdShow,
+    CommandName::Hex80,
+    CommandName::RunHex,
 ];
 
 impl CommandName {
@@ -68,6 +72,8 @@ impl CommandName {
             CommandName::Sample => "sample",
             CommandName::Cmd => "cmd",
             CommandName::CmdShow => "cmdshow",
+            CommandName::Hex80 => "hex80",
+            CommandName::RunHex => "runhex",
         }
     }
 
@@ -78,10 +84,13 @@ impl CommandName {
         use OptionName::*;
 
         match self {
-            CommandName::Translate | CommandName::Check | CommandName::Flags => &[Top],
+            CommandName::Translate | CommandName::Check | CommandName::Flags | CommandName::Hex80 =>
+                &[Top],
             CommandName::Run80 => &[Top, Input, Disk, Ports, OutDisk, Tail, Steps],
             CommandName::Run86 => &[Choice, Input, Disk, Ports, OutDisk, Tail, Steps],
-            CommandName::Both => &[Top, Choice, Input, Disk, Ports, OutDisk, Tail, Steps],
+            CommandName::Both | CommandName::RunHex => &[
+                Top, Choice, Input, Disk, Ports, OutDisk, Tail, Steps,
+            ],
             CommandName::Sample | CommandName::Cmd | CommandName::CmdShow => &[],
         }
     }
@@ -99,7 +108,9 @@ impl CommandName {
             | CommandName::Both
             | CommandName::Sample
             | CommandName::Cmd
-            | CommandName::CmdShow => &[],
+            | CommandName::CmdShow
+            | CommandName::Hex80
+            | CommandName::RunHex => &[],
         }
     }
 }

@@ -1,7 +1,7 @@
 // The lines of status 0.
 ghost use Rattle.std.specs.Prelude.{◌≡◌, IfOk};
 ghost use Rattle.std.specs.String.{string_bytes};
-ghost use Rattle.cmd_common.specs.Lines.{translated_line, shown_line, saves_line, command_file_line, groups_line, ended_line, both_line};
+ghost use Rattle.cmd_common.specs.Lines.{translated_line, shown_line, saves_line, command_file_line, groups_line, hex_line, ended_line, both_line};
 
 use crate::stop::count_line;
 use std::alloc::{AllocError, Global};
@@ -46,6 +46,13 @@ pub fn groups_line(alloc: Global, code_size: usize, data_size: usize) -> Result<
     ensures { IfOk result (λ line. string_bytes line ≡ groups_line code_size data_size) }
 {
     format!(in alloc; "code {code_size} bytes, data {data_size} bytes\n")
+}
+
+/// The line of a HEX file that was written: how many cells it has.
+pub fn hex_line(alloc: Global, cells: usize) -> Result<String, AllocError>
+    ensures { IfOk result (λ line. string_bytes line ≡ hex_line cells) }
+{
+    format!(in alloc; "hex: {cells} bytes\n")
 }
 
 /// The line of a run that ended: how many instructions ran.

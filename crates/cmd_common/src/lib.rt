@@ -25,7 +25,8 @@ mod text;
 mod writing;
 
 pub use done::{
-    both_line, command_file_line, ended_line, groups_line, saves_line, shown_line, translated_line,
+    both_line, command_file_line, ended_line, groups_line, hex_line, saves_line, shown_line,
+    translated_line,
 };
 pub use files::{SOURCE_LIMIT, read_input, read_named};
 pub use say::{say_done, say_made, say_report, say_stop, words_refused};

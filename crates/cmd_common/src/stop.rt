@@ -52,6 +52,8 @@ pub enum Stop<'a> {
     FileTooLong(&'a str),
     /// The file is no command file: the byte at this place, counted from 0, cannot go on.
     BadCommandFile(u32),
+    /// The file is no HEX file: this line is the first that fits nowhere, or the number of lines plus 1 where no end line comes.
+    BadHex(u32),
 }
 
 impl<'a> From<AllocError> for Stop<'a> {
@@ -84,6 +86,7 @@ impl<'a> Stop<'a> {
             Stop::CodeTooLarge(_) => 13,
             Stop::FileTooLong(_) => 14,
             Stop::BadCommandFile(_) => 15,
+            Stop::BadHex(_) => 16,
         }
     }
 
@@ -131,6 +134,7 @@ impl<'a> Stop<'a> {
             Stop::BadCommandFile(place) => {
                 count_line(alloc, "command file refused: byte ", place, "")
             }
+            Stop::BadHex(line) => count_line(alloc, "hex refused: line ", line, ""),
         }
     }
 }

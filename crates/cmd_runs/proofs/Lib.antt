@@ -1,5 +1,5 @@
 pub mod Agreement
-pub mod Running
+pub mod BothMade
 pub mod BothCompleting
 mod TextLoading
 mod Laws86
@@ -14,3 +14,4 @@ pub mod Working
 pub mod OneRun
 pub mod Completing
 pub mod OneOutcome
+mod LawsHex

@@ -13,3 +13,4 @@ pub mod Kinds
 pub mod Works
 pub mod Finishing
 pub mod Outcomes
+pub mod RunsHex

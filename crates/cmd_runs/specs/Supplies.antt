@@ -70,6 +70,6 @@ stop_of_disk Memory = OutOfMemory
 abbrev pub DiskStops : List ℕ → Stop → Type 0
 DiskStops bytes stop = (fault : DiskFault) × IsDiskFaultOf bytes fault × (stop ≡ stop_of_disk fault)
 
--- the bytes that fill the memory of an 8086
+-- the bytes that fill a memory of 64K, each the choice's lowest byte
 unfoldable pub fill_by : ℕ → List ℕ
 fill_by choice = replicate 0x10000 (choice % 256)

@@ -1,7 +1,8 @@
-// What the devices of a run have to answer with, and what fills the memory of an 8086.
-ghost use Rattle.std.specs.Prelude.{◌≡◌, IfOk, IfErr, OnOk, option_copied, length};
+// What the devices of a run have to answer with, and what fills a memory.
+ghost use Rattle.std.specs.Prelude.{◌≡◌, ◌⊎◌, IfOk, IfErr, OnOk, option_copied, length};
 ghost use Rattle.host.specs.Host.{SameFaults, OnlyReads};
 ghost use Rattle.cmd_arguments.specs.ReadCommands.{run_options_read};
+ghost use Rattle.cmd_common.specs.declared.stop.Stop.TheVariants.{OutOfMemory};
 ghost use Rattle.cmd_runs.specs.Supplies.{given_of, fill_by, IsDiskFile, DiskFileStops, IsSupplied, SupplyStops, HasDisk, stop_of_disk, DiskStops};
 
 use bdos_small::{Devices, Disk, DiskFault};
@@ -75,7 +76,7 @@ fn stop_of_disk<'a>(fault: DiskFault) -> Stop<'a>
     }
 }
 
-/// The bytes that fill the memory of an 8086, by a choice.
+/// The bytes that fill a memory of 64K, by a choice.
 pub fn fill_of(alloc: Global, choice: u128) -> Result<Vec<u8>, AllocError>
     ensures items { IfOk result (λ fill. fill.items ≡ fill_by choice) }
     ensures len { IfOk result (λ fill. length fill.items ≡ 0x10000) }
@@ -83,4 +84,27 @@ pub fn fill_of(alloc: Global, choice: u128) -> Result<Vec<u8>, AllocError>
     let byte = (choice % 256) as u8;
     let fill = vec![in alloc; byte; 0x1_0000]?;
     Ok(fill)
+}
+
+/// What a run by a choice has besides what runs: the bytes that fill the memory, and the devices.
+#[derive(Drop)]
+pub struct Equipment {
+    pub fill: Vec<u8>,
+    pub devices: Devices,
+}
+
+/// The devices of what was read, and the bytes by the choice.
+pub fn equipment_of<'a>(
+    alloc: Global,
+    supplies: Supplies,
+    choice: u128,
+) -> Result<Equipment, Stop<'a>>
+    ensures devices { IfOk result (λ e. HasDisk (given_of supplies.input.items supplies.disk.items supplies.ports.items) e.devices) }
+    ensures fill { IfOk result (λ e. e.fill.items ≡ fill_by choice) }
+    ensures fill_len { IfOk result (λ e. length e.fill.items ≡ 0x10000) }
+    ensures stopped { IfErr result (λ stop. DiskStops supplies.disk.items stop ⊎ (stop ≡ OutOfMemory)) }
+{
+    let devices = devices_of(alloc, supplies)?;
+    let fill = fill_of(alloc, choice)?;
+    Ok(Equipment { fill, devices })
 }

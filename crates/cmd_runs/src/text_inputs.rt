@@ -1,17 +1,17 @@
 // What there is before the run.
-ghost use Rattle.std.specs.Prelude.{◌≡◌, ◌⊎◌, ◌^◌, ◌<◌, true, IfOk, IfErr, OnOk, length};
+ghost use Rattle.std.specs.Prelude.{◌≡◌, ◌^◌, ◌<◌, true, IfOk, IfErr, OnOk, length};
 ghost use Rattle.host.specs.Host.{SameFaults, OnlyReads};
 ghost use Rattle.asm86_line_types.specs.Order.{at_start, in_order};
 ghost use Rattle.asm86_line_types.specs.Image.{statements};
 ghost use Rattle.cmd_arguments.specs.ReadCommands.{run86_read};
-ghost use Rattle.cmd_common.specs.declared.stop.Stop.TheVariants.{OutOfMemory};
 ghost use Rattle.cmd_common.specs.Texts.{HasOneImage, ImageStops};
 ghost use Rattle.cmd_runs.specs.Ends.{Halts};
-ghost use Rattle.cmd_runs.specs.Supplies.{given_of, fill_by, HasDisk, DiskStops};
+ghost use Rattle.cmd_runs.specs.Supplies.{fill_by};
 ghost use Rattle.cmd_runs.specs.Kinds.{IsToRun, NothingToRun};
 ghost use Rattle.cmd_runs.specs.Runs86.{kind86};
 
-use crate::{Halt, Supplies, devices_of, fill_of, read_supplies};
+use crate::supplies::equipment_of;
+use crate::{Halt, read_supplies};
 use asm86::Image86;
 use asm86_line_types::Line86;
 use bdos_small::Devices;
@@ -64,23 +64,4 @@ fn read_image<'a>(alloc: Global, lines: Vec<Line86>) -> Result<Image86, Stop<'a>
     let text = LoadedText::of(alloc, lines)?;
     let LoadedText { image, .. } = text;
     Ok(image)
-}
-
-// What the run has besides the image: the bytes that fill the memory, and the devices.
-#[derive(Drop)]
-struct Equipment {
-    fill: Vec<u8>,
-    devices: Devices,
-}
-
-// The devices of what was read, and the bytes by the choice.
-fn equipment_of<'a>(alloc: Global, supplies: Supplies, choice: u128) -> Result<Equipment, Stop<'a>>
-    ensures devices { IfOk result (λ e. HasDisk (given_of supplies.input.items supplies.disk.items supplies.ports.items) e.devices) }
-    ensures fill { IfOk result (λ e. e.fill.items ≡ fill_by choice) }
-    ensures fill_len { IfOk result (λ e. length e.fill.items ≡ 0x10000) }
-    ensures stopped { IfErr result (λ stop. DiskStops supplies.disk.items stop ⊎ (stop ≡ OutOfMemory)) }
-{
-    let devices = devices_of(alloc, supplies)?;
-    let fill = fill_of(alloc, choice)?;
-    Ok(Equipment { fill, devices })
 }

@@ -20,7 +20,7 @@ use Rattle.emulators.specs.Courses.{why86, course86, course86_from}
 use Rattle.emulator_loop.proofs.Turning.{turn_ran, turn_ended, turn_stopped, turn_asked}
 
 -- the one choice is every choice
-one_choice : (c k : ℕ) → choice_at (c ∷ []) k ≡ c
+pub one_choice : (c k : ℕ) → choice_at (c ∷ []) k ≡ c
 one_choice c k = let e : k % 1 ≡ 0 = omega arith in ap (slice_index (c ∷ [])) e
 
 module _ (code : List ℕ) (c : ℕ) (s t : State86) (answered : Event → Reply → Course) where

@@ -19,4 +19,4 @@ pub use fetch::memory_is_fetched;
 pub use hex_file::{HexFault, HexFile};
 pub use i80_encoding::{Code80, decode80, encode80};
 pub use machine::Byte80;
-pub use text::hex_text;
+pub use text::{hex_text, program_cells};

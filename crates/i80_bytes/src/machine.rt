@@ -2,7 +2,7 @@
 ghost use Rattle.std.specs.Prelude.{◌≡◌, None, Some, true, IfOk, IfSome, Ok, length};
 ghost use Rattle.dialogue.specs.Fits.{waits_in};
 ghost use Rattle.dialogue.specs.Lawful.{IsLawfulEvent};
-ghost use Rattle.dialogue.specs.Calls.{stepped, replied, IsOpen};
+ghost use Rattle.dialogue.specs.Calls.{stepped, replied, IsOpen, IsStepTold, IsTaken};
 ghost use Rattle.asm80_program_types.specs.Program.{is_top};
 ghost use Rattle.cpu80_untagged_def.specs.Start.{address_of};
 ghost use Rattle.cpu80_untagged_def.specs.Step.{step_untagged, replied_untagged};
@@ -54,6 +54,7 @@ impl Byte80 {
     /// shape. `Untagged80::step` tells what the choice has.
     pub fn step(&mut self, choice: u128) -> UntaggedStep
         ensures step { (status_of result, byte_standing self.new) ≡ stepped (step_untagged fetch_of_bytes) (byte_standing self.old) choice }
+        ensures told { (byte_standing self.old).said ≡ None → IsStepTold (step_untagged fetch_of_bytes (byte_standing self.old).state choice) (status_of result) (byte_standing self.old).state (byte_standing self.new) }
         ensures said { IsOpen (status_of result) (byte_standing self.new).said }
         ensures machine { IsByteMachine self.old → IsByteMachine self.new }
     {
@@ -75,6 +76,7 @@ impl Byte80 {
     /// `Untagged80::reply` tells what the choice has.
     pub fn reply(&mut self, reply: &Reply, choice: u128) -> bool
         ensures reply { IsByteMachine self.old → (result, byte_standing self.new) ≡ replied (replied_untagged fetch_of_bytes) (byte_standing self.old) reply.now choice }
+        ensures taken { (e : Event) → IsByteMachine self.old → (byte_standing self.old).said ≡ Some e → IsTaken (replied_untagged fetch_of_bytes) e result reply.now choice (byte_standing self.old).state (byte_standing self.new) }
         ensures machine { IsByteMachine self.old → IsByteMachine self.new }
     {
         self.machine.reply(reply, choice)

@@ -23,8 +23,8 @@ pub fn hex_text(alloc: Global, program: &Program80) -> Result<Vec<u8>, AllocErro
     write_cells(alloc, cells.as_slice())
 }
 
-// The cells of a program that have a byte, ascending.
-fn program_cells(alloc: Global, program: &Program80) -> Result<Vec<(u16, u8)>, AllocError>
+/// The cells of a program that have a byte, address and byte, ascending: its encodings and its data.
+pub fn program_cells(alloc: Global, program: &Program80) -> Result<Vec<(u16, u8)>, AllocError>
     ensures { IfOk result (λ cells. cells.items ≡ program_cells program.now) }
 {
     let mut cells = Vec::new(alloc);

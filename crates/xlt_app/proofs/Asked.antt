@@ -8,7 +8,7 @@ use Rattle.cmd_arguments.specs.declared.table.CommandName.TheVariants as named
 use Rattle.cmd_arguments.specs.Table.{Word}
 use Rattle.cmd_arguments.specs.Values.{top_among, top_value, number_in, count_within, count_value, file_name}
 use Rattle.cmd_arguments.specs.Given.{Gathered, Names, NoName, OneName, TwoNames, MoreNames}
-use Rattle.cmd_arguments.specs.Words.{Translate, Check, Flags, Run80, Both, Sample, Command, Translates, Checks, ListsFlags, Runs80, Runs86, RunsBoth, MakesSample, MakesCmd, ShowsCmd, IsCommand, command_of, translate_of, check_of, flags_command_of, run80_of, run86_of, both_of, sample_of, cmd_of, cmd_show_of, run_options_of, flag_of, one_file, two_files, count_and_file, top_of, choice_of, text_or}
+use Rattle.cmd_arguments.specs.Words.{Translate, Check, Flags, Run80, Both, Sample, Hex80, RunHex, Command, Translates, Checks, ListsFlags, Runs80, Runs86, RunsBoth, MakesSample, MakesCmd, ShowsCmd, WritesHex, RunsHex, IsCommand, command_of, translate_of, check_of, flags_command_of, run80_of, run86_of, both_of, sample_of, cmd_of, cmd_show_of, hex80_of, run_hex_of, run_options_of, flag_of, one_file, two_files, count_and_file, top_of, choice_of, text_or}
 use Rattle.cmd_sample.specs.Samples.{IsCount}
 use Rattle.xlt_app.specs.Top.{HasLawfulValues}
 
@@ -97,6 +97,30 @@ both_top g c e =
     let f = taken (run_options_of g) _ c d.2 in
     subst (λ n. is_top n ≡ true) (ap both_top_in f.2) (top_of_is g b.0 b.1)
 
+hex80_top_in : Option Hex80 → ℕ
+hex80_top_in None = 0
+hex80_top_in (Some c) = c.top
+
+hex80_top : (g : Gathered) (c : Hex80) → hex80_of g ≡ Some c → is_top c.top ≡ true
+unfolding hex80_top_in taken
+hex80_top g c e =
+    let a = taken (two_files g.names) _ c e in
+    let b = taken (top_of g) _ c a.2 in
+    subst (λ n. is_top n ≡ true) (ap hex80_top_in b.2) (top_of_is g b.0 b.1)
+
+run_hex_top_in : Option RunHex → ℕ
+run_hex_top_in None = 0
+run_hex_top_in (Some c) = c.top
+
+run_hex_top : (g : Gathered) (c : RunHex) → run_hex_of g ≡ Some c → is_top c.top ≡ true
+unfolding run_hex_top_in taken
+run_hex_top g c e =
+    let a = taken (one_file g.names) _ c e in
+    let b = taken (top_of g) _ c a.2 in
+    let d = taken (choice_of g) _ c b.2 in
+    let f = taken (run_options_of g) _ c d.2 in
+    subst (λ n. is_top n ≡ true) (ap run_hex_top_in f.2) (top_of_is g b.0 b.1)
+
 -- ---- the number of routines
 
 is_count : (n : ℕ) → (nat_le 1 n && nat_le n 500) ≡ true → IsCount n
@@ -146,6 +170,8 @@ asked_by_name named.Both g c e = let h = mapped (both_of g) RunsBoth c e in subs
 asked_by_name named.Sample g c e = let h = mapped (sample_of g) MakesSample c e in subst HasLawfulValues h.2 (sample_count g h.0 h.1)
 asked_by_name named.Cmd g c e = let h = mapped (cmd_of g) MakesCmd c e in subst HasLawfulValues h.2 tt
 asked_by_name named.CmdShow g c e = let h = mapped (cmd_show_of g) ShowsCmd c e in subst HasLawfulValues h.2 tt
+asked_by_name named.Hex80 g c e = let h = mapped (hex80_of g) WritesHex c e in subst HasLawfulValues h.2 (hex80_top g h.0 h.1)
+asked_by_name named.RunHex g c e = let h = mapped (run_hex_of g) RunsHex c e in subst HasLawfulValues h.2 (run_hex_top g h.0 h.1)
 
 -- so the work of each command that words are may be done
 pub words_ask : (words : List Word) (c : Command) → IsCommand words c → HasLawfulValues c

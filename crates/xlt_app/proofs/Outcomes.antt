@@ -4,7 +4,7 @@ use Rattle.host.specs.Host.{HostState, SameFiles}
 use Rattle.host.proofs.HostLemmas.{OnlyReads-refl}
 use Rattle.asm86_line_types.specs.Image.{image_of}
 use Rattle.asm86_line_types.specs.Written.{written_text}
-use Rattle.cmd_arguments.specs.Words.{Translate, Check, Cmd, Command, Translates, Checks, ListsFlags, Runs80, Runs86, RunsBoth, MakesSample, MakesCmd, ShowsCmd, IsCommand, IsNoCommand}
+use Rattle.cmd_arguments.specs.Words.{Translate, Check, Cmd, Hex80, Command, Translates, Checks, ListsFlags, Runs80, Runs86, RunsBoth, MakesSample, MakesCmd, ShowsCmd, WritesHex, RunsHex, IsCommand, IsNoCommand}
 use Rattle.cmd_common.specs.declared.stop.Stop.TheVariants.{OutOfMemory}
 use Rattle.cmd_common.specs.Said.{IsRefusedWords, SaysLast, Closes, said, unsaid}
 use Rattle.cmd_common.specs.Lines.{memory_line}
@@ -16,9 +16,10 @@ use Rattle.cmd_flags.specs.Listing as listing
 use Rattle.cmd_runs.specs.Keeping.{DiskAlone}
 use Rattle.cmd_runs.specs.Kinds as running_one
 use Rattle.cmd_runs.specs.Works as running
-use Rattle.cmd_runs.specs.Loads as running_both
+use Rattle.cmd_runs.specs.BothLoads as running_both
 use Rattle.cmd_makes.specs.Makes as files
 use Rattle.cmd_makes.specs.Cmds.{HasCommandFile}
+use Rattle.cmd_makes.specs.Hexes.{HasHexFile}
 use Rattle.xlt_app.specs.Top.{Headline, CheckedHeadline, IsStatus, refused as words_are_refused, no_memory as words_want_memory, Outcomes, CommandAnswers}
 use Rattle.xlt_app.proofs.Statuses.{of_5, of_words, of_answer}
 
@@ -71,6 +72,9 @@ module _ (words : List (List ℕ)) (old new : HostState) (status : ℕ) (o : Out
 
   pub has_command_file : (c : Cmd) → IsCommand words (MakesCmd c) → status ≡ 0 → HasCommandFile c old new
   has_command_file c is e = (o.answered (MakesCmd c) is).loads e
+
+  pub has_hex_file : (c : Hex80) → IsCommand words (WritesHex c) → status ≡ 0 → HasHexFile c old new
+  has_hex_file c is e = (o.answered (WritesHex c) is).file e
 
 -- ---- what words come to
 
@@ -167,6 +171,16 @@ module _ (words : List (List ℕ)) (old new : HostState) (status : ℕ) where
       gives = files.stopped old OutOfMemory (files.unmade (OnlyReads-refl old) files.no_memory) closes;
       completes = λ none bytes told other. absurd (other is_5);
       files = same;
+    }
+    wanting (WritesHex c) = record {
+      gives = files.stopped old OutOfMemory (files.unmade (OnlyReads-refl old) files.no_memory) closes;
+      completes = λ none bytes told other. absurd (other is_5);
+      file = λ e. absurd (omega (arith, e, is_5));
+    }
+    wanting (RunsHex c) = record {
+      gives = running.stopped old OutOfMemory (running.unloaded (OnlyReads-refl old) running_one.no_memory) closes;
+      completes = λ none bytes given told supply. inl is_5;
+      files = alone old new c.run.out_disk same;
     }
 
     pub by_memory : Outcomes words old new status

@@ -4,9 +4,9 @@ use Rattle.std.specs.Prelude.{Option, Result, Ok, Err}
 use Rattle.host.specs.declared.HostFault.{HostFault}
 use Rattle.host.specs.declared.HostFault.TheVariants.{Failed, Memory}
 use Rattle.host.specs.Host.{HostState}
-use Rattle.cmd_arguments.specs.Words.{Translate, Check, Flags, Sample, Command, Translates, Checks, ListsFlags, Runs80, Runs86, RunsBoth, MakesSample, MakesCmd, ShowsCmd}
+use Rattle.cmd_arguments.specs.Words.{Translate, Check, Flags, Sample, Command, Translates, Checks, ListsFlags, Runs80, Runs86, RunsBoth, MakesSample, MakesCmd, ShowsCmd, WritesHex, RunsHex}
 use Rattle.cmd_common.specs.declared.stop.Stop.{Stop}
-use Rattle.cmd_common.specs.declared.stop.Stop.TheVariants.{SourceLine, SourceProgram, ReadFailed, WriteFailed, OutOfMemory, LeftProfile, StepLimit, NotShown, InputEnded, TextLine, ShortJump, NoInstruction, StackSegment, OddCall, BadDisk, NoDrive, CodeTooLarge, FileTooLong, BadCommandFile}
+use Rattle.cmd_common.specs.declared.stop.Stop.TheVariants.{SourceLine, SourceProgram, ReadFailed, WriteFailed, OutOfMemory, LeftProfile, StepLimit, NotShown, InputEnded, TextLine, ShortJump, NoInstruction, StackSegment, OddCall, BadDisk, NoDrive, CodeTooLarge, FileTooLong, BadCommandFile, BadHex}
 use Rattle.cmd_common.specs.Lines.{status_of}
 use Rattle.cmd_common.specs.Said.{IsDone, whole, failed, no_memory, Closes, said, unsaid}
 use Rattle.std.specs.List.{concat}
@@ -16,12 +16,14 @@ use Rattle.cmd_runs.specs.Works as running
 use Rattle.cmd_runs.specs.Works.{RunWork, WorkGives, came_by}
 use Rattle.cmd_runs.specs.Runs80.{work80}
 use Rattle.cmd_runs.specs.Runs86.{work86}
+use Rattle.cmd_runs.specs.RunsHex.{work_hex}
 use Rattle.cmd_runs.specs.BothRuns.{work_both}
 use Rattle.cmd_makes.specs.Kinds.{MakeKind}
 use Rattle.cmd_makes.specs.Makes as files
 use Rattle.cmd_makes.specs.Makes.{MakeGives}
 use Rattle.cmd_makes.specs.Cmds.{cmd_kind}
 use Rattle.cmd_makes.specs.Shows.{cmd_show_kind}
+use Rattle.cmd_makes.specs.Hexes.{hex_kind}
 use Rattle.cmd_translate.specs.Translates as translation
 use Rattle.cmd_check.specs.Checks as checking
 use Rattle.cmd_flags.specs.Listing as listing
@@ -82,6 +84,9 @@ of_14 = record { number = (14, omega arith, refl); other = λ e. absurd (omega a
 of_15 : IsOfCommand 15
 of_15 = record { number = (15, omega arith, refl); other = λ e. absurd (omega arith) }
 
+of_16 : IsOfCommand 16
+of_16 = record { number = (16, omega arith, refl); other = λ e. absurd (omega arith) }
+
 of_stop : (stop : Stop) → IsOfCommand (status_of stop)
 of_stop (SourceLine line rule) = of_1
 of_stop (SourceProgram line rule) = of_1
@@ -102,6 +107,7 @@ of_stop (NoDrive function) = of_12
 of_stop (CodeTooLarge size) = of_13
 of_stop (FileTooLong name) = of_14
 of_stop (BadCommandFile place) = of_15
+of_stop (BadHex line) = of_16
 
 of_closes : (stop : Stop) (old new : HostState) (status : ℕ) → Closes stop old new status → IsOfCommand status
 of_closes stop old new status (said e s) = subst IsOfCommand (sym e) (of_stop stop)
@@ -169,3 +175,5 @@ of_answer (RunsBoth c) old new status a = of_work (work_both c) old new status a
 of_answer (MakesSample c) old new status a = of_making c old new status a.gives
 of_answer (MakesCmd c) old new status a = of_file (cmd_kind c) old new status a.gives
 of_answer (ShowsCmd c) old new status a = of_file (cmd_show_kind c) old new status a.gives
+of_answer (WritesHex c) old new status a = of_file (hex_kind c) old new status a.gives
+of_answer (RunsHex c) old new status a = of_work (work_hex c) old new status a.gives

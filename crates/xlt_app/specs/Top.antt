@@ -7,7 +7,7 @@ use Rattle.asm86_line_types.specs.Image.{Image}
 use Rattle.asm80_program_types.specs.Program.{Program, is_top}
 use Rattle.asm80_text.specs.Intel.{intel_reading}
 use Rattle.asm80_source_def.specs.Source.{IsSource}
-use Rattle.cmd_arguments.specs.Words.{Translate, Check, Flags, Run80, Run86, Both, Sample, Cmd, CmdShow, Command, Translates, Checks, ListsFlags, Runs80, Runs86, RunsBoth, MakesSample, MakesCmd, ShowsCmd, IsCommand, IsNoCommand}
+use Rattle.cmd_arguments.specs.Words.{Translate, Check, Flags, Run80, Run86, Both, Sample, Cmd, CmdShow, Hex80, RunHex, Command, Translates, Checks, ListsFlags, Runs80, Runs86, RunsBoth, MakesSample, MakesCmd, ShowsCmd, WritesHex, RunsHex, IsCommand, IsNoCommand}
 use Rattle.cmd_common.specs.Lines.{memory_line}
 use Rattle.cmd_common.specs.Said.{IsRefusedWords, SaysLast}
 use Rattle.asm86.specs.Images.{HasImage}
@@ -23,11 +23,13 @@ use Rattle.cmd_runs.specs.Works.{WorkGives}
 use Rattle.cmd_runs.specs.Outcomes.{RunCompletes}
 use Rattle.cmd_runs.specs.Runs80.{kind80, work80}
 use Rattle.cmd_runs.specs.Runs86.{kind86, work86}
+use Rattle.cmd_runs.specs.RunsHex.{kind_hex, work_hex}
 use Rattle.cmd_runs.specs.BothRuns.{work_both}
 use Rattle.cmd_runs.specs.BothCompletes.{BothComplete}
 use Rattle.cmd_makes.specs.Makes.{MakeGives, MakeCompletes}
 use Rattle.cmd_makes.specs.Cmds.{cmd_kind, HasCommandFile}
 use Rattle.cmd_makes.specs.Shows.{cmd_show_kind}
+use Rattle.cmd_makes.specs.Hexes.{hex_kind, HasHexFile}
 
 -- the headline: the source's file, where the host tells it, is the source of a program; the output's file holds a text with an
 -- image, whose code is read in one way; and the image makes the same system calls as the program, in the same order, and ends
@@ -60,7 +62,7 @@ pub record CheckedHeadline (c : Check) (old : HostState) : Type 0 where
 
 -- the statuses that are answered
 abbrev pub statuses : List ℕ
-statuses = 0 ∷ (1 ∷ (2 ∷ (3 ∷ (4 ∷ (5 ∷ (6 ∷ (7 ∷ (8 ∷ (9 ∷ (10 ∷ (11 ∷ (12 ∷ (13 ∷ (14 ∷ (15 ∷ [])))))))))))))))
+statuses = 0 ∷ (1 ∷ (2 ∷ (3 ∷ (4 ∷ (5 ∷ (6 ∷ (7 ∷ (8 ∷ (9 ∷ (10 ∷ (11 ∷ (12 ∷ (13 ∷ (14 ∷ (15 ∷ (16 ∷ []))))))))))))))))
 
 abbrev pub IsStatus : ℕ → Type 0
 IsStatus status = Contains statuses status
@@ -113,6 +115,16 @@ pub record ShowedCmd (c : CmdShow) (old new : HostState) (status : ℕ) : Type 0
   pub completes : MakeCompletes (cmd_show_kind c) old new status
   pub files : SameFiles old new
 
+pub record WroteHex (c : Hex80) (old new : HostState) (status : ℕ) : Type 0 where
+  pub gives : MakeGives (hex_kind c) old new status
+  pub completes : MakeCompletes (hex_kind c) old new status
+  pub file : status ≡ 0 → HasHexFile c old new
+
+pub record RanHex (c : RunHex) (old new : HostState) (status : ℕ) : Type 0 where
+  pub gives : WorkGives (work_hex c) old new status
+  pub completes : RunCompletes (kind_hex c) old new status
+  pub files : DiskAlone c.run.out_disk old new
+
 abbrev pub CommandAnswers : Command → HostState → HostState → ℕ → Type 0
 CommandAnswers (Translates c) old new status = Translated c old new status
 CommandAnswers (Checks c) old new status = Checked c old new status
@@ -123,6 +135,8 @@ CommandAnswers (RunsBoth c) old new status = RanBoth c old new status
 CommandAnswers (MakesSample c) old new status = Made c old new status
 CommandAnswers (MakesCmd c) old new status = WroteCmd c old new status
 CommandAnswers (ShowsCmd c) old new status = ShowedCmd c old new status
+CommandAnswers (WritesHex c) old new status = WroteHex c old new status
+CommandAnswers (RunsHex c) old new status = RanHex c old new status
 
 -- ---- what is answered to words
 
@@ -149,3 +163,5 @@ HasLawfulValues (RunsBoth c) = is_top c.top ≡ true
 HasLawfulValues (MakesSample c) = making.IsCount c.count
 HasLawfulValues (MakesCmd c) = Unit {0}
 HasLawfulValues (ShowsCmd c) = Unit {0}
+HasLawfulValues (WritesHex c) = is_top c.top ≡ true
+HasLawfulValues (RunsHex c) = is_top c.top ≡ true

@@ -8,7 +8,7 @@ use Rattle.cmd_runs.specs.Settings.{setting80, RunComesTo, IsRunCutOff}
 use Rattle.cmd_runs.specs.Works.{WorkHalts, HaltsFrom}
 use Rattle.cmd_runs.specs.BothLoads.{AreToRun}
 use Rattle.cmd_runs.specs.BothRuns.{prefix80, first_setting, work_both}
-use Rattle.cmd_runs.proofs.Running.{filled, first_halts, second_halts, both_made}
+use Rattle.cmd_runs.proofs.BothMade.{filled, first_halts, second_halts, both_made}
 use Rattle.cmd_runs.proofs.making.make_runs.Goals as goal
 
 -- a fault cut the 8080's run off

@@ -1,7 +1,7 @@
 use Rattle.cmd_arguments.specs.ReadCommands.{both_read}
 use Rattle.cmd_runs.proofs.Working.{gives, gives_alone}
 use Rattle.cmd_runs.specs.BothRuns.{work_both}
-use Rattle.cmd_runs.proofs.Running.{both_stay}
+use Rattle.cmd_runs.proofs.BothMade.{both_stay}
 use Rattle.cmd_runs.proofs.BothCompleting.{completes_both}
 use Rattle.cmd_runs.proofs.run_both.both.Goals as goal
 
