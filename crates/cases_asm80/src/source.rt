@@ -1,5 +1,5 @@
 // Sources in the lines of the standard input.
-use asm80_statement_types::{ReadFault, Stmt80};
+use asm80_statement_types::{ReadFault, StatementReader, Stmt80};
 use asm80_text::Lines;
 use std::alloc::{AllocError, Global};
 
@@ -21,9 +21,17 @@ pub fn bytes_of(alloc: Global, line: &str) -> Result<Vec<u8>, AllocError> {
     Ok(bytes)
 }
 
-/// The statements of a source, which is read in two pieces.
+/// The statements of a source in Intel's spelling, which is read in two pieces.
 pub fn statements_of(alloc: Global, source: &[u8]) -> Result<Vec<Stmt80>, ReadFault> {
-    let mut lines = Lines::new(alloc)?;
+    statements_by::<Lines>(alloc, source)
+}
+
+/// The same by any reader.
+pub fn statements_by<R: StatementReader>(
+    alloc: Global,
+    source: &[u8],
+) -> Result<Vec<Stmt80>, ReadFault> {
+    let mut lines = R::new(alloc)?;
     let (front, back) = source.split_at(source.len() / 2);
     lines.feed(front)?;
     lines.feed(back)?;

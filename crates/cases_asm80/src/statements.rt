@@ -1,6 +1,6 @@
 // Statements as text.
-use crate::source::statements_of;
-use asm80_statement_types::{Arg, Expr, Name80, ReadFault, Stmt80, Two};
+use crate::source::statements_by;
+use asm80_statement_types::{Arg, Expr, Name80, ReadFault, StatementReader, Stmt80, Two};
 use std::alloc::{AllocError, Global};
 
 fn sign(op: Two) -> &'static str {
@@ -89,11 +89,14 @@ fn push_statement(text: &mut String, statement: &Stmt80) -> Result<(), AllocErro
     push_args(text, statement.args.as_slice())
 }
 
-/// The statements of a source.
-pub fn statements_text(alloc: Global, source: &[u8]) -> Result<String, ReadFault> {
+/// The statements of a source, by a reader.
+pub fn statements_text<R: StatementReader>(
+    alloc: Global,
+    source: &[u8],
+) -> Result<String, ReadFault> {
     let mut text = String::new(alloc);
     let mut before = "";
-    for statement in &statements_of(alloc, source)? {
+    for statement in &statements_by::<R>(alloc, source)? {
         text.push_str(before)?;
         push_statement(&mut text, statement)?;
         before = " | ";

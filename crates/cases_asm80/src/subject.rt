@@ -8,13 +8,17 @@ use crate::program::program_text;
 use crate::source::bytes_of;
 use crate::statements::statements_text;
 use asm80_statement_types::ReadFault;
+use asm80_text::Lines;
 use std::alloc::{AllocError, Global};
+use zilog80::ZLines;
 
 /// What a case is read as.
 #[derive(Clone, Copy)]
 pub enum Subject {
     /// A source, answered by its statements.
     Statements,
+    /// A source in Zilog's spelling, answered by its statements in Intel's.
+    ZilogStatements,
     /// A source, answered by the addresses of its statements and the meanings of their labels.
     Addresses,
     /// A source, answered by its program below a top.
@@ -27,6 +31,7 @@ pub enum Subject {
 fn subject_of(heading: &str) -> Option<Subject> {
     match heading {
         "= statements" => Some(Subject::Statements),
+        "= statements in Zilog's spelling" => Some(Subject::ZilogStatements),
         "= addresses and meanings" => Some(Subject::Addresses),
         "= values of operands" => Some(Subject::Operands(Asked::Values)),
         "= what operands make" => Some(Subject::Operands(Asked::Form)),
@@ -59,7 +64,8 @@ fn program_below(alloc: Global, case: &[u8], top: u16) -> Result<String, ReadFau
 
 fn outcome(alloc: Global, subject: Subject, case: &[u8]) -> Result<String, ReadFault> {
     match subject {
-        Subject::Statements => statements_text(alloc, case),
+        Subject::Statements => statements_text::<Lines>(alloc, case),
+        Subject::ZilogStatements => statements_text::<ZLines>(alloc, case),
         Subject::Addresses => addresses_text(alloc, case),
         Subject::Program(top) => program_below(alloc, case, top),
         Subject::Operands(asked) => operands_text(alloc, case, asked),

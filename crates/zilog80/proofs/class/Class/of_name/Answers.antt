@@ -1,0 +1,24 @@
+use Rattle.std.proofs.Common.{refl, ap, sym, ◌∙◌}
+use Rattle.zilog80.specs.declared.class.Class.{Class as ReadClass}
+use Rattle.zilog80.specs.Operands.{registers, pairs, stack_pairs, nothing_if, of_name}
+use Rattle.zilog80.specs.Read.{class_of}
+use Rattle.zilog80.proofs.class.Class.of_name.Goals as goal
+
+pub returns-in-Is : goal.returns-in-Is
+returns-in-Is c = λ a. c.nothing_if.ensures a ∙ ap nothing_if c.eq.ensures ∙ ap (λ (k : ReadClass). of_name (class_of k) c.args.name.now) (sym c.in-Is.is)
+
+pub returns-in-Register : goal.returns-in-Register
+unfolding registers
+returns-in-Register c = λ a. c.renamed.ensures registers a refl ∙ ap (λ (k : ReadClass). of_name (class_of k) c.args.name.now) (sym c.in-Register.is)
+
+pub returns-in-Source : goal.returns-in-Source
+unfolding registers
+returns-in-Source c = λ a. c.renamed-in-Source.ensures registers a refl ∙ ap (λ (k : ReadClass). of_name (class_of k) c.args.name.now) (sym c.in-Source.is)
+
+pub returns-in-Pair : goal.returns-in-Pair
+unfolding pairs
+returns-in-Pair c = λ a. c.renamed-in-Pair.ensures pairs a refl ∙ ap (λ (k : ReadClass). of_name (class_of k) c.args.name.now) (sym c.in-Pair.is)
+
+pub returns-in-StackPair : goal.returns-in-StackPair
+unfolding stack_pairs
+returns-in-StackPair c = λ a. c.renamed-in-StackPair.ensures stack_pairs a refl ∙ ap (λ (k : ReadClass). of_name (class_of k) c.args.name.now) (sym c.in-StackPair.is)

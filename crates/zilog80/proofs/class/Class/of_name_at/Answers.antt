@@ -1,0 +1,20 @@
+use Rattle.std.proofs.Common.{refl, ap, sym, ◌∙◌}
+use Rattle.zilog80.specs.declared.class.Class.{Class as ReadClass}
+use Rattle.zilog80.specs.Operands.{memory, indirects, nothing_if, of_name_at}
+use Rattle.zilog80.specs.Read.{class_of}
+use Rattle.zilog80.proofs.class.Class.of_name_at.Goals as goal
+
+pub returns-in-At : goal.returns-in-At
+returns-in-At c = λ a. c.nothing_if.ensures a ∙ ap nothing_if c.eq.ensures ∙ ap (λ (k : ReadClass). of_name_at (class_of k) c.args.name.now) (sym c.in-At.is)
+
+pub returns-in-Memory : goal.returns-in-Memory
+unfolding memory
+returns-in-Memory c = λ a. c.renamed.ensures memory a refl ∙ ap (λ (k : ReadClass). of_name_at (class_of k) c.args.name.now) (sym c.in-Memory.is)
+
+pub returns-in-Source : goal.returns-in-Source
+unfolding memory
+returns-in-Source c = λ a. c.renamed-in-Source.ensures memory a refl ∙ ap (λ (k : ReadClass). of_name_at (class_of k) c.args.name.now) (sym c.in-Source.is)
+
+pub returns-in-Indirect : goal.returns-in-Indirect
+unfolding indirects
+returns-in-Indirect c = λ a. c.renamed-in-Indirect.ensures indirects a refl ∙ ap (λ (k : ReadClass). of_name_at (class_of k) c.args.name.now) (sym c.in-Indirect.is)

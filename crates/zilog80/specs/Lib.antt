@@ -1,0 +1,5 @@
+pub mod Operands
+pub mod Table
+pub mod Words
+pub mod Zilog
+pub mod Read

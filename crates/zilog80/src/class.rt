@@ -1,0 +1,162 @@
+//! The classes of operands.
+
+ghost use Rattle.std.specs.Prelude.{◌≡◌, List, ℕ, find, is_some, map, option_copied, option_map, true};
+ghost use Rattle.std.specs.Str.{bytes_eq};
+ghost use Rattle.zilog80.specs.Operands.{Literal, Names, Spelt as Operand, nothing_if, of_name, of_name_at, operands, renamed};
+ghost use Rattle.zilog80.specs.Read.{are_words, class_of, given_by, spelt_of};
+ghost use Rattle.std.specs.Borrow.{Bor};
+
+use crate::operand::Spelt;
+use asm80_text::Name80;
+
+/// A class of operands of instructions (Zilog, Z80 CPU User Manual, "Addressing Modes").
+#[derive(Clone, Copy)]
+pub enum Class {
+    /// This name alone: it says which instruction it is, and is no operand in Intel's spelling.
+    Is(&'static [u8]),
+    /// This name in parentheses, likewise.
+    At(&'static [u8]),
+    /// A B C D E H L.
+    Register,
+    /// (HL).
+    Memory,
+    /// A register, or (HL).
+    Source,
+    /// BC DE HL SP.
+    Pair,
+    /// BC DE HL AF.
+    StackPair,
+    /// (BC) (DE).
+    Indirect,
+    /// A value that is not wholly one pair of parentheses.
+    Bare,
+    /// A value.
+    Any,
+    /// A value in one pair of parentheses.
+    Cell,
+    /// The number 0.
+    Zero,
+}
+
+/// What an operand gives in Intel's spelling.
+#[derive(Clone, Copy)]
+pub enum Given {
+    Nothing,
+    /// A name of Intel's.
+    Renamed(Name80),
+    /// Its value.
+    OfValue,
+}
+
+// Names with those of Intel's spelling.
+
+const REGISTERS: [(&[u8], &[u8]); 7] = [
+    (b"A", b"A"),
+    (b"B", b"B"),
+    (b"C", b"C"),
+    (b"D", b"D"),
+    (b"E", b"E"),
+    (b"H", b"H"),
+    (b"L", b"L"),
+];
+
+const MEMORY: [(&[u8], &[u8]); 1] = [(b"HL", b"M")];
+
+const PAIRS: [(&[u8], &[u8]); 4] = [(b"BC", b"B"), (b"DE", b"D"), (b"HL", b"H"), (b"SP", b"SP")];
+
+const STACK_PAIRS: [(&[u8], &[u8]); 4] = [
+    (b"BC", b"B"),
+    (b"DE", b"D"),
+    (b"HL", b"H"),
+    (b"AF", b"PSW"),
+];
+
+const INDIRECTS: [(&[u8], &[u8]); 2] = [(b"BC", b"B"), (b"DE", b"D")];
+
+impl Class {
+    /// Whether an operand is of the class.
+    pub fn takes(self, spelt: &Spelt) -> bool
+        ensures { result ≡ is_some (operands (class_of self) (spelt_of spelt.now)) }
+    {
+        self.given(spelt).is_some()
+    }
+
+    /// What an operand gives that is of the class; None where it is not.
+    pub fn given(self, spelt: &Spelt) -> Option<Given>
+        ensures { option_map (given_by (spelt_of spelt.now)) result ≡ operands (class_of self) (spelt_of spelt.now) }
+    {
+        match spelt {
+            Spelt::Name(name) => self.of_name(name.as_slice()),
+            Spelt::AtName(name) => self.of_name_at(name.as_slice()),
+            Spelt::Literal(n) => self.of_literal(*n),
+            Spelt::Value(_) => match self {
+                Class::Bare | Class::Any => Some(Given::OfValue),
+                _ => None,
+            },
+            Spelt::AtValue(_) => match self {
+                Class::Any | Class::Cell => Some(Given::OfValue),
+                _ => None,
+            },
+        }
+    }
+
+    fn of_name(self, name: &[u8]) -> Option<Given>
+        ensures { (a : Operand) → option_map (given_by a) result ≡ of_name (class_of self) name.now }
+    {
+        match self {
+            Class::Is(exact) => nothing_if(exact == name),
+            Class::Register => renamed(&REGISTERS, name),
+            Class::Source => renamed(&REGISTERS, name),
+            Class::Pair => renamed(&PAIRS, name),
+            Class::StackPair => renamed(&STACK_PAIRS, name),
+            _ => None,
+        }
+    }
+
+    fn of_name_at(self, name: &[u8]) -> Option<Given>
+        ensures { (a : Operand) → option_map (given_by a) result ≡ of_name_at (class_of self) name.now }
+    {
+        match self {
+            Class::At(exact) => nothing_if(exact == name),
+            Class::Memory => renamed(&MEMORY, name),
+            Class::Source => renamed(&MEMORY, name),
+            Class::Indirect => renamed(&INDIRECTS, name),
+            _ => None,
+        }
+    }
+
+    fn of_literal(self, n: u16) -> Option<Given>
+        ensures { option_map (given_by (Literal n)) result ≡ operands (class_of self) (Literal n) }
+    {
+        match self {
+            Class::Bare | Class::Any => Some(Given::OfValue),
+            Class::Zero => { if n == 0 { Some(Given::OfValue) } else { None } }
+            _ => None,
+        }
+    }
+}
+
+fn nothing_if(same: bool) -> Option<Given>
+    ensures { (a : Operand) → option_map (given_by a) result ≡ nothing_if same }
+{
+    if same { Some(Given::Nothing) } else { None }
+}
+
+// The name of Intel's spelling for a name.
+fn renamed(names: &[(&[u8], &[u8])], name: &[u8]) -> Option<Given>
+    requires { are_words (map (λ (x : Bor (List ℕ) × Bor (List ℕ)). x.1.now) names.now) ≡ true }
+    ensures { (entries : Names) (a : Operand) → map (λ (x : Bor (List ℕ) × Bor (List ℕ)). (x.0.now, x.1.now)) names.now ≡ entries → option_map (given_by a) result ≡ renamed entries name.now }
+{
+    match beside(names, name) {
+        Some(other) => Some(Given::Renamed(Name80::of(other))),
+        None => None,
+    }
+}
+
+/// What stands beside a name in a table.
+pub fn beside<'a>(table: &[(&'a [u8], &'a [u8])], name: &[u8]) -> Option<&'a [u8]>
+    ensures { option_copied result ≡ option_map (λ (x : Bor (List ℕ) × Bor (List ℕ)). x.1.now) (find (λ (x : Bor (List ℕ) × Bor (List ℕ)). bytes_eq x.0.now name.now) table.now) }
+{
+    let entry = table.iter().find(|entry| entry.0 == name)?;
+    Some(entry.1)
+}

@@ -1,0 +1,168 @@
+//! How an operand is spelt.
+
+ghost use Rattle.std.specs.Prelude.{◌≡◌, ◌≢◌, ◌↔◌, ℕ, [], ◌∷◌, IsTrue, List, MatchOption, None, false, option_map};
+ghost use Rattle.asm80_text.specs.declared.token.Token.{Token};
+ghost use Rattle.zilog80.specs.Operands.{atom_of, has_reserved, is_reserved};
+ghost use Rattle.zilog80.specs.Read.{GivesEnclosed, GivesSpelt, GivesWhole, spelt_of};
+
+use asm80_text::{Expr, Name80, ParseFault, Token, expression, first};
+use std::alloc::{AllocError, Global};
+
+/// An operand as it is spelt.
+#[derive(Drop)]
+pub enum Spelt {
+    /// A reserved name alone.
+    Name(Name80),
+    /// A reserved name in one pair of parentheses.
+    AtName(Name80),
+    /// A number alone.
+    Literal(u16),
+    /// Any other value that is not wholly one pair of parentheses.
+    Value(Expr),
+    /// A value in one pair of parentheses.
+    AtValue(Expr),
+}
+
+/// How the operand is spelt that all of the tokens are.
+pub fn read_operand(alloc: Global, tokens: &[Token]) -> Result<Spelt, ParseFault>
+    ensures { GivesSpelt tokens.now result }
+{
+    if let Some(atom) = atom_of(tokens) {
+        return Ok(atom);
+    }
+    if has_reserved(tokens) {
+        return Err(ParseFault::Malformed);
+    }
+    composed(alloc, tokens)
+}
+
+// The operand that tokens are which are no name or number alone and have no reserved name among them.
+fn composed(alloc: Global, tokens: &[Token]) -> Result<Spelt, ParseFault>
+    requires atom { atom_of tokens.now ≡ None }
+    requires free { has_reserved tokens.now ≡ false }
+    ensures { GivesSpelt tokens.now result }
+{
+    let inside = enclosed(alloc, tokens)?;
+    match inside {
+        Some(e) => Ok(Spelt::AtValue(e)),
+        None => match whole(alloc, tokens) {
+            Ok(e) => Ok(Spelt::Value(e)),
+            Err(fault) => Err(fault),
+        },
+    }
+}
+
+// A name or a number alone, or a name in one pair of parentheses.
+fn atom_of(tokens: &[Token]) -> Option<Spelt>
+    ensures { option_map spelt_of result ≡ atom_of tokens.now }
+{
+    if let Some(name) = name_at(tokens) {
+        return Some(Spelt::AtName(name));
+    }
+    let (token, rest) = first(tokens)?;
+    if rest.is_empty() { alone(token) } else { None }
+}
+
+// A name or a number.
+fn alone(token: &Token) -> Option<Spelt>
+    ensures { option_map spelt_of result ≡ atom_of (token.now ∷ []) }
+{
+    match token {
+        Token::Register(name) => Some(Spelt::Name(*name)),
+        Token::Digits(n) => Some(Spelt::Literal(*n)),
+        Token::Num(n) => Some(Spelt::Literal(*n)),
+        _ => None,
+    }
+}
+
+// The reserved name in the one pair of parentheses that all of the tokens are.
+fn name_at(tokens: &[Token]) -> Option<Name80>
+    ensures { MatchOption result ((n : List ℕ) → tokens.now ≢ Token.Open ∷ Token.Register n ∷ Token.Close ∷ []) (λ n. tokens.now ≡ Token.Open ∷ Token.Register n ∷ Token.Close ∷ []) }
+{
+    let inside = after_open(tokens)?;
+    let (name, rest) = name_of(inside)?;
+    if is_close(rest) { Some(*name) } else { None }
+}
+
+// The reserved name that is the next token, and the tokens after it.
+fn name_of(tokens: &[Token]) -> Option<(&Name80, &[Token])>
+    ensures { MatchOption result ((n : List ℕ) (rest : List Token) → tokens.now ≢ Token.Register n ∷ rest) (λ p. tokens.now ≡ Token.Register p.0.now ∷ p.1.now) }
+{
+    let (token, rest) = first(tokens)?;
+    match token {
+        Token::Register(name) => Some((name, rest)),
+        _ => None,
+    }
+}
+
+// Whether the tokens are a closing parenthesis alone.
+fn is_close(tokens: &[Token]) -> bool
+    ensures { IsTrue result ↔ (tokens.now ≡ Token.Close ∷ []) }
+{
+    let Some((token, rest)) = first(tokens) else {
+        return false;
+    };
+    match token {
+        Token::Close => rest.is_empty(),
+        _ => false,
+    }
+}
+
+// Whether a reserved name stands among the tokens.
+fn has_reserved(tokens: &[Token]) -> bool
+    ensures { result ≡ has_reserved tokens.now }
+{
+    tokens.iter().any(|token| is_reserved(token))
+}
+
+fn is_reserved(token: &Token) -> bool
+    ensures { result ≡ is_reserved token.now }
+{
+    match token {
+        Token::Register(_) => true,
+        _ => false,
+    }
+}
+
+// The expression within the one pair of parentheses that all of the tokens are.
+fn enclosed(alloc: Global, tokens: &[Token]) -> Result<Option<Expr>, AllocError>
+    ensures { GivesEnclosed tokens.now result }
+{
+    let Some(inside) = after_open(tokens) else {
+        return Ok(None);
+    };
+    match expression(alloc, inside) {
+        Ok((e, rest)) => {
+            if is_close(rest) {
+                Ok(Some(e))
+            } else {
+                Ok(None)
+            }
+        }
+        Err(ParseFault::Malformed) => Ok(None),
+        Err(ParseFault::Memory) => Err(AllocError),
+    }
+}
+
+// The tokens after an opening parenthesis.
+fn after_open(tokens: &[Token]) -> Option<&[Token]>
+    ensures { MatchOption result ((rest : List Token) → tokens.now ≢ Token.Open ∷ rest) (λ rest. tokens.now ≡ Token.Open ∷ rest.now) }
+{
+    let (token, rest) = first(tokens)?;
+    match token {
+        Token::Open => Some(rest),
+        _ => None,
+    }
+}
+
+// The expression that all of the tokens are.
+fn whole(alloc: Global, tokens: &[Token]) -> Result<Expr, ParseFault>
+    ensures { GivesWhole tokens.now result }
+{
+    let (e, rest) = expression(alloc, tokens)?;
+    if rest.is_empty() {
+        Ok(e)
+    } else {
+        Err(ParseFault::Malformed)
+    }
+}

@@ -1,0 +1,270 @@
+//! The table of instructions, and the reserved words.
+
+ghost use Rattle.std.specs.Prelude.{◌≡◌, List, ℕ, find, map, option_map, true};
+ghost use Rattle.std.specs.List.{list_any};
+ghost use Rattle.std.specs.Str.{bytes_eq};
+ghost use Rattle.zilog80.specs.Operands.{Class as OperandClass};
+ghost use Rattle.zilog80.specs.Table.{bare_rows, binary_rows, unary_rows};
+ghost use Rattle.zilog80.specs.Words.{is_bare, is_binary, is_directive, is_in_table, is_operation, is_register, is_unary};
+ghost use Rattle.zilog80.specs.Read.{BareEntry, BinaryEntry, IsBareRow, IsBinaryRow, IsUnaryRow, UnaryEntry, are_words, bare_of, binary_of, fits_binary, fits_unary, given_binary, given_unary, read_binary, read_unary, spelt_of, unary_of};
+
+use crate::class::Class::{self, *};
+use crate::class::beside;
+use crate::operand::Spelt;
+use asm80_text::Name80;
+
+/// A word, the class of its operand, and the operation in Intel's spelling.
+type UnaryRow<'a> = (&'a [u8], Class, &'a [u8]);
+
+/// A word, the classes of its operands, and the operation in Intel's spelling.
+type BinaryRow<'a> = (&'a [u8], Class, Class, &'a [u8]);
+
+/// The directives of the assembler.
+const DIRECTIVES: [&[u8]; 9] = [
+    b"ORG", b"END", b"EQU", b"SET", b"IF", b"ENDIF", b"DB", b"DW", b"DS",
+];
+
+/// The names of registers, of register pairs and of conditions, and M and PSW.
+const RESERVED_NAMES: [&[u8]; 20] = [
+    b"A", b"B", b"C", b"D", b"E", b"H", b"L", b"AF", b"BC", b"DE", b"HL", b"SP", b"NZ", b"Z",
+    b"NC", b"PO", b"PE", b"P", b"M", b"PSW",
+];
+
+/// A word without operands, and the operation that it is.
+const BARE: [(&[u8], &[u8]); 13] = [
+    (b"RLCA", b"RLC"),
+    (b"RRCA", b"RRC"),
+    (b"RLA", b"RAL"),
+    (b"RRA", b"RAR"),
+    (b"DAA", b"DAA"),
+    (b"CPL", b"CMA"),
+    (b"SCF", b"STC"),
+    (b"CCF", b"CMC"),
+    (b"NOP", b"NOP"),
+    (b"RET", b"RET"),
+    (b"HALT", b"HLT"),
+    (b"DI", b"DI"),
+    (b"EI", b"EI"),
+];
+
+/// A word with an operand of a class.
+const UNARY: [UnaryRow<'static>; 28] = [
+    (b"SUB", Source, b"SUB"),
+    (b"SUB", Any, b"SUI"),
+    (b"AND", Source, b"ANA"),
+    (b"AND", Any, b"ANI"),
+    (b"XOR", Source, b"XRA"),
+    (b"XOR", Any, b"XRI"),
+    (b"OR", Source, b"ORA"),
+    (b"OR", Any, b"ORI"),
+    (b"CP", Source, b"CMP"),
+    (b"CP", Any, b"CPI"),
+    (b"INC", Source, b"INR"),
+    (b"INC", Pair, b"INX"),
+    (b"DEC", Source, b"DCR"),
+    (b"DEC", Pair, b"DCX"),
+    (b"PUSH", StackPair, b"PUSH"),
+    (b"POP", StackPair, b"POP"),
+    (b"JP", Any, b"JMP"),
+    (b"JP", At(b"HL"), b"PCHL"),
+    (b"CALL", Any, b"CALL"),
+    (b"RET", Is(b"NZ"), b"RNZ"),
+    (b"RET", Is(b"Z"), b"RZ"),
+    (b"RET", Is(b"NC"), b"RNC"),
+    (b"RET", Is(b"C"), b"RC"),
+    (b"RET", Is(b"PO"), b"RPO"),
+    (b"RET", Is(b"PE"), b"RPE"),
+    (b"RET", Is(b"P"), b"RP"),
+    (b"RET", Is(b"M"), b"RM"),
+    (b"RST", Zero, b"RST"),
+];
+
+/// A word with two operands.
+const BINARY: [BinaryRow<'static>; 38] = [
+    (b"LD", Register, Source, b"MOV"),
+    (b"LD", Memory, Register, b"MOV"),
+    (b"LD", Source, Bare, b"MVI"),
+    (b"LD", Pair, Bare, b"LXI"),
+    (b"LD", Is(b"A"), Cell, b"LDA"),
+    (b"LD", Cell, Is(b"A"), b"STA"),
+    (b"LD", Is(b"HL"), Cell, b"LHLD"),
+    (b"LD", Cell, Is(b"HL"), b"SHLD"),
+    (b"LD", Is(b"A"), Indirect, b"LDAX"),
+    (b"LD", Indirect, Is(b"A"), b"STAX"),
+    (b"LD", Is(b"SP"), Is(b"HL"), b"SPHL"),
+    (b"EX", Is(b"DE"), Is(b"HL"), b"XCHG"),
+    (b"EX", At(b"SP"), Is(b"HL"), b"XTHL"),
+    (b"ADD", Is(b"A"), Source, b"ADD"),
+    (b"ADD", Is(b"A"), Any, b"ADI"),
+    (b"ADC", Is(b"A"), Source, b"ADC"),
+    (b"ADC", Is(b"A"), Any, b"ACI"),
+    (b"SBC", Is(b"A"), Source, b"SBB"),
+    (b"SBC", Is(b"A"), Any, b"SBI"),
+    (b"ADD", Is(b"HL"), Pair, b"DAD"),
+    (b"JP", Is(b"NZ"), Any, b"JNZ"),
+    (b"JP", Is(b"Z"), Any, b"JZ"),
+    (b"JP", Is(b"NC"), Any, b"JNC"),
+    (b"JP", Is(b"C"), Any, b"JC"),
+    (b"JP", Is(b"PO"), Any, b"JPO"),
+    (b"JP", Is(b"PE"), Any, b"JPE"),
+    (b"JP", Is(b"P"), Any, b"JP"),
+    (b"JP", Is(b"M"), Any, b"JM"),
+    (b"CALL", Is(b"NZ"), Any, b"CNZ"),
+    (b"CALL", Is(b"Z"), Any, b"CZ"),
+    (b"CALL", Is(b"NC"), Any, b"CNC"),
+    (b"CALL", Is(b"C"), Any, b"CC"),
+    (b"CALL", Is(b"PO"), Any, b"CPO"),
+    (b"CALL", Is(b"PE"), Any, b"CPE"),
+    (b"CALL", Is(b"P"), Any, b"CP"),
+    (b"CALL", Is(b"M"), Any, b"CM"),
+    (b"IN", Is(b"A"), Cell, b"IN"),
+    (b"OUT", Cell, Is(b"A"), b"OUT"),
+];
+
+#[tactic(auto, unfolding(crate::specs::Words::directives))]
+pub fn is_directive(word: &[u8]) -> bool
+    ensures { result ≡ is_directive word.now }
+{
+    is_among(&DIRECTIVES, word)
+}
+
+/// Whether a word is an operation: a directive, or a word of the table.
+pub fn is_operation(word: &[u8]) -> bool
+    ensures { result ≡ is_operation word.now }
+{
+    is_directive(word) || is_in_table(word)
+}
+
+/// Whether a word is a reserved name that is neither an operation nor an operator.
+#[tactic(auto, unfolding(crate::specs::Words::reserved_names))]
+pub fn is_register(word: &[u8]) -> bool
+    ensures { result ≡ is_register word.now }
+{
+    is_among(&RESERVED_NAMES, word)
+}
+
+fn is_among(names: &[&[u8]], word: &[u8]) -> bool
+    ensures { result ≡ list_any (λ name. bytes_eq name.now word.now) names.now }
+{
+    names.iter().any(|name| *name == word)
+}
+
+// Whether a word stands in a row of the table.
+fn is_in_table(word: &[u8]) -> bool
+    ensures { result ≡ is_in_table word.now }
+{
+    is_bare(word) || is_unary(word) || is_binary(word)
+}
+
+fn is_bare(word: &[u8]) -> bool
+    ensures { result ≡ is_bare word.now }
+{
+    is_bare_in(&BARE, word)
+}
+
+fn is_bare_in(rows: &[(&[u8], &[u8])], word: &[u8]) -> bool
+    ensures { result ≡ list_any (λ (r : BareEntry). bytes_eq r.0.now word.now) rows.now }
+{
+    rows.iter().any(|row| row.0 == word)
+}
+
+fn is_unary(word: &[u8]) -> bool
+    ensures { result ≡ is_unary word.now }
+{
+    is_unary_in(&UNARY, word)
+}
+
+fn is_unary_in(rows: &[UnaryRow<'_>], word: &[u8]) -> bool
+    ensures { result ≡ list_any (λ (r : UnaryEntry). bytes_eq r.0.now word.now) rows.now }
+{
+    rows.iter().any(|row| row.0 == word)
+}
+
+fn is_binary(word: &[u8]) -> bool
+    ensures { result ≡ is_binary word.now }
+{
+    is_binary_in(&BINARY, word)
+}
+
+fn is_binary_in(rows: &[BinaryRow<'_>], word: &[u8]) -> bool
+    ensures { result ≡ list_any (λ (r : BinaryEntry). bytes_eq r.0.now word.now) rows.now }
+{
+    rows.iter().any(|row| row.0 == word)
+}
+
+/// The operation that a word without operands is.
+pub fn bare_row(word: &[u8]) -> Option<Name80>
+    ensures { IsBareRow bare_rows word.now result }
+{
+    bare_in(&BARE, word)
+}
+
+fn bare_in(rows: &[(&[u8], &[u8])], word: &[u8]) -> Option<Name80>
+    requires { are_words (map (λ (r : BareEntry). r.1.now) rows.now) ≡ true }
+    ensures { (entries : List (List ℕ × List ℕ)) → map bare_of rows.now ≡ entries → IsBareRow entries word.now result }
+{
+    match beside(rows, word) {
+        Some(op) => Some(Name80::of(op)),
+        None => None,
+    }
+}
+
+/// The class of the operand and the operation of the row in which a word and its operand stand.
+pub fn unary_row(word: &[u8], operand: &Spelt) -> Option<(Class, Name80)>
+    ensures { IsUnaryRow unary_rows word.now (spelt_of operand.now) result }
+{
+    unary_in(&UNARY, word, operand)
+}
+
+fn unary_in(rows: &[UnaryRow<'_>], word: &[u8], operand: &Spelt) -> Option<(Class, Name80)>
+    requires { are_words (map (λ (r : UnaryEntry). r.2.now) rows.now) ≡ true }
+    ensures { (entries : List (List ℕ × OperandClass × List ℕ)) → map unary_of rows.now ≡ entries → IsUnaryRow entries word.now (spelt_of operand.now) result }
+{
+    match unary_at(rows, word, operand) {
+        Some(row) => Some((row.0, Name80::of(row.1))),
+        None => None,
+    }
+}
+
+fn unary_at<'a>(rows: &[UnaryRow<'a>], word: &[u8], operand: &Spelt) -> Option<(Class, &'a [u8])>
+    ensures { option_map read_unary result ≡ option_map given_unary (find (fits_unary word.now (spelt_of operand.now)) rows.now) }
+{
+    let row = rows
+        .iter()
+        .find(|row| row.0 == word && row.1.takes(operand))?;
+    Some((row.1, row.2))
+}
+
+/// The classes of the operands and the operation of the row in which a word and its two operands stand.
+pub fn binary_row(word: &[u8], left: &Spelt, right: &Spelt) -> Option<(Class, Class, Name80)>
+    ensures { IsBinaryRow binary_rows word.now (spelt_of left.now) (spelt_of right.now) result }
+{
+    binary_in(&BINARY, word, left, right)
+}
+
+fn binary_in(
+    rows: &[BinaryRow<'_>],
+    word: &[u8],
+    left: &Spelt,
+    right: &Spelt,
+) -> Option<(Class, Class, Name80)>
+    requires { are_words (map (λ (r : BinaryEntry). r.3.now) rows.now) ≡ true }
+    ensures { (entries : List (List ℕ × OperandClass × OperandClass × List ℕ)) → map binary_of rows.now ≡ entries → IsBinaryRow entries word.now (spelt_of left.now) (spelt_of right.now) result }
+{
+    match binary_at(rows, word, left, right) {
+        Some(row) => Some((row.0, row.1, Name80::of(row.2))),
+        None => None,
+    }
+}
+
+fn binary_at<'a>(
+    rows: &[BinaryRow<'a>],
+    word: &[u8],
+    left: &Spelt,
+    right: &Spelt,
+) -> Option<(Class, Class, &'a [u8])>
+    ensures { option_map read_binary result ≡ option_map given_binary (find (fits_binary word.now (spelt_of left.now) (spelt_of right.now)) rows.now) }
+{
+    let row = rows.iter().find(|row| row.0 == word && (row.1.takes(left) && row.2.takes(right)))?;
+    Some((row.1, row.2, row.3))
+}
