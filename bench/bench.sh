@@ -101,6 +101,13 @@ rows() {
   printf '| %s, z80asm of the source | %s | | |\n| %s, NASM of the text | %s | | |\n' "$name" "${z80:--}" "$name" "${nasm:--}"
 }
 
+# A row of `shrink` over the plain text of a made source of so many lines.
+shrink_row() {
+  source_of "$1" >made.asm
+  "$program" translate made.asm plain.a86 --plain >told
+  row "made, shrink of $(($(grep -c : plain.a86) + $(grep -vc : plain.a86))) statements, plain" '' "$program" shrink made.asm plain.a86 short.a86
+}
+
 # A row of a run of ten million instructions: seconds, KiB, millions of instructions a second.
 run_row() {
   local name=$1 taken
@@ -117,6 +124,7 @@ for lines in 4000 8000 16000 32000; do
   source_of "$lines" >made.asm
   rows "made, $lines lines" made.asm
 done
+for lines in 253 505 1013; do shrink_row "$lines"; done
 echo
 echo '| Run of 10,000,000 instructions | Seconds | KiB | Million a second |'
 echo '|---|---|---|---|'

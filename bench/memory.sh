@@ -98,6 +98,8 @@ try 0 run86 letter.a86 --input menu.keys --disk disk --ports disk --out-disk out
 try 0 both letter.asm --input menu.keys --disk disk --ports disk --out-disk out
 try 0 both ports.asm --ports disk
 try 0 sample 1 out
+try 0 shrink letter.asm letter.a86 out
+try 8 shrink letter.asm other.a86 out
 try 0 cmd letter.a86 out
 try 0 cmdshow letter.cmd
 try 15 cmdshow letter.asm

@@ -36,27 +36,40 @@ fn run_text(alloc: Global, run: &RunOptions) -> Result<String, AllocError> {
     )
 }
 
+// The word of a spelling, after a blank, where it is not Intel's.
+fn spelling(zilog: bool) -> &'static str {
+    if zilog { " zilog" } else { "" }
+}
+
 fn command_text(alloc: Global, command: &Command) -> Result<String, AllocError> {
     match command {
         Command::Translate(command) => {
             let mode = if command.plain { "plain" } else { "lean" };
             format!(in alloc;
-                "{} {} {mode} top {:x}",
-                command.input, command.output, command.top
+                "{} {} {mode} top {:x}{}",
+                command.input,
+                command.output,
+                command.top,
+                spelling(command.zilog)
             )
         }
         Command::Check(command) => {
             format!(in alloc;
-                "check {} {} top {:x}",
-                command.source, command.text, command.top
+                "check {} {} top {:x}{}",
+                command.source,
+                command.text,
+                command.top,
+                spelling(command.zilog)
             )
         }
         Command::Flags(command) => {
-            format!(in alloc; "flags {} top {:x}", command.source, command.top)
+            let spelling = spelling(command.zilog);
+            format!(in alloc; "flags {} top {:x}{spelling}", command.source, command.top)
         }
         Command::Run80(command) => {
             let run = run_text(alloc, &command.run)?;
-            format!(in alloc; "{} top {:x} {run}", command.source, command.top)
+            let spelling = spelling(command.zilog);
+            format!(in alloc; "{} top {:x} {run}{spelling}", command.source, command.top)
         }
         Command::Run86(command) => {
             let run = run_text(alloc, &command.run)?;
@@ -65,8 +78,11 @@ fn command_text(alloc: Global, command: &Command) -> Result<String, AllocError> 
         Command::Both(command) => {
             let run = run_text(alloc, &command.run)?;
             format!(in alloc;
-                "both {} top {:x} choice {:x} {run}",
-                command.source, command.top, command.choice
+                "both {} top {:x} choice {:x} {run}{}",
+                command.source,
+                command.top,
+                command.choice,
+                spelling(command.zilog)
             )
         }
         Command::Sample(command) => {
@@ -76,8 +92,11 @@ fn command_text(alloc: Global, command: &Command) -> Result<String, AllocError> 
         Command::CmdShow(command) => format!(in alloc; "cmdshow {}", command.file),
         Command::Hex80(command) => {
             format!(in alloc;
-                "hex80 {} {} top {:x}",
-                command.source, command.output, command.top
+                "hex80 {} {} top {:x}{}",
+                command.source,
+                command.output,
+                command.top,
+                spelling(command.zilog)
             )
         }
         Command::RunHex(command) => {
@@ -85,6 +104,12 @@ fn command_text(alloc: Global, command: &Command) -> Result<String, AllocError> 
             format!(in alloc;
                 "runhex {} top {:x} choice {:x} {run}",
                 command.file, command.top, command.choice
+            )
+        }
+        Command::Shrink(command) => {
+            format!(in alloc;
+                "shrink {} {} {} top {:x}",
+                command.source, command.text, command.output, command.top
             )
         }
     }

@@ -1,17 +1,18 @@
 -- The form of the first word tells what the rules say, and the rules say no more.
-use Rattle.std.proofs.Common.{◌≡◌, ◌<◌, List, [], ◌∷◌, ◌++◌, Bool, true, false, Option, Some, None, refl, ap, sym, ◌∙◌, cond, length, take, get_or, arith, add-one, subst}
-use Rattle.std.specs.List.{before_first, after_first, position_or_len}
+use Rattle.std.proofs.Common.{◌≡◌, ◌<◌, List, [], ◌∷◌, ◌++◌, Bool, true, false, not, Option, Some, None, refl, ap, sym, ◌∙◌, cond, length, take, get_or, arith, add-one, subst}
+use Rattle.std.specs.Option.{is_some}
+use Rattle.std.specs.List.{list_all, before_first, after_first, position_or_len}
 use Rattle.std.specs.Str.{bytes_eq}
-use Rattle.std.proofs.lemmas.Bool.{lt-ltb, ltb-true, eqb-true}
+use Rattle.std.proofs.lemmas.Bool.{lt-ltb, ltb-true, eqb-true, and_parts, false≢true}
 use Rattle.std.proofs.lemmas.List.{take-append-drop}
 use Rattle.std.proofs.lemmas.List.Sums.{passes_at_first}
 use Rattle.std.proofs.lemmas.Option.{none-some, same_Some}
 use Rattle.std.proofs.lemmas.Slice.Eq.{bytes_eq-Decides}
 use Rattle.std.proofs.Math.Seq.{drop-cons}
 use Rattle.cmd_arguments.specs.declared.table.CommandName.{CommandName}
-use Rattle.cmd_arguments.specs.declared.table.CommandName.TheVariants.{Translate, Check, Flags, Run80, Run86, Both, Sample, Cmd, CmdShow, Hex80, RunHex}
+use Rattle.cmd_arguments.specs.declared.table.CommandName.TheVariants.{Translate, Check, Flags, Run80, Run86, Both, Sample, Cmd, CmdShow, Hex80, RunHex, Shrink}
 use Rattle.cmd_arguments.specs.declared.table.OptionName.{OptionName}
-use Rattle.cmd_arguments.specs.declared.table.OptionName.TheVariants.{Top, Choice, Input, Disk, Ports, OutDisk, Tail, Steps, Plain}
+use Rattle.cmd_arguments.specs.declared.table.OptionName.TheVariants.{Top, Choice, Input, Disk, Ports, OutDisk, Tail, Steps, Plain, Zilog}
 use Rattle.cmd_arguments.specs.Table.{Word, option_word, options_of, flag_words, named_among}
 use Rattle.cmd_arguments.specs.Items.{Item, Name, Setting, is_value, BeginsWithItem, name, flag, parted, joined, end_of_options}
 use Rattle.cmd_arguments.proofs.FirstItem.{is_equals, has_equals, First, first_item, joined_item, parted_item, lone_item}
@@ -44,28 +45,44 @@ option_words OutDisk = record { alone = refl; whole = refl; begins = λ text. re
 option_words Tail = record { alone = refl; whole = refl; begins = λ text. refl; place = λ text. lt-ltb _ _ (omega arith); before = λ text. refl; after = λ text. refl }
 option_words Steps = record { alone = refl; whole = refl; begins = λ text. refl; place = λ text. lt-ltb _ _ (omega arith); before = λ text. refl; after = λ text. refl }
 option_words Plain = record { alone = refl; whole = refl; begins = λ text. refl; place = λ text. lt-ltb _ _ (omega arith); before = λ text. refl; after = λ text. refl }
+option_words Zilog = record { alone = refl; whole = refl; begins = λ text. refl; place = λ text. lt-ltb _ _ (omega arith); before = λ text. refl; after = λ text. refl }
+
+-- what passes a test of all options is what a word finds among them
+pub found_with : (test : OptionName → Bool) (os : List OptionName) (w : Word) (o : OptionName) → list_all test os ≡ true → named_among os w ≡ Some o → test o ≡ true
+found_with test [] w o all e = absurd (none-some _ e)
+found_with test (p ∷ os) w o all e =
+    let parts = and_parts (test p) (list_all test os) all in
+    first_or (test o) (bytes_eq (option_word p) w) (λ is. ap test (sym (same_Some _ _ is)) ∙ parts.0) (λ is. found_with test os w o parts.1 is) e
+  where
+    first_or : (found : Bool) (b : Bool) → (Some p ≡ Some o → found ≡ true) → (named_among os w ≡ Some o → found ≡ true) → cond b (Some p) (named_among os w) ≡ Some o → found ≡ true
+    first_or found true first later is = first is
+    first_or found false first later is = later is
+
+-- no flag of a command is an option of it
+flags_apart : (c : CommandName) → list_all (λ f. not (is_some (named_among (options_of c) (option_word f)))) (flag_words c) ≡ true
+flags_apart Translate = refl
+flags_apart Check = refl
+flags_apart Flags = refl
+flags_apart Run80 = refl
+flags_apart Run86 = refl
+flags_apart Both = refl
+flags_apart Sample = refl
+flags_apart Cmd = refl
+flags_apart CmdShow = refl
+flags_apart Hex80 = refl
+flags_apart RunHex = refl
+flags_apart Shrink = refl
 
 -- no option of a command is a flag of it
 pub no_flag : (c : CommandName) (o p : OptionName) → named_among (options_of c) (option_word o) ≡ Some p → named_among (flag_words c) (option_word o) ≡ None
-no_flag Translate Plain p e = absurd (none-some p e)
-no_flag Translate Top p e = refl
-no_flag Translate Choice p e = refl
-no_flag Translate Input p e = refl
-no_flag Translate Disk p e = refl
-no_flag Translate Ports p e = refl
-no_flag Translate OutDisk p e = refl
-no_flag Translate Tail p e = refl
-no_flag Translate Steps p e = refl
-no_flag Check o p e = refl
-no_flag Flags o p e = refl
-no_flag Run80 o p e = refl
-no_flag Run86 o p e = refl
-no_flag Both o p e = refl
-no_flag Sample o p e = refl
-no_flag Cmd o p e = refl
-no_flag CmdShow o p e = refl
-no_flag Hex80 o p e = refl
-no_flag RunHex o p e = refl
+no_flag c o p e = by_flag (named_among (flag_words c) (option_word o)) refl
+  where
+    by_flag : (f : Option OptionName) → named_among (flag_words c) (option_word o) ≡ f → f ≡ None
+    by_flag None is = refl
+    by_flag (Some f) is =
+        let apart = found_with (λ g. not (is_some (named_among (options_of c) (option_word g)))) (flag_words c) (option_word o) f (flags_apart c) is in
+        let taken : is_some (named_among (options_of c) (option_word f)) ≡ true = ap (λ w. is_some (named_among (options_of c) w)) (sym (named_word (flag_words c) (option_word o) f is)) ∙ ap is_some e in
+        absurd (false≢true (sym (ap not taken) ∙ apart))
 
 -- what begins by the rules is what the form tells
 pub form_of_rule : {c : CommandName} {w : Word} {ws rest : List Word} {item : Item} → BeginsWithItem c (w ∷ ws) item rest → first_item c w ws ≡ Some (item, rest)
@@ -138,3 +155,4 @@ no_item_at_mark Cmd ws = refl
 no_item_at_mark CmdShow ws = refl
 no_item_at_mark Hex80 ws = refl
 no_item_at_mark RunHex ws = refl
+no_item_at_mark Shrink ws = refl

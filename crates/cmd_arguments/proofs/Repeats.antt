@@ -7,13 +7,13 @@ use Rattle.std.proofs.lemmas.Bool.{false≢true, or_right}
 use Rattle.clap.specs.Words.{Row}
 use Rattle.clap.specs.Walk.{has_row}
 use Rattle.cmd_arguments.specs.declared.table.CommandName.{CommandName}
-use Rattle.cmd_arguments.specs.declared.table.CommandName.TheVariants.{Translate, Check, Flags, Run80, Run86, Both, Sample, Cmd, CmdShow, Hex80, RunHex}
+use Rattle.cmd_arguments.specs.declared.table.CommandName.TheVariants.{Translate, Check, Flags, Run80, Run86, Both, Sample, Cmd, CmdShow, Hex80, RunHex, Shrink}
 use Rattle.cmd_arguments.specs.declared.table.OptionName.{OptionName}
-use Rattle.cmd_arguments.specs.declared.table.OptionName.TheVariants.{Top, Choice, Input, Disk, Ports, OutDisk, Tail, Steps, Plain}
+use Rattle.cmd_arguments.specs.declared.table.OptionName.TheVariants.{Top, Choice, Input, Disk, Ports, OutDisk, Tail, Steps, Plain, Zilog}
 use Rattle.cmd_arguments.specs.Table.{Word, long_name, option_word, named_among, options_of, flag_words}
 use Rattle.cmd_arguments.specs.Items.{Item, Name, Setting, name, flag, parted, joined, Sorts, none, marked, more}
 use Rattle.cmd_arguments.specs.Given.{Gathered, Occurrence, Repeated, gathered, occurrence, texts_of}
-use Rattle.cmd_arguments.specs.Words.{command_of, choice_of, page_of, run_options_of, steps_of, top_of, one_file, two_files, flag_of, input_file}
+use Rattle.cmd_arguments.specs.Words.{command_of, choice_of, page_of, run_options_of, steps_of, top_of, one_file, two_files, three_files, flag_of, input_file}
 use Rattle.cmd_arguments.proofs.Forms.{named_word}
 use Rattle.cmd_arguments.proofs.Rules.{same_names}
 use Rattle.cmd_arguments.proofs.Rows.{eq_of, self_eq}
@@ -31,6 +31,7 @@ of_option OutDisk g = g.out_disk
 of_option Tail g = g.tail
 of_option Steps g = g.steps
 of_option Plain g = g.plain
+of_option Zilog g = g.zilog
 
 no_end : {X Y : Type 0} (o : Option X) (f : X → Option Y) → ((x : X) → f x ≡ None) → option_and_then f o ≡ None
 no_end None f e = refl
@@ -81,7 +82,7 @@ abbrev pub takes_option : CommandName → OptionName → Bool
 takes_option c o = is_some (named_among (options_of c) (option_word o)) || is_some (named_among (flag_words c) (option_word o))
 
 repeated : (c : CommandName) (o : OptionName) (g : Gathered) → takes_option c o ≡ true → of_option o g ≡ Repeated → command_of c g ≡ None
-repeated Translate Top g takes e = no_map _ _ (no_end (flag_of g.plain) _ (λ x1. no_end (two_files g.names) _ (λ x0. stops (top_of g) _ (no_top g e))))
+repeated Translate Top g takes e = no_map _ _ (no_end (flag_of g.plain) _ (λ x2. no_end (flag_of g.zilog) _ (λ x1. no_end (two_files g.names) _ (λ x0. stops (top_of g) _ (no_top g e)))))
 repeated Translate Choice g takes e = absurd (false≢true takes)
 repeated Translate Input g takes e = absurd (false≢true takes)
 repeated Translate Disk g takes e = absurd (false≢true takes)
@@ -90,7 +91,8 @@ repeated Translate OutDisk g takes e = absurd (false≢true takes)
 repeated Translate Tail g takes e = absurd (false≢true takes)
 repeated Translate Steps g takes e = absurd (false≢true takes)
 repeated Translate Plain g takes e = no_map _ _ (stops (flag_of g.plain) _ (ap flag_of e))
-repeated Check Top g takes e = no_map _ _ (no_end (two_files g.names) _ (λ x0. stops (top_of g) _ (no_top g e)))
+repeated Translate Zilog g takes e = no_map _ _ (no_end (flag_of g.plain) _ (λ x. stops (flag_of g.zilog) _ (ap flag_of e)))
+repeated Check Top g takes e = no_map _ _ (no_end (flag_of g.zilog) _ (λ z. no_end (two_files g.names) _ (λ x0. stops (top_of g) _ (no_top g e))))
 repeated Check Choice g takes e = absurd (false≢true takes)
 repeated Check Input g takes e = absurd (false≢true takes)
 repeated Check Disk g takes e = absurd (false≢true takes)
@@ -99,7 +101,8 @@ repeated Check OutDisk g takes e = absurd (false≢true takes)
 repeated Check Tail g takes e = absurd (false≢true takes)
 repeated Check Steps g takes e = absurd (false≢true takes)
 repeated Check Plain g takes e = absurd (false≢true takes)
-repeated Flags Top g takes e = no_map _ _ (no_end (one_file g.names) _ (λ x0. stops (top_of g) _ (no_top g e)))
+repeated Check Zilog g takes e = no_map _ _ (stops (flag_of g.zilog) _ (ap flag_of e))
+repeated Flags Top g takes e = no_map _ _ (no_end (flag_of g.zilog) _ (λ z. no_end (one_file g.names) _ (λ x0. stops (top_of g) _ (no_top g e))))
 repeated Flags Choice g takes e = absurd (false≢true takes)
 repeated Flags Input g takes e = absurd (false≢true takes)
 repeated Flags Disk g takes e = absurd (false≢true takes)
@@ -108,15 +111,17 @@ repeated Flags OutDisk g takes e = absurd (false≢true takes)
 repeated Flags Tail g takes e = absurd (false≢true takes)
 repeated Flags Steps g takes e = absurd (false≢true takes)
 repeated Flags Plain g takes e = absurd (false≢true takes)
-repeated Run80 Top g takes e = no_map _ _ (no_end (one_file g.names) _ (λ x0. stops (top_of g) _ (no_top g e)))
+repeated Flags Zilog g takes e = no_map _ _ (stops (flag_of g.zilog) _ (ap flag_of e))
+repeated Run80 Top g takes e = no_map _ _ (no_end (flag_of g.zilog) _ (λ z. no_end (one_file g.names) _ (λ x0. stops (top_of g) _ (no_top g e))))
 repeated Run80 Choice g takes e = absurd (false≢true takes)
-repeated Run80 Input g takes e = no_map _ _ (no_end (one_file g.names) _ (λ x1. no_end (top_of g) _ (λ x0. stops (run_options_of g) _ (no_run_input g e))))
-repeated Run80 Disk g takes e = no_map _ _ (no_end (one_file g.names) _ (λ x1. no_end (top_of g) _ (λ x0. stops (run_options_of g) _ (no_run_disk g e))))
-repeated Run80 Ports g takes e = no_map _ _ (no_end (one_file g.names) _ (λ x1. no_end (top_of g) _ (λ x0. stops (run_options_of g) _ (no_run_ports g e))))
-repeated Run80 OutDisk g takes e = no_map _ _ (no_end (one_file g.names) _ (λ x1. no_end (top_of g) _ (λ x0. stops (run_options_of g) _ (no_run_out_disk g e))))
-repeated Run80 Tail g takes e = no_map _ _ (no_end (one_file g.names) _ (λ x1. no_end (top_of g) _ (λ x0. stops (run_options_of g) _ (no_run_tail g e))))
-repeated Run80 Steps g takes e = no_map _ _ (no_end (one_file g.names) _ (λ x1. no_end (top_of g) _ (λ x0. stops (run_options_of g) _ (no_run_steps g e))))
+repeated Run80 Input g takes e = no_map _ _ (no_end (flag_of g.zilog) _ (λ z. no_end (one_file g.names) _ (λ x1. no_end (top_of g) _ (λ x0. stops (run_options_of g) _ (no_run_input g e)))))
+repeated Run80 Disk g takes e = no_map _ _ (no_end (flag_of g.zilog) _ (λ z. no_end (one_file g.names) _ (λ x1. no_end (top_of g) _ (λ x0. stops (run_options_of g) _ (no_run_disk g e)))))
+repeated Run80 Ports g takes e = no_map _ _ (no_end (flag_of g.zilog) _ (λ z. no_end (one_file g.names) _ (λ x1. no_end (top_of g) _ (λ x0. stops (run_options_of g) _ (no_run_ports g e)))))
+repeated Run80 OutDisk g takes e = no_map _ _ (no_end (flag_of g.zilog) _ (λ z. no_end (one_file g.names) _ (λ x1. no_end (top_of g) _ (λ x0. stops (run_options_of g) _ (no_run_out_disk g e)))))
+repeated Run80 Tail g takes e = no_map _ _ (no_end (flag_of g.zilog) _ (λ z. no_end (one_file g.names) _ (λ x1. no_end (top_of g) _ (λ x0. stops (run_options_of g) _ (no_run_tail g e)))))
+repeated Run80 Steps g takes e = no_map _ _ (no_end (flag_of g.zilog) _ (λ z. no_end (one_file g.names) _ (λ x1. no_end (top_of g) _ (λ x0. stops (run_options_of g) _ (no_run_steps g e)))))
 repeated Run80 Plain g takes e = absurd (false≢true takes)
+repeated Run80 Zilog g takes e = no_map _ _ (stops (flag_of g.zilog) _ (ap flag_of e))
 repeated Run86 Top g takes e = absurd (false≢true takes)
 repeated Run86 Choice g takes e = no_map _ _ (no_end (one_file g.names) _ (λ x0. stops (choice_of g) _ (no_choice g e)))
 repeated Run86 Input g takes e = no_map _ _ (no_end (one_file g.names) _ (λ x1. no_end (choice_of g) _ (λ x0. stops (run_options_of g) _ (no_run_input g e))))
@@ -126,15 +131,17 @@ repeated Run86 OutDisk g takes e = no_map _ _ (no_end (one_file g.names) _ (λ x
 repeated Run86 Tail g takes e = no_map _ _ (no_end (one_file g.names) _ (λ x1. no_end (choice_of g) _ (λ x0. stops (run_options_of g) _ (no_run_tail g e))))
 repeated Run86 Steps g takes e = no_map _ _ (no_end (one_file g.names) _ (λ x1. no_end (choice_of g) _ (λ x0. stops (run_options_of g) _ (no_run_steps g e))))
 repeated Run86 Plain g takes e = absurd (false≢true takes)
-repeated Both Top g takes e = no_map _ _ (no_end (one_file g.names) _ (λ x0. stops (top_of g) _ (no_top g e)))
-repeated Both Choice g takes e = no_map _ _ (no_end (one_file g.names) _ (λ x1. no_end (top_of g) _ (λ x0. stops (choice_of g) _ (no_choice g e))))
-repeated Both Input g takes e = no_map _ _ (no_end (one_file g.names) _ (λ x2. no_end (top_of g) _ (λ x1. no_end (choice_of g) _ (λ x0. stops (run_options_of g) _ (no_run_input g e)))))
-repeated Both Disk g takes e = no_map _ _ (no_end (one_file g.names) _ (λ x2. no_end (top_of g) _ (λ x1. no_end (choice_of g) _ (λ x0. stops (run_options_of g) _ (no_run_disk g e)))))
-repeated Both Ports g takes e = no_map _ _ (no_end (one_file g.names) _ (λ x2. no_end (top_of g) _ (λ x1. no_end (choice_of g) _ (λ x0. stops (run_options_of g) _ (no_run_ports g e)))))
-repeated Both OutDisk g takes e = no_map _ _ (no_end (one_file g.names) _ (λ x2. no_end (top_of g) _ (λ x1. no_end (choice_of g) _ (λ x0. stops (run_options_of g) _ (no_run_out_disk g e)))))
-repeated Both Tail g takes e = no_map _ _ (no_end (one_file g.names) _ (λ x2. no_end (top_of g) _ (λ x1. no_end (choice_of g) _ (λ x0. stops (run_options_of g) _ (no_run_tail g e)))))
-repeated Both Steps g takes e = no_map _ _ (no_end (one_file g.names) _ (λ x2. no_end (top_of g) _ (λ x1. no_end (choice_of g) _ (λ x0. stops (run_options_of g) _ (no_run_steps g e)))))
+repeated Run86 Zilog g takes e = absurd (false≢true takes)
+repeated Both Top g takes e = no_map _ _ (no_end (flag_of g.zilog) _ (λ z. no_end (one_file g.names) _ (λ x0. stops (top_of g) _ (no_top g e))))
+repeated Both Choice g takes e = no_map _ _ (no_end (flag_of g.zilog) _ (λ z. no_end (one_file g.names) _ (λ x1. no_end (top_of g) _ (λ x0. stops (choice_of g) _ (no_choice g e)))))
+repeated Both Input g takes e = no_map _ _ (no_end (flag_of g.zilog) _ (λ z. no_end (one_file g.names) _ (λ x2. no_end (top_of g) _ (λ x1. no_end (choice_of g) _ (λ x0. stops (run_options_of g) _ (no_run_input g e))))))
+repeated Both Disk g takes e = no_map _ _ (no_end (flag_of g.zilog) _ (λ z. no_end (one_file g.names) _ (λ x2. no_end (top_of g) _ (λ x1. no_end (choice_of g) _ (λ x0. stops (run_options_of g) _ (no_run_disk g e))))))
+repeated Both Ports g takes e = no_map _ _ (no_end (flag_of g.zilog) _ (λ z. no_end (one_file g.names) _ (λ x2. no_end (top_of g) _ (λ x1. no_end (choice_of g) _ (λ x0. stops (run_options_of g) _ (no_run_ports g e))))))
+repeated Both OutDisk g takes e = no_map _ _ (no_end (flag_of g.zilog) _ (λ z. no_end (one_file g.names) _ (λ x2. no_end (top_of g) _ (λ x1. no_end (choice_of g) _ (λ x0. stops (run_options_of g) _ (no_run_out_disk g e))))))
+repeated Both Tail g takes e = no_map _ _ (no_end (flag_of g.zilog) _ (λ z. no_end (one_file g.names) _ (λ x2. no_end (top_of g) _ (λ x1. no_end (choice_of g) _ (λ x0. stops (run_options_of g) _ (no_run_tail g e))))))
+repeated Both Steps g takes e = no_map _ _ (no_end (flag_of g.zilog) _ (λ z. no_end (one_file g.names) _ (λ x2. no_end (top_of g) _ (λ x1. no_end (choice_of g) _ (λ x0. stops (run_options_of g) _ (no_run_steps g e))))))
 repeated Both Plain g takes e = absurd (false≢true takes)
+repeated Both Zilog g takes e = no_map _ _ (stops (flag_of g.zilog) _ (ap flag_of e))
 repeated Sample Top g takes e = absurd (false≢true takes)
 repeated Sample Choice g takes e = absurd (false≢true takes)
 repeated Sample Input g takes e = absurd (false≢true takes)
@@ -144,6 +151,7 @@ repeated Sample OutDisk g takes e = absurd (false≢true takes)
 repeated Sample Tail g takes e = absurd (false≢true takes)
 repeated Sample Steps g takes e = absurd (false≢true takes)
 repeated Sample Plain g takes e = absurd (false≢true takes)
+repeated Sample Zilog g takes e = absurd (false≢true takes)
 repeated Cmd Top g takes e = absurd (false≢true takes)
 repeated Cmd Choice g takes e = absurd (false≢true takes)
 repeated Cmd Input g takes e = absurd (false≢true takes)
@@ -153,6 +161,7 @@ repeated Cmd OutDisk g takes e = absurd (false≢true takes)
 repeated Cmd Tail g takes e = absurd (false≢true takes)
 repeated Cmd Steps g takes e = absurd (false≢true takes)
 repeated Cmd Plain g takes e = absurd (false≢true takes)
+repeated Cmd Zilog g takes e = absurd (false≢true takes)
 repeated CmdShow Top g takes e = absurd (false≢true takes)
 repeated CmdShow Choice g takes e = absurd (false≢true takes)
 repeated CmdShow Input g takes e = absurd (false≢true takes)
@@ -162,7 +171,8 @@ repeated CmdShow OutDisk g takes e = absurd (false≢true takes)
 repeated CmdShow Tail g takes e = absurd (false≢true takes)
 repeated CmdShow Steps g takes e = absurd (false≢true takes)
 repeated CmdShow Plain g takes e = absurd (false≢true takes)
-repeated Hex80 Top g takes e = no_map _ _ (no_end (two_files g.names) _ (λ x0. stops (top_of g) _ (no_top g e)))
+repeated CmdShow Zilog g takes e = absurd (false≢true takes)
+repeated Hex80 Top g takes e = no_map _ _ (no_end (flag_of g.zilog) _ (λ x1. no_end (two_files g.names) _ (λ x0. stops (top_of g) _ (no_top g e))))
 repeated Hex80 Choice g takes e = absurd (false≢true takes)
 repeated Hex80 Input g takes e = absurd (false≢true takes)
 repeated Hex80 Disk g takes e = absurd (false≢true takes)
@@ -171,6 +181,7 @@ repeated Hex80 OutDisk g takes e = absurd (false≢true takes)
 repeated Hex80 Tail g takes e = absurd (false≢true takes)
 repeated Hex80 Steps g takes e = absurd (false≢true takes)
 repeated Hex80 Plain g takes e = absurd (false≢true takes)
+repeated Hex80 Zilog g takes e = no_map _ _ (stops (flag_of g.zilog) _ (ap flag_of e))
 repeated RunHex Top g takes e = no_map _ _ (no_end (one_file g.names) _ (λ x0. stops (top_of g) _ (no_top g e)))
 repeated RunHex Choice g takes e = no_map _ _ (no_end (one_file g.names) _ (λ x1. no_end (top_of g) _ (λ x0. stops (choice_of g) _ (no_choice g e))))
 repeated RunHex Input g takes e = no_map _ _ (no_end (one_file g.names) _ (λ x2. no_end (top_of g) _ (λ x1. no_end (choice_of g) _ (λ x0. stops (run_options_of g) _ (no_run_input g e)))))
@@ -180,6 +191,17 @@ repeated RunHex OutDisk g takes e = no_map _ _ (no_end (one_file g.names) _ (λ 
 repeated RunHex Tail g takes e = no_map _ _ (no_end (one_file g.names) _ (λ x2. no_end (top_of g) _ (λ x1. no_end (choice_of g) _ (λ x0. stops (run_options_of g) _ (no_run_tail g e)))))
 repeated RunHex Steps g takes e = no_map _ _ (no_end (one_file g.names) _ (λ x2. no_end (top_of g) _ (λ x1. no_end (choice_of g) _ (λ x0. stops (run_options_of g) _ (no_run_steps g e)))))
 repeated RunHex Plain g takes e = absurd (false≢true takes)
+repeated RunHex Zilog g takes e = absurd (false≢true takes)
+repeated Shrink Top g takes e = no_map _ _ (no_end (three_files g.names) _ (λ x0. stops (top_of g) _ (no_top g e)))
+repeated Shrink Choice g takes e = absurd (false≢true takes)
+repeated Shrink Input g takes e = absurd (false≢true takes)
+repeated Shrink Disk g takes e = absurd (false≢true takes)
+repeated Shrink Ports g takes e = absurd (false≢true takes)
+repeated Shrink OutDisk g takes e = absurd (false≢true takes)
+repeated Shrink Tail g takes e = absurd (false≢true takes)
+repeated Shrink Steps g takes e = absurd (false≢true takes)
+repeated Shrink Plain g takes e = absurd (false≢true takes)
+repeated Shrink Zilog g takes e = absurd (false≢true takes)
 
 of_gathered : (o : OptionName) (items : List Item) → of_option o (gathered items) ≡ occurrence (texts_of o items)
 of_gathered Top items = refl
@@ -191,6 +213,7 @@ of_gathered OutDisk items = refl
 of_gathered Tail items = refl
 of_gathered Steps items = refl
 of_gathered Plain items = refl
+of_gathered Zilog items = refl
 
 -- ---- an option that stands twice
 

@@ -1,11 +1,12 @@
 -- The rules that `clap` makes of what it is asked, and which of them a word finds.
-use Rattle.std.proofs.Common.{◌≡◌, ℕ, List, [], ◌∷◌, ◌++◌, Bool, true, false, Option, Some, None, refl, ap, ap₂, sym, ◌∙◌, map, codes, cond, ◌+◌, ◌<◌, fold, get_or, length, take}
+use Rattle.std.proofs.Common.{◌≡◌, ℕ, List, [], ◌∷◌, ◌++◌, Bool, true, false, Option, Some, None, refl, ap, ap₂, sym, ◌∙◌, map, codes, cond, not, ◌||◌, ◌+◌, ◌<◌, fold, get_or, length, take}
 use Rattle.std.specs.Prelude.{find, option_map}
+use Rattle.std.specs.List.{list_all}
 use Rattle.std.specs.Str.{bytes_eq}
+use Rattle.std.proofs.lemmas.Bool.{not-true}
 use Rattle.std.specs.Option.{option_or}
 use Rattle.std.proofs.lemmas.List.Folds.{find-append}
 use Rattle.std.proofs.lemmas.List.Sums.{fold_push}
-use Rattle.std.proofs.lemmas.Option.{none-some, same_Some}
 use Rattle.std.proofs.lemmas.List.{map-append, take_more}
 use mathlib.Core.Bool.{or-false}
 use Rattle.clap.specs.Words.{Rule, Text, App, with_rule}
@@ -15,12 +16,12 @@ use Rattle.clap.specs.Faults.{is_simple_and_free}
 use Rattle.clap.proofs.WalkLemmas.{find-map}
 use Rattle.clap.specs.declared.builder.value_parser.ValueParser.TheVariants as vp
 use Rattle.cmd_arguments.specs.declared.table.CommandName.{CommandName}
-use Rattle.cmd_arguments.specs.declared.table.CommandName.TheVariants.{Translate, Check, Flags, Run80, Run86, Both, Sample, Cmd, CmdShow, Hex80, RunHex}
+use Rattle.cmd_arguments.specs.declared.table.CommandName.TheVariants.{Translate, Check, Flags, Run80, Run86, Both, Sample, Cmd, CmdShow, Hex80, RunHex, Shrink}
 use Rattle.cmd_arguments.specs.declared.table.OptionName.{OptionName}
-use Rattle.cmd_arguments.specs.declared.table.OptionName.TheVariants.{Top, Choice, Input, Disk, Ports, OutDisk, Tail, Steps, Plain}
+use Rattle.cmd_arguments.specs.declared.table.OptionName.TheVariants.{Top, Choice, Input, Disk, Ports, OutDisk, Tail, Steps, Plain, Zilog}
 use Rattle.cmd_arguments.specs.Table.{Word, command_word, long_name, option_word, options_of, flag_words, named_among}
 use Rattle.cmd_arguments.specs.Asked.{clap_command, names_rule, option_rule, flag_rule}
-use Rattle.cmd_arguments.proofs.Forms.{named_word, no_flag}
+use Rattle.cmd_arguments.proofs.Forms.{named_word, no_flag, found_with}
 
 abbrev pub names_built : Rule
 names_built = record names_rule { index = Some 1; parser = Some vp.String; range = Some (record { start_inclusive = 1; end_inclusive = 1 }) }
@@ -53,6 +54,7 @@ built_is Cmd = refl
 built_is CmdShow = refl
 built_is Hex80 = refl
 built_is RunHex = refl
+built_is Shrink = refl
 
 pub asked_simple : (c : CommandName) → is_simple (clap_command c) ≡ true
 asked_simple Translate = refl
@@ -66,6 +68,7 @@ asked_simple Cmd = refl
 asked_simple CmdShow = refl
 asked_simple Hex80 = refl
 asked_simple RunHex = refl
+asked_simple Shrink = refl
 
 pub asked_free : (c : CommandName) → is_simple_and_free (clap_command c) ≡ true
 asked_free Translate = refl
@@ -79,6 +82,7 @@ asked_free Cmd = refl
 asked_free CmdShow = refl
 asked_free Hex80 = refl
 asked_free RunHex = refl
+asked_free Shrink = refl
 
 -- an option's word is two hyphens and its name
 pub word_is : (o : OptionName) → option_word o ≡ 0x2D ∷ (0x2D ∷ long_name o)
@@ -91,6 +95,7 @@ word_is OutDisk = refl
 word_is Tail = refl
 word_is Steps = refl
 word_is Plain = refl
+word_is Zilog = refl
 
 pub names_apart : (o : OptionName) → bytes_eq (codes "names") (long_name o) ≡ false
 names_apart Top = refl
@@ -102,6 +107,7 @@ names_apart OutDisk = refl
 names_apart Tail = refl
 names_apart Steps = refl
 names_apart Plain = refl
+names_apart Zilog = refl
 
 pub apart_names : (o : OptionName) → bytes_eq (long_name o) (codes "names") ≡ false
 apart_names Top = refl
@@ -113,10 +119,14 @@ apart_names OutDisk = refl
 apart_names Tail = refl
 apart_names Steps = refl
 apart_names Plain = refl
+apart_names Zilog = refl
 
 -- a flag, by its name
+abbrev pub is_flag_name : Text → Bool
+is_flag_name n = bytes_eq n (codes "plain") || bytes_eq n (codes "zilog")
+
 abbrev pub is_flag : OptionName → Bool
-is_flag o = bytes_eq (long_name o) (codes "plain")
+is_flag o = is_flag_name (long_name o)
 
 pub same_words : (o : OptionName) (n : Text) → bytes_eq (option_word o) (0x2D ∷ (0x2D ∷ n)) ≡ bytes_eq (long_name o) n
 same_words o n = ap (λ w. bytes_eq w (0x2D ∷ (0x2D ∷ n))) (word_is o)
@@ -176,43 +186,36 @@ rules_more f a os i d lt =
     ∙ fold_push with_rule a (map f (take i os)) (f (get_or os i d))
 
 -- an option of a command is no flag, and a flag is one
+options_no_flags : (c : CommandName) → list_all (λ o. not (is_flag o)) (options_of c) ≡ true
+options_no_flags Translate = refl
+options_no_flags Check = refl
+options_no_flags Flags = refl
+options_no_flags Run80 = refl
+options_no_flags Run86 = refl
+options_no_flags Both = refl
+options_no_flags Sample = refl
+options_no_flags Cmd = refl
+options_no_flags CmdShow = refl
+options_no_flags Hex80 = refl
+options_no_flags RunHex = refl
+options_no_flags Shrink = refl
+
+pub flags_are : (c : CommandName) → list_all (λ f. is_flag f) (flag_words c) ≡ true
+flags_are Translate = refl
+flags_are Check = refl
+flags_are Flags = refl
+flags_are Run80 = refl
+flags_are Run86 = refl
+flags_are Both = refl
+flags_are Sample = refl
+flags_are Cmd = refl
+flags_are CmdShow = refl
+flags_are Hex80 = refl
+flags_are RunHex = refl
+flags_are Shrink = refl
+
 pub options_plain : (c : CommandName) (w : Word) (o : OptionName) → named_among (options_of c) w ≡ Some o → is_flag o ≡ false
-options_plain c w o e = plain_in c o (sym (ap (named_among (options_of c)) (named_word (options_of c) w o e)) ∙ e)
-  where
-    plain_in : (c : CommandName) (o : OptionName) → named_among (options_of c) (option_word o) ≡ Some o → is_flag o ≡ false
-    plain_in c Top e = refl
-    plain_in c Choice e = refl
-    plain_in c Input e = refl
-    plain_in c Disk e = refl
-    plain_in c Ports e = refl
-    plain_in c OutDisk e = refl
-    plain_in c Tail e = refl
-    plain_in c Steps e = refl
-    plain_in Translate Plain e = absurd (none-some _ e)
-    plain_in Check Plain e = absurd (none-some _ e)
-    plain_in Flags Plain e = absurd (none-some _ e)
-    plain_in Run80 Plain e = absurd (none-some _ e)
-    plain_in Run86 Plain e = absurd (none-some _ e)
-    plain_in Both Plain e = absurd (none-some _ e)
-    plain_in Sample Plain e = absurd (none-some _ e)
-    plain_in Cmd Plain e = absurd (none-some _ e)
-    plain_in CmdShow Plain e = absurd (none-some _ e)
-    plain_in Hex80 Plain e = absurd (none-some _ e)
-    plain_in RunHex Plain e = absurd (none-some _ e)
+options_plain c w o e = not-true _ (found_with (λ p. not (is_flag p)) (options_of c) w o (options_no_flags c) e)
 
 pub flags_flag : (c : CommandName) (w : Word) (f : OptionName) → named_among (flag_words c) w ≡ Some f → is_flag f ≡ true
-flags_flag Translate w f e = only _ e
-  where
-    only : (b : Bool) → cond b (Some Plain) None ≡ Some f → is_flag f ≡ true
-    only true e = ap (λ o. is_flag o) (sym (same_Some _ _ e))
-    only false e = absurd (none-some _ e)
-flags_flag Check w f e = absurd (none-some _ e)
-flags_flag Flags w f e = absurd (none-some _ e)
-flags_flag Run80 w f e = absurd (none-some _ e)
-flags_flag Run86 w f e = absurd (none-some _ e)
-flags_flag Both w f e = absurd (none-some _ e)
-flags_flag Sample w f e = absurd (none-some _ e)
-flags_flag Cmd w f e = absurd (none-some _ e)
-flags_flag CmdShow w f e = absurd (none-some _ e)
-flags_flag Hex80 w f e = absurd (none-some _ e)
-flags_flag RunHex w f e = absurd (none-some _ e)
+flags_flag c w f e = found_with (λ p. is_flag p) (flag_words c) w f (flags_are c) e

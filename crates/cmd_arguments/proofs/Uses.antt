@@ -12,7 +12,7 @@ use Rattle.cmd_arguments.specs.declared.table.OptionName.{OptionName}
 use Rattle.cmd_arguments.specs.Table.{Word, long_name}
 use Rattle.cmd_arguments.specs.Items.{Item, Name, Setting}
 use Rattle.cmd_arguments.specs.Given.{names_of, texts_of}
-use Rattle.cmd_arguments.proofs.Rules.{names_built, option_built, flag_built, is_flag, apart_names, names_apart, same_names}
+use Rattle.cmd_arguments.proofs.Rules.{names_built, option_built, flag_built, is_flag, is_flag_name, apart_names, names_apart, same_names}
 use Rattle.cmd_arguments.proofs.Rows.{row_at, values_at, others_stay, values_join, rows_more, none_without, none_first, first_use, eq_of}
 
 -- the rows with one item more
@@ -105,7 +105,7 @@ is_read o (Setting p text ∷ items) rows fresh pass =
         let same : long_name p ≡ long_name o = eq_of (long_name p) (long_name o) e in
         let rest = stays o items (item_rows rows (Setting p text)) (setting_row p o text rows new ∙ ap (λ b. b || has_row (long_name o) rows) e) pass in
         let first : first_of (long_name p) (item_rows rows (Setting p text)) ≡ Some (kept_text p text) = ap (first_of (long_name p)) (first_setting p text rows new) ∙ first_use (long_name p) AsWritten CommandLine (kept_text p text) rows new in
-        let kept : kept_text p text ≡ kept_text o text = ap (λ n. cond (bytes_eq n (codes "plain")) (codes "true") text) same in
+        let kept : kept_text p text ≡ kept_text o text = ap (λ n. cond (is_flag_name n) (codes "true") text) same in
         inr (text, rw (same_names p o ∙ e) (ap (λ ts. text ∷ ts) rest.1), rest.0 ∙ ap (λ n. first_of n (item_rows rows (Setting p text))) (sym same) ∙ first ∙ ap Some kept, rest.2)
     go false e new pass rec =
         elim (rec (setting_row p o text rows new ∙ ap₂ (λ a b. a || b) e fresh)) [

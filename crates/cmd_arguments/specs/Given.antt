@@ -4,7 +4,7 @@ use Rattle.std.specs.List.{filter_map}
 use Rattle.std.specs.Str.{bytes_eq}
 use Rattle.cmd_arguments.specs.declared.table.CommandName.{CommandName}
 use Rattle.cmd_arguments.specs.declared.table.OptionName.{OptionName}
-use Rattle.cmd_arguments.specs.declared.table.OptionName.TheVariants.{Top, Choice, Input, Disk, Ports, OutDisk, Tail, Steps, Plain}
+use Rattle.cmd_arguments.specs.declared.table.OptionName.TheVariants.{Top, Choice, Input, Disk, Ports, OutDisk, Tail, Steps, Plain, Zilog}
 use Rattle.cmd_arguments.specs.Table.{Word, option_word}
 use Rattle.cmd_arguments.specs.Items.{Item, Name, Setting, Sorts}
 
@@ -35,18 +35,20 @@ occurrence [] = Absent
 occurrence (text ∷ []) = Once text
 occurrence (text ∷ (other ∷ texts)) = Repeated
 
--- no name, one, two, or more
+-- no name, one, two, three, or more
 pub data Names : Type 0 where
   NoName : Names
   OneName : (first : Word) → Names
   TwoNames : (first second : Word) → Names
+  ThreeNames : (first second third : Word) → Names
   MoreNames : Names
 
 abbrev pub names : List Word → Names
 names [] = NoName
 names (first ∷ []) = OneName first
 names (first ∷ (second ∷ [])) = TwoNames first second
-names (first ∷ (second ∷ (third ∷ others))) = MoreNames
+names (first ∷ (second ∷ (third ∷ []))) = ThreeNames first second third
+names (first ∷ (second ∷ (third ∷ (fourth ∷ others)))) = MoreNames
 
 pub record Gathered : Type 0 where
   pub names : Names
@@ -59,6 +61,7 @@ pub record Gathered : Type 0 where
   pub tail : Occurrence
   pub steps : Occurrence
   pub plain : Occurrence
+  pub zilog : Occurrence
 
 abbrev pub gathered : List Item → Gathered
 gathered items = record {
@@ -72,6 +75,7 @@ gathered items = record {
   tail = occurrence (texts_of Tail items);
   steps = occurrence (texts_of Steps items);
   plain = occurrence (texts_of Plain items);
+  zilog = occurrence (texts_of Zilog items);
 }
 
 -- a command's words are items that give this

@@ -2,16 +2,16 @@
 use Rattle.std.specs.Prelude.{ℕ, List, [], ◌∷◌, codes, Option, find}
 use Rattle.std.specs.Str.{bytes_eq}
 use Rattle.cmd_arguments.specs.declared.table.CommandName.{CommandName}
-use Rattle.cmd_arguments.specs.declared.table.CommandName.TheVariants.{Translate, Check, Flags, Run80, Run86, Both, Sample, Cmd, CmdShow, Hex80, RunHex}
+use Rattle.cmd_arguments.specs.declared.table.CommandName.TheVariants.{Translate, Check, Flags, Run80, Run86, Both, Sample, Cmd, CmdShow, Hex80, RunHex, Shrink}
 use Rattle.cmd_arguments.specs.declared.table.OptionName.{OptionName}
-use Rattle.cmd_arguments.specs.declared.table.OptionName.TheVariants.{Top, Choice, Input, Disk, Ports, OutDisk, Tail, Steps, Plain}
+use Rattle.cmd_arguments.specs.declared.table.OptionName.TheVariants.{Top, Choice, Input, Disk, Ports, OutDisk, Tail, Steps, Plain, Zilog}
 
 -- a word is a list of bytes
 abbrev pub Word : Type 0
 Word = List ℕ
 
 abbrev pub commands : List CommandName
-commands = Translate ∷ (Check ∷ (Flags ∷ (Run80 ∷ (Run86 ∷ (Both ∷ (Sample ∷ (Cmd ∷ (CmdShow ∷ (Hex80 ∷ (RunHex ∷ []))))))))))
+commands = Translate ∷ (Check ∷ (Flags ∷ (Run80 ∷ (Run86 ∷ (Both ∷ (Sample ∷ (Cmd ∷ (CmdShow ∷ (Hex80 ∷ (RunHex ∷ (Shrink ∷ [])))))))))))
 
 abbrev pub command_word : CommandName → Word
 command_word Translate = codes "translate"
@@ -25,6 +25,7 @@ command_word Cmd = codes "cmd"
 command_word CmdShow = codes "cmdshow"
 command_word Hex80 = codes "hex80"
 command_word RunHex = codes "runhex"
+command_word Shrink = codes "shrink"
 
 -- an option's name, which stands behind two hyphens in its word
 abbrev pub long_name : OptionName → Word
@@ -37,6 +38,7 @@ long_name OutDisk = codes "out-disk"
 long_name Tail = codes "tail"
 long_name Steps = codes "steps"
 long_name Plain = codes "plain"
+long_name Zilog = codes "zilog"
 
 abbrev pub option_word : OptionName → Word
 option_word Top = codes "--top"
@@ -48,6 +50,7 @@ option_word OutDisk = codes "--out-disk"
 option_word Tail = codes "--tail"
 option_word Steps = codes "--steps"
 option_word Plain = codes "--plain"
+option_word Zilog = codes "--zilog"
 
 -- the options with a value that a command takes
 abbrev pub options_of : CommandName → List OptionName
@@ -62,20 +65,22 @@ options_of Cmd = []
 options_of CmdShow = []
 options_of Hex80 = Top ∷ []
 options_of RunHex = Top ∷ (Choice ∷ (Input ∷ (Disk ∷ (Ports ∷ (OutDisk ∷ (Tail ∷ (Steps ∷ [])))))))
+options_of Shrink = Top ∷ []
 
 -- the options without a value, its flags
 abbrev pub flag_words : CommandName → List OptionName
-flag_words Translate = Plain ∷ []
-flag_words Check = []
-flag_words Flags = []
-flag_words Run80 = []
+flag_words Translate = Plain ∷ (Zilog ∷ [])
+flag_words Check = Zilog ∷ []
+flag_words Flags = Zilog ∷ []
+flag_words Run80 = Zilog ∷ []
 flag_words Run86 = []
-flag_words Both = []
+flag_words Both = Zilog ∷ []
 flag_words Sample = []
 flag_words Cmd = []
 flag_words CmdShow = []
-flag_words Hex80 = []
+flag_words Hex80 = Zilog ∷ []
 flag_words RunHex = []
+flag_words Shrink = []
 
 -- the command of a word, which is exactly its word
 abbrev pub command_named : Word → Option CommandName

@@ -5,24 +5,27 @@ use Rattle.cmd_arguments.specs.declared.table.CommandName.{CommandName}
 use Rattle.cmd_arguments.specs.declared.table.CommandName.TheVariants as named
 use Rattle.cmd_arguments.specs.Table.{Word, command_named}
 use Rattle.cmd_arguments.specs.Values.{top_value, choice_value, steps_value, count_value, file_name}
-use Rattle.cmd_arguments.specs.Given.{Occurrence, Absent, Once, Repeated, Names, NoName, OneName, TwoNames, MoreNames, Gathered, AreSorted}
+use Rattle.cmd_arguments.specs.Given.{Occurrence, Absent, Once, Repeated, Names, NoName, OneName, TwoNames, ThreeNames, MoreNames, Gathered, AreSorted}
 
--- `translate IN OUT [--plain] [--top H]`
+-- `translate IN OUT [--plain] [--zilog] [--top H]`
 pub record Translate : Type 0 where
   pub input : Word
   pub output : Word
   pub plain : Bool
+  pub zilog : Bool
   pub top : ℕ
 
--- `check IN TEXT [--top H]`
+-- `check IN TEXT [--zilog] [--top H]`
 pub record Check : Type 0 where
   pub source : Word
   pub text : Word
+  pub zilog : Bool
   pub top : ℕ
 
--- `flags IN [--top H]`
+-- `flags IN [--zilog] [--top H]`
 pub record Flags : Type 0 where
   pub source : Word
+  pub zilog : Bool
   pub top : ℕ
 
 -- `[--input F] [--disk F] [--ports F] [--out-disk F] [--tail T] [--steps N]`: the names of the files of the input, the disk and
@@ -35,9 +38,10 @@ pub record RunOptions : Type 0 where
   pub page : List ℕ
   pub steps : ℕ
 
--- `run80 IN [--top H]` and run options
+-- `run80 IN [--zilog] [--top H]` and run options
 pub record Run80 : Type 0 where
   pub source : Word
+  pub zilog : Bool
   pub top : ℕ
   pub run : RunOptions
 
@@ -47,9 +51,10 @@ pub record Run86 : Type 0 where
   pub choice : ℕ
   pub run : RunOptions
 
--- `both IN [--top H] [--choice H]` and run options
+-- `both IN [--zilog] [--top H] [--choice H]` and run options
 pub record Both : Type 0 where
   pub source : Word
+  pub zilog : Bool
   pub top : ℕ
   pub choice : ℕ
   pub run : RunOptions
@@ -68,10 +73,11 @@ pub record Cmd : Type 0 where
 pub record CmdShow : Type 0 where
   pub file : Word
 
--- `hex80 IN OUT [--top H]`
+-- `hex80 IN OUT [--zilog] [--top H]`
 pub record Hex80 : Type 0 where
   pub source : Word
   pub output : Word
+  pub zilog : Bool
   pub top : ℕ
 
 -- `runhex FILE [--top H] [--choice H]` and run options
@@ -80,6 +86,13 @@ pub record RunHex : Type 0 where
   pub top : ℕ
   pub choice : ℕ
   pub run : RunOptions
+
+-- `shrink IN TEXT OUT [--top H]`
+pub record Shrink : Type 0 where
+  pub source : Word
+  pub text : Word
+  pub output : Word
+  pub top : ℕ
 
 pub data Command : Type 0 where
   Translates : (command : Translate) → Command
@@ -93,6 +106,7 @@ pub data Command : Type 0 where
   ShowsCmd : (command : CmdShow) → Command
   WritesHex : (command : Hex80) → Command
   RunsHex : (command : RunHex) → Command
+  ShrinksText : (command : Shrink) → Command
 
 infixl 10 ◌>>=◌
 abbrev pub ◌>>=◌ : {A B : Type 0} → Option A → (A → Option B) → Option B
@@ -128,11 +142,12 @@ flag_of Absent = Some false
 flag_of (Once text) = Some true
 flag_of Repeated = None
 
--- exactly one file, or two
+-- exactly one file, or two, or three
 abbrev pub one_file : Names → Option Word
 one_file NoName = None
 one_file (OneName w) = file_name w
 one_file (TwoNames first second) = None
+one_file (ThreeNames first second third) = None
 one_file MoreNames = None
 
 abbrev pub two_files : Names → Option (Word × Word)
@@ -142,7 +157,19 @@ two_files (TwoNames first second) = do
   first ← file_name first
   second ← file_name second
   Some (first, second)
+two_files (ThreeNames first second third) = None
 two_files MoreNames = None
+
+abbrev pub three_files : Names → Option (Word × Word × Word)
+three_files NoName = None
+three_files (OneName w) = None
+three_files (TwoNames first second) = None
+three_files (ThreeNames first second third) = do
+  first ← file_name first
+  second ← file_name second
+  third ← file_name third
+  Some (first, second, third)
+three_files MoreNames = None
 
 -- a number of routines, and then a file
 abbrev pub count_and_file : Names → Option (ℕ × Word)
@@ -152,26 +179,30 @@ count_and_file (TwoNames first second) = do
   count ← count_value first
   file ← file_name second
   Some (count, file)
+count_and_file (ThreeNames first second third) = None
 count_and_file MoreNames = None
 
 abbrev pub translate_of : Gathered → Option Translate
 translate_of g = do
   plain ← flag_of g.plain
+  zilog ← flag_of g.zilog
   files ← two_files g.names
   top ← top_of g
-  Some (record { input = files.0; output = files.1; plain = plain; top = top })
+  Some (record { input = files.0; output = files.1; plain = plain; zilog = zilog; top = top })
 
 abbrev pub check_of : Gathered → Option Check
 check_of g = do
+  zilog ← flag_of g.zilog
   files ← two_files g.names
   top ← top_of g
-  Some (record { source = files.0; text = files.1; top = top })
+  Some (record { source = files.0; text = files.1; zilog = zilog; top = top })
 
 abbrev pub flags_command_of : Gathered → Option Flags
 flags_command_of g = do
+  zilog ← flag_of g.zilog
   source ← one_file g.names
   top ← top_of g
-  Some (record { source = source; top = top })
+  Some (record { source = source; zilog = zilog; top = top })
 
 abbrev pub run_options_of : Gathered → Option RunOptions
 run_options_of g = do
@@ -185,10 +216,11 @@ run_options_of g = do
 
 abbrev pub run80_of : Gathered → Option Run80
 run80_of g = do
+  zilog ← flag_of g.zilog
   source ← one_file g.names
   top ← top_of g
   run ← run_options_of g
-  Some (record { source = source; top = top; run = run })
+  Some (record { source = source; zilog = zilog; top = top; run = run })
 
 abbrev pub run86_of : Gathered → Option Run86
 run86_of g = do
@@ -199,11 +231,12 @@ run86_of g = do
 
 abbrev pub both_of : Gathered → Option Both
 both_of g = do
+  zilog ← flag_of g.zilog
   source ← one_file g.names
   top ← top_of g
   choice ← choice_of g
   run ← run_options_of g
-  Some (record { source = source; top = top; choice = choice; run = run })
+  Some (record { source = source; zilog = zilog; top = top; choice = choice; run = run })
 
 abbrev pub sample_of : Gathered → Option Sample
 sample_of g = do
@@ -222,9 +255,10 @@ cmd_show_of g = do
 
 abbrev pub hex80_of : Gathered → Option Hex80
 hex80_of g = do
+  zilog ← flag_of g.zilog
   files ← two_files g.names
   top ← top_of g
-  Some (record { source = files.0; output = files.1; top = top })
+  Some (record { source = files.0; output = files.1; zilog = zilog; top = top })
 
 abbrev pub run_hex_of : Gathered → Option RunHex
 run_hex_of g = do
@@ -233,6 +267,12 @@ run_hex_of g = do
   choice ← choice_of g
   run ← run_options_of g
   Some (record { file = file; top = top; choice = choice; run = run })
+
+abbrev pub shrink_of : Gathered → Option Shrink
+shrink_of g = do
+  files ← three_files g.names
+  top ← top_of g
+  Some (record { source = files.0; text = files.1; output = files.2; top = top })
 
 -- the command that its name and what stands behind it make
 abbrev pub command_of : CommandName → Gathered → Option Command
@@ -247,6 +287,7 @@ command_of named.Cmd g = option_map MakesCmd (cmd_of g)
 command_of named.CmdShow g = option_map ShowsCmd (cmd_show_of g)
 command_of named.Hex80 g = option_map WritesHex (hex80_of g)
 command_of named.RunHex g = option_map RunsHex (run_hex_of g)
+command_of named.Shrink g = option_map ShrinksText (shrink_of g)
 
 -- the words are this command: the first is its name, and the others give its values
 pub record IsCommand (words : List Word) (c : Command) : Type 0 where

@@ -2,9 +2,9 @@
 
 ghost use Rattle.std.specs.Prelude.{◌≡◌, ℕ, List, Some, map, option_copied, option_map, IfOk, MatchOption};
 ghost use Rattle.std.specs.String.{string_bytes};
-ghost use Rattle.cmd_arguments.specs.Read.{count_and_file_of, files_of, input_of, names_read, option_read};
-ghost use Rattle.cmd_arguments.specs.ReadCommands.{both_read, check_read, cmd_read, cmd_show_read, command_read, flags_read, hex80_read, run80_read, run86_read, run_hex_read, run_options_read, sample_read, translate_read};
-ghost use Rattle.cmd_arguments.specs.Words.{both_of, check_of, cmd_of, cmd_show_of, choice_of, command_of, count_and_file, flags_command_of, flag_of, hex80_of, input_file, one_file, page_of, run80_of, run86_of, run_hex_of, run_options_of, sample_of, steps_of, text_or, top_of, translate_of, two_files, Command as CommandValue, IsCommand, IsNoCommand};
+ghost use Rattle.cmd_arguments.specs.Read.{count_and_file_of, files_of, three_files_of, input_of, names_read, option_read};
+ghost use Rattle.cmd_arguments.specs.ReadCommands.{both_read, check_read, cmd_read, cmd_show_read, command_read, flags_read, hex80_read, run80_read, run86_read, run_hex_read, run_options_read, sample_read, shrink_read, translate_read};
+ghost use Rattle.cmd_arguments.specs.Words.{both_of, check_of, cmd_of, cmd_show_of, choice_of, command_of, count_and_file, flags_command_of, flag_of, hex80_of, input_file, one_file, page_of, run80_of, run86_of, run_hex_of, run_options_of, sample_of, shrink_of, steps_of, text_or, top_of, translate_of, two_files, three_files, Command as CommandValue, IsCommand, IsNoCommand};
 
 use crate::given::{Given, Names};
 use crate::items::first_word;
@@ -27,37 +27,43 @@ pub enum Command<'a> {
     CmdShow(CmdShow<'a>),
     Hex80(Hex80<'a>),
     RunHex(RunHex<'a>),
+    Shrink(Shrink<'a>),
 }
 
-/// `translate IN OUT [--plain] [--top H]`: a source's file, the file for its text, whether it is to be the plain one, and the top of
-/// the program area.
+/// `translate IN OUT [--plain] [--zilog] [--top H]`: a source's file, the file for its text, whether it is to be the plain one, whether
+/// the source is in Zilog's spelling, and the top of the program area.
 #[derive(Clone, Copy)]
 pub struct Translate<'a> {
     pub input: &'a str,
     pub output: &'a str,
     pub plain: bool,
+    pub zilog: bool,
     pub top: u16,
 }
 
-/// `check IN TEXT [--top H]`: a source's file, the file of a text, and the top of the program area.
+/// `check IN TEXT [--zilog] [--top H]`: a source's file, the file of a text, whether the source is in Zilog's spelling, and the top of
+/// the program area.
 #[derive(Clone, Copy)]
 pub struct Check<'a> {
     pub source: &'a str,
     pub text: &'a str,
+    pub zilog: bool,
     pub top: u16,
 }
 
-/// `flags IN [--top H]`: a source's file, and the top of the program area.
+/// `flags IN [--zilog] [--top H]`: a source's file, whether it is in Zilog's spelling, and the top of the program area.
 #[derive(Clone, Copy)]
 pub struct Flags<'a> {
     pub source: &'a str,
+    pub zilog: bool,
     pub top: u16,
 }
 
-/// `run80 IN [--top H]` and run options: a source's file, and the top of the program area.
+/// `run80 IN [--zilog] [--top H]` and run options: a source's file, whether it is in Zilog's spelling, and the top of the program area.
 #[derive(Drop)]
 pub struct Run80<'a> {
     pub source: &'a str,
+    pub zilog: bool,
     pub top: u16,
     pub run: RunOptions<'a>,
 }
@@ -70,11 +76,12 @@ pub struct Run86<'a> {
     pub run: RunOptions<'a>,
 }
 
-/// `both IN [--top H] [--choice H]` and run options: a source's file, the top of the program area, and the choice that fills what
-/// is unknown to the 8086.
+/// `both IN [--zilog] [--top H] [--choice H]` and run options: a source's file, whether it is in Zilog's spelling, the top of the program
+/// area, and the choice that fills what is unknown to the 8086.
 #[derive(Drop)]
 pub struct Both<'a> {
     pub source: &'a str,
+    pub zilog: bool,
     pub top: u16,
     pub choice: u128,
     pub run: RunOptions<'a>,
@@ -100,11 +107,13 @@ pub struct CmdShow<'a> {
     pub file: &'a str,
 }
 
-/// `hex80 IN OUT [--top H]`: a source's file, the file for its HEX file, and the top of the program area.
+/// `hex80 IN OUT [--zilog] [--top H]`: a source's file, the file for its HEX file, whether the source is in Zilog's spelling, and the
+/// top of the program area.
 #[derive(Clone, Copy)]
 pub struct Hex80<'a> {
     pub source: &'a str,
     pub output: &'a str,
+    pub zilog: bool,
     pub top: u16,
 }
 
@@ -115,6 +124,16 @@ pub struct RunHex<'a> {
     pub top: u16,
     pub choice: u128,
     pub run: RunOptions<'a>,
+}
+
+/// `shrink IN TEXT OUT [--top H]`: a source's file, the file of a text, the file for what is left of the text, and the top of the program
+/// area.
+#[derive(Clone, Copy)]
+pub struct Shrink<'a> {
+    pub source: &'a str,
+    pub text: &'a str,
+    pub output: &'a str,
+    pub top: u16,
 }
 
 /// `[--input F] [--disk F] [--ports F] [--out-disk F] [--tail T] [--steps N]`: the files of the console's input, of the disk and of
@@ -135,7 +154,7 @@ impl<'a> Names<'a> {
     {
         match self {
             Names::One(name) => file_name(name),
-            Names::Zero | Names::Two(_, _) | Names::More => None,
+            Names::Zero | Names::Two(..) | Names::Three(..) | Names::More => None,
         }
     }
 
@@ -144,7 +163,20 @@ impl<'a> Names<'a> {
     {
         match self {
             Names::Two(first, second) => Some((file_name(first)?, file_name(second)?)),
-            Names::Zero | Names::One(_) | Names::More => None,
+            Names::Zero | Names::One(_) | Names::Three(..) | Names::More => None,
+        }
+    }
+
+    fn three_files(self) -> Option<(&'a str, &'a str, &'a str)>
+        ensures { three_files_of result ≡ three_files (names_read self.entry) }
+    {
+        match self {
+            Names::Three(first, second, third) => Some((
+                file_name(first)?,
+                file_name(second)?,
+                file_name(third)?,
+            )),
+            Names::Zero | Names::One(_) | Names::Two(..) | Names::More => None,
         }
     }
 
@@ -154,7 +186,7 @@ impl<'a> Names<'a> {
     {
         match self {
             Names::Two(first, second) => Some((count_value(first)?, file_name(second)?)),
-            Names::Zero | Names::One(_) | Names::More => None,
+            Names::Zero | Names::One(_) | Names::Three(..) | Names::More => None,
         }
     }
 }
@@ -204,11 +236,18 @@ impl<'a> Given<'a> {
         Page::of_tail(text_or(self.tail, "").as_bytes())
     }
 
-    // Whether the flag stands.
+    // Whether the plain text is asked for.
     fn plain(&self) -> bool
         ensures { flag_of self.now.plain ≡ Some result }
     {
         self.plain
+    }
+
+    // Whether the source is in Zilog's spelling.
+    fn zilog(&self) -> bool
+        ensures { flag_of self.now.zilog ≡ Some result }
+    {
+        self.zilog
     }
 
     fn run_options(&self) -> Option<RunOptions<'a>>
@@ -234,12 +273,14 @@ impl<'a> Given<'a> {
         ensures { option_map translate_read result ≡ translate_of self.now }
     {
         let plain = self.plain();
+        let zilog = self.zilog();
         let (input, output) = self.names.two_files()?;
         let top = self.top()?;
         Some(Translate {
             input,
             output,
             plain,
+            zilog,
             top,
         })
     }
@@ -247,26 +288,39 @@ impl<'a> Given<'a> {
     fn check(&self) -> Option<Check<'a>>
         ensures { option_map check_read result ≡ check_of self.now }
     {
+        let zilog = self.zilog();
         let (source, text) = self.names.two_files()?;
         let top = self.top()?;
-        Some(Check { source, text, top })
+        Some(Check {
+            source,
+            text,
+            zilog,
+            top,
+        })
     }
 
     fn flags(&self) -> Option<Flags<'a>>
         ensures { option_map flags_read result ≡ flags_command_of self.now }
     {
+        let zilog = self.zilog();
         let source = self.names.one_file()?;
         let top = self.top()?;
-        Some(Flags { source, top })
+        Some(Flags { source, zilog, top })
     }
 
     fn run80(&self) -> Option<Run80<'a>>
         ensures { option_map run80_read result ≡ run80_of self.now }
     {
+        let zilog = self.zilog();
         let source = self.names.one_file()?;
         let top = self.top()?;
         let run = self.run_options()?;
-        Some(Run80 { source, top, run })
+        Some(Run80 {
+            source,
+            zilog,
+            top,
+            run,
+        })
     }
 
     fn run86(&self) -> Option<Run86<'a>>
@@ -281,12 +335,14 @@ impl<'a> Given<'a> {
     fn both(&self) -> Option<Both<'a>>
         ensures { option_map both_read result ≡ both_of self.now }
     {
+        let zilog = self.zilog();
         let source = self.names.one_file()?;
         let top = self.top()?;
         let choice = self.choice()?;
         let run = self.run_options()?;
         Some(Both {
             source,
+            zilog,
             top,
             choice,
             run,
@@ -317,11 +373,13 @@ impl<'a> Given<'a> {
     fn hex80(&self) -> Option<Hex80<'a>>
         ensures { option_map hex80_read result ≡ hex80_of self.now }
     {
+        let zilog = self.zilog();
         let (source, output) = self.names.two_files()?;
         let top = self.top()?;
         Some(Hex80 {
             source,
             output,
+            zilog,
             top,
         })
     }
@@ -341,6 +399,19 @@ impl<'a> Given<'a> {
         })
     }
 
+    fn shrink(&self) -> Option<Shrink<'a>>
+        ensures { option_map shrink_read result ≡ shrink_of self.now }
+    {
+        let (source, text, output) = self.names.three_files()?;
+        let top = self.top()?;
+        Some(Shrink {
+            source,
+            text,
+            output,
+            top,
+        })
+    }
+
     // The command of a name.
     fn command(&self, name: CommandName) -> Option<Command<'a>>
         ensures { option_map command_read result ≡ command_of name self.now }
@@ -357,6 +428,7 @@ impl<'a> Given<'a> {
             CommandName::CmdShow => Some(Command::CmdShow(self.cmd_show()?)),
             CommandName::Hex80 => Some(Command::Hex80(self.hex80()?)),
             CommandName::RunHex => Some(Command::RunHex(self.run_hex()?)),
+            CommandName::Shrink => Some(Command::Shrink(self.shrink()?)),
         }
     }
 }

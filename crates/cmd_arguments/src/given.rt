@@ -1,11 +1,12 @@
 //! The names and options behind a command's word, gathered.
 
-ghost use Rattle.std.specs.Prelude.{◌≡◌, [], codes, IfOk, MatchOption, map, option_map, unwrap_or};
+ghost use Rattle.std.specs.Prelude.{◌≡◌, [], IfOk, MatchOption, map, option_map, unwrap_or};
 ghost use Rattle.std.specs.String.{string_bytes};
 ghost use Rattle.clap.specs.Words.{first_of, found_of, rows_of};
 ghost use Rattle.cmd_arguments.specs.Asked.{GiveNoCommand};
 ghost use Rattle.cmd_arguments.specs.Given.{names, AreSorted};
 ghost use Rattle.cmd_arguments.specs.Read.{names_read, IsFlag, IsGivenIn};
+ghost use Rattle.cmd_arguments.specs.Table.{long_name};
 
 use crate::asking::{NAMES, asked};
 use crate::items::has_short;
@@ -15,16 +16,17 @@ use clap::error::ErrorKind;
 use std::alloc::{AllocError, Global};
 use std::marker::Model;
 
-/// No name, one, two, or more.
+/// No name, one, two, three, or more.
 #[derive(Clone, Copy)]
 pub enum Names<'a> {
     Zero,
     One(&'a str),
     Two(&'a str, &'a str),
+    Three(&'a str, &'a str, &'a str),
     More,
 }
 
-/// What the words behind a command's word give, where no option stands twice: the names, each option's text, and whether the flag
+/// What the words behind a command's word give, where no option stands twice: the names, each option's text, and whether each flag
 /// stands.
 #[derive(Drop)]
 pub struct Given<'a> {
@@ -38,6 +40,7 @@ pub struct Given<'a> {
     pub tail: Option<&'a str>,
     pub steps: Option<&'a str>,
     pub plain: bool,
+    pub zilog: bool,
 }
 
 impl<'a> Model for Given<'a> {
@@ -57,6 +60,7 @@ impl<'a> Model for Given<'a> {
       tail = option_read g.tail;
       steps = option_read g.steps;
       plain = flag_read g.plain;
+      zilog = flag_read g.zilog;
     } };
 }
 
@@ -71,6 +75,7 @@ impl<'a> Names<'a> {
             [] => Names::Zero,
             [name] => Names::One(*name),
             [first, second] => Names::Two(*first, *second),
+            [first, second, third] => Names::Three(*first, *second, *third),
             _ => Names::More,
         }
     }
@@ -113,13 +118,15 @@ impl<'a> Given<'a> {
             out_disk: matches.get_str(OptionName::OutDisk.name()),
             tail: matches.get_str(OptionName::Tail.name()),
             steps: matches.get_str(OptionName::Steps.name()),
-            plain: is_plain(matches),
+            plain: has_flag(matches, OptionName::Plain),
+            zilog: has_flag(matches, OptionName::Zilog),
         }
     }
 }
 
-fn is_plain(matches: &ArgMatches<'_>) -> bool
-    ensures { IsFlag (first_of (codes "plain") (rows_of (found_of matches.now))) result }
+// Whether a flag stands.
+fn has_flag(matches: &ArgMatches<'_>, flag: OptionName) -> bool
+    ensures { IsFlag (first_of (long_name flag) (rows_of (found_of matches.now))) result }
 {
-    matches.get_flag(OptionName::Plain.name())
+    matches.get_flag(flag.name())
 }

@@ -3,7 +3,7 @@
 // Proved: `read_words` gives the command that the words are, with its values (`IsCommand`), None exactly where they are no command
 // (`IsNoCommand`), and otherwise only want of memory: names, options and flags in any order, each option once at most, values in their
 // ranges. Words of one hyphen and something else are refused before `clap` reads them. Law `words_are_one_command`: words are one command
-// at most. The table (`Table`) has the commands.
+// at most. The table (`Table`) has the commands; those that read a source take the flag `--zilog`.
 #![tactic(auto)]
 
 mod asking;
@@ -15,5 +15,5 @@ mod values;
 
 pub use command::{
     Both, Check, Cmd, CmdShow, Command, Flags, Hex80, Run80, Run86, RunHex, RunOptions, Sample,
-    Translate, read_words, words_are_one_command,
+    Shrink, Translate, read_words, words_are_one_command,
 };

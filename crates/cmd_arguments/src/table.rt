@@ -17,6 +17,7 @@ pub enum CommandName {
     CmdShow,
     Hex80,
     RunHex,
+    Shrink,
 }
 
 /// An option's name, or a flag's.
@@ -31,9 +32,10 @@ pub enum OptionName {
     Tail,
     Steps,
     Plain,
+    Zilog,
 }
 
-const COMMANDS: [CommandName; 11] = [
+const COMMANDS: [CommandName; 12] = [
     CommandName::Translate,
     CommandName::Check,
     CommandName::Flags,
@@ -45,6 +47,7 @@ const COMMANDS: [CommandName; 11] = [
     CommandName::CmdShow,
     CommandName::Hex80,
     CommandName::RunHex,
+    CommandName::Shrink,
 ];
 
 impl CommandName {
@@ -74,6 +77,7 @@ impl CommandName {
             CommandName::CmdShow => "cmdshow",
             CommandName::Hex80 => "hex80",
             CommandName::RunHex => "runhex",
+            CommandName::Shrink => "shrink",
         }
     }
 
@@ -84,8 +88,11 @@ impl CommandName {
         use OptionName::*;
 
         match self {
-            CommandName::Translate | CommandName::Check | CommandName::Flags | CommandName::Hex80 =>
-                &[Top],
+            CommandName::Translate
+            | CommandName::Check
+            | CommandName::Flags
+            | CommandName::Hex80
+            | CommandName::Shrink => &[Top],
             CommandName::Run80 => &[Top, Input, Disk, Ports, OutDisk, Tail, Steps],
             CommandName::Run86 => &[Choice, Input, Disk, Ports, OutDisk, Tail, Steps],
             CommandName::Both | CommandName::RunHex => &[
@@ -100,17 +107,18 @@ impl CommandName {
         ensures { result.now ≡ flag_words self }
     {
         match self {
-            CommandName::Translate => &[OptionName::Plain],
+            CommandName::Translate => &[OptionName::Plain, OptionName::Zilog],
             CommandName::Check
             | CommandName::Flags
             | CommandName::Run80
-            | CommandName::Run86
             | CommandName::Both
+            | CommandName::Hex80 => &[OptionName::Zilog],
+            CommandName::Run86
             | CommandName::Sample
             | CommandName::Cmd
             | CommandName::CmdShow
-            | CommandName::Hex80
-            | CommandName::RunHex => &[],
+            | CommandName::RunHex
+            | CommandName::Shrink => &[],
         }
     }
 }
@@ -130,6 +138,7 @@ impl OptionName {
             OptionName::Tail => "tail",
             OptionName::Steps => "steps",
             OptionName::Plain => "plain",
+            OptionName::Zilog => "zilog",
         }
     }
 }

@@ -1,3 +1,4 @@
-mod Loading
+pub mod Files
+pub mod Loading
 mod Completing
 mod OwnTexts

@@ -6,7 +6,6 @@ use Rattle.asm86_line_types.specs.Image.{image_of}
 use Rattle.asm86.specs.Stream.{TextGives}
 use Rattle.asm86.specs.declared.fault.ImageFault.{ImageFault}
 use Rattle.asm80_program_types.specs.Program.{Program}
-use Rattle.asm80_text.specs.Intel.{intel_reading}
 use Rattle.asm80_source_def.specs.Source.{IsSource}
 use Rattle.sym_block_def.specs.declared.reason.Reason.{Reason}
 use Rattle.xlt_core.specs.Names.{Same, Shown as IsFoundShown, NotShown as IsFoundNot, IsFinding}
@@ -16,7 +15,7 @@ use Rattle.cmd_common.specs.declared.stop.Stop.TheVariants.{OutOfMemory, NotShow
 use Rattle.cmd_common.specs.Lines.{shown_line}
 use Rattle.cmd_common.specs.Said.{IsDone, Closes}
 use Rattle.cmd_common.specs.Files.{IsWholeFile, ReadStops, input_limit, text_limit}
-use Rattle.cmd_common.specs.Sources.{SourceStops}
+use Rattle.cmd_common.specs.Sources.{SourceStops, reading_of}
 use Rattle.cmd_common.specs.Texts.{HasOneImage, stop_of_image}
 use Rattle.asm86.specs.Images.{IsNoImage}
 
@@ -43,7 +42,7 @@ module _ (c : Check) (old : HostState) where
     pub source : List ℕ
     pub text : List ℕ
     pub reads : Reads new source text
-    pub is_source : IsSource intel_reading source c.top p
+    pub is_source : IsSource (reading_of c.zilog) source c.top p
     pub gives : TextGives text (Ok lines)
     pub stands : HasOneImage lines (image_of lines)
 
@@ -56,14 +55,18 @@ module _ (c : Check) (old : HostState) where
     pub shown : IsShown program lines blocks
     pub is : line ≡ shown_line blocks
 
-  -- why it is not: a file was not read; the source is refused; the text is, or has no image; a block is not shown; or memory ran out
+  -- why there is nothing to be checked: a file was not read; the source is refused; the text is, or has no image; or memory ran out
+  pub data LoadStops (new : HostState) : Stop → Type 0 where
+    no_source : {stop : Stop} → OnlyReads old new → ReadStops c.source input_limit old new stop → LoadStops new stop
+    no_text : {stop : Stop} (source : List ℕ) → IsWholeFile old c.source input_limit source → OnlyReads old new → ReadStops c.text text_limit old new stop → LoadStops new stop
+    refused : {stop : Stop} (source text : List ℕ) → Reads new source text → SourceStops (reading_of c.zilog) source c.top stop → LoadStops new stop
+    no_image : {stop : Stop} (source text : List ℕ) (p : Program) (fault : ImageFault) → Reads new source text → IsSource (reading_of c.zilog) source c.top p → IsNoImage text fault → stop ≡ stop_of_image fault → LoadStops new stop
+    out_of_memory : OnlyReads old new → LoadStops new OutOfMemory
+
+  -- why the text is not shown: there is nothing to be checked, or a block is not shown, or memory ran out
   pub data Stops (new : HostState) : Stop → Type 0 where
-    no_source : {stop : Stop} → OnlyReads old new → ReadStops c.source input_limit old new stop → Stops new stop
-    no_text : {stop : Stop} (source : List ℕ) → IsWholeFile old c.source input_limit source → OnlyReads old new → ReadStops c.text text_limit old new stop → Stops new stop
-    refused : {stop : Stop} (source text : List ℕ) → Reads new source text → SourceStops intel_reading source c.top stop → Stops new stop
-    no_image : {stop : Stop} (source text : List ℕ) (p : Program) (fault : ImageFault) → Reads new source text → IsSource intel_reading source c.top p → IsNoImage text fault → stop ≡ stop_of_image fault → Stops new stop
+    unloaded : {stop : Stop} → LoadStops new stop → Stops new stop
     unlike : {stop : Stop} (p : Program) (lines : List Line86) → Loads new p lines → FindStops p lines stop → Stops new stop
-    out_of_memory : OnlyReads old new → Stops new OutOfMemory
 
   -- what the command gives: the line is said, or its first bytes up to a fault, and then nothing more is; or the line of the stop
   pub data CheckGives (new : HostState) : ℕ → Type 0 where

@@ -1,6 +1,6 @@
 -- A program's own text is shown.
-use Rattle.std.specs.Prelude.{◌≡◌, ℕ, ◌⊎◌, List}
-use Rattle.asm80_text.specs.Intel.{intel_reading}
+use Rattle.std.specs.Prelude.{◌≡◌, ℕ, Bool, ◌⊎◌, List}
+use Rattle.cmd_common.specs.Sources.{reading_of}
 use Rattle.host.specs.Host.{HostState}
 use Rattle.asm86_line_types.specs.declared.line.Line86.{Line86}
 use Rattle.asm86_line_types.specs.Written.{written_text}
@@ -12,11 +12,11 @@ use Rattle.cmd_arguments.specs.Words.{Check}
 use Rattle.cmd_common.specs.Files.{NoneFailed, FileIsTold, input_limit, text_limit}
 
 -- the bytes that a translation of a source's bytes writes for a top, in either mode: the text of its program, whose code fits
-pub record IsTranslation (source : List ℕ) (top : ℕ) (text : List ℕ) : Type 0 where
+pub record IsTranslation (zilog : Bool) (source : List ℕ) (top : ℕ) (text : List ℕ) : Type 0 where
   pub mode : Mode
   pub program : Program
   pub lines : List Line86
-  pub is_source : IsSource intel_reading source top program
+  pub is_source : IsSource (reading_of zilog) source top program
   pub is_text : IsText mode program lines
   pub fits : CodeFits lines
   pub is : text ≡ written_text lines
@@ -25,5 +25,5 @@ pub record IsTranslation (source : List ℕ) (top : ℕ) (text : List ℕ) : Typ
 -- limit, the status is 0, want of memory aside
 abbrev pub ShowsOwnText : Check → HostState → HostState → ℕ → Type 0
 ShowsOwnText c old new status =
-    NoneFailed old new → (source text : List ℕ) → FileIsTold old c.source input_limit source → FileIsTold old c.text text_limit text → IsTranslation source c.top text →
+    NoneFailed old new → (source text : List ℕ) → FileIsTold old c.source input_limit source → FileIsTold old c.text text_limit text → IsTranslation c.zilog source c.top text →
     (status ≡ 0) ⊎ (status ≡ 5)

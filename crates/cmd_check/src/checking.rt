@@ -10,11 +10,9 @@ ghost use Rattle.cmd_check.specs.OwnTexts.{ShowsOwnText};
 
 use crate::finding::find;
 use crate::inputs::load;
-use asm80_text::Lines;
-use asm80_values::source_has_one_outcome;
 use asm86::{images_exclude_refusals, text_has_one_reading};
 use cmd_arguments::Check;
-use cmd_common::{Stop, say_done, say_stop, shown_line};
+use cmd_common::{Stop, say_done, say_stop, shown_line, sources_have_one_outcome};
 use host::Host;
 use std::alloc::Global;
 use xlt_core::{findings_are_one, own_texts_are_same, own_texts_are_shown};
@@ -28,7 +26,7 @@ pub fn check<H: Host>(alloc: Global, host: &mut H, command: &Check<'_>) -> u8
     ensures completes { CheckCompletes (check_read command.now) (H.state host.old) (H.state host.new) result }
     ensures own { ShowsOwnText (check_read command.now) (H.state host.old) (H.state host.new) result }
 {
-    source_has_one_outcome::<Lines>();
+    sources_have_one_outcome();
     text_has_one_reading();
     images_exclude_refusals();
     findings_are_one();

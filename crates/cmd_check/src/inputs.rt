@@ -3,7 +3,7 @@ ghost use Rattle.std.specs.Prelude.{◌≡◌, ◌<◌, ◌^◌, true, length, I
 ghost use Rattle.asm80_program_types.specs.Program.{is_top};
 ghost use Rattle.asm86_line_types.specs.Image.{IsImage};
 ghost use Rattle.cmd_arguments.specs.ReadCommands.{check_read};
-ghost use Rattle.cmd_check.specs.Checks.{Loads, Stops};
+ghost use Rattle.cmd_check.specs.Checks.{Loads, LoadStops};
 
 use asm80_program_types::Program80;
 use cmd_arguments::Check;
@@ -28,9 +28,9 @@ pub fn load<'a, H: Host>(
     ensures loaded { IfOk result (λ l. Loads (check_read command.now) (H.state host.old) (H.state host.new) l.program l.text.lines.items) }
     ensures image { IfOk result (λ l. IsImage l.text.lines.items l.text.image) }
     ensures few { IfOk result (λ l. length l.text.lines.items < 2 ^ 28) }
-    ensures stopped { IfErr result (Stops (check_read command.now) (H.state host.old) (H.state host.new)) }
+    ensures stopped { IfErr result (LoadStops (check_read command.now) (H.state host.old) (H.state host.new)) }
 {
-    let source = read_source(alloc, host, command.source, command.top)?;
+    let source = read_source(alloc, host, command.source, command.zilog, command.top)?;
     let text = read_text(alloc, host, command.text)?;
     let program = source?;
     let lines = text?;

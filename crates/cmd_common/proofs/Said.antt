@@ -8,7 +8,7 @@ use Rattle.host.specs.Host.{HostState, SameFiles, Says, said_more, OnlyReads, On
 use Rattle.host.proofs.HostLemmas.{fault_after_reads}
 use Rattle.host_files.specs.Transfer.{CutsLine}
 use Rattle.cmd_common.specs.declared.stop.Stop.{Stop}
-use Rattle.cmd_common.specs.declared.stop.Stop.TheVariants.{SourceLine, SourceProgram, ReadFailed, WriteFailed as Unwritten, OutOfMemory, LeftProfile, StepLimit, NotShown, InputEnded, TextLine, ShortJump, NoInstruction, StackSegment, OddCall, BadDisk, NoDrive, CodeTooLarge, FileTooLong, BadCommandFile, BadHex}
+use Rattle.cmd_common.specs.declared.stop.Stop.TheVariants.{SourceLine, SourceProgram, ReadFailed, WriteFailed as Unwritten, OutOfMemory, LeftProfile, StepLimit, NotShown, InputEnded, TextLine, ShortJump, NoInstruction, StackSegment, OddCall, BadDisk, NoDrive, CodeTooLarge, FileTooLong, BadCommandFile, BadHex, TooManyStatements}
 use Rattle.cmd_common.specs.Lines.{status_of, line_of_stop}
 use Rattle.cmd_common.specs.Said.{SaysLine, SaysLast, IsDone, whole, failed, no_memory, said_status, Closes, said, unsaid}
 
@@ -82,6 +82,7 @@ line_some (CodeTooLarge size) = omega arith
 line_some (FileTooLong name) = omega arith
 line_some (BadCommandFile place) = omega arith
 line_some (BadHex line) = omega arith
+line_some (TooManyStatements count) = omega arith
 
 -- no stop is status 0
 stop_not_0 : (stop : Stop) → status_of stop ≡ 0 → ⊥
@@ -105,6 +106,7 @@ stop_not_0 (CodeTooLarge size) e = absurd (omega arith)
 stop_not_0 (FileTooLong name) e = absurd (omega arith)
 stop_not_0 (BadCommandFile place) e = absurd (omega arith)
 stop_not_0 (BadHex line) e = absurd (omega arith)
+stop_not_0 (TooManyStatements count) e = absurd (omega arith)
 
 pub never_0 : (stop : Stop) (old new : HostState) (status : ℕ) → Closes stop old new status → status ≡ 0 → ⊥
 never_0 stop old new status (said e s) z = stop_not_0 stop (sym e ∙ z)

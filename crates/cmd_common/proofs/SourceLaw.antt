@@ -1,16 +1,13 @@
 -- What is known of sources, in a spelling: one is that of one program, or is refused by one line and rule, and not both. So a command stops
 -- for one reason.
-use Rattle.std.proofs.Common.{◌≡◌, ℕ, List}
+use Rattle.std.proofs.Common.{◌≡◌, ℕ, Bool, true, false, List}
 use Rattle.asm80_statement_types.specs.Reading.{Reading}
+use Rattle.asm80_text.specs.Intel.{intel_reading}
+use Rattle.zilog80.specs.Zilog.{zilog_reading}
 use Rattle.asm80_program_types.specs.Program.{Program}
-use Rattle.asm80_source_def.specs.Source.{IsSource, IsNoSource, SourceRule, OfLine, OfProgram}
+use Rattle.asm80_source_def.specs.Source.{IsSource, OfLine, OfProgram}
 use Rattle.cmd_common.specs.declared.stop.Stop.{Stop}
-use Rattle.cmd_common.specs.Sources.{SourceStops, of_line, of_program}
-
-pub record SourceLaw (reading : Reading) : Type 0 where
-  pub program : (bytes : List ℕ) (top : ℕ) (p q : Program) → IsSource reading bytes top p → IsSource reading bytes top q → p ≡ q
-  pub refusal : (bytes : List ℕ) (top m n : ℕ) (r s : SourceRule) → IsNoSource reading bytes top m r → IsNoSource reading bytes top n s → (m ≡ n) × (r ≡ s)
-  pub apart : (bytes : List ℕ) (top n : ℕ) (p : Program) (r : SourceRule) → IsSource reading bytes top p → IsNoSource reading bytes top n r → ⊥
+use Rattle.cmd_common.specs.Sources.{reading_of, SourceLaw, SourceStops, of_line, of_program}
 
 module _ {reading : Reading} (law : SourceLaw reading) where
   pub not_source_and_stop : (bytes : List ℕ) (top : ℕ) (p : Program) (stop : Stop) → IsSource reading bytes top p → SourceStops reading bytes top stop → ⊥
@@ -36,3 +33,8 @@ module _ {reading : Reading} (law : SourceLaw reading) where
       let lines : m ≡ n = e.0 in
       let rules : OfProgram r ≡ OfProgram s = e.1 in
       cc
+
+-- what holds by either reading holds by the one that the words of a command ask for
+pub either_reading : (P : Reading → Type 0) → P intel_reading → P zilog_reading → (zilog : Bool) → P (reading_of zilog)
+either_reading P intel zilog true = zilog
+either_reading P intel zilog false = intel

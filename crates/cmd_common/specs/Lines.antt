@@ -16,7 +16,7 @@ use Rattle.asm86_line_types.specs.declared.line.TextRule.TheVariants.{M1, M2, M3
 use Rattle.sym_block_def.specs.declared.reason.Reason.{Reason}
 use Rattle.sym_block_def.specs.declared.reason.Reason.TheVariants.{Opening, Runtime, DataPart, Missing, Length, Form, Actions, Exits, Kept, KeptSp}
 use Rattle.cmd_common.specs.declared.stop.Stop.{Stop}
-use Rattle.cmd_common.specs.declared.stop.Stop.TheVariants.{SourceLine, SourceProgram, ReadFailed, WriteFailed, OutOfMemory, LeftProfile, StepLimit, NotShown, InputEnded, TextLine, ShortJump, NoInstruction, StackSegment, OddCall, BadDisk, NoDrive, CodeTooLarge, FileTooLong, BadCommandFile, BadHex}
+use Rattle.cmd_common.specs.declared.stop.Stop.TheVariants.{SourceLine, SourceProgram, ReadFailed, WriteFailed, OutOfMemory, LeftProfile, StepLimit, NotShown, InputEnded, TextLine, ShortJump, NoInstruction, StackSegment, OddCall, BadDisk, NoDrive, CodeTooLarge, FileTooLong, BadCommandFile, BadHex, TooManyStatements}
 
 -- ---- rules by name
 
@@ -161,6 +161,7 @@ status_of (CodeTooLarge size) = 13
 status_of (FileTooLong name) = 14
 status_of (BadCommandFile place) = 15
 status_of (BadHex line) = 16
+status_of (TooManyStatements count) = 17
 
 -- the line is always the same, and no memory is taken for it
 abbrev pub is_fixed : Stop → Bool
@@ -184,6 +185,7 @@ is_fixed (CodeTooLarge size) = false
 is_fixed (FileTooLong name) = false
 is_fixed (BadCommandFile place) = false
 is_fixed (BadHex line) = false
+is_fixed (TooManyStatements count) = false
 
 abbrev pub line_of_stop : Stop → List ℕ
 line_of_stop (SourceLine line rule) = rule_line (codes "source line ") line (line_rule rule)
@@ -206,6 +208,7 @@ line_of_stop (CodeTooLarge size) = count_line (codes "code too large: ") size (c
 line_of_stop (FileTooLong name) = named_line (codes "file too long: ") name.now
 line_of_stop (BadCommandFile place) = count_line (codes "command file refused: byte ") place []
 line_of_stop (BadHex line) = count_line (codes "hex refused: line ") line []
+line_of_stop (TooManyStatements count) = count_line (codes "too many statements: ") count []
 
 -- ---- the ends that are 0
 
@@ -233,6 +236,10 @@ groups_line code_size data_size = codes "code " ++ (decimal code_size ++ (codes 
 -- how many cells a HEX file has
 abbrev pub hex_line : ℕ → List ℕ
 hex_line cells = count_line (codes "hex: ") cells (codes " bytes")
+
+-- how many statements of a text were left out, and how many bytes of code the others have
+abbrev pub shrunk_line : ℕ → ℕ → List ℕ
+shrunk_line left_out code = codes "shrunk: " ++ (decimal left_out ++ (codes " left out, " ++ (decimal code ++ codes " code bytes\n")))
 
 -- how many instructions ran
 abbrev pub ended_line : ℕ → List ℕ

@@ -1,9 +1,11 @@
 -- What the file of a source is to a command.
-use Rattle.std.specs.Prelude.{ℕ, List, Result, Ok, Err}
+use Rattle.std.specs.Prelude.{◌≡◌, ℕ, Bool, true, false, List, Result, Ok, Err}
 use Rattle.host.specs.Host.{HostState}
 use Rattle.asm80_statement_types.specs.declared.fault.LineRule.{LineRule}
 use Rattle.asm80_statement_types.specs.Tree.{Statement}
 use Rattle.asm80_statement_types.specs.Reading.{Reading}
+use Rattle.asm80_text.specs.Intel.{intel_reading}
+use Rattle.zilog80.specs.Zilog.{zilog_reading}
 use Rattle.asm80_program_types.specs.Program.{Program}
 use Rattle.asm80_source_def.specs.declared.rule.AsmRule.{AsmRule}
 use Rattle.asm80_source_def.specs.Assembly.{IsAssembled, IsRefused}
@@ -12,6 +14,18 @@ use Rattle.cmd_common.specs.declared.stop.Stop.{Stop}
 use Rattle.cmd_common.specs.declared.stop.Stop.TheVariants.{SourceLine, SourceProgram}
 use Rattle.cmd_common.specs.Lines.{line_of_stop}
 use Rattle.cmd_common.specs.Files.{IsWholeFile, input_limit}
+
+-- the reading of sources that the words of a command ask for: in Zilog's spelling, or in Intel's
+abbrev pub reading_of : Bool → Reading
+reading_of true = zilog_reading
+reading_of false = intel_reading
+
+-- what is known of sources by a reading: bytes are the source of one program at most, are refused at one line for one rule at most, and
+-- never both
+pub record SourceLaw (reading : Reading) : Type 0 where
+  pub program : (bytes : List ℕ) (top : ℕ) (p q : Program) → IsSource reading bytes top p → IsSource reading bytes top q → p ≡ q
+  pub refusal : (bytes : List ℕ) (top m n : ℕ) (r s : SourceRule) → IsNoSource reading bytes top m r → IsNoSource reading bytes top n s → (m ≡ n) × (r ≡ s)
+  pub apart : (bytes : List ℕ) (top n : ℕ) (p : Program) (r : SourceRule) → IsSource reading bytes top p → IsNoSource reading bytes top n r → ⊥
 
 -- why the bytes give no program: they are no source, by this line and rule
 pub data SourceStops (reading : Reading) (bytes : List ℕ) (top : ℕ) : Stop → Type 0 where

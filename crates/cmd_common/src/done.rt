@@ -1,7 +1,7 @@
 // The lines of status 0.
 ghost use Rattle.std.specs.Prelude.{◌≡◌, IfOk};
 ghost use Rattle.std.specs.String.{string_bytes};
-ghost use Rattle.cmd_common.specs.Lines.{translated_line, shown_line, saves_line, command_file_line, groups_line, hex_line, ended_line, both_line};
+ghost use Rattle.cmd_common.specs.Lines.{translated_line, shown_line, saves_line, command_file_line, groups_line, hex_line, ended_line, both_line, shrunk_line};
 
 use crate::stop::count_line;
 use std::alloc::{AllocError, Global};
@@ -53,6 +53,13 @@ pub fn hex_line(alloc: Global, cells: usize) -> Result<String, AllocError>
     ensures { IfOk result (λ line. string_bytes line ≡ hex_line cells) }
 {
     format!(in alloc; "hex: {cells} bytes\n")
+}
+
+/// The line of a text that was shrunk: how many statements were left out, and how many bytes of code the others have.
+pub fn shrunk_line(alloc: Global, left_out: usize, code: usize) -> Result<String, AllocError>
+    ensures { IfOk result (λ line. string_bytes line ≡ shrunk_line left_out code) }
+{
+    format!(in alloc; "shrunk: {left_out} left out, {code} code bytes\n")
 }
 
 /// The line of a run that ended: how many instructions ran.

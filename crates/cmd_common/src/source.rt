@@ -1,41 +1,47 @@
 // The program of a source's file.
-ghost use Rattle.std.specs.Prelude.{◌≡◌, true, ℕ, List, IfOk, IfErr, OnOk, map};
+ghost use Rattle.std.specs.Prelude.{◌≡◌, true, ℕ, Bool, List, IfOk, IfErr, OnOk, map};
 ghost use Rattle.host.specs.Host.{SameFaults, OnlyReads};
 ghost use Rattle.asm80_program_types.specs.Program.{is_top};
 ghost use Rattle.asm80_statement_types.specs.Tree.{statement_of};
 ghost use Rattle.asm80_text.specs.Intel.{intel_reading};
 ghost use Rattle.cmd_common.specs.Files.{ReadStops, input_limit};
-ghost use Rattle.cmd_common.specs.Sources.{ReadsSource, SourceGives, StatementsGive};
+ghost use Rattle.cmd_common.specs.Sources.{ReadsSource, SourceGives, SourceLaw, StatementsGive, reading_of};
 
 use crate::files::{SOURCE_LIMIT, read_named_into};
 use crate::stop::Stop;
 use asm80_program_types::Program80;
 use asm80_statement_types::{ReadFault, StatementReader, Stmt80};
 use asm80_text::Lines;
-use asm80_values::{AsmFault, assemble};
+use asm80_values::{AsmFault, assemble, source_has_one_outcome};
 use host::Host;
 use host_files::Sink;
 use std::alloc::{AllocError, Global};
+use zilog80::ZLines;
 
-/// The program of the source in the file of a name, in Intel's spelling, for a top of the program area, a multiple of 100H from
-/// 1000H to 0FF00H. The inner answer is the program, or the first refusal: of a line, else of names and values, else of the layout; a
-/// command tells it once its other files are read. The outer one, that the file was not read or memory ran out, is told at once.
+/// The program of the source in the file of a name, in Zilog's spelling or in Intel's, for a top of the program area, a multiple of 100H
+/// from 1000H to 0FF00H. The inner answer is the program, or the first refusal: of a line, else of names and values, else of the layout;
+/// a command tells it once its other files are read. The outer one, that the file was not read or memory ran out, is told at once.
 pub fn read_source<'a, H: Host>(
     alloc: Global,
     host: &mut H,
     name: &'a str,
+    zilog: bool,
     top: u16,
 ) -> Result<Result<Program80, Stop<'a>>, Stop<'a>>
     requires { is_top top ≡ true }
     ensures only { OnlyReads (H.state host.old) (H.state host.new) }
-    ensures read { IfOk result (ReadsSource intel_reading (H.state host.old) name.now top) }
+    ensures read { IfOk result (ReadsSource (reading_of zilog) (H.state host.old) name.now top) }
     ensures counted { OnOk result (SameFaults (H.state host.old) (H.state host.new)) }
     ensures stopped { IfErr result (ReadStops name.now input_limit (H.state host.old) (H.state host.new)) }
 {
-    read_source_by::<H, Lines>(alloc, host, name, top)
+    if zilog {
+        read_source_by::<H, ZLines>(alloc, host, name, top)
+    } else {
+        read_source_by::<H, Lines>(alloc, host, name, top)
+    }
 }
 
-/// The same, by the reading of any reader.
+/// The same by any reader.
 pub fn read_source_by<'a, H: Host, R: StatementReader>(
     alloc: Global,
     host: &mut H,
@@ -126,4 +132,12 @@ fn program_of<'a>(
             AsmFault::Memory => Err(AllocError),
         },
     }
+}
+
+/// A law: in either spelling the bytes of a source, with a top, have at most one outcome.
+pub fn sources_have_one_outcome()
+    ensures { (zilog : Bool) → SourceLaw (reading_of zilog) }
+{
+    source_has_one_outcome::<Lines>();
+    source_has_one_outcome::<ZLines>();
 }

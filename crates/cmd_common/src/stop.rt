@@ -54,6 +54,8 @@ pub enum Stop<'a> {
     BadCommandFile(u32),
     /// The file is no HEX file: this line is the first that fits nowhere, or the number of lines plus 1 where no end line comes.
     BadHex(u32),
+    /// The text has this number of statements, more than are shrunk.
+    TooManyStatements(u32),
 }
 
 impl<'a> From<AllocError> for Stop<'a> {
@@ -87,6 +89,7 @@ impl<'a> Stop<'a> {
             Stop::FileTooLong(_) => 14,
             Stop::BadCommandFile(_) => 15,
             Stop::BadHex(_) => 16,
+            Stop::TooManyStatements(_) => 17,
         }
     }
 
@@ -135,6 +138,9 @@ impl<'a> Stop<'a> {
                 count_line(alloc, "command file refused: byte ", place, "")
             }
             Stop::BadHex(line) => count_line(alloc, "hex refused: line ", line, ""),
+            Stop::TooManyStatements(count) => {
+                count_line(alloc, "too many statements: ", count, "")
+            }
         }
     }
 }

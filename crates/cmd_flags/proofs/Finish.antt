@@ -1,8 +1,7 @@
 -- From the lines of the report, or the end of the work, to what the command gives, and what it decides.
-use Rattle.std.proofs.Common.{◌≡◌, ℕ, inl, inr, List, refl, sym, ap, ◌∙◌, subst, arith}
+use Rattle.std.proofs.Common.{Bool, ◌≡◌, ℕ, inl, inr, List, refl, sym, ap, ◌∙◌, subst, arith}
 use Rattle.std.specs.List.{concat}
 use Rattle.host.specs.Host.{HostState, OnlyReads, SameFaults, Says, said_more}
-use Rattle.asm80_text.specs.Intel.{intel_reading}
 use Rattle.asm80_source_def.specs.Source.{IsSource, SourceRule, IsNoSource, OfLine, OfProgram}
 use Rattle.cmd_arguments.specs.Words.{Flags}
 use Rattle.cmd_common.specs.declared.stop.Stop.{Stop}
@@ -10,8 +9,7 @@ use Rattle.cmd_common.specs.declared.stop.Stop.TheVariants.{OutOfMemory}
 use Rattle.cmd_common.specs.Lines.{status_of, line_of_stop}
 use Rattle.cmd_common.specs.Said.{SaysLine, IsDone, whole, failed, no_memory, Closes, said, unsaid}
 use Rattle.cmd_common.specs.Files.{NoneFailed, FileIsTold, IsWholeFile, input_limit}
-use Rattle.cmd_common.specs.Sources.{SourceStops, of_line, of_program, stop_of_rule}
-use Rattle.cmd_common.proofs.SourceLaw.{SourceLaw}
+use Rattle.cmd_common.specs.Sources.{SourceStops, of_line, of_program, stop_of_rule, reading_of, SourceLaw}
 use Rattle.cmd_common.proofs.Told.{told_whole, read_stops, not_unsaid, closes_reads, memory_status}
 use Rattle.cmd_common.proofs.Said.{line_after}
 use Rattle.cmd_flags.specs.Report.{AreLines}
@@ -25,18 +23,18 @@ stop_reads c old new stop (refused bytes w only same s) = only
 stop_reads c old new _ (no_room only) = only
 
 -- a refusal is told by its line and its rule
-pub record IsRefusal (bytes : List ℕ) (top : ℕ) (stop : Stop) : Type 0 where
+pub record IsRefusal (zilog : Bool) (bytes : List ℕ) (top : ℕ) (stop : Stop) : Type 0 where
   pub line : ℕ
   pub rule : SourceRule
-  pub no_source : IsNoSource intel_reading bytes top line rule
+  pub no_source : IsNoSource (reading_of zilog) bytes top line rule
   pub is : stop ≡ stop_of_rule line rule
   pub status : status_of stop ≡ 1
 
-refusal : (bytes : List ℕ) (top : ℕ) (stop : Stop) → SourceStops intel_reading bytes top stop → IsRefusal bytes top stop
-refusal bytes top _ (of_line {line = line} {rule = rule} n) = record { line = line; rule = OfLine rule; no_source = n; is = refl; status = refl }
-refusal bytes top _ (of_program {line = line} {rule = rule} n) = record { line = line; rule = OfProgram rule; no_source = n; is = refl; status = refl }
+refusal : (zilog : Bool) (bytes : List ℕ) (top : ℕ) (stop : Stop) → SourceStops (reading_of zilog) bytes top stop → IsRefusal zilog bytes top stop
+refusal zilog bytes top _ (of_line {line = line} {rule = rule} n) = record { line = line; rule = OfLine rule; no_source = n; is = refl; status = refl }
+refusal zilog bytes top _ (of_program {line = line} {rule = rule} n) = record { line = line; rule = OfProgram rule; no_source = n; is = refl; status = refl }
 
-module _ (law : SourceLaw intel_reading) (c : Flags) (old new : HostState) (none : NoneFailed old new) (bytes : List ℕ) (told : FileIsTold old c.source input_limit bytes) (status : ℕ) (memory : status ≡ 5 → ⊥) where
+module _ (c : Flags) (law : SourceLaw (reading_of c.zilog)) (old new : HostState) (none : NoneFailed old new) (bytes : List ℕ) (told : FileIsTold old c.source input_limit bytes) (status : ℕ) (memory : status ≡ 5 → ⊥) where
   -- what was said behind reads alone
   said_behind : (mid : HostState) (text : List ℕ) → OnlyReads old mid → Says mid new text → Says old new text
   said_behind mid text only s = s ∙ ap (λ o. said_more o text) only.said
@@ -44,7 +42,7 @@ module _ (law : SourceLaw intel_reading) (c : Flags) (old new : HostState) (none
   by_lines : (mid : HostState) (lines : List (List ℕ)) → HasLines c old mid lines → status ≡ 0 → Says mid new (concat lines) → Decides c old new bytes status
   by_lines mid lines h e s =
       let same = told_whole old c.source input_limit bytes h.accepts.bytes told h.accepts.file in
-      let source : IsSource intel_reading bytes c.top h.program = subst (λ b. IsSource intel_reading b c.top h.program) same h.accepts.source in
+      let source : IsSource (reading_of c.zilog) bytes c.top h.program = subst (λ b. IsSource (reading_of c.zilog) b c.top h.program) same h.accepts.source in
       record {
         two = inl e;
         accepted = (λ z. (h.program, source), λ x. e);
@@ -60,12 +58,12 @@ module _ (law : SourceLaw intel_reading) (c : Flags) (old new : HostState) (none
   done mid lines h _ e (failed s) = absurd (not_unsaid old mid new none h.counted s.cause)
   done mid lines h _ e (no_memory s) = absurd (memory (sym e))
 
-  by_refusal : (mid : HostState) (read : List ℕ) (stop : Stop) → IsWholeFile old c.source input_limit read → OnlyReads old mid → SameFaults old mid → SourceStops intel_reading read c.top stop → Closes stop mid new status → Decides c old new bytes status
+  by_refusal : (mid : HostState) (read : List ℕ) (stop : Stop) → IsWholeFile old c.source input_limit read → OnlyReads old mid → SameFaults old mid → SourceStops (reading_of c.zilog) read c.top stop → Closes stop mid new status → Decides c old new bytes status
   by_refusal mid read stop w only same stops (unsaid n e l) = absurd (memory e)
   by_refusal mid read stop w only same stops (said e l) =
-      let r = refusal read c.top stop stops in
+      let r = refusal c.zilog read c.top stop stops in
       let own = told_whole old c.source input_limit bytes read told w in
-      let no : IsNoSource intel_reading bytes c.top r.line r.rule = subst (λ b. IsNoSource intel_reading b c.top r.line r.rule) own r.no_source in
+      let no : IsNoSource (reading_of c.zilog) bytes c.top r.line r.rule = subst (λ b. IsNoSource (reading_of c.zilog) b c.top r.line r.rule) own r.no_source in
       let one : status ≡ 1 = e ∙ r.status in
       record {
         two = inr one;

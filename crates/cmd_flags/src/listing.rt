@@ -7,10 +7,8 @@ ghost use Rattle.cmd_arguments.specs.ReadCommands.{flags_read};
 ghost use Rattle.cmd_flags.specs.Listing.{FlagsGive, Completes, Stops, HasLines};
 
 use crate::report::report_of;
-use asm80_text::Lines;
-use asm80_values::source_has_one_outcome;
 use cmd_arguments::Flags;
-use cmd_common::{Stop, read_source, say_report, say_stop};
+use cmd_common::{Stop, read_source, say_report, say_stop, sources_have_one_outcome};
 use host::Host;
 use std::alloc::Global;
 
@@ -22,7 +20,7 @@ pub fn flags<H: Host>(alloc: Global, host: &mut H, command: &Flags<'_>) -> u8
     ensures files { SameFiles (H.state host.old) (H.state host.new) }
     ensures completes { Completes (flags_read command.now) (H.state host.old) (H.state host.new) result }
 {
-    source_has_one_outcome::<Lines>();
+    sources_have_one_outcome();
     carry_out(alloc, host, command)
 }
 
@@ -48,7 +46,7 @@ fn work<'a, H: Host>(
     ensures worked { IfOk result (λ lines. HasLines (flags_read command.now) (H.state host.old) (H.state host.new) (map string_bytes lines.items)) }
     ensures stopped { IfErr result (Stops (flags_read command.now) (H.state host.old) (H.state host.new)) }
 {
-    let source = read_source(alloc, host, command.source, command.top)?;
+    let source = read_source(alloc, host, command.source, command.zilog, command.top)?;
     let program = source?;
     Ok(report_of(alloc, &program)?)
 }

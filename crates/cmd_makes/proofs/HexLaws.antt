@@ -4,12 +4,12 @@ use Rattle.host.specs.Host.{HostState}
 use Rattle.hex_file.specs.HexFile.{IsHexOf}
 use Rattle.hex_file.specs.Written.{AreCells, IsWritten}
 use Rattle.asm80_program_types.specs.Program.{Program, IsProgram}
-use Rattle.asm80_text.specs.Intel.{intel_reading}
 use Rattle.cpu80_bytes_def.specs.Cells.{program_cells}
 use Rattle.cpu80_bytes_def.specs.Follows.{BytesFollow}
 use Rattle.cmd_arguments.specs.Words.{Hex80}
 use Rattle.cmd_common.specs.Said.{IsDone, whole, failed, no_memory}
-use Rattle.cmd_common.proofs.SourceLaw.{SourceLaw, not_source_and_stop, one_source_stop}
+use Rattle.cmd_common.specs.Sources.{SourceLaw, reading_of}
+use Rattle.cmd_common.proofs.SourceLaw.{not_source_and_stop, one_source_stop}
 use Rattle.cmd_common.proofs.WriteEnds.{writes_on}
 use Rattle.cmd_makes.specs.Kinds.{KindLaws}
 use Rattle.cmd_makes.specs.Makes.{HasMade}
@@ -19,8 +19,8 @@ use Rattle.cmd_makes.specs.Hexes.{HexOfProgram, GivesHex, hex_kind, CellsFollow,
 abbrev OneFile : Type 0
 OneFile = (cells : List (ℕ × ℕ)) (bytes others : List ℕ) → IsWritten cells bytes → IsWritten cells others → bytes ≡ others
 
-module _ (law : SourceLaw intel_reading) (one_file : OneFile) (c : Hex80) where
-  one_hex : (bytes : List ℕ) (a b : HexOfProgram) → GivesHex bytes c.top a → GivesHex bytes c.top b → a ≡ b
+module _ (c : Hex80) (law : SourceLaw (reading_of c.zilog)) (one_file : OneFile) where
+  one_hex : (bytes : List ℕ) (a b : HexOfProgram) → GivesHex c bytes a → GivesHex c bytes b → a ≡ b
   one_hex bytes a b x y =
       let program = law.program bytes c.top a.program b.program x.source y.source in
       let text = one_file (program_cells b.program) a.text b.text (subst (λ p. IsWritten (program_cells p) a.text) program x.written) y.written in

@@ -7,7 +7,6 @@ use Rattle.dialogue.specs.Fill.{IsFill}
 use Rattle.hex_file.specs.HexFile.{IsHexOf}
 use Rattle.hex_file.specs.Written.{IsWritten}
 use Rattle.asm80_program_types.specs.Program.{Program}
-use Rattle.asm80_text.specs.Intel.{intel_reading}
 use Rattle.asm80_source_def.specs.Source.{IsSource}
 use Rattle.cpu80_tagged_def.specs.Start.{IsPage, run80}
 use Rattle.cpu80_untagged_def.specs.Step.{Fetch}
@@ -18,7 +17,7 @@ use Rattle.cpu80_bytes_def.specs.Cells.{program_cells}
 use Rattle.cmd_arguments.specs.Words.{Hex80}
 use Rattle.cmd_common.specs.Lines.{hex_line}
 use Rattle.cmd_common.specs.Files.{input_limit}
-use Rattle.cmd_common.specs.Sources.{SourceStops}
+use Rattle.cmd_common.specs.Sources.{SourceStops, reading_of}
 use Rattle.cmd_makes.specs.Kinds.{MakeKind}
 
 -- a program and a text
@@ -26,9 +25,10 @@ pub record HexOfProgram : Type 0 where
   pub program : Program
   pub text : List ℕ
 
--- the bytes are the source of the program, and the text is what is written of its cells: its encodings and its data
-pub record GivesHex (bytes : List ℕ) (top : ℕ) (m : HexOfProgram) : Type 0 where
-  pub source : IsSource intel_reading bytes top m.program
+-- the bytes are the source of the program, by the reading that the words ask for, and the text is what is written of its cells: its
+-- encodings and its data
+pub record GivesHex (c : Hex80) (bytes : List ℕ) (m : HexOfProgram) : Type 0 where
+  pub source : IsSource (reading_of c.zilog) bytes c.top m.program
   pub written : IsWritten (program_cells m.program) m.text
 
 -- a file that is a source gives its program's HEX file, and any other file is refused by its line and rule
@@ -37,8 +37,8 @@ hex_kind c = record {
   file = c.source;
   most = input_limit;
   output = Some c.output;
-  IsGiven = λ bytes m. GivesHex bytes c.top m;
-  IsRefused = λ bytes stop. SourceStops intel_reading bytes c.top stop;
+  IsGiven = λ bytes m. GivesHex c bytes m;
+  IsRefused = λ bytes stop. SourceStops (reading_of c.zilog) bytes c.top stop;
   content = λ m. m.text;
   line = λ m. hex_line (length (program_cells m.program));
 }
@@ -62,7 +62,7 @@ pub record HasHexFile (c : Hex80) (old new : HostState) : Type 0 where
   pub program : Program
   pub text : List ℕ
   pub given : IsFile (old.file c.source) source
-  pub is_source : IsSource intel_reading source c.top program
+  pub is_source : IsSource (reading_of c.zilog) source c.top program
   pub output : Rewrites old new c.output text
   pub written : IsWritten (program_cells program) text
   pub reads : IsHexOf text (program_cells program)

@@ -11,10 +11,8 @@ ghost use Rattle.cmd_makes.specs.Hexes.{hex_kind, HasHexFile};
 
 use crate::write_made;
 use asm80_program_types::Program80;
-use asm80_text::Lines;
-use asm80_values::source_has_one_outcome;
 use cmd_arguments::Hex80;
-use cmd_common::{Stop, hex_line, read_source, say_done, say_stop};
+use cmd_common::{Stop, hex_line, read_source, say_done, say_stop, sources_have_one_outcome};
 use hex_file::{write_cells, written_reads_back};
 use host::Host;
 use i80_bytes::{bytes_follow, program_cells, program_cells_are_cells};
@@ -28,7 +26,7 @@ pub fn hex80<H: Host>(alloc: Global, host: &mut H, command: &Hex80<'_>) -> u8
     ensures completes { MakeCompletes (hex_kind (hex80_read command.now)) (H.state host.old) (H.state host.new) result }
     ensures file { result ≡ 0 → HasHexFile (hex80_read command.now) (H.state host.old) (H.state host.new) }
 {
-    source_has_one_outcome::<Lines>();
+    sources_have_one_outcome();
     written_reads_back();
     program_cells_are_cells();
     bytes_follow();
@@ -44,7 +42,7 @@ fn work<'a, H: Host>(alloc: Global, host: &mut H, command: &Hex80<'a>) -> Result
     ensures made { IfOk result (λ line. HasMade (hex_kind (hex80_read command.now)) (H.state host.old) (H.state host.new) (string_bytes line)) }
     ensures stopped { IfErr result (MakeStops (hex_kind (hex80_read command.now)) (H.state host.old) (H.state host.new)) }
 {
-    let source = read_source(alloc, host, command.source, command.top)?;
+    let source = read_source(alloc, host, command.source, command.zilog, command.top)?;
     let program = source?;
     let hex = hex_of_program(alloc, &program)?;
     write_made(host, command.output, hex.text.as_slice())?;

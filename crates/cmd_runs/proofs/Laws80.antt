@@ -1,6 +1,5 @@
 -- What is known of sources makes `run80` come to one thing.
 use Rattle.std.proofs.Common.{◌≡◌, ℕ, refl, sym, ◌∙◌, Some}
-use Rattle.asm80_text.specs.Intel.{intel_reading}
 use Rattle.cells.specs.declared.Place.{Place}
 use Rattle.cells.specs.declared.Place.TheVariants.{At, Exit}
 use Rattle.asm80_program_types.specs.Program.{Program}
@@ -9,7 +8,8 @@ use Rattle.emulator_loop.specs.declared.running.RunEnd.{RunEnd}
 use Rattle.emulator_loop.specs.declared.running.RunEnd.TheVariants.{Ended, Stopped, StepLimit, InputEnded, NoDrive}
 use Rattle.emulators.specs.Courses.{course80}
 use Rattle.cmd_arguments.specs.Words.{Run80}
-use Rattle.cmd_common.proofs.SourceLaw.{SourceLaw, not_source_and_stop, one_source_stop}
+use Rattle.cmd_common.specs.Sources.{reading_of, SourceLaw}
+use Rattle.cmd_common.proofs.SourceLaw.{not_source_and_stop, one_source_stop}
 use Rattle.cmd_runs.specs.Runs80.{IsLineAt, IsLineOf, kind80}
 use Rattle.cmd_runs.proofs.OneOutcome.{KindLaws}
 
@@ -28,12 +28,11 @@ one_line p StepLimit m n x y = x ∙ sym y
 one_line p InputEnded m n x y = x ∙ sym y
 one_line p (NoDrive function) m n x y = x ∙ sym y
 
-module _ (law : SourceLaw intel_reading) where
-  pub laws80 : (c : Run80) → KindLaws (kind80 c)
-  laws80 c = record {
-    one = λ bytes p q x y. law.program bytes c.top p q x y;
-    refusal = λ bytes s t x y. one_source_stop law bytes c.top s t x y;
-    apart = λ bytes p stop is stops. not_source_and_stop law bytes c.top p stop is stops;
-    course = λ p readable. (course80 p c.run.page, refl);
-    line = one_line;
-  }
+pub laws80 : (c : Run80) → SourceLaw (reading_of c.zilog) → KindLaws (kind80 c)
+laws80 c law = record {
+  one = λ bytes p q x y. law.program bytes c.top p q x y;
+  refusal = λ bytes s t x y. one_source_stop law bytes c.top s t x y;
+  apart = λ bytes p stop is stops. not_source_and_stop law bytes c.top p stop is stops;
+  course = λ p readable. (course80 p c.run.page, refl);
+  line = one_line;
+}

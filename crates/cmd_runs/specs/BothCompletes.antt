@@ -1,7 +1,7 @@
 -- The one thing that `both` comes to by the whole bytes of its source and its devices' files, where no call of the host fails.
 use Rattle.std.specs.Prelude.{ℕ, List, Result, Err}
 use Rattle.asm80_program_types.specs.Program.{Program}
-use Rattle.asm80_text.specs.Intel.{intel_reading}
+use Rattle.cmd_common.specs.Sources.{reading_of}
 use Rattle.asm80_source_def.specs.Source.{IsSource}
 use Rattle.asm86_line_types.specs.declared.line.Line86.{Line86}
 use Rattle.host.specs.Host.{HostState}
@@ -21,12 +21,12 @@ use Rattle.cmd_runs.specs.BothLoads.{source_of}
 -- where there is a program to run, over devices with a disk, the code of its lean text fits
 abbrev pub LeanFits : Both → List ℕ → Given → Type 0
 LeanFits c bytes given =
-    (program : Program) (supply : Supply) (lines : List Line86) → IsSource intel_reading bytes c.top program → HasDisk given supply → IsText Lean program lines → CodeFits lines
+    (program : Program) (supply : Supply) (lines : List Line86) → IsSource (reading_of c.zilog) bytes c.top program → HasDisk given supply → IsText Lean program lines → CodeFits lines
 
 -- what `run80` comes to, where the code of the lean text fits; and else that it has so many bytes
 pub data BothComeTo (c : Both) (bytes : List ℕ) (given : Given) : Result ℕ Stop → Type 0 where
   as_run80 : {r : Result ℕ Stop} → LeanFits c bytes given → FilesComeTo (kind80 (source_of c)) bytes given r → BothComeTo c bytes given r
-  too_large : (program : Program) (supply : Supply) (size : ℕ) → IsSource intel_reading bytes c.top program → HasDisk given supply → IsTooLarge Lean program size → BothComeTo c bytes given (Err (CodeTooLarge size))
+  too_large : (program : Program) (supply : Supply) (size : ℕ) → IsSource (reading_of c.zilog) bytes c.top program → HasDisk given supply → IsTooLarge Lean program size → BothComeTo c bytes given (Err (CodeTooLarge size))
 
 -- where every file is told and within its limit, the status is that of the one thing that the command comes to: so it is 0 exactly
 -- where that of `run80` is and the code fits, want of memory aside

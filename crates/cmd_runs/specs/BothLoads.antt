@@ -18,7 +18,7 @@ use Rattle.templates.specs.Translation.{IsText, CodeFits, IsTooLarge}
 
 -- what `both` does on the 8080 is what `run80` does by these words
 abbrev pub source_of : Both → Run80
-source_of c = record { source = c.source; top = c.top; run = c.run }
+source_of c = record { source = c.source; zilog = c.zilog; top = c.top; run = c.run }
 
 -- the image of a program's lean text, whose code fits and is read in one way; and the headline, that it means the same
 pub record HasLean (p : Program) (image : Image) : Type 0 where

@@ -1,16 +1,15 @@
 -- What `run80` is among the commands that run something: the program of a source runs on the tagged 8080.
-use Rattle.std.specs.Prelude.{◌≡◌, ℕ, List, Some}
+use Rattle.std.specs.Prelude.{◌≡◌, ℕ, Bool, List, Some}
 use Rattle.cells.specs.declared.Place.{Place}
 use Rattle.cells.specs.declared.Place.TheVariants.{At, Exit}
 use Rattle.asm80_program_types.specs.Program.{Program, line_at}
-use Rattle.asm80_text.specs.Intel.{intel_reading}
 use Rattle.asm80_source_def.specs.Source.{IsSource}
 use Rattle.cmd_arguments.specs.Words.{RunOptions, Run80}
 use Rattle.emulator_loop.specs.declared.emulator.Why.TheVariants.{Left, NoInstruction, StackSegment, OddCall}
 use Rattle.emulator_loop.specs.declared.running.RunEnd.{RunEnd}
 use Rattle.emulator_loop.specs.declared.running.RunEnd.TheVariants.{Ended, Stopped, StepLimit, InputEnded, NoDrive}
 use Rattle.cmd_common.specs.Files.{input_limit}
-use Rattle.cmd_common.specs.Sources.{SourceStops}
+use Rattle.cmd_common.specs.Sources.{SourceStops, reading_of}
 use Rattle.cmd_runs.specs.Settings.{IsCourse80}
 use Rattle.cmd_runs.specs.Kinds.{RunKind}
 use Rattle.cmd_runs.specs.Works.{RunWork, work_of_one}
@@ -31,9 +30,9 @@ IsLineOf p StepLimit line = line ≡ 0
 IsLineOf p InputEnded line = line ≡ 0
 IsLineOf p (NoDrive function) line = line ≡ 0
 
--- the words of a source's name, a top and the options
-abbrev pub words_of : List ℕ → ℕ → RunOptions → Run80
-words_of source top run = record { source = source; top = top; run = run }
+-- the words of a source's name, its spelling, a top and the options
+abbrev pub words_of : List ℕ → Bool → ℕ → RunOptions → Run80
+words_of source zilog top run = record { source = source; zilog = zilog; top = top; run = run }
 
 -- a file that is the source of a program gives it, and any other file is refused by its line and rule; the program has one course, and
 -- where it leaves the profile that line stands with the stop
@@ -42,8 +41,8 @@ kind80 c = record {
   file = c.source;
   most = input_limit;
   options = c.run;
-  IsGiven = λ bytes program. IsSource intel_reading bytes c.top program;
-  IsRefused = λ bytes stop. SourceStops intel_reading bytes c.top stop;
+  IsGiven = λ bytes program. IsSource (reading_of c.zilog) bytes c.top program;
+  IsRefused = λ bytes stop. SourceStops (reading_of c.zilog) bytes c.top stop;
   IsReadable = λ program. Unit {0};
   IsCourse = λ program course. IsCourse80 c.run.page program course;
   IsStopLine = λ program end line. IsLineOf program end line;

@@ -44,7 +44,14 @@ pub fn load<'a, H: Host>(
     ensures counted { OnOk result (SameFaults (H.state host.old) (H.state host.new)) }
     ensures stopped { IfErr result (Halts (NeitherToRun (both_read command.now) (H.state host.old) (H.state host.new))) }
 {
-    let named = read_program(alloc, host, command.source, command.top, &command.run)?;
+    let named = read_program(
+        alloc,
+        host,
+        command.source,
+        command.zilog,
+        command.top,
+        &command.run,
+    )?;
     let Named { program, supplies } = named;
     let devices = two_devices(alloc, supplies)?;
     let text = filled_image(alloc, &program, command.choice)?;

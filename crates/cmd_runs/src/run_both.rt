@@ -13,10 +13,9 @@ ghost use Rattle.cmd_runs.specs.BothCompletes.{BothComplete};
 use crate::both_inputs::{Loaded, load};
 use crate::making::make_runs;
 use crate::{Halt, Last, came_to, close_work, kept_disk_name, leave_runs};
-use asm80_text::Lines;
-use asm80_values::source_has_one_outcome;
 use bdos_disk::disks_read_back;
 use cmd_arguments::Both;
+use cmd_common::sources_have_one_outcome;
 use host::Host;
 use std::alloc::Global;
 use templates_same_law::own_texts_are_same;
@@ -29,7 +28,7 @@ pub fn both<H: Host>(alloc: Global, host: &mut H, command: &Both<'_>) -> u8
     ensures files { DiskAlone (both_read command.now).run.out_disk (H.state host.old) (H.state host.new) }
     ensures completes { BothComplete (both_read command.now) (H.state host.old) (H.state host.new) result }
 {
-    source_has_one_outcome::<Lines>();
+    sources_have_one_outcome();
     disks_read_back();
     own_texts_are_same();
     let worked = work(alloc, host, command);

@@ -18,13 +18,11 @@ use crate::{
     read_supplies, run_program,
 };
 use asm80_program_types::Program80;
-use asm80_text::Lines;
-use asm80_values::source_has_one_outcome;
 use bdos_disk::disks_read_back;
 use bdos_small::Devices;
 use cells::Place;
 use cmd_arguments::{Run80, RunOptions};
-use cmd_common::read_source;
+use cmd_common::{read_source, sources_have_one_outcome};
 use emulators::{RunEnd, Why};
 use host::Host;
 use std::alloc::Global;
@@ -51,7 +49,7 @@ pub fn run80<H: Host>(alloc: Global, host: &mut H, command: &Run80<'_>) -> u8
     ensures files { DiskAlone (run80_read command.now).run.out_disk (H.state host.old) (H.state host.new) }
     ensures completes { RunCompletes (kind80 (run80_read command.now)) (H.state host.old) (H.state host.new) result }
 {
-    source_has_one_outcome::<Lines>();
+    sources_have_one_outcome();
     disks_read_back();
     let worked = work(alloc, host, command);
     close_work(alloc, host, worked)
@@ -104,28 +102,36 @@ fn load<'a, H: Host>(alloc: Global, host: &mut H, command: &Run80<'a>) -> Result
     ensures counted { OnOk result (SameFaults (H.state host.old) (H.state host.new)) }
     ensures stopped { IfErr result (Halts (NothingToRun (kind80 (run80_read command.now)) (H.state host.old) (H.state host.new))) }
 {
-    let named = read_program(alloc, host, command.source, command.top, &command.run)?;
+    let named = read_program(
+        alloc,
+        host,
+        command.source,
+        command.zilog,
+        command.top,
+        &command.run,
+    )?;
     let Named { program, supplies } = named;
     let devices = devices_of(alloc, supplies)?;
     Ok(Loaded { program, devices })
 }
 
-/// Reads the files, that of the source as its program, for a top of the program area, a multiple of 100H from 1000H to 0FF00H. That the
+/// Reads the files, that of the source as its program, in Zilog's spelling or in Intel's, for a top of the program area, a multiple of 100H from 1000H to 0FF00H. That the
 /// source is refused is told once all of them are read.
 pub fn read_program<'a, H: Host>(
     alloc: Global,
     host: &mut H,
     name: &'a str,
+    zilog: bool,
     top: u16,
     run: &RunOptions<'a>,
 ) -> Result<Named, Halt<'a>>
     requires { is_top top ≡ true }
     ensures only { OnlyReads (H.state host.old) (H.state host.new) }
-    ensures named { IfOk result (λ n. IsNamed (kind80 (words_of name.now top (run_options_read run.now))) (H.state host.old) n.program (given_of n.supplies.input.items n.supplies.disk.items n.supplies.ports.items)) }
+    ensures named { IfOk result (λ n. IsNamed (kind80 (words_of name.now zilog top (run_options_read run.now))) (H.state host.old) n.program (given_of n.supplies.input.items n.supplies.disk.items n.supplies.ports.items)) }
     ensures counted { OnOk result (SameFaults (H.state host.old) (H.state host.new)) }
-    ensures stopped { IfErr result (Halts (NothingToRun (kind80 (words_of name.now top (run_options_read run.now))) (H.state host.old) (H.state host.new))) }
+    ensures stopped { IfErr result (Halts (NothingToRun (kind80 (words_of name.now zilog top (run_options_read run.now))) (H.state host.old) (H.state host.new))) }
 {
-    let source = read_source(alloc, host, name, top)?;
+    let source = read_source(alloc, host, name, zilog, top)?;
     let supplies = read_supplies(alloc, host, run)?;
     let program = source?;
     Ok(Named { program, supplies })

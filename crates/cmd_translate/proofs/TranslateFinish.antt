@@ -9,7 +9,6 @@ use Rattle.asm86_line_types.specs.Written.{written_text}
 use Rattle.asm86.specs.Stream.{TextGives}
 use Rattle.host_files.specs.Transfer.{CutsLine}
 use Rattle.asm80_program_types.specs.Program.{Program, IsProgram}
-use Rattle.asm80_text.specs.Intel.{intel_reading}
 use Rattle.asm80_source_def.specs.Source.{IsSource, SourceRule, IsNoSource, OfLine, OfProgram}
 use Rattle.asm86_line_types.specs.declared.line.Line86.{Line86}
 use Rattle.cmd_arguments.specs.Words.{Translate}
@@ -22,10 +21,9 @@ use Rattle.cmd_common.specs.declared.stop.Stop.{Stop}
 use Rattle.cmd_common.specs.declared.stop.Stop.TheVariants.{CodeTooLarge}
 use Rattle.cmd_common.specs.Lines.{named_line, memory_line}
 use Rattle.cmd_common.specs.Said.{SaysLine, SaysLast, IsDone, whole, failed, no_memory, Closes, said, unsaid}
-use Rattle.cmd_common.proofs.SourceLaw.{SourceLaw}
 use Rattle.cmd_common.proofs.Said.{line_after}
 use Rattle.cmd_common.specs.Files.{ReadStops, failed as read_failed, too_long as file_too_long, no_memory as no_memory_to_read, NoneFailed, FileIsTold, input_limit}
-use Rattle.cmd_common.specs.Sources.{stop_of_rule, refusal_line}
+use Rattle.cmd_common.specs.Sources.{stop_of_rule, refusal_line, reading_of, SourceLaw}
 use Rattle.cmd_translate.specs.Translates.{mode_of, line_of_text, size_line, Accepts, Refuses, Exceeds, HasSame, TranslateGives, translated, refused, unread, unwritten, unsaid as line_unsaid, no_memory as no_room, no_memory_to_write, no_memory_to_say, too_large, too_long, Decides}
 use Rattle.cmd_common.specs.Writing.{EndsWith, WriteStops}
 use Rattle.cmd_translate.specs.TranslateWork.{Works, StopsBy, unread as stop_unread, refused as stop_refused, too_large as stop_too_large, no_memory as stop_no_memory, unwritten as stop_unwritten}
@@ -115,22 +113,22 @@ module _ (c : Translate) (old mid new : HostState) where
   stopped _ (stop_no_memory only) status (unsaid n e l) = subst (TranslateGives c old new) (sym e) (quiet_end only l)
   stopped stop (stop_unwritten p lines accepts w) status closes = unwritten_end p lines accepts stop w status closes
 
-module _ (law : SourceLaw intel_reading) (one : OneText) (c : Translate) (old new : HostState) (none : NoneFailed old new) (bytes : List ℕ) (told : FileIsTold old c.input input_limit bytes) where
+module _ (c : Translate) (law : SourceLaw (reading_of c.zilog)) (one : OneText) (old new : HostState) (none : NoneFailed old new) (bytes : List ℕ) (told : FileIsTold old c.input input_limit bytes) where
   -- the source's bytes are those that the host tells
   same_bytes : (others : List ℕ) → IsFile (old.file c.input) others → others ≡ bytes
   same_bytes others f = sym (subst (λ t. IsFile t others) told.0 f)
 
-  source_told : (p : Program) (lines : List Line86) (a : Accepts c old p lines) → IsSource intel_reading bytes c.top p
-  source_told p lines a = subst (λ b. IsSource intel_reading b c.top p) (same_bytes a.bytes a.file.0) a.source
+  source_told : (p : Program) (lines : List Line86) (a : Accepts c old p lines) → IsSource (reading_of c.zilog) bytes c.top p
+  source_told p lines a = subst (λ b. IsSource (reading_of c.zilog) b c.top p) (same_bytes a.bytes a.file.0) a.source
 
-  refusal_told : (line : ℕ) (rule : SourceRule) (r : Refuses c old line rule) → IsNoSource intel_reading bytes c.top line rule
-  refusal_told line rule r = subst (λ b. IsNoSource intel_reading b c.top line rule) (same_bytes r.bytes r.file.0) r.refused
+  refusal_told : (line : ℕ) (rule : SourceRule) (r : Refuses c old line rule) → IsNoSource (reading_of c.zilog) bytes c.top line rule
+  refusal_told line rule r = subst (λ b. IsNoSource (reading_of c.zilog) b c.top line rule) (same_bytes r.bytes r.file.0) r.refused
 
-  large_told : (size : ℕ) (x : Exceeds c old size) → IsSource intel_reading bytes c.top x.program
-  large_told size x = subst (λ b. IsSource intel_reading b c.top x.program) (same_bytes x.bytes x.file.0) x.source
+  large_told : (size : ℕ) (x : Exceeds c old size) → IsSource (reading_of c.zilog) bytes c.top x.program
+  large_told size x = subst (λ b. IsSource (reading_of c.zilog) b c.top x.program) (same_bytes x.bytes x.file.0) x.source
 
   -- the one program of the source
-  one_program : (p q : Program) → IsSource intel_reading bytes c.top p → IsSource intel_reading bytes c.top q → p ≡ q
+  one_program : (p q : Program) → IsSource (reading_of c.zilog) bytes c.top p → IsSource (reading_of c.zilog) bytes c.top q → p ≡ q
   one_program p q s t = law.program bytes c.top p q s t
 
   ends_said : (line : List ℕ) → EndsWith old new line → SaysLine old new line

@@ -6,7 +6,6 @@ use Rattle.asm86_line_types.specs.declared.line.Line86.{Line86}
 use Rattle.asm86_line_types.specs.Image.{Image}
 use Rattle.asm86_line_types.specs.Written.{written_text}
 use Rattle.asm80_program_types.specs.Program.{Program}
-use Rattle.asm80_text.specs.Intel.{intel_reading}
 use Rattle.asm80_source_def.specs.Source.{IsSource, SourceRule, IsNoSource}
 use Rattle.host_files.specs.Transfer.{IsLonger, CutsLine}
 use Rattle.cmd_arguments.specs.Words.{Translate}
@@ -19,7 +18,7 @@ use Rattle.cmd_common.specs.declared.stop.Stop.TheVariants.{CodeTooLarge}
 use Rattle.cmd_common.specs.Lines.{line_of_stop, named_line, memory_line, translated_line}
 use Rattle.cmd_common.specs.Said.{SaysLine}
 use Rattle.cmd_common.specs.Files.{IsWholeFile, NoneFailed, FileIsTold, input_limit}
-use Rattle.cmd_common.specs.Sources.{refusal_line}
+use Rattle.cmd_common.specs.Sources.{refusal_line, reading_of}
 use Rattle.asm86.specs.Images.{HasImage}
 use Rattle.cmd_common.specs.Writing.{Writes, WritesPart, SaysOfWrite, EndsWith}
 
@@ -41,7 +40,7 @@ module _ (c : Translate) (old : HostState) where
   pub record Accepts (p : Program) (lines : List Line86) : Type 0 where
     pub bytes : List ℕ
     pub file : IsWholeFile old c.input input_limit bytes
-    pub source : IsSource intel_reading bytes c.top p
+    pub source : IsSource (reading_of c.zilog) bytes c.top p
     pub text : IsText (mode_of c.plain) p lines
     pub fits : CodeFits lines
 
@@ -49,14 +48,14 @@ module _ (c : Translate) (old : HostState) where
   pub record Refuses (line : ℕ) (rule : SourceRule) : Type 0 where
     pub bytes : List ℕ
     pub file : IsWholeFile old c.input input_limit bytes
-    pub refused : IsNoSource intel_reading bytes c.top line rule
+    pub refused : IsNoSource (reading_of c.zilog) bytes c.top line rule
 
   -- the source's file has a program whose code is too large
   pub record Exceeds (size : ℕ) : Type 0 where
     pub program : Program
     pub bytes : List ℕ
     pub file : IsWholeFile old c.input input_limit bytes
-    pub source : IsSource intel_reading bytes c.top program
+    pub source : IsSource (reading_of c.zilog) bytes c.top program
     pub large : IsTooLarge (mode_of c.plain) program size
 
   module _ (new : HostState) where
@@ -93,9 +92,9 @@ module _ (c : Translate) (old : HostState) where
     -- such a line off
     pub record Decides (bytes : List ℕ) (status : ℕ) : Type 0 where
       pub three : (status ≡ 0) ⊎ ((status ≡ 1) ⊎ (status ≡ 13))
-      pub accepted : (status ≡ 0) ↔ ((p : Program) × (lines : List Line86) × IsSource intel_reading bytes c.top p × IsText (mode_of c.plain) p lines × CodeFits lines)
-      pub refused : (line : ℕ) (rule : SourceRule) → IsNoSource intel_reading bytes c.top line rule → (status ≡ 1) × SaysLine old new (refusal_line line rule)
-      pub too_large : (p : Program) (size : ℕ) → IsSource intel_reading bytes c.top p → IsTooLarge (mode_of c.plain) p size → (status ≡ 13) × SaysLine old new (size_line size)
+      pub accepted : (status ≡ 0) ↔ ((p : Program) × (lines : List Line86) × IsSource (reading_of c.zilog) bytes c.top p × IsText (mode_of c.plain) p lines × CodeFits lines)
+      pub refused : (line : ℕ) (rule : SourceRule) → IsNoSource (reading_of c.zilog) bytes c.top line rule → (status ≡ 1) × SaysLine old new (refusal_line line rule)
+      pub too_large : (p : Program) (size : ℕ) → IsSource (reading_of c.zilog) bytes c.top p → IsTooLarge (mode_of c.plain) p size → (status ≡ 13) × SaysLine old new (size_line size)
 
     -- so it is where no call failed and the host tells a source within its limit
     abbrev pub Completes : ℕ → Type 0

@@ -1,25 +1,21 @@
 // The work of `translate`: the source in, its text out.
-ghost use Rattle.std.specs.Prelude.{◌≡◌, ◌^◌, ◌<◌, true, IfOk, IfErr, OnOk, length, vec_len};
+ghost use Rattle.std.specs.Prelude.{◌≡◌, ◌^◌, ◌<◌, true, IfOk, IfErr, length, vec_len};
 ghost use Rattle.std.specs.String.{string_bytes};
-ghost use Rattle.host.specs.Host.{SameFaults, OnlyWrites, Rewrites};
-ghost use Rattle.asm86_line_types.specs.Written.{written_text};
 ghost use Rattle.asm80_program_types.specs.Program.{Program, is_top};
 ghost use Rattle.templates.specs.declared.translation.Mode.{Mode};
 ghost use Rattle.templates.specs.Translation.{IsText, CodeFits, HasNoText};
 ghost use Rattle.cmd_arguments.specs.ReadCommands.{translate_read};
 ghost use Rattle.cmd_common.specs.declared.stop.Stop.TheVariants.{OutOfMemory};
 ghost use Rattle.cmd_translate.specs.Translates.{mode_of, line_of_text, TranslateGives, Completes};
-ghost use Rattle.cmd_common.specs.Writing.{WriteStops};
 ghost use Rattle.cmd_translate.specs.TranslateWork.{TextStops, Works, StopsBy};
 
 use asm80_program_types::Program80;
-use asm80_text::Lines;
-use asm80_values::source_has_one_outcome;
 use asm86_line_types::{Line86, code_size};
 use cmd_arguments::Translate;
-use cmd_common::{Stop, read_source, say_done, say_stop, stop_of_write, translated_line};
+use cmd_common::{
+    Stop, read_source, say_done, say_stop, sources_have_one_outcome, translated_line, write_text,
+};
 use host::Host;
-use host_files::write_out;
 use std::alloc::{AllocError, Global};
 use templates::{CoreFault, Mode};
 use templates_same_law::own_texts_are_same;
@@ -39,7 +35,7 @@ pub fn translate<H: Host>(alloc: Global, host: &mut H, command: &Translate<'_>) 
     ensures completes { Completes (translate_read command.now) (H.state host.old) (H.state host.new) result }
 {
     own_texts_are_same();
-    source_has_one_outcome::<Lines>();
+    sources_have_one_outcome();
     match work(alloc, host, command) {
         Ok(line) => say_done(host, line.as_str()),
         Err(stop) => say_stop(alloc, host, stop),
@@ -57,7 +53,7 @@ fn work<'a, H: Host>(
     ensures worked { IfOk result (λ line. Works (translate_read command.now) (H.state host.old) (H.state host.new) (string_bytes line)) }
     ensures stopped { IfErr result (StopsBy (translate_read command.now) (H.state host.old) (H.state host.new)) }
 {
-    let source = read_source(alloc, host, command.input, command.top)?;
+    let source = read_source(alloc, host, command.input, command.zilog, command.top)?;
     let program = source?;
     let text = text_of_program(alloc, &program, mode_of(command.plain))?;
     write_text(host, command.output, text.lines.as_slice())?;
@@ -114,17 +110,4 @@ fn line_of(alloc: Global, program: &Program80, lines: &[Line86]) -> Result<Strin
     let instructions = program.instrs().len();
     let cells = program.cells().len();
     translated_line(alloc, instructions, cells, code_size(lines))
-}
-
-// Writes the text of lines to a file.
-fn write_text<'a, H: Host>(host: &mut H, name: &str, lines: &[Line86]) -> Result<(), Stop<'a>>
-    ensures only { OnlyWrites (H.state host.old) (H.state host.new) name.now }
-    ensures written { OnOk result (Rewrites (H.state host.old) (H.state host.new) name.now (written_text lines.now)) }
-    ensures counted { OnOk result (SameFaults (H.state host.old) (H.state host.new)) }
-    ensures stopped { IfErr result (WriteStops name.now (written_text lines.now) (H.state host.old) (H.state host.new)) }
-{
-    match write_out(host, name, lines) {
-        Ok(()) => Ok(()),
-        Err(fault) => Err(stop_of_write(fault)),
-    }
 }

@@ -1,5 +1,5 @@
 // A piece of a file, filled before it is written.
-ghost use Rattle.std.specs.Prelude.{◌≡◌, ◌-◌, ◌==◌, min, take, [], ◌++◌, length};
+ghost use Rattle.std.specs.Prelude.{◌≡◌, ◌+◌, ◌-◌, ◌==◌, ◌≤◌, nat_le, min, take, [], ◌++◌, length};
 
 use crate::PIECE;
 use std::marker::Model;
@@ -46,15 +46,30 @@ impl Piece {
         self.count == PIECE
     }
 
+    /// There is room for 512 bytes more.
+    pub fn has_room(&self) -> bool
+        ensures { result ≡ nat_le (length self.now + 512) 4096 }
+    {
+        self.count + 512 <= PIECE
+    }
+
+    /// Adds bytes, for which there is room.
+    pub fn push(&mut self, more: &[u8])
+        requires { length self.old + length more.now ≤ 4096 }
+        ensures { self.new ≡ self.old ++ more.now }
+    {
+        let end = self.count + more.len();
+        self.bytes[self.count..end].copy_from_slice(more);
+        self.count = end;
+    }
+
     /// Adds as many of the first bytes as go in, and answers how many.
     pub fn fill(&mut self, more: &[u8]) -> usize
         ensures count { result ≡ min (length more.now) (4096 - length self.old) }
         ensures bytes { self.new ≡ self.old ++ take result more.now }
     {
         let count = more.len().min(PIECE - self.count);
-        let end = self.count + count;
-        self.bytes[self.count..end].copy_from_slice(&more[..count]);
-        self.count = end;
+        self.push(&more[..count]);
         count
     }
 }

@@ -5,6 +5,7 @@ ghost use Rattle.host.specs.Host.{SameFaults, OnlyWrites, Rewrites, WriteFault};
 ghost use Rattle.host_files.specs.Transfer.{extended, IsBeforeOrPart};
 
 use crate::piece::Piece;
+use crate::producer::Producer;
 use asm86_line_types::{Line86, write_line};
 use host::{Host, HostFault};
 
@@ -38,6 +39,31 @@ pub fn write_bytes<H: Host>(host: &mut H, name: &str, bytes: &[u8]) -> Result<()
 {
     host.begin(name)?;
     append_all(host, name, bytes)
+}
+
+/// Writes to a file all bytes that a producer has yet to give, in pieces of up to 4,096 bytes, and takes no memory of its own. After a
+/// fault the file is as before, or holds first bytes of them, but not all.
+pub fn write_from<H: Host, P: Producer>(
+    host: &mut H,
+    name: &str,
+    producer: &mut P,
+) -> Result<(), HostFault>
+    ensures only { OnlyWrites (H.state host.old) (H.state host.new) name.now }
+    ensures ok { OnOk result (Rewrites (H.state host.old) (H.state host.new) name.now (P.left producer.old)) }
+    ensures counted { OnOk result (SameFaults (H.state host.old) (H.state host.new)) }
+    ensures fault { OnErr result
+        (IsBeforeOrPart (H.state host.old) (H.state host.new) name.now (P.left producer.old)) }
+    ensures failed { IfErr result (WriteFault (H.state host.old) (H.state host.new)) }
+{
+    host.begin(name)?;
+    let mut waiting = Piece::new();
+    while producer.produce(&mut waiting) {
+        if !waiting.has_room() {
+            append_all(host, name, waiting.as_slice())?;
+            waiting = Piece::new();
+        }
+    }
+    append_all(host, name, waiting.as_slice())
 }
 
 // Adds bytes to a piece that is not full, and appends it to the file once it is.

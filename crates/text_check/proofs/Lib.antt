@@ -4,3 +4,4 @@ mod Numbers
 mod Walking
 mod Found
 mod One
+pub mod Matching

@@ -43,8 +43,8 @@ pub fn validate_in(
     }
 }
 
-// The first that a text lacks of what is looked at before the blocks.
-fn lacks(program: &Program80, text: &[Stmt86], image: &Image86) -> Option<Reason>
+/// The first that a text lacks of what is looked at before the blocks: the opening, the runtime and the data.
+pub fn lacks(program: &Program80, text: &[Stmt86], image: &Image86) -> Option<Reason>
     requires { IsStrictlyIncreasing (keys_of image.now.cells) }
     ensures { MatchOption result (HasFrame program.now text.now image.now) (Lacks program.now text.now image.now) }
 {

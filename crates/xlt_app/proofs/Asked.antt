@@ -7,8 +7,8 @@ use Rattle.cmd_arguments.specs.declared.table.CommandName.{CommandName}
 use Rattle.cmd_arguments.specs.declared.table.CommandName.TheVariants as named
 use Rattle.cmd_arguments.specs.Table.{Word}
 use Rattle.cmd_arguments.specs.Values.{top_among, top_value, number_in, count_within, count_value, file_name}
-use Rattle.cmd_arguments.specs.Given.{Gathered, Names, NoName, OneName, TwoNames, MoreNames}
-use Rattle.cmd_arguments.specs.Words.{Translate, Check, Flags, Run80, Both, Sample, Hex80, RunHex, Command, Translates, Checks, ListsFlags, Runs80, Runs86, RunsBoth, MakesSample, MakesCmd, ShowsCmd, WritesHex, RunsHex, IsCommand, command_of, translate_of, check_of, flags_command_of, run80_of, run86_of, both_of, sample_of, cmd_of, cmd_show_of, hex80_of, run_hex_of, run_options_of, flag_of, one_file, two_files, count_and_file, top_of, choice_of, text_or}
+use Rattle.cmd_arguments.specs.Given.{Gathered, Names, NoName, OneName, TwoNames, MoreNames, ThreeNames}
+use Rattle.cmd_arguments.specs.Words.{Translate, Check, Flags, Run80, Both, Sample, Hex80, RunHex, Command, Translates, Checks, ListsFlags, Runs80, Runs86, RunsBoth, MakesSample, MakesCmd, ShowsCmd, WritesHex, RunsHex, IsCommand, command_of, translate_of, check_of, flags_command_of, run80_of, run86_of, both_of, sample_of, cmd_of, cmd_show_of, hex80_of, run_hex_of, run_options_of, flag_of, one_file, two_files, count_and_file, top_of, choice_of, text_or, Shrink, ShrinksText, shrink_of, three_files}
 use Rattle.cmd_sample.specs.Samples.{IsCount}
 use Rattle.xlt_app.specs.Top.{HasLawfulValues}
 
@@ -46,7 +46,8 @@ translate_top : (g : Gathered) (c : Translate) → translate_of g ≡ Some c →
 unfolding translation_top_in taken
 translate_top g c e =
     let a = taken (flag_of g.plain) _ c e in
-    let b = taken (two_files g.names) _ c a.2 in
+    let z = taken (flag_of g.zilog) _ c a.2 in
+    let b = taken (two_files g.names) _ c z.2 in
     let d = taken (top_of g) _ c b.2 in
     subst (λ n. is_top n ≡ true) (ap translation_top_in d.2) (top_of_is g d.0 d.1)
 
@@ -57,7 +58,8 @@ check_top_in (Some c) = c.top
 check_top : (g : Gathered) (c : Check) → check_of g ≡ Some c → is_top c.top ≡ true
 unfolding check_top_in taken
 check_top g c e =
-    let a = taken (two_files g.names) _ c e in
+    let z = taken (flag_of g.zilog) _ c e in
+    let a = taken (two_files g.names) _ c z.2 in
     let b = taken (top_of g) _ c a.2 in
     subst (λ n. is_top n ≡ true) (ap check_top_in b.2) (top_of_is g b.0 b.1)
 
@@ -68,7 +70,8 @@ flags_top_in (Some c) = c.top
 flags_top : (g : Gathered) (c : Flags) → flags_command_of g ≡ Some c → is_top c.top ≡ true
 unfolding flags_top_in taken
 flags_top g c e =
-    let a = taken (one_file g.names) _ c e in
+    let z = taken (flag_of g.zilog) _ c e in
+    let a = taken (one_file g.names) _ c z.2 in
     let b = taken (top_of g) _ c a.2 in
     subst (λ n. is_top n ≡ true) (ap flags_top_in b.2) (top_of_is g b.0 b.1)
 
@@ -79,7 +82,8 @@ run80_top_in (Some c) = c.top
 run80_top : (g : Gathered) (c : Run80) → run80_of g ≡ Some c → is_top c.top ≡ true
 unfolding run80_top_in taken
 run80_top g c e =
-    let a = taken (one_file g.names) _ c e in
+    let z = taken (flag_of g.zilog) _ c e in
+    let a = taken (one_file g.names) _ c z.2 in
     let b = taken (top_of g) _ c a.2 in
     let d = taken (run_options_of g) _ c b.2 in
     subst (λ n. is_top n ≡ true) (ap run80_top_in d.2) (top_of_is g b.0 b.1)
@@ -91,7 +95,8 @@ both_top_in (Some c) = c.top
 both_top : (g : Gathered) (c : Both) → both_of g ≡ Some c → is_top c.top ≡ true
 unfolding both_top_in taken
 both_top g c e =
-    let a = taken (one_file g.names) _ c e in
+    let z = taken (flag_of g.zilog) _ c e in
+    let a = taken (one_file g.names) _ c z.2 in
     let b = taken (top_of g) _ c a.2 in
     let d = taken (choice_of g) _ c b.2 in
     let f = taken (run_options_of g) _ c d.2 in
@@ -104,7 +109,8 @@ hex80_top_in (Some c) = c.top
 hex80_top : (g : Gathered) (c : Hex80) → hex80_of g ≡ Some c → is_top c.top ≡ true
 unfolding hex80_top_in taken
 hex80_top g c e =
-    let a = taken (two_files g.names) _ c e in
+    let z = taken (flag_of g.zilog) _ c e in
+    let a = taken (two_files g.names) _ c z.2 in
     let b = taken (top_of g) _ c a.2 in
     subst (λ n. is_top n ≡ true) (ap hex80_top_in b.2) (top_of_is g b.0 b.1)
 
@@ -120,6 +126,17 @@ run_hex_top g c e =
     let d = taken (choice_of g) _ c b.2 in
     let f = taken (run_options_of g) _ c d.2 in
     subst (λ n. is_top n ≡ true) (ap run_hex_top_in f.2) (top_of_is g b.0 b.1)
+
+shrink_top_in : Option Shrink → ℕ
+shrink_top_in None = 0
+shrink_top_in (Some c) = c.top
+
+shrink_top : (g : Gathered) (c : Shrink) → shrink_of g ≡ Some c → is_top c.top ≡ true
+unfolding shrink_top_in taken
+shrink_top g c e =
+    let a = taken (three_files g.names) _ c e in
+    let b = taken (top_of g) _ c a.2 in
+    subst (λ n. is_top n ≡ true) (ap shrink_top_in b.2) (top_of_is g b.0 b.1)
 
 -- ---- the number of routines
 
@@ -150,6 +167,7 @@ counted (TwoNames first second) x e =
     let a = taken (count_value first) _ x e in
     let b = taken (file_name second) _ x a.2 in
     subst IsCount (ap pair_count_in b.2) (count_is first a.0 a.1)
+counted (ThreeNames first second third) x e = absurd (cc)
 counted MoreNames x e = absurd (cc)
 
 sample_count : (g : Gathered) (c : Sample) → sample_of g ≡ Some c → IsCount c.count
@@ -172,6 +190,7 @@ asked_by_name named.Cmd g c e = let h = mapped (cmd_of g) MakesCmd c e in subst 
 asked_by_name named.CmdShow g c e = let h = mapped (cmd_show_of g) ShowsCmd c e in subst HasLawfulValues h.2 tt
 asked_by_name named.Hex80 g c e = let h = mapped (hex80_of g) WritesHex c e in subst HasLawfulValues h.2 (hex80_top g h.0 h.1)
 asked_by_name named.RunHex g c e = let h = mapped (run_hex_of g) RunsHex c e in subst HasLawfulValues h.2 (run_hex_top g h.0 h.1)
+asked_by_name named.Shrink g c e = let h = mapped (shrink_of g) ShrinksText c e in subst HasLawfulValues h.2 (shrink_top g h.0 h.1)
 
 -- so the work of each command that words are may be done
 pub words_ask : (words : List Word) (c : Command) → IsCommand words c → HasLawfulValues c

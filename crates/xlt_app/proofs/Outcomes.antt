@@ -4,11 +4,13 @@ use Rattle.host.specs.Host.{HostState, SameFiles}
 use Rattle.host.proofs.HostLemmas.{OnlyReads-refl}
 use Rattle.asm86_line_types.specs.Image.{image_of}
 use Rattle.asm86_line_types.specs.Written.{written_text}
-use Rattle.cmd_arguments.specs.Words.{Translate, Check, Cmd, Hex80, Command, Translates, Checks, ListsFlags, Runs80, Runs86, RunsBoth, MakesSample, MakesCmd, ShowsCmd, WritesHex, RunsHex, IsCommand, IsNoCommand}
+use Rattle.cmd_arguments.specs.Words.{Translate, Check, Cmd, Hex80, Command, Translates, Checks, ListsFlags, Runs80, Runs86, RunsBoth, MakesSample, MakesCmd, ShowsCmd, WritesHex, RunsHex, IsCommand, IsNoCommand, Shrink, ShrinksText}
 use Rattle.cmd_common.specs.declared.stop.Stop.TheVariants.{OutOfMemory}
 use Rattle.cmd_common.specs.Said.{IsRefusedWords, SaysLast, Closes, said, unsaid}
 use Rattle.cmd_common.specs.Lines.{memory_line}
 use Rattle.cmd_common.proofs.Said.{never_0}
+use Rattle.cmd_shrink.specs.Shrinks as shrinking
+use Rattle.cmd_shrink.specs.Shrinks.{ShrunkHeadline}
 use Rattle.cmd_translate.specs.Translates as translation
 use Rattle.cmd_check.specs.Checks as checking
 use Rattle.cmd_sample.specs.Samples as making
@@ -76,6 +78,9 @@ module _ (words : List (List ℕ)) (old new : HostState) (status : ℕ) (o : Out
   pub has_hex_file : (c : Hex80) → IsCommand words (WritesHex c) → status ≡ 0 → HasHexFile c old new
   has_hex_file c is e = (o.answered (WritesHex c) is).file e
 
+  pub has_shrunk : (c : Shrink) → IsCommand words (ShrinksText c) → status ≡ 0 → ShrunkHeadline c old new
+  has_shrunk c is e = (o.answered (ShrinksText c) is).headline e
+
 -- ---- what words come to
 
 -- words are one command at most
@@ -133,7 +138,7 @@ module _ (words : List (List ℕ)) (old new : HostState) (status : ℕ) where
       completes = λ none bytes told other. absurd (other is_5);
     }
     wanting (Checks c) = record {
-      gives = checking.stopped old OutOfMemory (checking.out_of_memory (OnlyReads-refl old)) closes;
+      gives = checking.stopped old OutOfMemory (checking.unloaded (checking.out_of_memory (OnlyReads-refl old))) closes;
       completes = λ none s t a b. inl is_5;
       own = λ none s t a b w. inr is_5;
       files = same;
@@ -181,6 +186,11 @@ module _ (words : List (List ℕ)) (old new : HostState) (status : ℕ) where
       gives = running.stopped old OutOfMemory (running.unloaded (OnlyReads-refl old) running_one.no_memory) closes;
       completes = λ none bytes given told supply. inl is_5;
       files = alone old new c.run.out_disk same;
+    }
+    wanting (ShrinksText c) = record {
+      gives = shrinking.stopped old OutOfMemory (shrinking.unloaded (checking.out_of_memory (OnlyReads-refl old))) closes;
+      completes = λ none s t a b. inl is_5;
+      headline = λ e. absurd (omega (arith, e, is_5));
     }
 
     pub by_memory : Outcomes words old new status

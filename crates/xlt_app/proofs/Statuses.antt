@@ -4,9 +4,9 @@ use Rattle.std.specs.Prelude.{Option, Result, Ok, Err}
 use Rattle.host.specs.declared.HostFault.{HostFault}
 use Rattle.host.specs.declared.HostFault.TheVariants.{Failed, Memory}
 use Rattle.host.specs.Host.{HostState}
-use Rattle.cmd_arguments.specs.Words.{Translate, Check, Flags, Sample, Command, Translates, Checks, ListsFlags, Runs80, Runs86, RunsBoth, MakesSample, MakesCmd, ShowsCmd, WritesHex, RunsHex}
+use Rattle.cmd_arguments.specs.Words.{Translate, Check, Flags, Sample, Command, Translates, Checks, ListsFlags, Runs80, Runs86, RunsBoth, MakesSample, MakesCmd, ShowsCmd, WritesHex, RunsHex, Shrink, ShrinksText}
 use Rattle.cmd_common.specs.declared.stop.Stop.{Stop}
-use Rattle.cmd_common.specs.declared.stop.Stop.TheVariants.{SourceLine, SourceProgram, ReadFailed, WriteFailed, OutOfMemory, LeftProfile, StepLimit, NotShown, InputEnded, TextLine, ShortJump, NoInstruction, StackSegment, OddCall, BadDisk, NoDrive, CodeTooLarge, FileTooLong, BadCommandFile, BadHex}
+use Rattle.cmd_common.specs.declared.stop.Stop.TheVariants.{SourceLine, SourceProgram, ReadFailed, WriteFailed, OutOfMemory, LeftProfile, StepLimit, NotShown, InputEnded, TextLine, ShortJump, NoInstruction, StackSegment, OddCall, BadDisk, NoDrive, CodeTooLarge, FileTooLong, BadCommandFile, BadHex, TooManyStatements}
 use Rattle.cmd_common.specs.Lines.{status_of}
 use Rattle.cmd_common.specs.Said.{IsDone, whole, failed, no_memory, Closes, said, unsaid}
 use Rattle.std.specs.List.{concat}
@@ -24,6 +24,7 @@ use Rattle.cmd_makes.specs.Makes.{MakeGives}
 use Rattle.cmd_makes.specs.Cmds.{cmd_kind}
 use Rattle.cmd_makes.specs.Shows.{cmd_show_kind}
 use Rattle.cmd_makes.specs.Hexes.{hex_kind}
+use Rattle.cmd_shrink.specs.Shrinks as shrinking
 use Rattle.cmd_translate.specs.Translates as translation
 use Rattle.cmd_check.specs.Checks as checking
 use Rattle.cmd_flags.specs.Listing as listing
@@ -87,6 +88,9 @@ of_15 = record { number = (15, omega arith, refl); other = λ e. absurd (omega a
 of_16 : IsOfCommand 16
 of_16 = record { number = (16, omega arith, refl); other = λ e. absurd (omega arith) }
 
+of_17 : IsOfCommand 17
+of_17 = record { number = (17, omega arith, refl); other = λ e. absurd (omega arith) }
+
 of_stop : (stop : Stop) → IsOfCommand (status_of stop)
 of_stop (SourceLine line rule) = of_1
 of_stop (SourceProgram line rule) = of_1
@@ -108,6 +112,7 @@ of_stop (CodeTooLarge size) = of_13
 of_stop (FileTooLong name) = of_14
 of_stop (BadCommandFile place) = of_15
 of_stop (BadHex line) = of_16
+of_stop (TooManyStatements count) = of_17
 
 of_closes : (stop : Stop) (old new : HostState) (status : ℕ) → Closes stop old new status → IsOfCommand status
 of_closes stop old new status (said e s) = subst IsOfCommand (sym e) (of_stop stop)
@@ -165,6 +170,10 @@ of_making c old new _ (making.no_memory l) = of_5
 of_making c old new _ (making.no_memory_to_write w s) = of_5
 of_making c old new _ (making.no_memory_to_say line is w f s) = of_5
 
+of_shrinking : (c : Shrink) (old new : HostState) (status : ℕ) → shrinking.ShrinkGives c old new status → IsOfCommand status
+of_shrinking c old new status (shrinking.shrunk mid line h d) = of_done line mid new status d
+of_shrinking c old new status (shrinking.stopped mid stop s k) = of_closes stop mid new status k
+
 pub of_answer : (c : Command) (old new : HostState) (status : ℕ) → CommandAnswers c old new status → IsOfCommand status
 of_answer (Translates c) old new status a = of_translation c old new status a.gives
 of_answer (Checks c) old new status a = of_checking c old new status a.gives
@@ -177,3 +186,4 @@ of_answer (MakesCmd c) old new status a = of_file (cmd_kind c) old new status a.
 of_answer (ShowsCmd c) old new status a = of_file (cmd_show_kind c) old new status a.gives
 of_answer (WritesHex c) old new status a = of_file (hex_kind c) old new status a.gives
 of_answer (RunsHex c) old new status a = of_work (work_hex c) old new status a.gives
+of_answer (ShrinksText c) old new status a = of_shrinking c old new status a.gives

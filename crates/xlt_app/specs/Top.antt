@@ -5,9 +5,9 @@ use Rattle.host.specs.Host.{HostState, IsFile, SameFiles, Rewrites}
 use Rattle.i86.specs.Decode.{HasReader}
 use Rattle.asm86_line_types.specs.Image.{Image}
 use Rattle.asm80_program_types.specs.Program.{Program, is_top}
-use Rattle.asm80_text.specs.Intel.{intel_reading}
+use Rattle.cmd_common.specs.Sources.{reading_of}
 use Rattle.asm80_source_def.specs.Source.{IsSource}
-use Rattle.cmd_arguments.specs.Words.{Translate, Check, Flags, Run80, Run86, Both, Sample, Cmd, CmdShow, Hex80, RunHex, Command, Translates, Checks, ListsFlags, Runs80, Runs86, RunsBoth, MakesSample, MakesCmd, ShowsCmd, WritesHex, RunsHex, IsCommand, IsNoCommand}
+use Rattle.cmd_arguments.specs.Words.{Translate, Check, Flags, Run80, Run86, Both, Sample, Cmd, CmdShow, Hex80, RunHex, Command, Translates, Checks, ListsFlags, Runs80, Runs86, RunsBoth, MakesSample, MakesCmd, ShowsCmd, WritesHex, RunsHex, IsCommand, IsNoCommand, Shrink, ShrinksText}
 use Rattle.cmd_common.specs.Lines.{memory_line}
 use Rattle.cmd_common.specs.Said.{IsRefusedWords, SaysLast}
 use Rattle.asm86.specs.Images.{HasImage}
@@ -30,6 +30,8 @@ use Rattle.cmd_makes.specs.Makes.{MakeGives, MakeCompletes}
 use Rattle.cmd_makes.specs.Cmds.{cmd_kind, HasCommandFile}
 use Rattle.cmd_makes.specs.Shows.{cmd_show_kind}
 use Rattle.cmd_makes.specs.Hexes.{hex_kind, HasHexFile}
+use Rattle.cmd_shrink.specs.Shrinks.{ShrinkGives, ShrunkHeadline}
+use Rattle.cmd_shrink.specs.Completes.{ShrinkCompletes}
 
 -- the headline: the source's file, where the host tells it, is the source of a program; the output's file holds a text with an
 -- image, whose code is read in one way; and the image makes the same system calls as the program, in the same order, and ends
@@ -40,7 +42,7 @@ pub record Headline (c : Translate) (old new : HostState) : Type 0 where
   pub text : List ℕ
   pub image : Image
   pub given : IsFile (old.file c.input) source
-  pub is_source : IsSource intel_reading source c.top program
+  pub is_source : IsSource (reading_of c.zilog) source c.top program
   pub written : Rewrites old new c.output text
   pub has_image : HasImage text image
   pub reader : HasReader image.code
@@ -54,7 +56,7 @@ pub record CheckedHeadline (c : Check) (old : HostState) : Type 0 where
   pub text : List ℕ
   pub image : Image
   pub source_given : IsFile (old.file c.source) source
-  pub is_source : IsSource intel_reading source c.top program
+  pub is_source : IsSource (reading_of c.zilog) source c.top program
   pub text_given : IsFile (old.file c.text) text
   pub has_image : HasImage text image
   pub reader : HasReader image.code
@@ -62,7 +64,7 @@ pub record CheckedHeadline (c : Check) (old : HostState) : Type 0 where
 
 -- the statuses that are answered
 abbrev pub statuses : List ℕ
-statuses = 0 ∷ (1 ∷ (2 ∷ (3 ∷ (4 ∷ (5 ∷ (6 ∷ (7 ∷ (8 ∷ (9 ∷ (10 ∷ (11 ∷ (12 ∷ (13 ∷ (14 ∷ (15 ∷ (16 ∷ []))))))))))))))))
+statuses = 0 ∷ (1 ∷ (2 ∷ (3 ∷ (4 ∷ (5 ∷ (6 ∷ (7 ∷ (8 ∷ (9 ∷ (10 ∷ (11 ∷ (12 ∷ (13 ∷ (14 ∷ (15 ∷ (16 ∷ (17 ∷ [])))))))))))))))))
 
 abbrev pub IsStatus : ℕ → Type 0
 IsStatus status = Contains statuses status
@@ -125,6 +127,11 @@ pub record RanHex (c : RunHex) (old new : HostState) (status : ℕ) : Type 0 whe
   pub completes : RunCompletes (kind_hex c) old new status
   pub files : DiskAlone c.run.out_disk old new
 
+pub record Shrunk (c : Shrink) (old new : HostState) (status : ℕ) : Type 0 where
+  pub gives : ShrinkGives c old new status
+  pub completes : ShrinkCompletes c old new status
+  pub headline : status ≡ 0 → ShrunkHeadline c old new
+
 abbrev pub CommandAnswers : Command → HostState → HostState → ℕ → Type 0
 CommandAnswers (Translates c) old new status = Translated c old new status
 CommandAnswers (Checks c) old new status = Checked c old new status
@@ -137,6 +144,7 @@ CommandAnswers (MakesCmd c) old new status = WroteCmd c old new status
 CommandAnswers (ShowsCmd c) old new status = ShowedCmd c old new status
 CommandAnswers (WritesHex c) old new status = WroteHex c old new status
 CommandAnswers (RunsHex c) old new status = RanHex c old new status
+CommandAnswers (ShrinksText c) old new status = Shrunk c old new status
 
 -- ---- what is answered to words
 
@@ -165,3 +173,4 @@ HasLawfulValues (MakesCmd c) = Unit {0}
 HasLawfulValues (ShowsCmd c) = Unit {0}
 HasLawfulValues (WritesHex c) = is_top c.top ≡ true
 HasLawfulValues (RunsHex c) = is_top c.top ≡ true
+HasLawfulValues (ShrinksText c) = is_top c.top ≡ true

@@ -6,17 +6,20 @@
 // it was given (`CheckedHeadline`). Clause `command_file`: where they are the command `cmd` and it answers 0, the output is the command file
 // of the text's image, and whatever program is `Same` with that image is `Same` with what the file loads to (`HasCommandFile`). Clause
 // `hex_file`: where they are `hex80` and it answers 0, the output is the HEX file of the source's program, and what it is read as runs, byte
-// by byte, as the program does (`HasHexFile`). Clause `outcomes` (`Outcomes`): words that are no command, and no others, are refused; each
-// command answers as its crate says (each way to a status with its cause, what is said and what becomes of files; and which status it is
-// where no call of the host failed and memory suffices); no other number is answered.
+// by byte, as the program does (`HasHexFile`). Clause `shrunk_headline`: where they are `shrink` and it answers 0, the output holds what is
+// left of the text, some of its lines in their order with no more code, which is a text with an image, and program and image are `Same`
+// (`ShrunkHeadline`). Clause `outcomes` (`Outcomes`): words that are no command, and no others, are refused; each command answers as its
+// crate says (each way to a status with its cause, what is said and what becomes of files; and which status it is where no call of the host
+// failed and memory suffices); no other number is answered.
 #![tactic(auto)]
 
 ghost use Rattle.std.specs.Prelude.{◌≡◌, map};
 ghost use Rattle.std.specs.String.{string_bytes};
 ghost use Rattle.cmd_arguments.specs.ReadCommands.{command_read};
-ghost use Rattle.cmd_arguments.specs.Words.{Translate, Check, Cmd, Hex80, Translates, Checks, MakesCmd, WritesHex, IsCommand};
+ghost use Rattle.cmd_arguments.specs.Words.{Translate, Check, Cmd, Hex80, Translates, Checks, MakesCmd, WritesHex, IsCommand, Shrink, ShrinksText};
 ghost use Rattle.cmd_makes.specs.Cmds.{HasCommandFile};
 ghost use Rattle.cmd_makes.specs.Hexes.{HasHexFile};
+ghost use Rattle.cmd_shrink.specs.Shrinks.{ShrunkHeadline};
 ghost use Rattle.xlt_app.specs.Top.{Headline, CheckedHeadline, Outcomes, CommandAnswers, HasLawfulValues};
 
 use cmd_arguments::{Command, read_words, words_are_one_command};
@@ -26,6 +29,7 @@ use cmd_flags::flags;
 use cmd_makes::{cmd, cmdshow, hex80};
 use cmd_runs::{both, run80, run86, runhex};
 use cmd_sample::sample;
+use cmd_shrink::shrink;
 use cmd_translate::translate;
 use host::Host;
 pub use host_files::{write_bytes, write_out};
@@ -42,6 +46,8 @@ pub fn xlt<H: Host>(alloc: Global, words: Vec<String>, host: &mut H) -> u8
         → result ≡ 0 → HasCommandFile c (H.state host.old) (H.state host.new) }
     ensures hex_file { (c : Hex80) → IsCommand (map string_bytes words.items) (WritesHex c)
         → result ≡ 0 → HasHexFile c (H.state host.old) (H.state host.new) }
+    ensures shrunk_headline { (c : Shrink) → IsCommand (map string_bytes words.items) (ShrinksText c)
+        → result ≡ 0 → ShrunkHeadline c (H.state host.old) (H.state host.new) }
     ensures outcomes { Outcomes (map string_bytes words.items) (H.state host.old) (H.state host.new) result }
 {
     words_are_one_command();
@@ -69,5 +75,6 @@ fn answer<H: Host>(alloc: Global, host: &mut H, command: &Command<'_>) -> u8
         Command::CmdShow(command) => cmdshow(alloc, host, command),
         Command::Hex80(command) => hex80(alloc, host, command),
         Command::RunHex(command) => runhex(alloc, host, command),
+        Command::Shrink(command) => shrink(alloc, host, command),
     }
 }

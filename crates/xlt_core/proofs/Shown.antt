@@ -14,16 +14,8 @@ use Rattle.templates_same_law.specs.Names.{Same, IsMatch}
 use Rattle.text_check.specs.declared.finding.Finding.{Finding}
 use Rattle.text_check.specs.declared.finding.Finding.TheVariants.{Shown}
 use Rattle.text_check.specs.Findings.{IsFinding, OneFinding}
+use Rattle.text_check.proofs.Matching.{matched}
 use Rattle.xlt_core.specs.Validation.{ShownIsSame}
-
-no_reason : (x : ℕ × Reason) → Some x ≡ None → ⊥
-no_reason x e = cc
-
-matched : (p : Program) (lines : List Line86) (cut : List (ℕ × ℕ)) (keeps : Keeps) (o : Option (ℕ × Reason)) → Finds p lines cut keeps o → o ≡ None → Matches p lines cut keeps
-matched p lines cut keeps _ (opening none) e = absurd (no_reason _ e)
-matched p lines cut keeps _ (runtime has none) e = absurd (no_reason _ e)
-matched p lines cut keeps _ (cells has runs none) e = absurd (no_reason _ e)
-matched p lines cut keeps _ (by_blocks has runs stand) e = record { opening = has; runtime = runs; cells = stand; blocks = e }
 
 pub shown_same : ((p : Program) (n : Needs) (lines : List Line86) → IsProgram p → AreAllNeeds p n → Assembles lines → StatementsAreCoded (statements lines) → DataAreCoded (statements lines) → Matches p lines (blocks p) (needed_by p n) → Same p (image_of lines)) → ShownIsSame
 shown_same same p lines count is assembles coded data_coded f =

@@ -5,7 +5,7 @@ use Rattle.cmd_arguments.specs.ReadCommands.{command_read}
 use Rattle.cmd_arguments.specs.Words.{IsCommand, IsNoCommand}
 use Rattle.xlt_app.specs.Top.{Outcomes}
 use Rattle.xlt_app.proofs.Asked.{words_ask}
-use Rattle.xlt_app.proofs.Outcomes.{by_command, by_no_command, by_memory, has_headline, has_checked, has_command_file, has_hex_file}
+use Rattle.xlt_app.proofs.Outcomes.{by_command, by_no_command, by_memory, has_headline, has_checked, has_command_file, has_hex_file, has_shrunk}
 use Rattle.xlt_app.proofs.xlt.Given.{Over}
 use Rattle.xlt_app.proofs.xlt.Goals as goal
 
@@ -37,6 +37,9 @@ returns-in-Ok-Some-clause-command_file g c = has_command_file (map string_bytes 
 pub returns-in-Ok-Some-clause-hex_file : goal.returns-in-Ok-Some-clause-hex_file
 returns-in-Ok-Some-clause-hex_file g c = has_hex_file (map string_bytes c.args.words.items) (g.H.Host.state c.args.host.now) (g.H.Host.state c.answer.new.host) c.answer.result (answered g c)
 
+pub returns-in-Ok-Some-clause-shrunk_headline : goal.returns-in-Ok-Some-clause-shrunk_headline
+returns-in-Ok-Some-clause-shrunk_headline g c = has_shrunk (map string_bytes c.args.words.items) (g.H.Host.state c.args.host.now) (g.H.Host.state c.answer.new.host) c.answer.result (answered g c)
+
 pub returns-in-Ok-Some-clause-outcomes : goal.returns-in-Ok-Some-clause-outcomes
 returns-in-Ok-Some-clause-outcomes g c = answered g c
 
@@ -63,6 +66,9 @@ returns-clause-command_file g c = has_command_file (map string_bytes c.args.word
 
 pub returns-clause-hex_file : goal.returns-clause-hex_file
 returns-clause-hex_file g c = has_hex_file (map string_bytes c.args.words.items) (g.H.Host.state c.args.host.now) (g.H.Host.state c.say_stop.new.host) c.say_stop.result (wanting g c)
+
+pub returns-clause-shrunk_headline : goal.returns-clause-shrunk_headline
+returns-clause-shrunk_headline g c = has_shrunk (map string_bytes c.args.words.items) (g.H.Host.state c.args.host.now) (g.H.Host.state c.say_stop.new.host) c.say_stop.result (wanting g c)
 
 pub returns-clause-outcomes : goal.returns-clause-outcomes
 returns-clause-outcomes g c = wanting g c

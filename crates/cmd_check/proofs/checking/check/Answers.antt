@@ -8,10 +8,12 @@ use Rattle.cmd_check.proofs.checking.check.Goals.{After-carry_out}
 
 laws : (g : Over) (c : After-carry_out g) → Laws
 laws g c = record {
-  source = record { program = c.source_has_one_outcome.ensures.program; refusal = c.source_has_one_outcome.ensures.refusal; apart = c.source_has_one_outcome.ensures.apart };
-  reading = c.text_has_one_reading.ensures;
-  refuses = c.images_exclude_refusals.ensures.one_refusal;
-  not_both = c.images_exclude_refusals.ensures.not_both;
+  files = record {
+    source = c.sources_have_one_outcome.ensures;
+    reading = c.text_has_one_reading.ensures;
+    refuses = c.images_exclude_refusals.ensures.one_refusal;
+    not_both = c.images_exclude_refusals.ensures.not_both;
+  };
   finding = c.findings_are_one.ensures;
 }
 

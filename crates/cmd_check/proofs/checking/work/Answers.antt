@@ -2,8 +2,17 @@ use Rattle.std.proofs.Common.{◌≡◌, sym, subst}
 use Rattle.cmd_arguments.specs.ReadCommands.{check_read}
 use Rattle.cmd_common.specs.declared.stop.Stop.TheVariants.{OutOfMemory}
 use Rattle.cmd_common.proofs.Told.{judged}
-use Rattle.cmd_check.specs.Checks.{Stops, unlike, out_of_memory}
+use Rattle.cmd_check.specs.Checks.{Stops, unloaded, unlike, out_of_memory}
 use Rattle.cmd_check.proofs.checking.work.Goals as goal
+
+-- there is nothing to be checked
+pub returns-in_err-loaded-clause-stopped : goal.returns-in_err-loaded-clause-stopped
+returns-in_err-loaded-clause-stopped g c =
+    let command = check_read c.args.command.now in
+    let old = g.H.Host.state c.args.host.now in
+    let new = g.H.Host.state c.load.new.host in
+    judged c.from_residual.result (λ s. s ≡ c.in_err-loaded.field-0.0) (Stops command old new) c.from_residual.ensures.1
+    (λ s is. subst (Stops command old new) (sym is) (unloaded c.in_err-loaded.ensures.stopped))
 
 -- the text is not shown
 pub returns-in_err-count-clause-stopped : goal.returns-in_err-count-clause-stopped
@@ -21,7 +30,7 @@ returns-in_err-shown_line-clause-stopped g c =
     let old = g.H.Host.state c.args.host.now in
     let new = g.H.Host.state c.load.new.host in
     judged c.from_residual-in_err-shown_line.result (λ s. s ≡ OutOfMemory) (Stops command old new) c.from_residual-in_err-shown_line.ensures.1
-    (λ s is. subst (Stops command old new) (sym is) (out_of_memory c.in_ok-loaded.ensures.loaded.reads.only))
+    (λ s is. subst (Stops command old new) (sym is) (unloaded (out_of_memory c.in_ok-loaded.ensures.loaded.reads.only)))
 
 pub returns-clause-worked : goal.returns-clause-worked
 returns-clause-worked g c =

@@ -4,6 +4,6 @@ use Rattle.cmd_flags.proofs.listing.flags.Goals as goal
 
 pub returns-clause-completes : goal.returns-clause-completes
 returns-clause-completes g c = λ none bytes told memory.
-    decides (record { program = c.source_has_one_outcome.ensures.program; refusal = c.source_has_one_outcome.ensures.refusal; apart = c.source_has_one_outcome.ensures.apart })
-    (flags_read c.args.command.now) (g.H.Host.state c.args.host.now) (g.H.Host.state c.carry_out.new.host)
+    decides (flags_read c.args.command.now) (c.sources_have_one_outcome.ensures (flags_read c.args.command.now).zilog)
+    (g.H.Host.state c.args.host.now) (g.H.Host.state c.carry_out.new.host)
     none bytes told c.carry_out.result memory c.carry_out.ensures.gives

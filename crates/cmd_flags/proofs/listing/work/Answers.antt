@@ -1,8 +1,7 @@
 use Rattle.std.proofs.Common.{◌≡◌, sym, subst}
 use Rattle.cmd_arguments.specs.ReadCommands.{flags_read}
 use Rattle.cmd_common.specs.declared.stop.Stop.TheVariants.{OutOfMemory}
-use Rattle.asm80_text.specs.Intel.{intel_reading}
-use Rattle.cmd_common.specs.Sources.{SourceGives}
+use Rattle.cmd_common.specs.Sources.{SourceGives, reading_of}
 use Rattle.cmd_common.proofs.Told.{judged}
 use Rattle.cmd_flags.specs.Listing.{Stops, unread, refused, no_memory}
 use Rattle.cmd_flags.proofs.listing.work.Goals as goal
@@ -23,7 +22,7 @@ returns-in_err-program-clause-stopped g c =
     let file = c.in_ok-source.ensures in
     judged c.from_residual-in_err-program.result (λ s. s ≡ c.in_err-program.field-0.0) (Stops command old new) c.from_residual-in_err-program.ensures.1
     (λ s is. subst (Stops command old new) (sym is)
-    (refused file.read.bytes file.read.file file.only file.counted (subst (SourceGives intel_reading file.read.bytes command.top) c.in_err-program.was file.read.gives)))
+    (refused file.read.bytes file.read.file file.only file.counted (subst (SourceGives (reading_of command.zilog) file.read.bytes command.top) c.in_err-program.was file.read.gives)))
 
 pub returns-in_err-report_of-clause-stopped : goal.returns-in_err-report_of-clause-stopped
 returns-in_err-report_of-clause-stopped g c =

@@ -25,9 +25,9 @@ returns-in-Ok-clause-gives g c = gives-in-Ok g c
 
 pub returns-in-Ok-clause-completes : goal.returns-in-Ok-clause-completes
 returns-in-Ok-clause-completes g c =
-    let law = c.source_has_one_outcome.ensures in
-    completes (hex_kind (hex80_read c.args.command.now)) (g.H.Host.state c.args.host.now) (g.H.Host.state c.say_done.new.host)
-    (laws_of_hex80 (record { program = law.program; refusal = law.refusal; apart = law.apart }) c.written_reads_back.ensures.one_file (hex80_read c.args.command.now)) c.say_done.result (gives-in-Ok g c)
+    let command = hex80_read c.args.command.now in
+    completes (hex_kind command) (g.H.Host.state c.args.host.now) (g.H.Host.state c.say_done.new.host)
+    (laws_of_hex80 command (c.sources_have_one_outcome.ensures command.zilog) c.written_reads_back.ensures.one_file) c.say_done.result (gives-in-Ok g c)
 
 pub returns-in-Ok-clause-file : goal.returns-in-Ok-clause-file
 returns-in-Ok-clause-file g c = λ e.
@@ -39,9 +39,9 @@ returns-in-Err-clause-gives g c = gives-in-Err g c
 
 pub returns-in-Err-clause-completes : goal.returns-in-Err-clause-completes
 returns-in-Err-clause-completes g c =
-    let law = c.source_has_one_outcome.ensures in
-    completes (hex_kind (hex80_read c.args.command.now)) (g.H.Host.state c.args.host.now) (g.H.Host.state c.say_stop.new.host)
-    (laws_of_hex80 (record { program = law.program; refusal = law.refusal; apart = law.apart }) c.written_reads_back.ensures.one_file (hex80_read c.args.command.now)) c.say_stop.result (gives-in-Err g c)
+    let command = hex80_read c.args.command.now in
+    completes (hex_kind command) (g.H.Host.state c.args.host.now) (g.H.Host.state c.say_stop.new.host)
+    (laws_of_hex80 command (c.sources_have_one_outcome.ensures command.zilog) c.written_reads_back.ensures.one_file) c.say_stop.result (gives-in-Err g c)
 
 pub returns-in-Err-clause-file : goal.returns-in-Err-clause-file
 returns-in-Err-clause-file g c = λ e. absurd (never_0 c.in-Err.stop (g.H.Host.state c.work.new.host) (g.H.Host.state c.say_stop.new.host) c.say_stop.result c.say_stop.ensures e)

@@ -1,10 +1,9 @@
 use Rattle.std.proofs.Common.{◌≡◌, refl, sym, subst}
 use Rattle.hex_file.specs.Written.{IsWritten}
-use Rattle.asm80_text.specs.Intel.{intel_reading}
 use Rattle.cpu80_bytes_def.specs.Cells.{program_cells}
 use Rattle.cmd_arguments.specs.ReadCommands.{hex80_read}
 use Rattle.cmd_common.specs.declared.stop.Stop.TheVariants.{OutOfMemory}
-use Rattle.cmd_common.specs.Sources.{SourceGives}
+use Rattle.cmd_common.specs.Sources.{SourceGives, reading_of}
 use Rattle.cmd_common.proofs.Told.{judged}
 use Rattle.cmd_makes.specs.Makes.{IsMade, MakeStops, unmade, no_file, is_refused, no_memory}
 use Rattle.cmd_makes.specs.Hexes.{HexOfProgram, hex_kind}
@@ -31,7 +30,7 @@ returns-in_err-program-clause-stopped g c =
     (λ s is. subst (MakeStops kind old new) (sym is)
     (unmade read.only
     (is_refused read.read.bytes read.read.file read.counted
-    (subst (SourceGives intel_reading read.read.bytes command.top) c.in_err-program.was read.read.gives))))
+    (subst (SourceGives (reading_of command.zilog) read.read.bytes command.top) c.in_err-program.was read.read.gives))))
 
 pub returns-in_err-hex-clause-stopped : goal.returns-in_err-hex-clause-stopped
 returns-in_err-hex-clause-stopped g c =
@@ -55,7 +54,7 @@ returns-in_err-write_made-clause-stopped g c =
       bytes = read.read.bytes;
       file = read.read.file;
       gives = record {
-        source = subst (SourceGives intel_reading read.read.bytes command.top) c.in_ok-program.was read.read.gives;
+        source = subst (SourceGives (reading_of command.zilog) read.read.bytes command.top) c.in_ok-program.was read.read.gives;
         written = c.in_ok-hex.ensures.text;
       };
     } in
@@ -78,7 +77,7 @@ returns-clause-made g c =
       bytes = read.read.bytes;
       file = read.read.file;
       gives = record {
-        source = subst (SourceGives intel_reading read.read.bytes command.top) c.in_ok-program.was read.read.gives;
+        source = subst (SourceGives (reading_of command.zilog) read.read.bytes command.top) c.in_ok-program.was read.read.gives;
         written = c.in_ok-hex.ensures.text;
       };
     } in

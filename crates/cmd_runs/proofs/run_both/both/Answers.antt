@@ -22,6 +22,6 @@ pub returns-clause-completes : goal.returns-clause-completes
 returns-clause-completes g c =
     let old = g.H.Host.state c.args.host.now in
     let new = g.H.Host.state c.close_work.new.host in
-    let law = c.source_has_one_outcome.ensures in
+    let command = both_read c.args.command.now in
     let disks = c.disks_read_back.ensures in
-    completes_both (record { program = law.program; refusal = law.refusal; apart = law.apart }) (record { told = disks.told; taken = disks.taken }) c.own_texts_are_same.ensures.one (both_read c.args.command.now) old new c.close_work.result (returns-clause-gives g c)
+    completes_both command (c.sources_have_one_outcome.ensures command.zilog) (record { told = disks.told; taken = disks.taken }) c.own_texts_are_same.ensures.one old new c.close_work.result (returns-clause-gives g c)

@@ -1,12 +1,11 @@
 use Rattle.std.proofs.Common.{◌≡◌, sym, subst}
 use Rattle.host.proofs.HostLemmas.{SameFaults-trans}
-use Rattle.asm80_text.specs.Intel.{intel_reading}
 use Rattle.cmd_arguments.specs.ReadCommands.{run_options_read}
 use Rattle.cmd_arguments.specs.Words.{Run80}
 use Rattle.cmd_runs.specs.declared.halt.Halt.TheVariants.{By}
 use Rattle.cmd_runs.specs.Ends.{Halts}
 use Rattle.cmd_runs.specs.Supplies.{given_of}
-use Rattle.cmd_common.specs.Sources.{SourceGives}
+use Rattle.cmd_common.specs.Sources.{SourceGives, reading_of}
 use Rattle.cmd_runs.specs.Kinds.{NothingToRun, no_file, no_supply, is_refused}
 use Rattle.cmd_runs.specs.Runs80.{words_of, kind80}
 use Rattle.cmd_common.proofs.Told.{judged}
@@ -15,7 +14,7 @@ use Rattle.cmd_runs.proofs.run_source.read_program.Goals as goal
 
 pub returns-in_err-source-clause-stopped : goal.returns-in_err-source-clause-stopped
 returns-in_err-source-clause-stopped g c =
-    let command : Run80 = words_of c.args.name.now c.args.top (run_options_read c.args.run.now) in
+    let command : Run80 = words_of c.args.name.now c.args.zilog c.args.top (run_options_read c.args.run.now) in
     let old = g.H.Host.state c.args.host.now in
     let new = g.H.Host.state c.read_source.new.host in
     judged c.from_residual.result (λ h. h ≡ By c.in_err-source.field-0.0) (Halts (NothingToRun (kind80 command) old new)) c.from_residual.ensures.1
@@ -23,7 +22,7 @@ returns-in_err-source-clause-stopped g c =
 
 pub returns-in_err-supplies-clause-stopped : goal.returns-in_err-supplies-clause-stopped
 returns-in_err-supplies-clause-stopped g c =
-    let command : Run80 = words_of c.args.name.now c.args.top (run_options_read c.args.run.now) in
+    let command : Run80 = words_of c.args.name.now c.args.zilog c.args.top (run_options_read c.args.run.now) in
     let old = g.H.Host.state c.args.host.now in
     let mid = g.H.Host.state c.read_source.new.host in
     let new = g.H.Host.state c.read_supplies.new.host in
@@ -35,7 +34,7 @@ returns-in_err-supplies-clause-stopped g c =
 -- the source is refused, and the other files were read
 pub returns-in_err-program-clause-stopped : goal.returns-in_err-program-clause-stopped
 returns-in_err-program-clause-stopped g c =
-    let command : Run80 = words_of c.args.name.now c.args.top (run_options_read c.args.run.now) in
+    let command : Run80 = words_of c.args.name.now c.args.zilog c.args.top (run_options_read c.args.run.now) in
     let old = g.H.Host.state c.args.host.now in
     let mid = g.H.Host.state c.read_source.new.host in
     let new = g.H.Host.state c.read_supplies.new.host in
@@ -47,11 +46,11 @@ returns-in_err-program-clause-stopped g c =
     (λ h is. subst (Halts (NothingToRun (kind80 command) old new)) (sym is)
     (is_refused first.read.bytes given first.read.file (supply_before old mid new first.only first.counted command.run given second.read)
     (SameFaults-trans first.counted second.counted)
-    (subst (SourceGives intel_reading first.read.bytes command.top) c.in_err-program.was first.read.gives)))
+    (subst (SourceGives (reading_of command.zilog) first.read.bytes command.top) c.in_err-program.was first.read.gives)))
 
 pub returns-clause-named : goal.returns-clause-named
 returns-clause-named g c =
-    let command : Run80 = words_of c.args.name.now c.args.top (run_options_read c.args.run.now) in
+    let command : Run80 = words_of c.args.name.now c.args.zilog c.args.top (run_options_read c.args.run.now) in
     let old = g.H.Host.state c.args.host.now in
     let mid = g.H.Host.state c.read_source.new.host in
     let new = g.H.Host.state c.read_supplies.new.host in
@@ -62,6 +61,6 @@ returns-clause-named g c =
     record {
       bytes = first.read.bytes;
       file = first.read.file;
-      gives = subst (SourceGives intel_reading first.read.bytes command.top) c.in_ok-program.was first.read.gives;
+      gives = subst (SourceGives (reading_of command.zilog) first.read.bytes command.top) c.in_ok-program.was first.read.gives;
       supplied = supply_before old mid new first.only first.counted command.run given second.read;
     }

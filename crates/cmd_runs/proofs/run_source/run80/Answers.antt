@@ -25,6 +25,6 @@ returns-clause-completes g c =
     let kind = kind80 (run80_read c.args.command.now) in
     let old = g.H.Host.state c.args.host.now in
     let new = g.H.Host.state c.close_work.new.host in
-    let law = c.source_has_one_outcome.ensures in
+    let command = run80_read c.args.command.now in
     let disks = c.disks_read_back.ensures in
-    one_completes kind (laws80 (record { program = law.program; refusal = law.refusal; apart = law.apart }) (run80_read c.args.command.now)) (record { told = disks.told; taken = disks.taken }) old new c.close_work.result (returns-clause-gives g c)
+    one_completes kind (laws80 command (c.sources_have_one_outcome.ensures command.zilog)) (record { told = disks.told; taken = disks.taken }) old new c.close_work.result (returns-clause-gives g c)

@@ -27,8 +27,8 @@ returns-in-Ok-clause-gives g c = gives-in-Ok g c
 
 pub returns-in-Ok-clause-completes : goal.returns-in-Ok-clause-completes
 returns-in-Ok-clause-completes g c = λ none bytes told memory.
-    decides (record { program = c.source_has_one_outcome.ensures.program; refusal = c.source_has_one_outcome.ensures.refusal; apart = c.source_has_one_outcome.ensures.apart }) c.own_texts_are_same.ensures.one
-    (translate_read c.args.command.now) (g.H.Host.state c.args.host.now) (g.H.Host.state c.say_done.new.host)
+    decides (translate_read c.args.command.now) (c.sources_have_one_outcome.ensures (translate_read c.args.command.now).zilog) c.own_texts_are_same.ensures.one
+    (g.H.Host.state c.args.host.now) (g.H.Host.state c.say_done.new.host)
     none bytes told c.say_done.result memory (gives-in-Ok g c)
 
 pub returns-in-Err-clause-gives : goal.returns-in-Err-clause-gives
@@ -36,6 +36,6 @@ returns-in-Err-clause-gives g c = gives-in-Err g c
 
 pub returns-in-Err-clause-completes : goal.returns-in-Err-clause-completes
 returns-in-Err-clause-completes g c = λ none bytes told memory.
-    decides (record { program = c.source_has_one_outcome.ensures.program; refusal = c.source_has_one_outcome.ensures.refusal; apart = c.source_has_one_outcome.ensures.apart }) c.own_texts_are_same.ensures.one
-    (translate_read c.args.command.now) (g.H.Host.state c.args.host.now) (g.H.Host.state c.say_stop.new.host)
+    decides (translate_read c.args.command.now) (c.sources_have_one_outcome.ensures (translate_read c.args.command.now).zilog) c.own_texts_are_same.ensures.one
+    (g.H.Host.state c.args.host.now) (g.H.Host.state c.say_stop.new.host)
     none bytes told c.say_stop.result memory (gives-in-Err g c)

@@ -1,9 +1,8 @@
 use Rattle.std.proofs.Common.{◌≡◌, ap, sym, subst}
 use Rattle.asm86_line_types.specs.Written.{written_text}
-use Rattle.asm80_text.specs.Intel.{intel_reading}
 use Rattle.asm80_source_def.specs.Source.{IsSource}
 use Rattle.cmd_arguments.specs.ReadCommands.{translate_read}
-use Rattle.cmd_common.specs.Sources.{SourceGives}
+use Rattle.cmd_common.specs.Sources.{SourceGives, reading_of}
 use Rattle.templates.specs.Translation.{IsText}
 use Rattle.cmd_translate.specs.TranslateWork.{TextStops, StopsBy, unread}
 use Rattle.cmd_common.proofs.Told.{judged}
@@ -28,7 +27,7 @@ returns-in_err-program-clause-stopped g c =
     let bytes = file.read.bytes in
     judged c.from_residual-in_err-program.result (λ s. s ≡ c.in_err-program.field-0.0) (StopsBy command old new) c.from_residual-in_err-program.ensures.1
     (λ s is. subst (StopsBy command old new) (sym is)
-    (source_stop command old new new bytes file.read.file file.only file.counted c.in_err-program.field-0.0 (subst (SourceGives intel_reading bytes command.top) c.in_err-program.was file.read.gives)))
+    (source_stop command old new new bytes file.read.file file.only file.counted c.in_err-program.field-0.0 (subst (SourceGives (reading_of command.zilog) bytes command.top) c.in_err-program.was file.read.gives)))
 
 -- their program has no text
 pub returns-in_err-text-clause-stopped : goal.returns-in_err-text-clause-stopped
@@ -40,7 +39,7 @@ returns-in_err-text-clause-stopped g c =
     let bytes = file.read.bytes in
     judged c.from_residual-in_err-text.result (λ s. s ≡ c.in_err-text.field-0.0) (StopsBy command old new) c.from_residual-in_err-text.ensures.1
     (λ s is. subst (StopsBy command old new) (sym is)
-    (text_stop command old new new bytes file.read.file file.only file.counted c.in_ok-program.program (subst (SourceGives intel_reading bytes command.top) c.in_ok-program.was file.read.gives)
+    (text_stop command old new new bytes file.read.file file.only file.counted c.in_ok-program.program (subst (SourceGives (reading_of command.zilog) bytes command.top) c.in_ok-program.was file.read.gives)
     c.in_err-text.field-0.0 (subst (λ m. TextStops m c.in_ok-program.program c.in_err-text.field-0.0) c.mode_of.ensures c.in_err-text.ensures.stopped)))
 
 pub returns-in_err-write_text-clause-stopped : goal.returns-in_err-write_text-clause-stopped
@@ -52,7 +51,7 @@ returns-in_err-write_text-clause-stopped g c =
     let file = c.in_ok-source.ensures in
     let bytes = file.read.bytes in
     let p = c.in_ok-program.program in
-    let source : IsSource intel_reading bytes command.top p = subst (SourceGives intel_reading bytes command.top) c.in_ok-program.was file.read.gives in
+    let source : IsSource (reading_of command.zilog) bytes command.top p = subst (SourceGives (reading_of command.zilog) bytes command.top) c.in_ok-program.was file.read.gives in
     let write = c.in_err-write_text in
     judged c.from_residual-in_err-write_text.result (λ s. s ≡ write.field-0.0) (StopsBy command old new) c.from_residual-in_err-write_text.ensures.1
     (λ s is. subst (StopsBy command old new) (sym is)
@@ -68,7 +67,7 @@ returns-clause-worked g c =
     let file = c.in_ok-source.ensures in
     let bytes = file.read.bytes in
     let p = c.in_ok-program.program in
-    let source : IsSource intel_reading bytes command.top p = subst (SourceGives intel_reading bytes command.top) c.in_ok-program.was file.read.gives in
+    let source : IsSource (reading_of command.zilog) bytes command.top p = subst (SourceGives (reading_of command.zilog) bytes command.top) c.in_ok-program.was file.read.gives in
     let write = c.in_ok-write_text in
     works command old mid new bytes file.read.file file.only file.counted p c.in_ok-text.text.lines.items source (subst (λ m. IsText m p c.in_ok-text.text.lines.items) c.mode_of.ensures c.in_ok-text.ensures.text) c.in_ok-text.ensures.fits
     (written_text c.as_slice.result.now) (ap written_text c.as_slice.ensures.value) write.ensures.only write.ensures.written write.ensures.counted _ c.in_ok-text.ensures.line

@@ -1,0 +1,4 @@
+mod Left
+mod Working
+mod Completing
+mod Headline

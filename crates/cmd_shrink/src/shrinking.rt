@@ -1,0 +1,69 @@
+// The work of `shrink`: a source and a text in, what is left of the text out.
+ghost use Rattle.std.specs.Prelude.{◌≡◌, true, IfOk, IfErr};
+ghost use Rattle.std.specs.String.{string_bytes};
+ghost use Rattle.asm80_program_types.specs.Program.{is_top};
+ghost use Rattle.cmd_arguments.specs.ReadCommands.{check_read, shrink_read};
+ghost use Rattle.cmd_shrink.specs.Shrinks.{check_of, HasShrunk, Stops, ShrinkGives, ShrunkHeadline};
+ghost use Rattle.cmd_shrink.specs.Completes.{ShrinkCompletes};
+
+use crate::leaving::leave;
+use asm86::{images_exclude_refusals, text_has_one_reading};
+use cmd_arguments::{Check, Shrink};
+use cmd_check::load;
+use cmd_common::{Stop, say_done, say_stop, sources_have_one_outcome, write_text};
+use host::Host;
+use shrink::shrunk_is_left;
+use std::alloc::Global;
+use xlt_core::findings_are_one;
+
+/// Shrinks the text of a command beside its source, says what came of it, and answers the status. The command's top is one that a program
+/// area may have.
+pub fn shrink<H: Host>(alloc: Global, host: &mut H, command: &Shrink<'_>) -> u8
+    requires { is_top command.now.top ≡ true }
+    ensures gives { ShrinkGives (shrink_read command.now) (H.state host.old) (H.state host.new) result }
+    ensures completes { ShrinkCompletes (shrink_read command.now) (H.state host.old) (H.state host.new) result }
+    ensures headline { result ≡ 0 → ShrunkHeadline (shrink_read command.now) (H.state host.old) (H.state host.new) }
+{
+    sources_have_one_outcome();
+    text_has_one_reading();
+    images_exclude_refusals();
+    findings_are_one();
+    shrunk_is_left();
+    carry_out(alloc, host, command)
+}
+
+// The work, and what is said.
+fn carry_out<H: Host>(alloc: Global, host: &mut H, command: &Shrink<'_>) -> u8
+    requires { is_top command.now.top ≡ true }
+    ensures { ShrinkGives (shrink_read command.now) (H.state host.old) (H.state host.new) result }
+{
+    match work(alloc, host, command) {
+        Ok(line) => say_done(host, line.as_str()),
+        Err(stop) => say_stop(alloc, host, stop),
+    }
+}
+
+// The work up to the last line, which is the answer where what is left was written. All memory is taken before the output is touched.
+fn work<'a, H: Host>(alloc: Global, host: &mut H, command: &Shrink<'a>) -> Result<String, Stop<'a>>
+    requires { is_top command.now.top ≡ true }
+    ensures worked { IfOk result (λ line. HasShrunk (shrink_read command.now) (H.state host.old) (H.state host.new) (string_bytes line)) }
+    ensures stopped { IfErr result (Stops (shrink_read command.now) (H.state host.old) (H.state host.new)) }
+{
+    let check = check_of(command);
+    let loaded = load(alloc, host, &check)?;
+    let left = leave(alloc, &loaded.program, &loaded.text)?;
+    write_text(host, command.output, left.text.lines.as_slice())?;
+    Ok(left.line)
+}
+
+// The check of the text as it is.
+fn check_of<'a>(command: &Shrink<'a>) -> Check<'a>
+    ensures { check_read result ≡ check_of (shrink_read command.now) }
+{
+    Check {
+        source: command.source,
+        text: command.text,
+        zilog: false,
+        top: command.top,
+    }
+}

@@ -1,0 +1,5 @@
+mod FirstLine
+mod SourceLines
+mod Left
+mod Cutting
+mod Whole

@@ -1,0 +1,28 @@
+// The places of a program.
+ghost use Rattle.std.specs.Prelude.{◌≡◌, IfOk};
+ghost use Rattle.leaving_def.specs.Leaving.{leaving};
+
+use crate::block::place_of;
+use asm80_program_types::Program80;
+use flow::{Graph, blocks_cut_the_program};
+use leaving_def::Departure;
+use std::alloc::{AllocError, Global};
+use sym_run::Work;
+
+/// The places of a program at which a run leaves the profile, ascending. All memory that it takes is for the graph, the work and the list.
+pub fn leaving(alloc: Global, program: &Program80) -> Result<Vec<Departure>, AllocError>
+    ensures { IfOk result (λ places. places.items ≡ leaving program.now) }
+{
+    blocks_cut_the_program();
+    let _top = program.top();
+    let graph = Graph::of(alloc, program)?;
+    let mut work = Work::new(alloc)?;
+    let mut places = Vec::new(alloc);
+    for leader in graph.leaders() {
+        let count = graph.block(*leader).unwrap_or(0);
+        if let Some(place) = place_of(&mut work, program, *leader, count) {
+            places.push(place)?;
+        }
+    }
+    Ok(places)
+}

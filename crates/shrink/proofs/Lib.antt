@@ -1,0 +1,9 @@
+mod LeavingOut
+mod Left
+mod Back
+mod Given
+mod Matched
+mod Steps
+mod Walks
+mod Others
+mod Alone

@@ -1,0 +1,25 @@
+use Rattle.std.proofs.Common.{◌≡◌, ◌∙◌, ◌-◌, suc, IfOk, subst, sym, ap, arith}
+use Rattle.std.specs.String.{string_bytes}
+use Rattle.sym_terms.specs.Trees.{tree_in, tree_of_head, entries_of}
+use Rattle.sym_words.specs.Words.{words_to}
+use Rattle.sym_words.proofs.Heads.{leaf_words}
+use Rattle.sym_words.proofs.terms.+words.Goals as goal
+
+pub deep_words-returns-in-Num : goal.deep_words-returns-in-Num
+deep_words-returns-in-Num t c =
+    let es = entries_of c.args.terms.now.nodes in
+    subst (λ x. IfOk c.shallow_words.result (λ text. string_bytes text ≡ x)) (leaf_words es c.args.depth c.args.head c.in-Num.is) (c.shallow_words.ensures es)
+
+pub words_to-returns-then-depth-eq0 : goal.words_to-returns-then-depth-eq0
+words_to-returns-then-depth-eq0 t c =
+    let es = entries_of c.args.terms.now.nodes in
+    let same : words_to 0 (tree_of_head es c.head-head.result) ≡ words_to c.args.depth (tree_in c.args.terms.now c.args.term) = ap (λ n. words_to n (tree_of_head es c.head-head.result)) (sym c.if-depth-eq0.true) ∙ ap (words_to c.args.depth) (sym c.head-head.ensures.tree) in
+    subst (λ x. IfOk c.shallow_words.result (λ text. string_bytes text ≡ x)) same (c.shallow_words.ensures es)
+
+pub words_to-returns-else-depth-eq0 : goal.words_to-returns-else-depth-eq0
+words_to-returns-else-depth-eq0 t c =
+    let es = entries_of c.args.terms.now.nodes in
+    let none = c.if-depth-eq0.false in
+    let depth : suc (c.args.depth - 1) ≡ c.args.depth = omega (arith, none) in
+    let same : words_to (suc (c.args.depth - 1)) (tree_of_head es c.head-head.result) ≡ words_to c.args.depth (tree_in c.args.terms.now c.args.term) = ap (λ n. words_to n (tree_of_head es c.head-head.result)) depth ∙ ap (words_to c.args.depth) (sym c.head-head.ensures.tree) in
+    subst (λ x. IfOk c.deep_words.result (λ text. string_bytes text ≡ x)) same c.deep_words.ensures
