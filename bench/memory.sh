@@ -88,9 +88,11 @@ sed 's/\(MOV.DL,\)041H/\1042H/' "$room/laid/letter.a86" >"$room/laid/other.a86"
 try 0 translate letter.asm out --plain
 try 0 translate letter.asm out
 try 0 translate saves.asm out
+try 0 translate letter.asm out --comments
 try 0 check letter.asm letter.a86
 try 8 check letter.asm other.a86
 try 0 flags saves.asm
+try 0 leaves saves.asm
 try 0 run80 letter.asm --input menu.keys --disk disk --ports disk --out-disk out
 try 0 run80 ports.asm --ports disk
 try 7 run80 letter.asm --steps 3 --out-disk out

@@ -1,12 +1,12 @@
 -- Two outcomes over ids, and what is found of them.
-use Rattle.std.specs.Prelude.{Bool, ◌&&◌, ◌||◌, not, cond, Option, Some, None, Result, Ok}
+use Rattle.std.specs.Prelude.{◌≡◌, Bool, ◌&&◌, ◌||◌, not, cond, Option, Some, None, Result, Ok}
 use Rattle.std.specs.List.{find}
 use Rattle.cells.specs.declared.Part.{Part}
 use Rattle.cells.specs.Parts.{Parts, has, all_parts}
 use Rattle.xlt_pool.specs.Contents.{Contents}
 use Rattle.sym_terms.specs.Trees.{tree_in, IsGiven}
 use Rattle.sym_block_def.specs.declared.reason.Reason.{Reason}
-use Rattle.sym_block_def.specs.declared.reason.Reason.TheVariants.{Actions, Exits}
+use Rattle.sym_block_def.specs.declared.reason.Reason.TheVariants.{Missing, Length, Form, Actions, Exits}
 use Rattle.sym_block_def.specs.Outcome.{Outcome, term_in}
 use Rattle.block_check_def.specs.Agree.{agrees, actions_agree, exit_agrees}
 use Rattle.block_check_def.specs.BlockMatch.{kept_reason}
@@ -60,6 +60,23 @@ reason_by kept lost x y =
 abbrev pub verdict_of : Option Reason → Verdict
 verdict_of None = Shown
 verdict_of (Some r) = NotShown r
+
+-- a work holds two outcomes: that of a block, and that of the walk through the text
+pub record AreCompared (w : WorkState) (block walked : Outcome) : Type 0 where
+  pub ready : AreReady w
+  pub first : first_outcome w ≡ block
+  pub second : second_of w ≡ walked
+
+-- both outcomes of the work are given, unless the reason is one that the walk has met
+abbrev pub AreReadyFor : Reason → WorkState → Type 0
+AreReadyFor Missing w = Unit {0}
+AreReadyFor Length w = Unit {0}
+AreReadyFor Form w = Unit {0}
+AreReadyFor r w = AreReady w
+
+abbrev pub AreReadyAfter : Verdict → WorkState → Type 0
+AreReadyAfter Shown w = AreReady w
+AreReadyAfter (NotShown r) w = AreReadyFor r w
 
 -- after Shown the outcomes of the work are those of the block and of the walk through the text
 pub record HoldsOutcomes (w : WorkState) (block : Outcome) (walked : Result Outcome Reason) : Type 0 where

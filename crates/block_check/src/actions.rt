@@ -7,8 +7,8 @@ ghost use Rattle.sym_micro.specs.Stands.{tree_of_action, trees_of_actions, Actio
 use crate::pairs::pairs_agree;
 use sym_run::{Action, Work};
 
-// Whether a load or store agrees with its partner.
-fn action_agrees(work: &Work, one: Action, other: Action) -> bool
+/// Whether a load or store agrees with its partner.
+pub fn action_agrees(work: &Work, one: Action, other: Action) -> bool
     requires one { ActionIsGiven work.now.terms one }
     requires other { ActionIsGiven work.now.terms other }
     ensures { result ≡ action_agrees (tree_of_action work.now.terms one) (tree_of_action work.now.terms other) }

@@ -1,22 +1,23 @@
 // Whether a block matches.
 
-ghost use Rattle.std.specs.Prelude.{◌≡◌, true, ℕ, Some, IsTrue};
+ghost use Rattle.std.specs.Prelude.{◌≡◌, true, ℕ, Some, Ok, IsTrue};
 ghost use Rattle.asm80_program_types.specs.Program.{is_start};
 ghost use Rattle.flow.specs.Blocks.{IsLeader, block_at};
 ghost use Rattle.flow.specs.Solving.{Needs, AreAllNeeds};
 ghost use Rattle.simulation_def.specs.Needed.{needed_by};
 ghost use Rattle.simulation_def.specs.Ones.{all_kept};
 ghost use Rattle.sym_block_def.specs.Block80.{MayRun, block80};
+ghost use Rattle.sym_block_def.specs.Outcome.{Outcome};
 ghost use Rattle.sym_block_def.specs.Walk86.{walk86};
 ghost use Rattle.block_check_def.specs.BlockMatch.{Keeps, block_reason};
 ghost use Rattle.block_check.specs.Kept.{KeepsAre, AreFound};
-ghost use Rattle.block_check.specs.Comparing.{HoldsOutcomes, AfterShown, verdict_of};
+ghost use Rattle.block_check.specs.Comparing.{HoldsOutcomes, AreReadyAfter, AreCompared, AfterShown, verdict_of};
 
 use crate::kept::{Kept, kept_behind, kept_by_exit, kept_from};
 use crate::outcomes::reason_of;
 use asm80_program_types::Program80;
 use flow::{Graph, blocks_cut_the_program};
-use sym_run::{Index86, Reason, Work};
+use sym_run::{Index86, Reason, Work, ends_say_why};
 
 /// What is found of a block.
 #[derive(Clone, Copy, PartialEq, Eq)]
@@ -49,7 +50,10 @@ fn check_kept(
     requires found { AreFound kept.now }
     ensures verdict { (k : Keeps) → KeepsAre kept.now k → result ≡ verdict_of (block_reason program.now text.now k leader count) }
     ensures outcomes { (k : Keeps) → KeepsAre kept.now k → AfterShown result (HoldsOutcomes work.new (block80 program.now leader count) (walk86 program.now text.now (k.at leader) leader count)) }
+    ensures ready { AreReadyAfter result work.new }
+    ensures compared { (k : Keeps) (y : Outcome) → KeepsAre kept.now k → walk86 program.now text.now (k.at leader) leader count ≡ Ok y → AreCompared work.new (block80 program.now leader count) y }
 {
+    ends_say_why();
     work.reset();
     work.keep(kept_from(kept, leader));
     match work.run80(program, leader, count) {
@@ -94,6 +98,9 @@ pub fn check(
         → result ≡ verdict_of (block_reason program.now text.now (needed_by program.now n) leader count) }
     ensures outcomes { (n : Needs) (count : ℕ) → AreAllNeeds program.now n → block_at program.now leader ≡ Some count
         → AfterShown result (HoldsOutcomes work.new (block80 program.now leader count) (walk86 program.now text.now ((needed_by program.now n).at leader) leader count)) }
+    ensures ready { AreReadyAfter result work.new }
+    ensures compared { (n : Needs) (count : ℕ) (y : Outcome) → AreAllNeeds program.now n → block_at program.now leader ≡ Some count
+        → walk86 program.now text.now ((needed_by program.now n).at leader) leader count ≡ Ok y → AreCompared work.new (block80 program.now leader count) y }
 {
     blocks_cut_the_program();
     let _top = program.top();

@@ -5,7 +5,7 @@
 // where there is no reason, or `NotShown` with the first one, with the parts kept that are needed where each block begins and at a return
 // (`needed_by`, over paths). `check_all_kept` is that of one instruction with all parts kept after it, and none at a return of a program
 // that takes no place. Both reset the work first and take no memory; after `Shown` the work's outcomes stand for `block80` of the block and
-// `walk86` of the text (clause `outcomes`).
+// `walk86` of the text (clause `outcomes`), and after `check` they do wherever the walk came to an outcome (`compared`).
 #![tactic(auto)]
 
 mod actions;
@@ -16,5 +16,6 @@ mod kept;
 mod outcomes;
 mod pairs;
 
+pub use actions::action_agrees;
 pub use block::{Verdict, check, check_all_kept};
 pub use sym_run::{Index86, Reason, Work};

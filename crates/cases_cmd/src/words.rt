@@ -1,6 +1,8 @@
 // What the words of a command line are read as: blanks part the words behind `xlt`, `""` is a word without a letter, and `~` and `^`
 // are a blank and a tab in a word.
-use cmd_arguments::{Command, RunOptions, read_words};
+use cmd_arguments::{
+    Both, Check, Command, Hex80, Listing, Run80, RunHex, RunOptions, Translate, read_words,
+};
 use std::alloc::{AllocError, Global};
 
 fn word_of(alloc: Global, text: &str) -> Result<String, AllocError> {
@@ -41,71 +43,88 @@ fn spelling(zilog: bool) -> &'static str {
     if zilog { " zilog" } else { "" }
 }
 
+fn translate_text(alloc: Global, command: &Translate) -> Result<String, AllocError> {
+    let mode = if command.plain { "plain" } else { "lean" };
+    let comments = if command.comments { " comments" } else { "" };
+    format!(in alloc;
+        "{} {} {mode} top {:x}{}{comments}",
+        command.input,
+        command.output,
+        command.top,
+        spelling(command.zilog)
+    )
+}
+
+fn check_text(alloc: Global, command: &Check) -> Result<String, AllocError> {
+    format!(in alloc;
+        "check {} {} top {:x}{}",
+        command.source,
+        command.text,
+        command.top,
+        spelling(command.zilog)
+    )
+}
+
+// A command that lists something of a source's program, by its name.
+fn listing_text(alloc: Global, name: &str, command: &Listing) -> Result<String, AllocError> {
+    let spelling = spelling(command.zilog);
+    format!(in alloc; "{name} {} top {:x}{spelling}", command.source, command.top)
+}
+
+fn run80_text(alloc: Global, command: &Run80) -> Result<String, AllocError> {
+    let run = run_text(alloc, &command.run)?;
+    let spelling = spelling(command.zilog);
+    format!(in alloc; "{} top {:x} {run}{spelling}", command.source, command.top)
+}
+
+fn both_text(alloc: Global, command: &Both) -> Result<String, AllocError> {
+    let run = run_text(alloc, &command.run)?;
+    format!(in alloc;
+        "both {} top {:x} choice {:x} {run}{}",
+        command.source,
+        command.top,
+        command.choice,
+        spelling(command.zilog)
+    )
+}
+
+fn run_hex_text(alloc: Global, command: &RunHex) -> Result<String, AllocError> {
+    let run = run_text(alloc, &command.run)?;
+    format!(in alloc;
+        "runhex {} top {:x} choice {:x} {run}",
+        command.file, command.top, command.choice
+    )
+}
+
+fn hex80_text(alloc: Global, command: &Hex80) -> Result<String, AllocError> {
+    format!(in alloc;
+        "hex80 {} {} top {:x}{}",
+        command.source,
+        command.output,
+        command.top,
+        spelling(command.zilog)
+    )
+}
+
 fn command_text(alloc: Global, command: &Command) -> Result<String, AllocError> {
     match command {
-        Command::Translate(command) => {
-            let mode = if command.plain { "plain" } else { "lean" };
-            format!(in alloc;
-                "{} {} {mode} top {:x}{}",
-                command.input,
-                command.output,
-                command.top,
-                spelling(command.zilog)
-            )
-        }
-        Command::Check(command) => {
-            format!(in alloc;
-                "check {} {} top {:x}{}",
-                command.source,
-                command.text,
-                command.top,
-                spelling(command.zilog)
-            )
-        }
-        Command::Flags(command) => {
-            let spelling = spelling(command.zilog);
-            format!(in alloc; "flags {} top {:x}{spelling}", command.source, command.top)
-        }
-        Command::Run80(command) => {
-            let run = run_text(alloc, &command.run)?;
-            let spelling = spelling(command.zilog);
-            format!(in alloc; "{} top {:x} {run}{spelling}", command.source, command.top)
-        }
+        Command::Translate(command) => translate_text(alloc, command),
+        Command::Check(command) => check_text(alloc, command),
+        Command::Flags(command) => listing_text(alloc, "flags", command),
+        Command::Leaves(command) => listing_text(alloc, "leaves", command),
+        Command::Run80(command) => run80_text(alloc, command),
         Command::Run86(command) => {
             let run = run_text(alloc, &command.run)?;
             format!(in alloc; "{} choice {:x} {run}", command.text, command.choice)
         }
-        Command::Both(command) => {
-            let run = run_text(alloc, &command.run)?;
-            format!(in alloc;
-                "both {} top {:x} choice {:x} {run}{}",
-                command.source,
-                command.top,
-                command.choice,
-                spelling(command.zilog)
-            )
-        }
+        Command::Both(command) => both_text(alloc, command),
         Command::Sample(command) => {
             format!(in alloc; "sample {} {}", command.count, command.output)
         }
         Command::Cmd(command) => format!(in alloc; "cmd {} {}", command.text, command.output),
         Command::CmdShow(command) => format!(in alloc; "cmdshow {}", command.file),
-        Command::Hex80(command) => {
-            format!(in alloc;
-                "hex80 {} {} top {:x}{}",
-                command.source,
-                command.output,
-                command.top,
-                spelling(command.zilog)
-            )
-        }
-        Command::RunHex(command) => {
-            let run = run_text(alloc, &command.run)?;
-            format!(in alloc;
-                "runhex {} top {:x} choice {:x} {run}",
-                command.file, command.top, command.choice
-            )
-        }
+        Command::Hex80(command) => hex80_text(alloc, command),
+        Command::RunHex(command) => run_hex_text(alloc, command),
         Command::Shrink(command) => {
             format!(in alloc;
                 "shrink {} {} {} top {:x}",

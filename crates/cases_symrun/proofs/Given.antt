@@ -4,7 +4,8 @@ use Rattle.xlt_pool.specs.Contents.{Contents}
 use Rattle.sym_block_def.specs.declared.reason.Reason.{Reason}
 use Rattle.sym_block_def.specs.Outcome.{Outcome}
 use Rattle.sym_run.specs.Outcomes.{OutcomeIds, OutcomeStands, WorkState, WalkComesTo}
-use Rattle.cases_symrun.specs.Given.{OutcomeIsGiven, IsRun}
+use Rattle.block_check.specs.Comparing.{OutcomeIsGiven}
+use Rattle.cases_symrun.specs.Given.{IsRun}
 
 outcome_given : (pool : Contents) (ids : OutcomeIds) (x : Outcome) → OutcomeStands pool ids x → OutcomeIsGiven pool ids
 outcome_given pool ids x h = record { held = h.held_given; sp = h.sp_given; actions = h.actions_given; exit = h.exit.given }

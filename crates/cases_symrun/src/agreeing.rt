@@ -3,14 +3,14 @@
 ghost use Rattle.sym_micro.specs.Stands.{ActionIsGiven, ActionsAreGiven};
 ghost use Rattle.sym_micro.specs.Exits.{WayIsGiven, ExitIsGiven};
 ghost use Rattle.sym_terms.specs.Trees.{IsGiven};
-ghost use Rattle.cases_symrun.specs.Given.{BothAreGiven};
+ghost use Rattle.block_check.specs.Comparing.{AreReady};
 
 use cells::{Part, Place};
 use sym_run::{Action, Exit, Way, Work};
 use sym_terms::Term;
 
 fn parts_agree(work: &Work) -> bool
-    requires { BothAreGiven work.now }
+    requires { AreReady work.now }
 {
     for part in Part::ALL {
         let first = work.first().part(part);
@@ -113,7 +113,7 @@ fn is_out(way: Way, wanted: u8, wanted_next: Place) -> bool {
 }
 
 fn exits_agree(work: &Work) -> bool
-    requires { BothAreGiven work.now }
+    requires { AreReady work.now }
 {
     let first = work.first().exit();
     let second = work.second().exit();
@@ -162,7 +162,7 @@ fn both_agree(work: &Work, value: bool, there: Way, here: Way, second: Exit) -> 
 
 /// Whether the two outcomes agree in their actions, all parts, SP and their exits.
 pub fn outcomes_agree(work: &Work) -> bool
-    requires { BothAreGiven work.now }
+    requires { AreReady work.now }
 {
     let first = work.first().sp();
     let second = work.second().sp();
@@ -176,7 +176,7 @@ pub fn outcomes_agree(work: &Work) -> bool
 
 /// The number that a part holds in the second outcome.
 pub fn number_held(work: &Work, part: Part) -> Option<u16>
-    requires { BothAreGiven work.now }
+    requires { AreReady work.now }
 {
     let term = work.second().part(part);
     work.number_of(term)
@@ -210,7 +210,7 @@ fn numbers_at(work: &Work, actions: &[Action], k: usize) -> Option<(u16, u16)>
 
 /// The numbers of the address and the byte of a store that is the k-th action of the first outcome.
 pub fn number_stored(work: &Work, k: usize) -> Option<(u16, u16)>
-    requires { BothAreGiven work.now }
+    requires { AreReady work.now }
 {
     let actions = work.first().actions();
     numbers_at(work, actions, k)

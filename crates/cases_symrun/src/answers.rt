@@ -1,8 +1,9 @@
 // What a case is answered.
-ghost use Rattle.cases_symrun.specs.Given.{BothAreGiven};
+ghost use Rattle.block_check.specs.Comparing.{AreReady};
 
 use crate::agreeing::{number_held, number_stored, outcomes_agree};
 use crate::codes::{bare_text, code_text};
+use crate::explaining::{explained, reason_of};
 use crate::graphs::{block_text, blocks_text, need_text, return_text, saves_text};
 use crate::running::run_both;
 use crate::shown::{exit_text, reason_text};
@@ -24,6 +25,7 @@ pub fn answer(alloc: Global, case: &str) -> anyhow::Result<String> {
         "bare" => bare_text(alloc, rest),
         "plain" => plain(alloc, count.parse::<u32>()?, counted),
         "walk" => walk(alloc, count.parse::<u32>()?, counted),
+        "why" => why(alloc, count, counted),
         "blocks" => blocks(alloc, rest),
         "return" => at_return(alloc, rest),
         "lean" => lean(alloc, count.parse::<usize>()?, counted),
@@ -66,6 +68,27 @@ fn at_address(alloc: Global, kind: &str, at: u16, source: &str) -> anyhow::Resul
     }
 }
 
+// Why the text does not match, where this is the reason.
+fn why(alloc: Global, reason: &str, case: &str) -> anyhow::Result<String> {
+    let (count, case) = case.split_once(' ').unwrap_or((case, ""));
+    let (source, text) = case.split_once(" | ").unwrap_or((case, ""));
+    let program = program_of(alloc, source)?;
+    let index = text_index(alloc, text)?;
+    let mut work = Work::new(alloc)?;
+    match run_both(
+        &mut work,
+        &program,
+        &index,
+        0x100,
+        count.parse::<u32>()?,
+        Keep::all(),
+    ) {
+        Some(Ok(())) => Ok(explained(alloc, &work, reason_of(reason))?),
+        Some(Err(reason)) => Ok(String::from_str(alloc, reason_text(reason))?),
+        None => bail!("no block, or no room"),
+    }
+}
+
 // The exit of the text's walk from 0100H, or its reason.
 fn walk(alloc: Global, count: u32, case: &str) -> anyhow::Result<String> {
     let (source, text) = case.split_once(" | ").unwrap_or((case, ""));
@@ -95,7 +118,7 @@ fn walked(
 
 // The second exit, whether its call is a direct one, and whether the outcomes agree.
 fn walk_text(alloc: Global, work: &Work) -> Result<String, AllocError>
-    requires { BothAreGiven work.now }
+    requires { AreReady work.now }
 {
     let direct = direct_text(work);
     let agrees = agrees_text(work);
@@ -112,7 +135,7 @@ fn direct_text(work: &Work) -> &'static str {
 }
 
 fn agrees_text(work: &Work) -> &'static str
-    requires { BothAreGiven work.now }
+    requires { AreReady work.now }
 {
     if outcomes_agree(work) { ", agrees" } else { "" }
 }
@@ -143,7 +166,7 @@ fn plainly_run(
 }
 
 fn plain_text(alloc: Global, work: &Work) -> Result<String, AllocError>
-    requires { BothAreGiven work.now }
+    requires { AreReady work.now }
 {
     let first = exit_text(alloc, work.first())?;
     let second = exit_text(alloc, work.second())?;
@@ -163,7 +186,7 @@ fn push_held(text: &mut String, number: Option<u16>) -> Result<(), AllocError> {
 }
 
 fn push_stores(text: &mut String, work: &Work) -> Result<(), AllocError>
-    requires { BothAreGiven work.now }
+    requires { AreReady work.now }
 {
     for k in 0..work.first().actions().len() {
         push_store(text, number_stored(work, k))?;

@@ -10,9 +10,9 @@ use Rattle.std.proofs.lemmas.Option.{none-some, same_Some}
 use Rattle.std.proofs.lemmas.Slice.Eq.{bytes_eq-Decides}
 use Rattle.std.proofs.Math.Seq.{drop-cons}
 use Rattle.cmd_arguments.specs.declared.table.CommandName.{CommandName}
-use Rattle.cmd_arguments.specs.declared.table.CommandName.TheVariants.{Translate, Check, Flags, Run80, Run86, Both, Sample, Cmd, CmdShow, Hex80, RunHex, Shrink}
+use Rattle.cmd_arguments.specs.declared.table.CommandName.TheVariants.{Translate, Check, Flags, Run80, Run86, Both, Sample, Cmd, CmdShow, Hex80, RunHex, Shrink, Leaves}
 use Rattle.cmd_arguments.specs.declared.table.OptionName.{OptionName}
-use Rattle.cmd_arguments.specs.declared.table.OptionName.TheVariants.{Top, Choice, Input, Disk, Ports, OutDisk, Tail, Steps, Plain, Zilog}
+use Rattle.cmd_arguments.specs.declared.table.OptionName.TheVariants.{Top, Choice, Input, Disk, Ports, OutDisk, Tail, Steps, Plain, Zilog, Comments}
 use Rattle.cmd_arguments.specs.Table.{Word, option_word, options_of, flag_words, named_among}
 use Rattle.cmd_arguments.specs.Items.{Item, Name, Setting, is_value, BeginsWithItem, name, flag, parted, joined, end_of_options}
 use Rattle.cmd_arguments.proofs.FirstItem.{is_equals, has_equals, First, first_item, joined_item, parted_item, lone_item}
@@ -46,6 +46,7 @@ option_words Tail = record { alone = refl; whole = refl; begins = λ text. refl;
 option_words Steps = record { alone = refl; whole = refl; begins = λ text. refl; place = λ text. lt-ltb _ _ (omega arith); before = λ text. refl; after = λ text. refl }
 option_words Plain = record { alone = refl; whole = refl; begins = λ text. refl; place = λ text. lt-ltb _ _ (omega arith); before = λ text. refl; after = λ text. refl }
 option_words Zilog = record { alone = refl; whole = refl; begins = λ text. refl; place = λ text. lt-ltb _ _ (omega arith); before = λ text. refl; after = λ text. refl }
+option_words Comments = record { alone = refl; whole = refl; begins = λ text. refl; place = λ text. lt-ltb _ _ (omega arith); before = λ text. refl; after = λ text. refl }
 
 -- what passes a test of all options is what a word finds among them
 pub found_with : (test : OptionName → Bool) (os : List OptionName) (w : Word) (o : OptionName) → list_all test os ≡ true → named_among os w ≡ Some o → test o ≡ true
@@ -72,6 +73,7 @@ flags_apart CmdShow = refl
 flags_apart Hex80 = refl
 flags_apart RunHex = refl
 flags_apart Shrink = refl
+flags_apart Leaves = refl
 
 -- no option of a command is a flag of it
 pub no_flag : (c : CommandName) (o p : OptionName) → named_among (options_of c) (option_word o) ≡ Some p → named_among (flag_words c) (option_word o) ≡ None
@@ -156,3 +158,4 @@ no_item_at_mark CmdShow ws = refl
 no_item_at_mark Hex80 ws = refl
 no_item_at_mark RunHex ws = refl
 no_item_at_mark Shrink ws = refl
+no_item_at_mark Leaves ws = refl

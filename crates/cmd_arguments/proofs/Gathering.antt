@@ -9,9 +9,9 @@ use Rattle.clap.specs.Walk.{has_row, with_default, with_values}
 use Rattle.clap.specs.declared.builder.value_parser.Reading.TheVariants.{AsWritten}
 use Rattle.clap.specs.declared.parser.matches.ValueSource.TheVariants.{DefaultValue}
 use Rattle.cmd_arguments.specs.declared.table.CommandName.{CommandName}
-use Rattle.cmd_arguments.specs.declared.table.CommandName.TheVariants.{Translate, Check, Flags, Run80, Run86, Both, Sample, Cmd, CmdShow, Hex80, RunHex, Shrink}
+use Rattle.cmd_arguments.specs.declared.table.CommandName.TheVariants.{Translate, Check, Flags, Run80, Run86, Both, Sample, Cmd, CmdShow, Hex80, RunHex, Shrink, Leaves}
 use Rattle.cmd_arguments.specs.declared.table.OptionName.{OptionName}
-use Rattle.cmd_arguments.specs.declared.table.OptionName.TheVariants.{Top, Choice, Input, Disk, Ports, OutDisk, Tail, Steps, Plain, Zilog}
+use Rattle.cmd_arguments.specs.declared.table.OptionName.TheVariants.{Top, Choice, Input, Disk, Ports, OutDisk, Tail, Steps, Plain, Zilog, Comments}
 use Rattle.cmd_arguments.specs.Table.{Word, long_name, option_word, options_of, flag_words}
 use Rattle.cmd_arguments.specs.Items.{Item, Setting, name, flag, parted, joined, Sorts, none, marked, more}
 use Rattle.cmd_arguments.specs.Given.{Gathered, Names, Occurrence, Once, gathered, occurrence, names, names_of, texts_of}
@@ -163,11 +163,11 @@ option_gathered c o items rows off read =
     go (inl r) = ap option_found r.1 ∙ ap occurrence (sym r.0)
     go (inr r) = ap option_found (r.2 ∙ ap (λ b. Some (cond b (codes "true") r.0)) off) ∙ ap occurrence (sym r.1)
 
-abbrev pub all_fields : Names → (a1 a2 a3 a4 a5 a6 a7 a8 a9 a10 : Occurrence) → Gathered
-all_fields n a1 a2 a3 a4 a5 a6 a7 a8 a9 a10 = record { names = n; top = a1; choice = a2; input = a3; disk = a4; ports = a5; out_disk = a6; tail = a7; steps = a8; plain = a9; zilog = a10 }
+abbrev pub all_fields : Names → (a1 a2 a3 a4 a5 a6 a7 a8 a9 a10 a11 : Occurrence) → Gathered
+all_fields n a1 a2 a3 a4 a5 a6 a7 a8 a9 a10 a11 = record { names = n; top = a1; choice = a2; input = a3; disk = a4; ports = a5; out_disk = a6; tail = a7; steps = a8; plain = a9; zilog = a10; comments = a11 }
 
-pub same_gathered : {n m : Names} {a1 b1 a2 b2 a3 b3 a4 b4 a5 b5 a6 b6 a7 b7 a8 b8 a9 b9 a10 b10 : Occurrence} → n ≡ m → a1 ≡ b1 → a2 ≡ b2 → a3 ≡ b3 → a4 ≡ b4 → a5 ≡ b5 → a6 ≡ b6 → a7 ≡ b7 → a8 ≡ b8 → a9 ≡ b9 → a10 ≡ b10 → all_fields n a1 a2 a3 a4 a5 a6 a7 a8 a9 a10 ≡ all_fields m b1 b2 b3 b4 b5 b6 b7 b8 b9 b10
-same_gathered e e1 e2 e3 e4 e5 e6 e7 e8 e9 e10 = rw (e, e1, e2, e3, e4, e5, e6, e7, e8, e9, e10) refl
+pub same_gathered : {n m : Names} {a1 b1 a2 b2 a3 b3 a4 b4 a5 b5 a6 b6 a7 b7 a8 b8 a9 b9 a10 b10 a11 b11 : Occurrence} → n ≡ m → a1 ≡ b1 → a2 ≡ b2 → a3 ≡ b3 → a4 ≡ b4 → a5 ≡ b5 → a6 ≡ b6 → a7 ≡ b7 → a8 ≡ b8 → a9 ≡ b9 → a10 ≡ b10 → a11 ≡ b11 → all_fields n a1 a2 a3 a4 a5 a6 a7 a8 a9 a10 a11 ≡ all_fields m b1 b2 b3 b4 b5 b6 b7 b8 b9 b10 b11
+same_gathered e e1 e2 e3 e4 e5 e6 e7 e8 e9 e10 e11 = rw (e, e1, e2, e3, e4, e5, e6, e7, e8, e9, e10, e11) refl
 
 pub rows_give : (c : CommandName) (ws : List Word) (items : List Item) (g : Gathered) → Sorts c ws items → items_pass [] items ≡ true → IsGivenIn (with_flags c (fold item_rows [] items)) g → g ≡ gathered items
 rows_give c ws items g s pass given =
@@ -176,6 +176,7 @@ rows_give c ws items g s pass given =
     λ o off. option_gathered c o items rows off (is_read o items [] refl pass) in
     let named : names (values_at (codes "names") (with_flags c rows)) ≡ names (names_of items) =
     ap names (ap (λ o. unwrap_or (option_map (λ r. r.values) o) []) (others_kept c (codes "names") rows refl) ∙ names_read_of items [] pass) in
-    given.4 ∙ same_gathered named (option Top refl) (option Choice refl) (option Input refl) (option Disk refl) (option Ports refl) (option OutDisk refl) (option Tail refl) (option Steps refl)
-    (flag_gathered Plain c ws items rows given.0 refl s (is_read Plain items [] refl pass) given.2)
-    (flag_gathered Zilog c ws items rows given.1 refl s (is_read Zilog items [] refl pass) given.3)
+    given.6 ∙ same_gathered named (option Top refl) (option Choice refl) (option Input refl) (option Disk refl) (option Ports refl) (option OutDisk refl) (option Tail refl) (option Steps refl)
+    (flag_gathered Plain c ws items rows given.0 refl s (is_read Plain items [] refl pass) given.3)
+    (flag_gathered Zilog c ws items rows given.1 refl s (is_read Zilog items [] refl pass) given.4)
+    (flag_gathered Comments c ws items rows given.2 refl s (is_read Comments items [] refl pass) given.5)

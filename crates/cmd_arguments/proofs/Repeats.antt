@@ -7,9 +7,9 @@ use Rattle.std.proofs.lemmas.Bool.{false≢true, or_right}
 use Rattle.clap.specs.Words.{Row}
 use Rattle.clap.specs.Walk.{has_row}
 use Rattle.cmd_arguments.specs.declared.table.CommandName.{CommandName}
-use Rattle.cmd_arguments.specs.declared.table.CommandName.TheVariants.{Translate, Check, Flags, Run80, Run86, Both, Sample, Cmd, CmdShow, Hex80, RunHex, Shrink}
+use Rattle.cmd_arguments.specs.declared.table.CommandName.TheVariants.{Translate, Check, Flags, Run80, Run86, Both, Sample, Cmd, CmdShow, Hex80, RunHex, Shrink, Leaves}
 use Rattle.cmd_arguments.specs.declared.table.OptionName.{OptionName}
-use Rattle.cmd_arguments.specs.declared.table.OptionName.TheVariants.{Top, Choice, Input, Disk, Ports, OutDisk, Tail, Steps, Plain, Zilog}
+use Rattle.cmd_arguments.specs.declared.table.OptionName.TheVariants.{Top, Choice, Input, Disk, Ports, OutDisk, Tail, Steps, Plain, Zilog, Comments}
 use Rattle.cmd_arguments.specs.Table.{Word, long_name, option_word, named_among, options_of, flag_words}
 use Rattle.cmd_arguments.specs.Items.{Item, Name, Setting, name, flag, parted, joined, Sorts, none, marked, more}
 use Rattle.cmd_arguments.specs.Given.{Gathered, Occurrence, Repeated, gathered, occurrence, texts_of}
@@ -32,6 +32,7 @@ of_option Tail g = g.tail
 of_option Steps g = g.steps
 of_option Plain g = g.plain
 of_option Zilog g = g.zilog
+of_option Comments g = g.comments
 
 no_end : {X Y : Type 0} (o : Option X) (f : X → Option Y) → ((x : X) → f x ≡ None) → option_and_then f o ≡ None
 no_end None f e = refl
@@ -82,7 +83,7 @@ abbrev pub takes_option : CommandName → OptionName → Bool
 takes_option c o = is_some (named_among (options_of c) (option_word o)) || is_some (named_among (flag_words c) (option_word o))
 
 repeated : (c : CommandName) (o : OptionName) (g : Gathered) → takes_option c o ≡ true → of_option o g ≡ Repeated → command_of c g ≡ None
-repeated Translate Top g takes e = no_map _ _ (no_end (flag_of g.plain) _ (λ x2. no_end (flag_of g.zilog) _ (λ x1. no_end (two_files g.names) _ (λ x0. stops (top_of g) _ (no_top g e)))))
+repeated Translate Top g takes e = no_map _ _ (no_end (flag_of g.plain) _ (λ x3. no_end (flag_of g.zilog) _ (λ x2. no_end (flag_of g.comments) _ (λ x1. no_end (two_files g.names) _ (λ x0. stops (top_of g) _ (no_top g e))))))
 repeated Translate Choice g takes e = absurd (false≢true takes)
 repeated Translate Input g takes e = absurd (false≢true takes)
 repeated Translate Disk g takes e = absurd (false≢true takes)
@@ -92,6 +93,7 @@ repeated Translate Tail g takes e = absurd (false≢true takes)
 repeated Translate Steps g takes e = absurd (false≢true takes)
 repeated Translate Plain g takes e = no_map _ _ (stops (flag_of g.plain) _ (ap flag_of e))
 repeated Translate Zilog g takes e = no_map _ _ (no_end (flag_of g.plain) _ (λ x. stops (flag_of g.zilog) _ (ap flag_of e)))
+repeated Translate Comments g takes e = no_map _ _ (no_end (flag_of g.plain) _ (λ x1. no_end (flag_of g.zilog) _ (λ x0. stops (flag_of g.comments) _ (ap flag_of e))))
 repeated Check Top g takes e = no_map _ _ (no_end (flag_of g.zilog) _ (λ z. no_end (two_files g.names) _ (λ x0. stops (top_of g) _ (no_top g e))))
 repeated Check Choice g takes e = absurd (false≢true takes)
 repeated Check Input g takes e = absurd (false≢true takes)
@@ -102,6 +104,7 @@ repeated Check Tail g takes e = absurd (false≢true takes)
 repeated Check Steps g takes e = absurd (false≢true takes)
 repeated Check Plain g takes e = absurd (false≢true takes)
 repeated Check Zilog g takes e = no_map _ _ (stops (flag_of g.zilog) _ (ap flag_of e))
+repeated Check Comments g takes e = absurd (false≢true takes)
 repeated Flags Top g takes e = no_map _ _ (no_end (flag_of g.zilog) _ (λ z. no_end (one_file g.names) _ (λ x0. stops (top_of g) _ (no_top g e))))
 repeated Flags Choice g takes e = absurd (false≢true takes)
 repeated Flags Input g takes e = absurd (false≢true takes)
@@ -112,6 +115,7 @@ repeated Flags Tail g takes e = absurd (false≢true takes)
 repeated Flags Steps g takes e = absurd (false≢true takes)
 repeated Flags Plain g takes e = absurd (false≢true takes)
 repeated Flags Zilog g takes e = no_map _ _ (stops (flag_of g.zilog) _ (ap flag_of e))
+repeated Flags Comments g takes e = absurd (false≢true takes)
 repeated Run80 Top g takes e = no_map _ _ (no_end (flag_of g.zilog) _ (λ z. no_end (one_file g.names) _ (λ x0. stops (top_of g) _ (no_top g e))))
 repeated Run80 Choice g takes e = absurd (false≢true takes)
 repeated Run80 Input g takes e = no_map _ _ (no_end (flag_of g.zilog) _ (λ z. no_end (one_file g.names) _ (λ x1. no_end (top_of g) _ (λ x0. stops (run_options_of g) _ (no_run_input g e)))))
@@ -122,6 +126,7 @@ repeated Run80 Tail g takes e = no_map _ _ (no_end (flag_of g.zilog) _ (λ z. no
 repeated Run80 Steps g takes e = no_map _ _ (no_end (flag_of g.zilog) _ (λ z. no_end (one_file g.names) _ (λ x1. no_end (top_of g) _ (λ x0. stops (run_options_of g) _ (no_run_steps g e)))))
 repeated Run80 Plain g takes e = absurd (false≢true takes)
 repeated Run80 Zilog g takes e = no_map _ _ (stops (flag_of g.zilog) _ (ap flag_of e))
+repeated Run80 Comments g takes e = absurd (false≢true takes)
 repeated Run86 Top g takes e = absurd (false≢true takes)
 repeated Run86 Choice g takes e = no_map _ _ (no_end (one_file g.names) _ (λ x0. stops (choice_of g) _ (no_choice g e)))
 repeated Run86 Input g takes e = no_map _ _ (no_end (one_file g.names) _ (λ x1. no_end (choice_of g) _ (λ x0. stops (run_options_of g) _ (no_run_input g e))))
@@ -132,6 +137,7 @@ repeated Run86 Tail g takes e = no_map _ _ (no_end (one_file g.names) _ (λ x1. 
 repeated Run86 Steps g takes e = no_map _ _ (no_end (one_file g.names) _ (λ x1. no_end (choice_of g) _ (λ x0. stops (run_options_of g) _ (no_run_steps g e))))
 repeated Run86 Plain g takes e = absurd (false≢true takes)
 repeated Run86 Zilog g takes e = absurd (false≢true takes)
+repeated Run86 Comments g takes e = absurd (false≢true takes)
 repeated Both Top g takes e = no_map _ _ (no_end (flag_of g.zilog) _ (λ z. no_end (one_file g.names) _ (λ x0. stops (top_of g) _ (no_top g e))))
 repeated Both Choice g takes e = no_map _ _ (no_end (flag_of g.zilog) _ (λ z. no_end (one_file g.names) _ (λ x1. no_end (top_of g) _ (λ x0. stops (choice_of g) _ (no_choice g e)))))
 repeated Both Input g takes e = no_map _ _ (no_end (flag_of g.zilog) _ (λ z. no_end (one_file g.names) _ (λ x2. no_end (top_of g) _ (λ x1. no_end (choice_of g) _ (λ x0. stops (run_options_of g) _ (no_run_input g e))))))
@@ -142,6 +148,7 @@ repeated Both Tail g takes e = no_map _ _ (no_end (flag_of g.zilog) _ (λ z. no_
 repeated Both Steps g takes e = no_map _ _ (no_end (flag_of g.zilog) _ (λ z. no_end (one_file g.names) _ (λ x2. no_end (top_of g) _ (λ x1. no_end (choice_of g) _ (λ x0. stops (run_options_of g) _ (no_run_steps g e))))))
 repeated Both Plain g takes e = absurd (false≢true takes)
 repeated Both Zilog g takes e = no_map _ _ (stops (flag_of g.zilog) _ (ap flag_of e))
+repeated Both Comments g takes e = absurd (false≢true takes)
 repeated Sample Top g takes e = absurd (false≢true takes)
 repeated Sample Choice g takes e = absurd (false≢true takes)
 repeated Sample Input g takes e = absurd (false≢true takes)
@@ -152,6 +159,7 @@ repeated Sample Tail g takes e = absurd (false≢true takes)
 repeated Sample Steps g takes e = absurd (false≢true takes)
 repeated Sample Plain g takes e = absurd (false≢true takes)
 repeated Sample Zilog g takes e = absurd (false≢true takes)
+repeated Sample Comments g takes e = absurd (false≢true takes)
 repeated Cmd Top g takes e = absurd (false≢true takes)
 repeated Cmd Choice g takes e = absurd (false≢true takes)
 repeated Cmd Input g takes e = absurd (false≢true takes)
@@ -162,6 +170,7 @@ repeated Cmd Tail g takes e = absurd (false≢true takes)
 repeated Cmd Steps g takes e = absurd (false≢true takes)
 repeated Cmd Plain g takes e = absurd (false≢true takes)
 repeated Cmd Zilog g takes e = absurd (false≢true takes)
+repeated Cmd Comments g takes e = absurd (false≢true takes)
 repeated CmdShow Top g takes e = absurd (false≢true takes)
 repeated CmdShow Choice g takes e = absurd (false≢true takes)
 repeated CmdShow Input g takes e = absurd (false≢true takes)
@@ -172,6 +181,7 @@ repeated CmdShow Tail g takes e = absurd (false≢true takes)
 repeated CmdShow Steps g takes e = absurd (false≢true takes)
 repeated CmdShow Plain g takes e = absurd (false≢true takes)
 repeated CmdShow Zilog g takes e = absurd (false≢true takes)
+repeated CmdShow Comments g takes e = absurd (false≢true takes)
 repeated Hex80 Top g takes e = no_map _ _ (no_end (flag_of g.zilog) _ (λ x1. no_end (two_files g.names) _ (λ x0. stops (top_of g) _ (no_top g e))))
 repeated Hex80 Choice g takes e = absurd (false≢true takes)
 repeated Hex80 Input g takes e = absurd (false≢true takes)
@@ -182,6 +192,7 @@ repeated Hex80 Tail g takes e = absurd (false≢true takes)
 repeated Hex80 Steps g takes e = absurd (false≢true takes)
 repeated Hex80 Plain g takes e = absurd (false≢true takes)
 repeated Hex80 Zilog g takes e = no_map _ _ (stops (flag_of g.zilog) _ (ap flag_of e))
+repeated Hex80 Comments g takes e = absurd (false≢true takes)
 repeated RunHex Top g takes e = no_map _ _ (no_end (one_file g.names) _ (λ x0. stops (top_of g) _ (no_top g e)))
 repeated RunHex Choice g takes e = no_map _ _ (no_end (one_file g.names) _ (λ x1. no_end (top_of g) _ (λ x0. stops (choice_of g) _ (no_choice g e))))
 repeated RunHex Input g takes e = no_map _ _ (no_end (one_file g.names) _ (λ x2. no_end (top_of g) _ (λ x1. no_end (choice_of g) _ (λ x0. stops (run_options_of g) _ (no_run_input g e)))))
@@ -192,6 +203,7 @@ repeated RunHex Tail g takes e = no_map _ _ (no_end (one_file g.names) _ (λ x2.
 repeated RunHex Steps g takes e = no_map _ _ (no_end (one_file g.names) _ (λ x2. no_end (top_of g) _ (λ x1. no_end (choice_of g) _ (λ x0. stops (run_options_of g) _ (no_run_steps g e)))))
 repeated RunHex Plain g takes e = absurd (false≢true takes)
 repeated RunHex Zilog g takes e = absurd (false≢true takes)
+repeated RunHex Comments g takes e = absurd (false≢true takes)
 repeated Shrink Top g takes e = no_map _ _ (no_end (three_files g.names) _ (λ x0. stops (top_of g) _ (no_top g e)))
 repeated Shrink Choice g takes e = absurd (false≢true takes)
 repeated Shrink Input g takes e = absurd (false≢true takes)
@@ -202,6 +214,18 @@ repeated Shrink Tail g takes e = absurd (false≢true takes)
 repeated Shrink Steps g takes e = absurd (false≢true takes)
 repeated Shrink Plain g takes e = absurd (false≢true takes)
 repeated Shrink Zilog g takes e = absurd (false≢true takes)
+repeated Shrink Comments g takes e = absurd (false≢true takes)
+repeated Leaves Top g takes e = no_map _ _ (no_end (flag_of g.zilog) _ (λ z. no_end (one_file g.names) _ (λ x0. stops (top_of g) _ (no_top g e))))
+repeated Leaves Choice g takes e = absurd (false≢true takes)
+repeated Leaves Input g takes e = absurd (false≢true takes)
+repeated Leaves Disk g takes e = absurd (false≢true takes)
+repeated Leaves Ports g takes e = absurd (false≢true takes)
+repeated Leaves OutDisk g takes e = absurd (false≢true takes)
+repeated Leaves Tail g takes e = absurd (false≢true takes)
+repeated Leaves Steps g takes e = absurd (false≢true takes)
+repeated Leaves Plain g takes e = absurd (false≢true takes)
+repeated Leaves Zilog g takes e = no_map _ _ (stops (flag_of g.zilog) _ (ap flag_of e))
+repeated Leaves Comments g takes e = absurd (false≢true takes)
 
 of_gathered : (o : OptionName) (items : List Item) → of_option o (gathered items) ≡ occurrence (texts_of o items)
 of_gathered Top items = refl
@@ -214,6 +238,7 @@ of_gathered Tail items = refl
 of_gathered Steps items = refl
 of_gathered Plain items = refl
 of_gathered Zilog items = refl
+of_gathered Comments items = refl
 
 -- ---- an option that stands twice
 

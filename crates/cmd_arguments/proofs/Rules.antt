@@ -16,9 +16,9 @@ use Rattle.clap.specs.Faults.{is_simple_and_free}
 use Rattle.clap.proofs.WalkLemmas.{find-map}
 use Rattle.clap.specs.declared.builder.value_parser.ValueParser.TheVariants as vp
 use Rattle.cmd_arguments.specs.declared.table.CommandName.{CommandName}
-use Rattle.cmd_arguments.specs.declared.table.CommandName.TheVariants.{Translate, Check, Flags, Run80, Run86, Both, Sample, Cmd, CmdShow, Hex80, RunHex, Shrink}
+use Rattle.cmd_arguments.specs.declared.table.CommandName.TheVariants.{Translate, Check, Flags, Run80, Run86, Both, Sample, Cmd, CmdShow, Hex80, RunHex, Shrink, Leaves}
 use Rattle.cmd_arguments.specs.declared.table.OptionName.{OptionName}
-use Rattle.cmd_arguments.specs.declared.table.OptionName.TheVariants.{Top, Choice, Input, Disk, Ports, OutDisk, Tail, Steps, Plain, Zilog}
+use Rattle.cmd_arguments.specs.declared.table.OptionName.TheVariants.{Top, Choice, Input, Disk, Ports, OutDisk, Tail, Steps, Plain, Zilog, Comments}
 use Rattle.cmd_arguments.specs.Table.{Word, command_word, long_name, option_word, options_of, flag_words, named_among}
 use Rattle.cmd_arguments.specs.Asked.{clap_command, names_rule, option_rule, flag_rule}
 use Rattle.cmd_arguments.proofs.Forms.{named_word, no_flag, found_with}
@@ -55,6 +55,7 @@ built_is CmdShow = refl
 built_is Hex80 = refl
 built_is RunHex = refl
 built_is Shrink = refl
+built_is Leaves = refl
 
 pub asked_simple : (c : CommandName) → is_simple (clap_command c) ≡ true
 asked_simple Translate = refl
@@ -69,6 +70,7 @@ asked_simple CmdShow = refl
 asked_simple Hex80 = refl
 asked_simple RunHex = refl
 asked_simple Shrink = refl
+asked_simple Leaves = refl
 
 pub asked_free : (c : CommandName) → is_simple_and_free (clap_command c) ≡ true
 asked_free Translate = refl
@@ -83,6 +85,7 @@ asked_free CmdShow = refl
 asked_free Hex80 = refl
 asked_free RunHex = refl
 asked_free Shrink = refl
+asked_free Leaves = refl
 
 -- an option's word is two hyphens and its name
 pub word_is : (o : OptionName) → option_word o ≡ 0x2D ∷ (0x2D ∷ long_name o)
@@ -96,6 +99,7 @@ word_is Tail = refl
 word_is Steps = refl
 word_is Plain = refl
 word_is Zilog = refl
+word_is Comments = refl
 
 pub names_apart : (o : OptionName) → bytes_eq (codes "names") (long_name o) ≡ false
 names_apart Top = refl
@@ -108,6 +112,7 @@ names_apart Tail = refl
 names_apart Steps = refl
 names_apart Plain = refl
 names_apart Zilog = refl
+names_apart Comments = refl
 
 pub apart_names : (o : OptionName) → bytes_eq (long_name o) (codes "names") ≡ false
 apart_names Top = refl
@@ -120,10 +125,11 @@ apart_names Tail = refl
 apart_names Steps = refl
 apart_names Plain = refl
 apart_names Zilog = refl
+apart_names Comments = refl
 
 -- a flag, by its name
 abbrev pub is_flag_name : Text → Bool
-is_flag_name n = bytes_eq n (codes "plain") || bytes_eq n (codes "zilog")
+is_flag_name n = bytes_eq n (codes "plain") || (bytes_eq n (codes "zilog") || bytes_eq n (codes "comments"))
 
 abbrev pub is_flag : OptionName → Bool
 is_flag o = is_flag_name (long_name o)
@@ -199,6 +205,7 @@ options_no_flags CmdShow = refl
 options_no_flags Hex80 = refl
 options_no_flags RunHex = refl
 options_no_flags Shrink = refl
+options_no_flags Leaves = refl
 
 pub flags_are : (c : CommandName) → list_all (λ f. is_flag f) (flag_words c) ≡ true
 flags_are Translate = refl
@@ -213,6 +220,7 @@ flags_are CmdShow = refl
 flags_are Hex80 = refl
 flags_are RunHex = refl
 flags_are Shrink = refl
+flags_are Leaves = refl
 
 pub options_plain : (c : CommandName) (w : Word) (o : OptionName) → named_among (options_of c) w ≡ Some o → is_flag o ≡ false
 options_plain c w o e = not-true _ (found_with (λ p. not (is_flag p)) (options_of c) w o (options_no_flags c) e)

@@ -4,7 +4,7 @@ use Rattle.std.specs.List.{filter_map}
 use Rattle.std.specs.Str.{bytes_eq}
 use Rattle.cmd_arguments.specs.declared.table.CommandName.{CommandName}
 use Rattle.cmd_arguments.specs.declared.table.OptionName.{OptionName}
-use Rattle.cmd_arguments.specs.declared.table.OptionName.TheVariants.{Top, Choice, Input, Disk, Ports, OutDisk, Tail, Steps, Plain, Zilog}
+use Rattle.cmd_arguments.specs.declared.table.OptionName.TheVariants.{Top, Choice, Input, Disk, Ports, OutDisk, Tail, Steps, Plain, Zilog, Comments}
 use Rattle.cmd_arguments.specs.Table.{Word, option_word}
 use Rattle.cmd_arguments.specs.Items.{Item, Name, Setting, Sorts}
 
@@ -62,6 +62,7 @@ pub record Gathered : Type 0 where
   pub steps : Occurrence
   pub plain : Occurrence
   pub zilog : Occurrence
+  pub comments : Occurrence
 
 abbrev pub gathered : List Item → Gathered
 gathered items = record {
@@ -76,6 +77,7 @@ gathered items = record {
   steps = occurrence (texts_of Steps items);
   plain = occurrence (texts_of Plain items);
   zilog = occurrence (texts_of Zilog items);
+  comments = occurrence (texts_of Comments items);
 }
 
 -- a command's words are items that give this

@@ -4,7 +4,7 @@ use Rattle.std.specs.Borrow.{Bor}
 use Rattle.clap.specs.Words.{Row, all_of, first_of}
 use Rattle.cmd_arguments.specs.declared.given.Names.{Names as ReadNames}
 use Rattle.cmd_arguments.specs.declared.given.Names.TheVariants as read_names
-use Rattle.cmd_arguments.specs.declared.table.OptionName.TheVariants.{Top, Choice, Input, Disk, Ports, OutDisk, Tail, Steps, Plain, Zilog}
+use Rattle.cmd_arguments.specs.declared.table.OptionName.TheVariants.{Top, Choice, Input, Disk, Ports, OutDisk, Tail, Steps, Plain, Zilog, Comments}
 use Rattle.cmd_arguments.specs.Table.{Word, long_name}
 use Rattle.cmd_arguments.specs.Given.{Occurrence, Absent, Once, Names, NoName, OneName, TwoNames, ThreeNames, MoreNames, Gathered, names}
 
@@ -34,8 +34,8 @@ IsFlag None set = set ≡ false
 IsFlag (Some text) set = (text ≡ codes "true" → set ≡ true) × (text ≡ codes "false" → set ≡ false)
 
 -- what the entries of `clap` give
-abbrev pub given_in : List Row → Bool → Bool → Gathered
-given_in rows plain zilog = record {
+abbrev pub given_in : List Row → Bool → Bool → Bool → Gathered
+given_in rows plain zilog comments = record {
   names = names (unwrap_or (all_of (codes "names") rows) []);
   top = option_found (first_of (long_name Top) rows);
   choice = option_found (first_of (long_name Choice) rows);
@@ -47,10 +47,11 @@ given_in rows plain zilog = record {
   steps = option_found (first_of (long_name Steps) rows);
   plain = flag_read plain;
   zilog = flag_read zilog;
+  comments = flag_read comments;
 }
 
 abbrev pub IsGivenIn : List Row → Gathered → Type 0
-IsGivenIn rows g = (plain : Bool) × (zilog : Bool) × IsFlag (first_of (long_name Plain) rows) plain × IsFlag (first_of (long_name Zilog) rows) zilog × (g ≡ given_in rows plain zilog)
+IsGivenIn rows g = (plain : Bool) × (zilog : Bool) × (comments : Bool) × IsFlag (first_of (long_name Plain) rows) plain × IsFlag (first_of (long_name Zilog) rows) zilog × IsFlag (first_of (long_name Comments) rows) comments × (g ≡ given_in rows plain zilog comments)
 
 abbrev pub files_of : Option (Bor Word × Bor Word) → Option (Word × Word)
 files_of (Some names) = Some (names.0.now, names.1.now)

@@ -4,7 +4,7 @@ use Rattle.cmd_arguments.specs.declared.command.Command.{Command as ReadCommand}
 use Rattle.cmd_arguments.specs.declared.command.Command.TheVariants as read
 use Rattle.cmd_arguments.specs.declared.command.Translate.{Translate as ReadTranslate}
 use Rattle.cmd_arguments.specs.declared.command.Check.{Check as ReadCheck}
-use Rattle.cmd_arguments.specs.declared.command.Flags.{Flags as ReadFlags}
+use Rattle.cmd_arguments.specs.declared.command.Listing.{Listing as ReadListing}
 use Rattle.cmd_arguments.specs.declared.command.Run80.{Run80 as ReadRun80}
 use Rattle.cmd_arguments.specs.declared.command.Run86.{Run86 as ReadRun86}
 use Rattle.cmd_arguments.specs.declared.command.Both.{Both as ReadBoth}
@@ -14,17 +14,17 @@ use Rattle.cmd_arguments.specs.declared.command.CmdShow.{CmdShow as ReadCmdShow}
 use Rattle.cmd_arguments.specs.declared.command.Hex80.{Hex80 as ReadHex80}
 use Rattle.cmd_arguments.specs.declared.command.RunHex.{RunHex as ReadRunHex}
 use Rattle.cmd_arguments.specs.declared.command.RunOptions.{RunOptions as ReadRunOptions}
-use Rattle.cmd_arguments.specs.Words.{Translate, Check, Flags, RunOptions, Run80, Run86, Both, Sample, Cmd, CmdShow, Hex80, RunHex, Command, Translates, Checks, ListsFlags, Runs80, Runs86, RunsBoth, MakesSample, MakesCmd, ShowsCmd, WritesHex, RunsHex, Shrink, ShrinksText}
+use Rattle.cmd_arguments.specs.Words.{Translate, Check, Listing, RunOptions, Run80, Run86, Both, Sample, Cmd, CmdShow, Hex80, RunHex, Command, Translates, Checks, ListsFlags, Runs80, Runs86, RunsBoth, MakesSample, MakesCmd, ShowsCmd, WritesHex, RunsHex, Shrink, ShrinksText, ListsLeaves}
 use Rattle.cmd_arguments.specs.declared.command.Shrink.{Shrink as ReadShrink}
 
 abbrev pub translate_read : ReadTranslate → Translate
-translate_read c = record { input = c.input.now; output = c.output.now; plain = c.plain; zilog = c.zilog; top = c.top }
+translate_read c = record { input = c.input.now; output = c.output.now; plain = c.plain; zilog = c.zilog; comments = c.comments; top = c.top }
 
 abbrev pub check_read : ReadCheck → Check
 check_read c = record { source = c.source.now; text = c.text.now; zilog = c.zilog; top = c.top }
 
-abbrev pub flags_read : ReadFlags → Flags
-flags_read c = record { source = c.source.now; zilog = c.zilog; top = c.top }
+abbrev pub listing_read : ReadListing → Listing
+listing_read c = record { source = c.source.now; zilog = c.zilog; top = c.top }
 
 abbrev pub run_options_read : ReadRunOptions → RunOptions
 run_options_read r = record { input = option_copied r.input; disk = option_copied r.disk; ports = option_copied r.ports; out_disk = option_copied r.out_disk; page = r.page; steps = r.steps }
@@ -59,7 +59,7 @@ shrink_read c = record { source = c.source.now; text = c.text.now; output = c.ou
 abbrev pub command_read : ReadCommand → Command
 command_read (read.Translate c) = Translates (translate_read c)
 command_read (read.Check c) = Checks (check_read c)
-command_read (read.Flags c) = ListsFlags (flags_read c)
+command_read (read.Flags c) = ListsFlags (listing_read c)
 command_read (read.Run80 c) = Runs80 (run80_read c)
 command_read (read.Run86 c) = Runs86 (run86_read c)
 command_read (read.Both c) = RunsBoth (both_read c)
@@ -69,3 +69,4 @@ command_read (read.CmdShow c) = ShowsCmd (cmd_show_read c)
 command_read (read.Hex80 c) = WritesHex (hex80_read c)
 command_read (read.RunHex c) = RunsHex (run_hex_read c)
 command_read (read.Shrink c) = ShrinksText (shrink_read c)
+command_read (read.Leaves c) = ListsLeaves (listing_read c)

@@ -2,16 +2,16 @@
 use Rattle.std.specs.Prelude.{ℕ, List, [], ◌∷◌, codes, Option, find}
 use Rattle.std.specs.Str.{bytes_eq}
 use Rattle.cmd_arguments.specs.declared.table.CommandName.{CommandName}
-use Rattle.cmd_arguments.specs.declared.table.CommandName.TheVariants.{Translate, Check, Flags, Run80, Run86, Both, Sample, Cmd, CmdShow, Hex80, RunHex, Shrink}
+use Rattle.cmd_arguments.specs.declared.table.CommandName.TheVariants.{Translate, Check, Flags, Run80, Run86, Both, Sample, Cmd, CmdShow, Hex80, RunHex, Shrink, Leaves}
 use Rattle.cmd_arguments.specs.declared.table.OptionName.{OptionName}
-use Rattle.cmd_arguments.specs.declared.table.OptionName.TheVariants.{Top, Choice, Input, Disk, Ports, OutDisk, Tail, Steps, Plain, Zilog}
+use Rattle.cmd_arguments.specs.declared.table.OptionName.TheVariants.{Top, Choice, Input, Disk, Ports, OutDisk, Tail, Steps, Plain, Zilog, Comments}
 
 -- a word is a list of bytes
 abbrev pub Word : Type 0
 Word = List ℕ
 
 abbrev pub commands : List CommandName
-commands = Translate ∷ (Check ∷ (Flags ∷ (Run80 ∷ (Run86 ∷ (Both ∷ (Sample ∷ (Cmd ∷ (CmdShow ∷ (Hex80 ∷ (RunHex ∷ (Shrink ∷ [])))))))))))
+commands = Translate ∷ (Check ∷ (Flags ∷ (Run80 ∷ (Run86 ∷ (Both ∷ (Sample ∷ (Cmd ∷ (CmdShow ∷ (Hex80 ∷ (RunHex ∷ (Shrink ∷ (Leaves ∷ []))))))))))))
 
 abbrev pub command_word : CommandName → Word
 command_word Translate = codes "translate"
@@ -26,6 +26,7 @@ command_word CmdShow = codes "cmdshow"
 command_word Hex80 = codes "hex80"
 command_word RunHex = codes "runhex"
 command_word Shrink = codes "shrink"
+command_word Leaves = codes "leaves"
 
 -- an option's name, which stands behind two hyphens in its word
 abbrev pub long_name : OptionName → Word
@@ -39,6 +40,7 @@ long_name Tail = codes "tail"
 long_name Steps = codes "steps"
 long_name Plain = codes "plain"
 long_name Zilog = codes "zilog"
+long_name Comments = codes "comments"
 
 abbrev pub option_word : OptionName → Word
 option_word Top = codes "--top"
@@ -51,6 +53,7 @@ option_word Tail = codes "--tail"
 option_word Steps = codes "--steps"
 option_word Plain = codes "--plain"
 option_word Zilog = codes "--zilog"
+option_word Comments = codes "--comments"
 
 -- the options with a value that a command takes
 abbrev pub options_of : CommandName → List OptionName
@@ -66,10 +69,11 @@ options_of CmdShow = []
 options_of Hex80 = Top ∷ []
 options_of RunHex = Top ∷ (Choice ∷ (Input ∷ (Disk ∷ (Ports ∷ (OutDisk ∷ (Tail ∷ (Steps ∷ [])))))))
 options_of Shrink = Top ∷ []
+options_of Leaves = Top ∷ []
 
 -- the options without a value, its flags
 abbrev pub flag_words : CommandName → List OptionName
-flag_words Translate = Plain ∷ (Zilog ∷ [])
+flag_words Translate = Plain ∷ (Zilog ∷ (Comments ∷ []))
 flag_words Check = Zilog ∷ []
 flag_words Flags = Zilog ∷ []
 flag_words Run80 = Zilog ∷ []
@@ -81,6 +85,7 @@ flag_words CmdShow = []
 flag_words Hex80 = Zilog ∷ []
 flag_words RunHex = []
 flag_words Shrink = []
+flag_words Leaves = Zilog ∷ []
 
 -- the command of a word, which is exactly its word
 abbrev pub command_named : Word → Option CommandName

@@ -7,12 +7,13 @@ use Rattle.cmd_arguments.specs.Table.{Word, command_named}
 use Rattle.cmd_arguments.specs.Values.{top_value, choice_value, steps_value, count_value, file_name}
 use Rattle.cmd_arguments.specs.Given.{Occurrence, Absent, Once, Repeated, Names, NoName, OneName, TwoNames, ThreeNames, MoreNames, Gathered, AreSorted}
 
--- `translate IN OUT [--plain] [--zilog] [--top H]`
+-- `translate IN OUT [--plain] [--zilog] [--comments] [--top H]`
 pub record Translate : Type 0 where
   pub input : Word
   pub output : Word
   pub plain : Bool
   pub zilog : Bool
+  pub comments : Bool
   pub top : ℕ
 
 -- `check IN TEXT [--zilog] [--top H]`
@@ -22,8 +23,8 @@ pub record Check : Type 0 where
   pub zilog : Bool
   pub top : ℕ
 
--- `flags IN [--zilog] [--top H]`
-pub record Flags : Type 0 where
+-- `flags IN [--zilog] [--top H]`, or `leaves` with the same
+pub record Listing : Type 0 where
   pub source : Word
   pub zilog : Bool
   pub top : ℕ
@@ -97,7 +98,7 @@ pub record Shrink : Type 0 where
 pub data Command : Type 0 where
   Translates : (command : Translate) → Command
   Checks : (command : Check) → Command
-  ListsFlags : (command : Flags) → Command
+  ListsFlags : (command : Listing) → Command
   Runs80 : (command : Run80) → Command
   Runs86 : (command : Run86) → Command
   RunsBoth : (command : Both) → Command
@@ -107,6 +108,7 @@ pub data Command : Type 0 where
   WritesHex : (command : Hex80) → Command
   RunsHex : (command : RunHex) → Command
   ShrinksText : (command : Shrink) → Command
+  ListsLeaves : (command : Listing) → Command
 
 infixl 10 ◌>>=◌
 abbrev pub ◌>>=◌ : {A B : Type 0} → Option A → (A → Option B) → Option B
@@ -186,9 +188,10 @@ abbrev pub translate_of : Gathered → Option Translate
 translate_of g = do
   plain ← flag_of g.plain
   zilog ← flag_of g.zilog
+  comments ← flag_of g.comments
   files ← two_files g.names
   top ← top_of g
-  Some (record { input = files.0; output = files.1; plain = plain; zilog = zilog; top = top })
+  Some (record { input = files.0; output = files.1; plain = plain; zilog = zilog; comments = comments; top = top })
 
 abbrev pub check_of : Gathered → Option Check
 check_of g = do
@@ -197,8 +200,8 @@ check_of g = do
   top ← top_of g
   Some (record { source = files.0; text = files.1; zilog = zilog; top = top })
 
-abbrev pub flags_command_of : Gathered → Option Flags
-flags_command_of g = do
+abbrev pub listing_of : Gathered → Option Listing
+listing_of g = do
   zilog ← flag_of g.zilog
   source ← one_file g.names
   top ← top_of g
@@ -278,7 +281,7 @@ shrink_of g = do
 abbrev pub command_of : CommandName → Gathered → Option Command
 command_of named.Translate g = option_map Translates (translate_of g)
 command_of named.Check g = option_map Checks (check_of g)
-command_of named.Flags g = option_map ListsFlags (flags_command_of g)
+command_of named.Flags g = option_map ListsFlags (listing_of g)
 command_of named.Run80 g = option_map Runs80 (run80_of g)
 command_of named.Run86 g = option_map Runs86 (run86_of g)
 command_of named.Both g = option_map RunsBoth (both_of g)
@@ -288,6 +291,7 @@ command_of named.CmdShow g = option_map ShowsCmd (cmd_show_of g)
 command_of named.Hex80 g = option_map WritesHex (hex80_of g)
 command_of named.RunHex g = option_map RunsHex (run_hex_of g)
 command_of named.Shrink g = option_map ShrinksText (shrink_of g)
+command_of named.Leaves g = option_map ListsLeaves (listing_of g)
 
 -- the words are this command: the first is its name, and the others give its values
 pub record IsCommand (words : List Word) (c : Command) : Type 0 where

@@ -3,8 +3,8 @@
 ghost use Rattle.std.specs.Prelude.{◌≡◌, ℕ, List, Some, map, option_copied, option_map, IfOk, MatchOption};
 ghost use Rattle.std.specs.String.{string_bytes};
 ghost use Rattle.cmd_arguments.specs.Read.{count_and_file_of, files_of, three_files_of, input_of, names_read, option_read};
-ghost use Rattle.cmd_arguments.specs.ReadCommands.{both_read, check_read, cmd_read, cmd_show_read, command_read, flags_read, hex80_read, run80_read, run86_read, run_hex_read, run_options_read, sample_read, shrink_read, translate_read};
-ghost use Rattle.cmd_arguments.specs.Words.{both_of, check_of, cmd_of, cmd_show_of, choice_of, command_of, count_and_file, flags_command_of, flag_of, hex80_of, input_file, one_file, page_of, run80_of, run86_of, run_hex_of, run_options_of, sample_of, shrink_of, steps_of, text_or, top_of, translate_of, two_files, three_files, Command as CommandValue, IsCommand, IsNoCommand};
+ghost use Rattle.cmd_arguments.specs.ReadCommands.{both_read, check_read, cmd_read, cmd_show_read, command_read, listing_read, hex80_read, run80_read, run86_read, run_hex_read, run_options_read, sample_read, shrink_read, translate_read};
+ghost use Rattle.cmd_arguments.specs.Words.{both_of, check_of, cmd_of, cmd_show_of, choice_of, command_of, count_and_file, listing_of, flag_of, hex80_of, input_file, one_file, page_of, run80_of, run86_of, run_hex_of, run_options_of, sample_of, shrink_of, steps_of, text_or, top_of, translate_of, two_files, three_files, Command as CommandValue, IsCommand, IsNoCommand};
 
 use crate::given::{Given, Names};
 use crate::items::first_word;
@@ -18,7 +18,7 @@ use std::alloc::{AllocError, Global};
 pub enum Command<'a> {
     Translate(Translate<'a>),
     Check(Check<'a>),
-    Flags(Flags<'a>),
+    Flags(Listing<'a>),
     Run80(Run80<'a>),
     Run86(Run86<'a>),
     Both(Both<'a>),
@@ -28,16 +28,19 @@ pub enum Command<'a> {
     Hex80(Hex80<'a>),
     RunHex(RunHex<'a>),
     Shrink(Shrink<'a>),
+    Leaves(Listing<'a>),
 }
 
-/// `translate IN OUT [--plain] [--zilog] [--top H]`: a source's file, the file for its text, whether it is to be the plain one, whether
-/// the source is in Zilog's spelling, and the top of the program area.
+/// `translate IN OUT [--plain] [--zilog] [--comments] [--top H]`: a source's file, the file for its text, whether it is to be the plain
+/// one, whether the source is in Zilog's spelling, whether its lines are to stand in the text as comments, and the top of the program
+/// area.
 #[derive(Clone, Copy)]
 pub struct Translate<'a> {
     pub input: &'a str,
     pub output: &'a str,
     pub plain: bool,
     pub zilog: bool,
+    pub comments: bool,
     pub top: u16,
 }
 
@@ -51,9 +54,10 @@ pub struct Check<'a> {
     pub top: u16,
 }
 
-/// `flags IN [--zilog] [--top H]`: a source's file, whether it is in Zilog's spelling, and the top of the program area.
+/// `flags IN [--zilog] [--top H]` or `leaves` with the same: a source's file, whether it is in Zilog's spelling, and the top of the
+/// program area.
 #[derive(Clone, Copy)]
-pub struct Flags<'a> {
+pub struct Listing<'a> {
     pub source: &'a str,
     pub zilog: bool,
     pub top: u16,
@@ -243,6 +247,13 @@ impl<'a> Given<'a> {
         self.plain
     }
 
+    // Whether the source's lines are asked for.
+    fn comments(&self) -> bool
+        ensures { flag_of self.now.comments ≡ Some result }
+    {
+        self.comments
+    }
+
     // Whether the source is in Zilog's spelling.
     fn zilog(&self) -> bool
         ensures { flag_of self.now.zilog ≡ Some result }
@@ -274,6 +285,7 @@ impl<'a> Given<'a> {
     {
         let plain = self.plain();
         let zilog = self.zilog();
+        let comments = self.comments();
         let (input, output) = self.names.two_files()?;
         let top = self.top()?;
         Some(Translate {
@@ -281,6 +293,7 @@ impl<'a> Given<'a> {
             output,
             plain,
             zilog,
+            comments,
             top,
         })
     }
@@ -299,13 +312,13 @@ impl<'a> Given<'a> {
         })
     }
 
-    fn flags(&self) -> Option<Flags<'a>>
-        ensures { option_map flags_read result ≡ flags_command_of self.now }
+    fn listing(&self) -> Option<Listing<'a>>
+        ensures { option_map listing_read result ≡ listing_of self.now }
     {
         let zilog = self.zilog();
         let source = self.names.one_file()?;
         let top = self.top()?;
-        Some(Flags { source, zilog, top })
+        Some(Listing { source, zilog, top })
     }
 
     fn run80(&self) -> Option<Run80<'a>>
@@ -419,7 +432,7 @@ impl<'a> Given<'a> {
         match name {
             CommandName::Translate => Some(Command::Translate(self.translate()?)),
             CommandName::Check => Some(Command::Check(self.check()?)),
-            CommandName::Flags => Some(Command::Flags(self.flags()?)),
+            CommandName::Flags => Some(Command::Flags(self.listing()?)),
             CommandName::Run80 => Some(Command::Run80(self.run80()?)),
             CommandName::Run86 => Some(Command::Run86(self.run86()?)),
             CommandName::Both => Some(Command::Both(self.both()?)),
@@ -429,6 +442,7 @@ impl<'a> Given<'a> {
             CommandName::Hex80 => Some(Command::Hex80(self.hex80()?)),
             CommandName::RunHex => Some(Command::RunHex(self.run_hex()?)),
             CommandName::Shrink => Some(Command::Shrink(self.shrink()?)),
+            CommandName::Leaves => Some(Command::Leaves(self.listing()?)),
         }
     }
 }

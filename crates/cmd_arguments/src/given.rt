@@ -41,6 +41,7 @@ pub struct Given<'a> {
     pub steps: Option<&'a str>,
     pub plain: bool,
     pub zilog: bool,
+    pub comments: bool,
 }
 
 impl<'a> Model for Given<'a> {
@@ -61,6 +62,7 @@ impl<'a> Model for Given<'a> {
       steps = option_read g.steps;
       plain = flag_read g.plain;
       zilog = flag_read g.zilog;
+      comments = flag_read g.comments;
     } };
 }
 
@@ -120,6 +122,7 @@ impl<'a> Given<'a> {
             steps: matches.get_str(OptionName::Steps.name()),
             plain: has_flag(matches, OptionName::Plain),
             zilog: has_flag(matches, OptionName::Zilog),
+            comments: has_flag(matches, OptionName::Comments),
         }
     }
 }

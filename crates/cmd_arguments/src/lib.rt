@@ -14,6 +14,6 @@ mod table;
 mod values;
 
 pub use command::{
-    Both, Check, Cmd, CmdShow, Command, Flags, Hex80, Run80, Run86, RunHex, RunOptions, Sample,
+    Both, Check, Cmd, CmdShow, Command, Hex80, Listing, Run80, Run86, RunHex, RunOptions, Sample,
     Shrink, Translate, read_words, words_are_one_command,
 };

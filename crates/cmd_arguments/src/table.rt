@@ -18,6 +18,7 @@ pub enum CommandName {
     Hex80,
     RunHex,
     Shrink,
+    Leaves,
 }
 
 /// An option's name, or a flag's.
@@ -33,9 +34,10 @@ pub enum OptionName {
     Steps,
     Plain,
     Zilog,
+    Comments,
 }
 
-const COMMANDS: [CommandName; 12] = [
+const COMMANDS: [CommandName; 13] = [
     CommandName::Translate,
     CommandName::Check,
     CommandName::Flags,
@@ -48,6 +50,7 @@ const COMMANDS: [CommandName; 12] = [
     CommandName::Hex80,
     CommandName::RunHex,
     CommandName::Shrink,
+    CommandName::Leaves,
 ];
 
 impl CommandName {
@@ -78,6 +81,7 @@ impl CommandName {
             CommandName::Hex80 => "hex80",
             CommandName::RunHex => "runhex",
             CommandName::Shrink => "shrink",
+            CommandName::Leaves => "leaves",
         }
     }
 
@@ -92,7 +96,8 @@ impl CommandName {
             | CommandName::Check
             | CommandName::Flags
             | CommandName::Hex80
-            | CommandName::Shrink => &[Top],
+            | CommandName::Shrink
+            | CommandName::Leaves => &[Top],
             CommandName::Run80 => &[Top, Input, Disk, Ports, OutDisk, Tail, Steps],
             CommandName::Run86 => &[Choice, Input, Disk, Ports, OutDisk, Tail, Steps],
             CommandName::Both | CommandName::RunHex => &[
@@ -107,12 +112,15 @@ impl CommandName {
         ensures { result.now ≡ flag_words self }
     {
         match self {
-            CommandName::Translate => &[OptionName::Plain, OptionName::Zilog],
+            CommandName::Translate => {
+                &[OptionName::Plain, OptionName::Zilog, OptionName::Comments]
+            }
             CommandName::Check
             | CommandName::Flags
             | CommandName::Run80
             | CommandName::Both
-            | CommandName::Hex80 => &[OptionName::Zilog],
+            | CommandName::Hex80
+            | CommandName::Leaves => &[OptionName::Zilog],
             CommandName::Run86
             | CommandName::Sample
             | CommandName::Cmd
@@ -139,6 +147,7 @@ impl OptionName {
             OptionName::Steps => "steps",
             OptionName::Plain => "plain",
             OptionName::Zilog => "zilog",
+            OptionName::Comments => "comments",
         }
     }
 }

@@ -13,6 +13,7 @@ use crate::inputs::load;
 use asm86::{images_exclude_refusals, text_has_one_reading};
 use cmd_arguments::Check;
 use cmd_common::{Stop, say_done, say_stop, shown_line, sources_have_one_outcome};
+use commented_text_def::commented_texts_read_back;
 use host::Host;
 use std::alloc::Global;
 use xlt_core::{findings_are_one, own_texts_are_same, own_texts_are_shown};
@@ -32,6 +33,7 @@ pub fn check<H: Host>(alloc: Global, host: &mut H, command: &Check<'_>) -> u8
     findings_are_one();
     own_texts_are_same();
     own_texts_are_shown();
+    commented_texts_read_back();
     carry_out(alloc, host, command)
 }
 

@@ -6,3 +6,4 @@ pub mod Texts
 pub mod Said
 pub mod Lines
 pub mod WriteEnds
+pub mod Deciding

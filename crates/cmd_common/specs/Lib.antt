@@ -5,3 +5,5 @@ pub mod Lines
 pub mod OneEnd
 pub mod Said
 pub mod Writing
+pub mod Kinds
+pub mod Makes

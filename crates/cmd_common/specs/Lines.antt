@@ -225,6 +225,10 @@ shown_line blocks = count_line (codes "shown: ") blocks (codes " blocks")
 abbrev pub saves_line : ℕ → ℕ → List ℕ
 saves_line saved sums = codes "saves " ++ (decimal saved ++ (codes " of " ++ (decimal sums ++ codes "\n")))
 
+-- at how many places a run leaves the profile, and how many instructions there are
+abbrev pub leaves_line : ℕ → ℕ → List ℕ
+leaves_line places instructions = codes "leaves at " ++ (decimal places ++ (codes " of " ++ (decimal instructions ++ codes " instructions\n")))
+
 -- how many bytes a command file has
 abbrev pub command_file_line : ℕ → List ℕ
 command_file_line size = count_line (codes "command file: ") size (codes " bytes")

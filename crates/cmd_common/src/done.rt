@@ -1,7 +1,7 @@
 // The lines of status 0.
 ghost use Rattle.std.specs.Prelude.{◌≡◌, IfOk};
 ghost use Rattle.std.specs.String.{string_bytes};
-ghost use Rattle.cmd_common.specs.Lines.{translated_line, shown_line, saves_line, command_file_line, groups_line, hex_line, ended_line, both_line, shrunk_line};
+ghost use Rattle.cmd_common.specs.Lines.{translated_line, shown_line, saves_line, leaves_line, command_file_line, groups_line, hex_line, ended_line, both_line, shrunk_line};
 
 use crate::stop::count_line;
 use std::alloc::{AllocError, Global};
@@ -32,6 +32,13 @@ pub fn saves_line(alloc: Global, saved: usize, sums: usize) -> Result<String, Al
     ensures { IfOk result (λ line. string_bytes line ≡ saves_line saved sums) }
 {
     format!(in alloc; "saves {saved} of {sums}\n")
+}
+
+/// The line of a list of places at which a run leaves the profile: how many there are, and how many instructions the program has.
+pub fn leaves_line(alloc: Global, places: usize, instructions: usize) -> Result<String, AllocError>
+    ensures { IfOk result (λ line. string_bytes line ≡ leaves_line places instructions) }
+{
+    format!(in alloc; "leaves at {places} of {instructions} instructions\n")
 }
 
 /// The line of a command file that was written: how many bytes it has.

@@ -26,10 +26,11 @@ mod text;
 mod writing;
 
 pub use done::{
-    both_line, command_file_line, ended_line, groups_line, hex_line, saves_line, shown_line,
-    shrunk_line, translated_line,
+    both_line, command_file_line, ended_line, groups_line, hex_line, leaves_line, saves_line,
+    shown_line, shrunk_line, translated_line,
 };
 pub use files::{SOURCE_LIMIT, read_input, read_named};
+pub use rules::profile_rule;
 pub use say::{say_done, say_made, say_report, say_stop, words_refused};
 pub use source::{program_of_bytes, read_source, read_source_by, sources_have_one_outcome};
 pub use stop::{Stop, word_digits};

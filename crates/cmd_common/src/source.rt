@@ -61,17 +61,34 @@ pub fn read_source_by<'a, H: Host, R: StatementReader>(
     Ok(source.program(alloc, top)?)
 }
 
-/// The program of the source that bytes are, in Intel's spelling, for a top of the program area, or its first refusal.
+/// The program of the source that bytes are, in Zilog's spelling or in Intel's, for a top of the program area, or its first refusal.
 pub fn program_of_bytes<'a>(
+    alloc: Global,
+    bytes: &[u8],
+    zilog: bool,
+    top: u16,
+) -> Result<Result<Program80, Stop<'a>>, AllocError>
+    requires { is_top top ≡ true }
+    ensures { IfOk result (SourceGives (reading_of zilog) bytes.now top) }
+{
+    if zilog {
+        program_of_bytes_by::<ZLines>(alloc, bytes, top)
+    } else {
+        program_of_bytes_by::<Lines>(alloc, bytes, top)
+    }
+}
+
+// The same by any reader.
+fn program_of_bytes_by<'a, R: StatementReader>(
     alloc: Global,
     bytes: &[u8],
     top: u16,
 ) -> Result<Result<Program80, Stop<'a>>, AllocError>
     requires { is_top top ≡ true }
-    ensures { IfOk result (SourceGives intel_reading bytes.now top) }
+    ensures { IfOk result (SourceGives R.reading bytes.now top) }
 {
     let mut source = SourceLines {
-        reader: Lines::new(alloc)?,
+        reader: R::new(alloc)?,
     };
     source.receive(bytes)?;
     source.program(alloc, top)

@@ -11,8 +11,8 @@ use Rattle.cmd_common.specs.Said.{IsDone, whole, failed, no_memory}
 use Rattle.cmd_common.specs.Sources.{SourceLaw, reading_of}
 use Rattle.cmd_common.proofs.SourceLaw.{not_source_and_stop, one_source_stop}
 use Rattle.cmd_common.proofs.WriteEnds.{writes_on}
-use Rattle.cmd_makes.specs.Kinds.{KindLaws}
-use Rattle.cmd_makes.specs.Makes.{HasMade}
+use Rattle.cmd_common.specs.Kinds.{KindLaws}
+use Rattle.cmd_common.specs.Makes.{HasMade}
 use Rattle.cmd_makes.specs.Hexes.{HexOfProgram, GivesHex, hex_kind, CellsFollow, HasHexFile}
 
 -- one file is written of cells

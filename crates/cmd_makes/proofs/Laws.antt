@@ -13,7 +13,7 @@ use Rattle.cmd_arguments.specs.Words.{Cmd}
 use Rattle.cmd_common.specs.Said.{IsDone, whole, failed, no_memory}
 use Rattle.cmd_common.proofs.Texts.{one_stop}
 use Rattle.cmd_common.proofs.WriteEnds.{writes_on}
-use Rattle.cmd_makes.specs.Kinds.{KindLaws}
+use Rattle.cmd_common.specs.Kinds.{KindLaws}
 use Rattle.cmd_makes.specs.Cmds.{file_of, cmd_kind, HasWritten, HasCommandFile}
 
 pub laws_of_cmd : ((text : List ℕ) (a b : Image) → HasImage text a → HasImage text b → a ≡ b) →

@@ -1,5 +1,4 @@
 pub mod ShowLaws
 pub mod Laws
-pub mod Deciding
 pub mod Stopping
 pub mod HexLaws

@@ -5,7 +5,7 @@ use Rattle.cmd_file.specs.CommandFile.{CommandFile, IsCommandFile}
 use Rattle.cmd_file.specs.Reading.{IsCmdFaultOf}
 use Rattle.cmd_arguments.specs.Words.{CmdShow}
 use Rattle.cmd_common.specs.declared.stop.Stop.TheVariants.{BadCommandFile}
-use Rattle.cmd_makes.specs.Kinds.{KindLaws}
+use Rattle.cmd_common.specs.Kinds.{KindLaws}
 use Rattle.cmd_makes.specs.Shows.{cmd_show_kind}
 
 pub laws_of_cmdshow : ((bytes : List ℕ) (file other : CommandFile) → IsCommandFile bytes file → IsCommandFile bytes other → file ≡ other) →

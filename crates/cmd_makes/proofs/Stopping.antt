@@ -5,8 +5,8 @@ use Rattle.host.proofs.HostLemmas.{SameFaults-trans}
 use Rattle.cmd_common.specs.declared.stop.Stop.{Stop}
 use Rattle.cmd_common.specs.Writing.{Writes, WriteStops}
 use Rattle.cmd_common.proofs.WriteEnds.{writes_behind, fails_behind, wrote}
-use Rattle.cmd_makes.specs.Kinds.{MakeKind}
-use Rattle.cmd_makes.specs.Makes.{IsOutput, LosesOutput, IsMade, MakeStops, unwritten, HasMade}
+use Rattle.cmd_common.specs.Kinds.{MakeKind}
+use Rattle.cmd_common.specs.Makes.{IsOutput, LosesOutput, IsMade, MakeStops, unwritten, HasMade}
 
 module _ {Made : Type 0} (k : MakeKind Made) (old mid new : HostState) (reads : OnlyReads old mid) (counted : SameFaults old mid) (name : List ℕ) (named : k.output ≡ Some name) (m : Made) (is : IsMade k old m) (bytes : List ℕ) (content : bytes ≡ k.content m) where
   -- the write failed
@@ -18,7 +18,7 @@ module _ {Made : Type 0} (k : MakeKind Made) (old mid new : HostState) (reads : 
       (record { fault = w.fault; is = w.is; fails = fails_behind old mid new name bytes w.fault reads w.fails })))
 
   -- what the file gives was written (`unfoldable`: what was made is read off it)
-  unfoldable pub has_made : OnlyWrites mid new name → Rewrites mid new name bytes → SameFaults mid new → (line : List ℕ) → line ≡ k.line m → HasMade k old new line
+  unfoldable pub has_made : OnlyWrites mid new name → Rewrites mid new name bytes → SameFaults mid new → (line : List ℕ) → line ≡ k.report m → HasMade k old new line
   has_made only w s line said = record {
     made = m;
     is = is;

@@ -13,8 +13,8 @@ use Rattle.cmd_arguments.specs.Words.{Cmd}
 use Rattle.cmd_common.specs.Lines.{command_file_line}
 use Rattle.cmd_common.specs.Files.{text_limit}
 use Rattle.cmd_common.specs.Texts.{TextIsRefused}
-use Rattle.cmd_makes.specs.Kinds.{MakeKind}
-use Rattle.cmd_makes.specs.Makes.{HasMade}
+use Rattle.cmd_common.specs.Kinds.{MakeKind}
+use Rattle.cmd_common.specs.Makes.{HasMade}
 
 -- the bytes of an image's command file
 abbrev pub file_of : Image → List ℕ
@@ -29,7 +29,7 @@ cmd_kind c = record {
   IsGiven = λ text image. HasImage text image;
   IsRefused = λ text stop. TextIsRefused text stop;
   content = λ image. file_of image;
-  line = λ image. command_file_line (length (file_of image));
+  report = λ image. command_file_line (length (file_of image));
 }
 
 -- these are the bytes of the command file of the image that lines have

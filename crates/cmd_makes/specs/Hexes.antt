@@ -18,7 +18,7 @@ use Rattle.cmd_arguments.specs.Words.{Hex80}
 use Rattle.cmd_common.specs.Lines.{hex_line}
 use Rattle.cmd_common.specs.Files.{input_limit}
 use Rattle.cmd_common.specs.Sources.{SourceStops, reading_of}
-use Rattle.cmd_makes.specs.Kinds.{MakeKind}
+use Rattle.cmd_common.specs.Kinds.{MakeKind}
 
 -- a program and a text
 pub record HexOfProgram : Type 0 where
@@ -40,7 +40,7 @@ hex_kind c = record {
   IsGiven = λ bytes m. GivesHex c bytes m;
   IsRefused = λ bytes stop. SourceStops (reading_of c.zilog) bytes c.top stop;
   content = λ m. m.text;
-  line = λ m. hex_line (length (program_cells m.program));
+  report = λ m. hex_line (length (program_cells m.program));
 }
 
 -- where the program's run on the tagged 8080 has stayed in the profile, the run of these cells on an 8080 that fetches bytes, from any fill

@@ -1,5 +1,3 @@
 pub mod Shows
 pub mod Cmds
-pub mod Kinds
-pub mod Makes
 pub mod Hexes

@@ -9,7 +9,7 @@ use Rattle.cmd_common.specs.declared.stop.Stop.{Stop}
 use Rattle.cmd_common.specs.declared.stop.Stop.TheVariants.{BadCommandFile, OutOfMemory}
 use Rattle.cmd_common.specs.Lines.{groups_line}
 use Rattle.cmd_common.specs.Files.{input_limit}
-use Rattle.cmd_makes.specs.Kinds.{MakeKind}
+use Rattle.cmd_common.specs.Kinds.{MakeKind}
 
 -- why bytes are no command file
 abbrev pub FileIsRefused : List ℕ → Stop → Type 0
@@ -24,7 +24,7 @@ cmd_show_kind c = record {
   IsGiven = λ bytes file. IsCommandFile bytes file;
   IsRefused = λ bytes stop. FileIsRefused bytes stop;
   content = λ file. [];
-  line = λ file. groups_line (length file.code) (length file.data);
+  report = λ file. groups_line (length file.code) (length file.data);
 }
 
 -- what a fault of its reading is to the command

@@ -6,7 +6,7 @@ ghost use Rattle.asm80_program_types.specs.Program.{is_top};
 ghost use Rattle.cpu80_bytes_def.specs.Cells.{program_cells};
 ghost use Rattle.cmd_arguments.specs.ReadCommands.{hex80_read};
 ghost use Rattle.cmd_common.specs.Lines.{hex_line};
-ghost use Rattle.cmd_makes.specs.Makes.{MakeGives, MakeCompletes, HasMade, MakeStops};
+ghost use Rattle.cmd_common.specs.Makes.{MakeGives, MakeCompletes, HasMade, MakeStops};
 ghost use Rattle.cmd_makes.specs.Hexes.{hex_kind, HasHexFile};
 
 use crate::write_made;

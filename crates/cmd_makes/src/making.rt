@@ -5,7 +5,7 @@ ghost use Rattle.asm86_line_types.specs.Image.{statements};
 ghost use Rattle.asm86_line_types.specs.Order.{at_start, in_order};
 ghost use Rattle.cmd_arguments.specs.ReadCommands.{cmd_read};
 ghost use Rattle.cmd_common.specs.Texts.{ImageStops};
-ghost use Rattle.cmd_makes.specs.Makes.{MakeGives, MakeCompletes, MakeStops};
+ghost use Rattle.cmd_common.specs.Makes.{MakeGives, MakeCompletes, MakeStops};
 ghost use Rattle.cmd_makes.specs.Cmds.{cmd_kind, HasFile, HasWritten, HasCommandFile};
 
 use crate::write_made;

@@ -3,7 +3,7 @@ ghost use Rattle.std.specs.Prelude.{◌≡◌, IfOk, IfErr};
 ghost use Rattle.std.specs.String.{string_bytes};
 ghost use Rattle.host.specs.Host.{SameFiles};
 ghost use Rattle.cmd_arguments.specs.ReadCommands.{cmd_show_read};
-ghost use Rattle.cmd_makes.specs.Makes.{MakeGives, MakeCompletes, HasMade, MakeStops};
+ghost use Rattle.cmd_common.specs.Makes.{MakeGives, MakeCompletes, HasMade, MakeStops};
 ghost use Rattle.cmd_makes.specs.Shows.{cmd_show_kind, stop_of_file};
 
 use cmd_arguments::CmdShow;

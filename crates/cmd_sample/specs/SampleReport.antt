@@ -7,8 +7,8 @@ use Rattle.asm80_text.specs.Intel.{intel_reading}
 use Rattle.asm80_source_def.specs.Source.{IsSource}
 use Rattle.templates.specs.declared.translation.Mode.TheVariants.{Lean}
 use Rattle.templates.specs.Translation.{IsText, code_size, CodeFits}
-use Rattle.cmd_flags.specs.declared.savings.Saving.{Saving}
-use Rattle.cmd_flags.specs.Report.{sums, saves_any, AreSavings}
+use Rattle.cmd_lists.specs.declared.savings.Saving.{Saving}
+use Rattle.cmd_lists.specs.Saves.{sums, saves_any, AreSavings}
 use Rattle.cmd_sample.specs.Sample.{sample_lines, sample_text}
 
 -- the top of the program area that a made source is for, which is the top of a command without another

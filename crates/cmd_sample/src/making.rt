@@ -16,7 +16,7 @@ use asm80_program_types::Program80;
 use asm80_text::{Intel, stream_has_one_outcome};
 use asm86_line_types::{Line86, code_size};
 use cmd_common::program_of_bytes;
-use cmd_flags::{Saving, saved_among, savings_of};
+use cmd_lists::{Saving, saved_among, savings_of};
 use std::alloc::{AllocError, Global};
 use templates::{CoreFault, Mode, translate};
 
@@ -80,7 +80,7 @@ fn made_program(alloc: Global, source: &[u8], routines: u32) -> Result<Program80
     sample_is_read();
     sample_is_accepted();
     stream_has_one_outcome::<Intel>();
-    match program_of_bytes(alloc, source, TOP)? {
+    match program_of_bytes(alloc, source, false, TOP)? {
         Ok(program) => Ok(program),
         Err(_) => unreachable!(),
     }

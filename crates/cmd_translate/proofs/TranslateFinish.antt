@@ -1,10 +1,13 @@
 -- From the work and the last line to what the command gives.
 use Rattle.std.proofs.Common.{◌≡◌, ℕ, inl, inr, ⊎_elim, List, length, refl, sym, ap, ◌∙◌, subst, arith}
-use Rattle.std.specs.Prelude.{codes, Ok}
+use Rattle.std.specs.Prelude.{codes, Ok, Option}
 use Rattle.host.specs.declared.HostFault.TheVariants.{Failed, Memory}
 use Rattle.host.specs.Host.{HostState, Holds, Missing, IsFile, HasRisen, Says, OnlyReads}
 use Rattle.host.proofs.HostLemmas.{SameFaults-trans, risen_on, fault_after}
-use Rattle.asm86_line_types.specs.Image.{Assembles, image_of}
+use Rattle.asm86_line_types.specs.Image.{Assembles, Image, image_of}
+use Rattle.asm86.specs.Images.{HasImage}
+use Rattle.commented_text_def.specs.Commented.{kept_of, IsOutput}
+use Rattle.commented_text_def.specs.Reading.{ReadsAs}
 use Rattle.asm86_line_types.specs.Written.{written_text}
 use Rattle.asm86.specs.Stream.{TextGives}
 use Rattle.host_files.specs.Transfer.{CutsLine}
@@ -36,6 +39,11 @@ pub record TextLaw : Type 0 where
   pub reader : (mode : Mode) (p : Program) (lines : List Line86) → IsProgram p → IsText mode p lines → CodeFits lines → HasReader (image_of lines).code
   pub same : (mode : Mode) (p : Program) (lines : List Line86) → IsProgram p → IsText mode p lines → CodeFits lines → Same p (image_of lines)
 
+-- the law of commented texts
+pub record CommentLaw : Type 0 where
+  pub reads : (kept : Option (List ℕ)) (p : Program) (lines : List Line86) (text : List ℕ) → IsOutput kept p lines text → TextGives (written_text lines) (Ok lines) → ReadsAs lines text
+  pub image : (kept : Option (List ℕ)) (p : Program) (lines : List Line86) (text : List ℕ) (image : Image) → IsOutput kept p lines text → HasImage (written_text lines) image → HasImage text image
+
 -- code that fits is not too large
 not_both : OneText → (mode : Mode) (p : Program) (lines : List Line86) (size : ℕ) → IsText mode p lines → CodeFits lines → IsTooLarge mode p size → ⊥
 not_both one mode p lines size text fits large =
@@ -44,28 +52,29 @@ not_both one mode p lines size text fits large =
     omega (arith, is, more, fits)
 
 module _ (c : Translate) (old mid new : HostState) where
-  has_same : TextLaw → (p : Program) (lines : List Line86) → Accepts c old p lines → HasSame c old new p lines
-  has_same law p lines a = record {
+  has_same : TextLaw → CommentLaw → (p : Program) (lines : List Line86) (a : Accepts c old p lines) → HasSame c old new p lines a.out
+  has_same law comments p lines a = record {
+    reads = comments.reads (kept_of c.comments a.bytes) p lines a.out a.written (law.reads (mode_of c.plain) p lines a.source.program.program.lawful a.text);
     image = image_of lines;
-    has_image = record {
+    has_image = comments.image (kept_of c.comments a.bytes) p lines a.out (image_of lines) a.written (record {
       lines = lines;
       reads = law.reads (mode_of c.plain) p lines a.source.program.program.lawful a.text;
       assembled = record { assembles = law.assembles (mode_of c.plain) p lines a.source.program.program.lawful a.text a.fits; is = refl };
-    };
+    });
     reader = law.reader (mode_of c.plain) p lines a.source.program.program.lawful a.text a.fits;
     same = law.same (mode_of c.plain) p lines a.source.program.program.lawful a.text a.fits;
   }
 
   -- the text was written
-  pub worked : TextLaw → (line : List ℕ) → Works c old mid line → (status : ℕ) → IsDone line mid new status → TranslateGives c old new status
-  worked law line w _ (whole only s faults) =
-      translated w.program w.lines w.accepts (writes_on old mid new c.output (written_text w.lines) only w.writes) (has_same law w.program w.lines w.accepts) (said_on old mid new (line_of_text w.program w.lines) w.quiet (subst (Says mid new) w.line s))
+  pub worked : TextLaw → CommentLaw → (line : List ℕ) → Works c old mid line → (status : ℕ) → IsDone line mid new status → TranslateGives c old new status
+  worked law comments line w _ (whole only s faults) =
+      translated w.program w.lines w.accepts (writes_on old mid new c.output w.accepts.out only w.writes) (has_same law comments w.program w.lines w.accepts) (said_on old mid new (line_of_text w.program w.lines) w.quiet (subst (Says mid new) w.line s))
       (SameFaults-trans w.faults faults)
-  worked law line w _ (failed s) =
-      line_unsaid w.program w.lines w.accepts (writes_on old mid new c.output (written_text w.lines) s.only w.writes) (fault_after old mid new Failed w.faults s.cause)
+  worked law comments line w _ (failed s) =
+      line_unsaid w.program w.lines w.accepts (writes_on old mid new c.output w.accepts.out s.only w.writes) (fault_after old mid new Failed w.faults s.cause)
       (cut_on old mid new (line_of_text w.program w.lines) w.quiet (subst (λ l. CutsLine l mid new) w.line s.cut))
-  worked law line w _ (no_memory s) =
-      no_memory_to_say w.program w.lines w.accepts (writes_on old mid new c.output (written_text w.lines) s.only w.writes) (fault_after old mid new Memory w.faults s.cause)
+  worked law comments line w _ (no_memory s) =
+      no_memory_to_say w.program w.lines w.accepts (writes_on old mid new c.output w.accepts.out s.only w.writes) (fault_after old mid new Memory w.faults s.cause)
       (cut_on old mid new (line_of_text w.program w.lines) w.quiet (subst (λ l. CutsLine l mid new) w.line s.cut))
 
   -- a line was said behind reads
@@ -99,9 +108,9 @@ module _ (c : Translate) (old mid new : HostState) where
   large_end size x only status (unsaid n e l) = subst (TranslateGives c old new) (sym e) (quiet_end only l)
   large_end size x only status (said e l) = subst (TranslateGives c old new) (sym e) (too_large size x (ends_with (size_line size) only l))
 
-  unwritten_end : (p : Program) (lines : List Line86) → Accepts c old p lines → (stop : Stop) → WriteStops c.output (written_text lines) old mid stop → (status : ℕ) → Closes stop mid new status → TranslateGives c old new status
+  unwritten_end : (p : Program) (lines : List Line86) (a : Accepts c old p lines) (stop : Stop) → WriteStops c.output a.out old mid stop → (status : ℕ) → Closes stop mid new status → TranslateGives c old new status
   unwritten_end p lines accepts stop w status closes =
-      write_end old mid new c.output (written_text lines) (TranslateGives c old new) (unwritten p lines accepts) (no_memory_to_write p lines accepts)
+      write_end old mid new c.output accepts.out (TranslateGives c old new) (unwritten p lines accepts) (no_memory_to_write p lines accepts)
       w.fault w.fails status (subst (λ s. Closes s mid new status) w.is closes)
 
   -- the work ended early

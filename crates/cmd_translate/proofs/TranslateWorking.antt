@@ -1,20 +1,37 @@
 -- What the steps of the work come to.
-use Rattle.std.proofs.Common.{◌≡◌, ℕ, List, refl, ◌∙◌, subst}
+use Rattle.std.proofs.Common.{◌≡◌, ℕ, List, Option, refl, sym, ap, ◌∙◌, subst}
+use Rattle.std.specs.Prelude.{Result}
 use Rattle.host.specs.Host.{HostState, OnlyReads, OnlyWrites, SameFaults, Rewrites}
 use Rattle.host.proofs.HostLemmas.{SameFaults-trans}
 use Rattle.asm86_line_types.specs.declared.line.Line86.{Line86}
-use Rattle.asm86_line_types.specs.Written.{written_text}
 use Rattle.asm80_program_types.specs.Program.{Program}
 use Rattle.asm80_source_def.specs.Source.{IsSource, OfLine, OfProgram}
+use Rattle.commented_text_def.specs.Commented.{kept_of, IsOutput}
 use Rattle.cmd_arguments.specs.Words.{Translate}
+use Rattle.templates.specs.declared.translation.Mode.{Mode}
+use Rattle.templates.specs.declared.translation.Mode.TheVariants.{Plain, Lean}
+use Rattle.templates.specs.Plain.{plain_statements, numbered_from}
+use Rattle.templates.specs.Style.{Style, plain_style, styled_statements, styled}
+use Rattle.templates.specs.Lean.{lean_style}
 use Rattle.templates.specs.Translation.{IsText, CodeFits}
 use Rattle.cmd_common.specs.declared.stop.Stop.{Stop}
 use Rattle.cmd_common.specs.Files.{IsWholeFile, input_limit}
 use Rattle.cmd_common.specs.Sources.{SourceStops, of_line, of_program, reading_of}
 use Rattle.cmd_translate.specs.Translates.{mode_of, line_of_text, Accepts}
 use Rattle.cmd_common.specs.Writing.{Writes, WriteStops}
-use Rattle.cmd_translate.specs.TranslateWork.{TextStops, is_large, no_room, Works, StopsBy, refused, too_large, no_memory, unwritten}
+use Rattle.cmd_translate.specs.TranslateWork.{TextStops, is_large, no_room, WritesOut, Works, StopsBy, refused, too_large, no_memory, unwritten}
 use Rattle.cmd_common.proofs.WriteEnds.{writes_behind, fails_behind, wrote}
+
+-- the text of each mode is a text in a style
+pub text_style : ((p : Program) → styled_statements plain_style p ≡ plain_statements p) → (mode : Mode) (p : Program) (lines : List Line86) → IsText mode p lines → (s : Style) × (lines ≡ styled s p)
+text_style plain Plain p lines text = (plain_style, text ∙ ap (numbered_from 1) (sym (plain p)))
+text_style plain Lean p lines text = (lean_style text.0 p, text.2)
+
+-- what was written for lines that are a text of the program
+pub written_out : ((p : Program) → styled_statements plain_style p ≡ plain_statements p) → (mode : Mode) (p : Program) (lines others : List Line86) → IsText mode p lines → others ≡ lines → (kept wanted : Option (List ℕ)) → kept ≡ wanted → (name : List ℕ) (mid new : HostState) {result : Result (Unit {0}) Stop} → ((s : Style) → others ≡ styled s p → WritesOut kept p others name mid new result) → WritesOut wanted p lines name mid new result
+written_out plain mode p lines others text e kept wanted keeps name mid new {result} h =
+    let s = text_style plain mode p lines text in
+    subst (λ k. WritesOut k p lines name mid new result) keeps (subst (λ ls. WritesOut kept p ls name mid new result) e (h s.0 (e ∙ s.1)))
 
 module _ (c : Translate) (old mid new : HostState) (bytes : List ℕ) (file : IsWholeFile old c.input input_limit bytes) (reads : OnlyReads old mid) (counted : SameFaults old mid) where
   -- the bytes were read, and are refused
@@ -31,16 +48,15 @@ module _ (c : Translate) (old mid new : HostState) (bytes : List ℕ) (file : Is
   text_stop p source _ no_room = no_memory reads
 
   module _ (p : Program) (lines : List Line86) (source : IsSource (reading_of c.zilog) bytes c.top p) (text_is : IsText (mode_of c.plain) p lines) (fits : CodeFits lines) where
-    accepts : Accepts c old p lines
-    accepts = record { bytes = bytes; file = file; source = source; text = text_is; fits = fits }
+    module _ (text : List ℕ) (is : IsOutput (kept_of c.comments bytes) p lines text) where
+      abbrev accepts : Accepts c old p lines
+      accepts = record { bytes = bytes; file = file; source = source; text = text_is; fits = fits; out = text; written = is }
 
-    module _ (text : List ℕ) (is : text ≡ written_text lines) where
       -- the writing of the text failed
       pub write_stop : (stop : Stop) → WriteStops c.output text mid new stop → StopsBy c old new stop
       write_stop stop w =
           unwritten p lines accepts
-          (subst (λ t. WriteStops c.output t old new stop) is
-          (record { fault = w.fault; is = w.is; fails = fails_behind old mid new c.output text w.fault reads w.fails }))
+          (record { fault = w.fault; is = w.is; fails = fails_behind old mid new c.output text w.fault reads w.fails })
 
       -- the text was written
       pub works : OnlyWrites mid new c.output → Rewrites mid new c.output text → SameFaults mid new → (line : List ℕ) → line ≡ line_of_text p lines → Works c old new line
@@ -48,7 +64,7 @@ module _ (c : Translate) (old mid new : HostState) (bytes : List ℕ) (file : Is
         program = p;
         lines = lines;
         accepts = accepts;
-        writes = subst (λ t. Writes c.output t old new) is (writes_behind old mid new c.output text reads (wrote c.output text mid new only w));
+        writes = writes_behind old mid new c.output text reads (wrote c.output text mid new only w);
         quiet = only.said ∙ reads.said;
         faults = SameFaults-trans counted s;
         line = said;

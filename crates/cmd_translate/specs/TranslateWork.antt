@@ -1,15 +1,15 @@
 -- What the work of `translate` comes to, before its last line is said.
-use Rattle.std.specs.Prelude.{◌≡◌, ℕ, List}
-use Rattle.host.specs.Host.{HostState, SameSaid, SameFaults, OnlyReads}
+use Rattle.std.specs.Prelude.{◌≡◌, ℕ, List, Option, Result, OnOk, IfErr}
+use Rattle.host.specs.Host.{HostState, SameSaid, SameFaults, OnlyReads, Rewrites}
 use Rattle.asm86_line_types.specs.declared.line.Line86.{Line86}
-use Rattle.asm86_line_types.specs.Written.{written_text}
 use Rattle.asm80_program_types.specs.Program.{Program}
 use Rattle.asm80_source_def.specs.Source.{SourceRule}
+use Rattle.commented_text_def.specs.Commented.{kept_of, IsOutput}
 use Rattle.cmd_arguments.specs.Words.{Translate}
 use Rattle.cmd_common.specs.declared.stop.Stop.{Stop}
 use Rattle.cmd_common.specs.declared.stop.Stop.TheVariants.{OutOfMemory, CodeTooLarge}
-use Rattle.cmd_common.specs.Files.{ReadStops, input_limit}
-use Rattle.cmd_common.specs.Sources.{stop_of_rule}
+use Rattle.cmd_common.specs.Files.{IsWholeFile, ReadStops, input_limit}
+use Rattle.cmd_common.specs.Sources.{SourceGives, reading_of, stop_of_rule}
 use Rattle.templates.specs.declared.translation.Mode.{Mode}
 use Rattle.templates.specs.Translation.{IsTooLarge}
 use Rattle.cmd_common.specs.Writing.{Writes, WriteStops}
@@ -20,12 +20,26 @@ pub data TextStops (mode : Mode) (p : Program) : Stop → Type 0 where
   is_large : {size : ℕ} → IsTooLarge mode p size → TextStops mode p (CodeTooLarge size)
   no_room : TextStops mode p OutOfMemory
 
+-- the source's bytes were read and give a program or a refusal, and are kept where its lines are to stand in the text
+pub record ReadsKept (c : Translate) (old : HostState) (outcome : Result Program Stop) (kept : Option (List ℕ)) : Type 0 where
+  pub bytes : List ℕ
+  pub file : IsWholeFile old c.input input_limit bytes
+  pub gives : SourceGives (reading_of c.zilog) bytes c.top outcome
+  pub keeps : kept ≡ kept_of c.comments bytes
+
+-- what is written for a program's lines took the place of what the file of a name held, or the write ended early
+pub record WritesOut (kept : Option (List ℕ)) (p : Program) (lines : List Line86) (name : List ℕ) (old new : HostState) (result : Result (Unit {0}) Stop) : Type 0 where
+  pub out : List ℕ
+  pub is : IsOutput kept p lines out
+  pub written : OnOk result (Rewrites old new name out)
+  pub stopped : IfErr result (WriteStops name out old new)
+
 -- the source was read and the text of its program written; the line says how much it was
 pub record Works (c : Translate) (old new : HostState) (text : List ℕ) : Type 0 where
   pub program : Program
   pub lines : List Line86
   pub accepts : Accepts c old program lines
-  pub writes : Writes c.output (written_text lines) old new
+  pub writes : Writes c.output accepts.out old new
   pub quiet : SameSaid old new
   pub faults : SameFaults old new
   pub line : text ≡ line_of_text program lines
@@ -37,4 +51,4 @@ module _ (c : Translate) (old new : HostState) where
     refused : {stop : Stop} (line : ℕ) (rule : SourceRule) → Refuses c old line rule → stop ≡ stop_of_rule line rule → OnlyReads old new → SameFaults old new → StopsBy stop
     too_large : {stop : Stop} (size : ℕ) → Exceeds c old size → stop ≡ CodeTooLarge size → OnlyReads old new → SameFaults old new → StopsBy stop
     no_memory : OnlyReads old new → StopsBy OutOfMemory
-    unwritten : {stop : Stop} (p : Program) (lines : List Line86) → Accepts c old p lines → WriteStops c.output (written_text lines) old new stop → StopsBy stop
+    unwritten : {stop : Stop} (p : Program) (lines : List Line86) → (a : Accepts c old p lines) → WriteStops c.output a.out old new stop → StopsBy stop

@@ -4,10 +4,11 @@ use Rattle.host.specs.declared.HostFault.TheVariants.{Failed, Memory}
 use Rattle.host.specs.Host.{HostState, Says, SameFaults, ReadFailed, WriteFailed, MemoryWanted}
 use Rattle.asm86_line_types.specs.declared.line.Line86.{Line86}
 use Rattle.asm86_line_types.specs.Image.{Image}
-use Rattle.asm86_line_types.specs.Written.{written_text}
 use Rattle.asm80_program_types.specs.Program.{Program}
 use Rattle.asm80_source_def.specs.Source.{IsSource, SourceRule, IsNoSource}
 use Rattle.host_files.specs.Transfer.{IsLonger, CutsLine}
+use Rattle.commented_text_def.specs.Commented.{kept_of, IsOutput}
+use Rattle.commented_text_def.specs.Reading.{ReadsAs}
 use Rattle.cmd_arguments.specs.Words.{Translate}
 use Rattle.i86.specs.Decode.{HasReader}
 use Rattle.templates.specs.declared.translation.Mode.{Mode}
@@ -36,13 +37,16 @@ abbrev pub size_line : ℕ → List ℕ
 size_line size = line_of_stop (CodeTooLarge size)
 
 module _ (c : Translate) (old : HostState) where
-  -- the source's file has this program, and these lines are its text in the mode that is asked for, whose code fits
+  -- the source's file has this program, these lines are its text in the mode that is asked for, whose code fits, and this is what is
+  -- written for them
   pub record Accepts (p : Program) (lines : List Line86) : Type 0 where
     pub bytes : List ℕ
     pub file : IsWholeFile old c.input input_limit bytes
     pub source : IsSource (reading_of c.zilog) bytes c.top p
     pub text : IsText (mode_of c.plain) p lines
     pub fits : CodeFits lines
+    pub out : List ℕ
+    pub written : IsOutput (kept_of c.comments bytes) p lines out
 
   -- the source's file is refused at a line for a rule
   pub record Refuses (line : ℕ) (rule : SourceRule) : Type 0 where
@@ -59,29 +63,30 @@ module _ (c : Translate) (old : HostState) where
     pub large : IsTooLarge (mode_of c.plain) program size
 
   module _ (new : HostState) where
-    -- the headline: the text that was written has an image, whose code is read in one way, and source and image make the same
-    -- system calls
-    pub record HasSame (p : Program) (lines : List Line86) : Type 0 where
+    -- the headline: what was written is read as the statements of the text; it has an image, whose code is read in one way, and source
+    -- and image make the same system calls
+    pub record HasSame (p : Program) (lines : List Line86) (out : List ℕ) : Type 0 where
+      pub reads : ReadsAs lines out
       pub image : Image
-      pub has_image : HasImage (written_text lines) image
+      pub has_image : HasImage out image
       pub reader : HasReader image.code
       pub same : Same p image
 
     -- each way to a status
     pub data TranslateGives : ℕ → Type 0 where
       -- the text is written, and its line said, and no call failed
-      translated : (p : Program) (lines : List Line86) → Accepts p lines → Writes c.output (written_text lines) old new → HasSame p lines → Says old new (line_of_text p lines) → SameFaults old new → TranslateGives 0
+      translated : (p : Program) (lines : List Line86) → (a : Accepts p lines) → Writes c.output a.out old new → HasSame p lines a.out → Says old new (line_of_text p lines) → SameFaults old new → TranslateGives 0
       -- the source is refused
       refused : (line : ℕ) (rule : SourceRule) → Refuses line rule → EndsWith old new (refusal_line line rule) → TranslateGives 1
       -- the source's file was not read
       unread : ReadFailed old new c.input → EndsWith old new (named_line (codes "read failed: ") c.input) → TranslateGives 3
       -- the text was not written, or its line not said
-      unwritten : (p : Program) (lines : List Line86) → Accepts p lines → WritesPart c.output (written_text lines) old new → SaysOfWrite old new Failed (codes "write failed\n") → TranslateGives 4
-      unsaid : (p : Program) (lines : List Line86) → Accepts p lines → Writes c.output (written_text lines) old new → WriteFailed old new → CutsLine (line_of_text p lines) old new → TranslateGives 4
+      unwritten : (p : Program) (lines : List Line86) → (a : Accepts p lines) → WritesPart c.output a.out old new → SaysOfWrite old new Failed (codes "write failed\n") → TranslateGives 4
+      unsaid : (p : Program) (lines : List Line86) → (a : Accepts p lines) → Writes c.output a.out old new → WriteFailed old new → CutsLine (line_of_text p lines) old new → TranslateGives 4
       -- memory ran out: before the text is written, while the host writes it, or while the host says its line
       no_memory : EndsWith old new memory_line → TranslateGives 5
-      no_memory_to_write : (p : Program) (lines : List Line86) → Accepts p lines → WritesPart c.output (written_text lines) old new → SaysOfWrite old new Memory memory_line → TranslateGives 5
-      no_memory_to_say : (p : Program) (lines : List Line86) → Accepts p lines → Writes c.output (written_text lines) old new → MemoryWanted old new → CutsLine (line_of_text p lines) old new → TranslateGives 5
+      no_memory_to_write : (p : Program) (lines : List Line86) → (a : Accepts p lines) → WritesPart c.output a.out old new → SaysOfWrite old new Memory memory_line → TranslateGives 5
+      no_memory_to_say : (p : Program) (lines : List Line86) → (a : Accepts p lines) → Writes c.output a.out old new → MemoryWanted old new → CutsLine (line_of_text p lines) old new → TranslateGives 5
       -- the code is too large
       too_large : (size : ℕ) → Exceeds size → EndsWith old new (size_line size) → TranslateGives 13
       -- the source's file is longer than its limit

@@ -1,24 +1,32 @@
 // The work of `translate`: the source in, its text out.
-ghost use Rattle.std.specs.Prelude.{◌≡◌, ◌^◌, ◌<◌, true, IfOk, IfErr, length, vec_len};
+ghost use Rattle.std.specs.Prelude.{◌≡◌, ◌^◌, ◌<◌, true, IfOk, IfErr, OnOk, length, vec_len, option_map};
 ghost use Rattle.std.specs.String.{string_bytes};
+ghost use Rattle.host.specs.Host.{SameFaults, OnlyReads, OnlyWrites};
 ghost use Rattle.asm80_program_types.specs.Program.{Program, is_top};
+ghost use Rattle.templates.specs.Style.{Style, styled};
+ghost use Rattle.cmd_common.specs.Files.{ReadStops, input_limit};
 ghost use Rattle.templates.specs.declared.translation.Mode.{Mode};
 ghost use Rattle.templates.specs.Translation.{IsText, CodeFits, HasNoText};
 ghost use Rattle.cmd_arguments.specs.ReadCommands.{translate_read};
 ghost use Rattle.cmd_common.specs.declared.stop.Stop.TheVariants.{OutOfMemory};
 ghost use Rattle.cmd_translate.specs.Translates.{mode_of, line_of_text, TranslateGives, Completes};
-ghost use Rattle.cmd_translate.specs.TranslateWork.{TextStops, Works, StopsBy};
+ghost use Rattle.cmd_translate.specs.TranslateWork.{TextStops, ReadsKept, WritesOut, Works, StopsBy};
 
 use asm80_program_types::Program80;
 use asm86_line_types::{Line86, code_size};
 use cmd_arguments::Translate;
 use cmd_common::{
-    Stop, read_source, say_done, say_stop, sources_have_one_outcome, translated_line, write_text,
+    SOURCE_LIMIT, Stop, program_of_bytes, read_named, read_source, say_done, say_stop,
+    sources_have_one_outcome, stop_of_write, translated_line, write_text,
 };
+use commented_text::CommentedText;
+use commented_text_def::commented_texts_read_back;
 use host::Host;
+use host_files::write_from;
 use std::alloc::{AllocError, Global};
 use templates::{CoreFault, Mode};
 use templates_same_law::own_texts_are_same;
+use templates_text_law::plain_is_a_style;
 
 // The text of a program, and the line that says how much it is.
 #[derive(Drop)]
@@ -27,14 +35,16 @@ struct Text {
     line: String,
 }
 
-/// Translates the source of a command to its text, the plain one where the words ask for it and else the lean one, says what came
-/// of it, and answers the status. The command's top is one that a program area may have.
+/// Translates the source of a command to its text, the plain one where the words ask for it and else the lean one, with the lines of the
+/// source as comments where they ask for these; says what came of it, and answers the status. The command's top is one that a program area
+/// may have.
 pub fn translate<H: Host>(alloc: Global, host: &mut H, command: &Translate<'_>) -> u8
     requires { is_top command.now.top ≡ true }
     ensures gives { TranslateGives (translate_read command.now) (H.state host.old) (H.state host.new) result }
     ensures completes { Completes (translate_read command.now) (H.state host.old) (H.state host.new) result }
 {
     own_texts_are_same();
+    commented_texts_read_back();
     sources_have_one_outcome();
     match work(alloc, host, command) {
         Ok(line) => say_done(host, line.as_str()),
@@ -53,11 +63,54 @@ fn work<'a, H: Host>(
     ensures worked { IfOk result (λ line. Works (translate_read command.now) (H.state host.old) (H.state host.new) (string_bytes line)) }
     ensures stopped { IfErr result (StopsBy (translate_read command.now) (H.state host.old) (H.state host.new)) }
 {
-    let source = read_source(alloc, host, command.input, command.zilog, command.top)?;
+    plain_is_a_style();
+    let (source, kept) = read_kept(alloc, host, command)?;
     let program = source?;
     let text = text_of_program(alloc, &program, mode_of(command.plain))?;
-    write_text(host, command.output, text.lines.as_slice())?;
+    write_kept(host, command.output, &program, &text.lines, kept.as_deref())?;
     Ok(text.line)
+}
+
+// The program of the source, or its refusal; and the source's bytes where its lines are to stand in the text.
+fn read_kept<'a, H: Host>(
+    alloc: Global,
+    host: &mut H,
+    command: &Translate<'a>,
+) -> Result<(Result<Program80, Stop<'a>>, Option<Vec<u8>>), Stop<'a>>
+    requires { is_top command.now.top ≡ true }
+    ensures only { OnlyReads (H.state host.old) (H.state host.new) }
+    ensures read { IfOk result (λ r. ReadsKept (translate_read command.now) (H.state host.old) r.0 (option_map (λ v. v.items) r.1)) }
+    ensures counted { OnOk result (SameFaults (H.state host.old) (H.state host.new)) }
+    ensures stopped { IfErr result (ReadStops command.now.input.now input_limit (H.state host.old) (H.state host.new)) }
+{
+    if !command.comments {
+        let source = read_source(alloc, host, command.input, command.zilog, command.top)?;
+        return Ok((source, None));
+    }
+    let bytes = read_named(alloc, host, command.input, SOURCE_LIMIT)?;
+    let source = program_of_bytes(alloc, &bytes, command.zilog, command.top)?;
+    Ok((source, Some(bytes)))
+}
+
+// Writes the text of a program's lines, with the lines of the source among them where its bytes are kept. It takes no memory.
+fn write_kept<'a, H: Host>(
+    host: &mut H,
+    name: &str,
+    program: &Program80,
+    lines: &[Line86],
+    kept: Option<&[u8]>,
+) -> Result<(), Stop<'a>>
+    ensures only { OnlyWrites (H.state host.old) (H.state host.new) name.now }
+    ensures wrote { (s : Style) → lines.now ≡ styled s program.now → WritesOut (option_map (λ bytes. bytes.now) kept.entry) program.now lines.now name.now (H.state host.old) (H.state host.new) result }
+    ensures counted { OnOk result (SameFaults (H.state host.old) (H.state host.new)) }
+{
+    let Some(source) = kept else {
+        return write_text(host, name, lines);
+    };
+    match write_from(host, name, &mut CommentedText::new(program, lines, source)) {
+        Ok(()) => Ok(()),
+        Err(fault) => Err(stop_of_write(fault)),
+    }
 }
 
 // The mode that the words ask for.

@@ -93,15 +93,15 @@ open_before (b ∷ source) = elim (cases_Bool (b == 26)) [
   | inr e ↦ rw (e, one_more (source_len source)) (eqb-false b 26 e, open_before source)
 ]
 
-record EndsBehind (source : List ℕ) : Type 0 where
+record HasEnd (source : List ℕ) : Type 0 where
   more : List ℕ
   is : source ++ 26 ∷ [] ≡ before_end source ++ 26 ∷ more
 
-ends_behind : (source : List ℕ) → EndsBehind source
-ends_behind [] = record { more = []; is = refl }
-ends_behind (b ∷ source) = elim (cases_Bool (b == 26)) [
+has_end : (source : List ℕ) → HasEnd source
+has_end [] = record { more = []; is = refl }
+has_end (b ∷ source) = elim (cases_Bool (b == 26)) [
   | inl e ↦ record { more = source ++ 26 ∷ []; is = rw e (ap (λ (t : ℕ). t ∷ (source ++ 26 ∷ [])) (eqb-true b 26 e)) }
-  | inr e ↦ let h = ends_behind source in record { more = h.more; is = rw (e, one_more (source_len source)) (ap (λ (t : List ℕ). b ∷ t) h.is) }
+  | inr e ↦ let h = has_end source in record { more = h.more; is = rw (e, one_more (source_len source)) (ap (λ (t : List ℕ). b ∷ t) h.is) }
 ]
 
 pub lines_are : (source : List ℕ) → AreLinesOf source (lines_of_source source)
@@ -109,7 +109,7 @@ unfolding whole_of
 lines_are source =
     let text = before_end source in
     let parts = parts_of text in
-    let end = ends_behind source in
+    let end = has_end source in
     let plain = parts_plain text (open_before source) in
     record {
       raw = raw_of parts;

@@ -5,7 +5,7 @@ use Rattle.asm86_line_types.specs.declared.line.Stmt86.{Stmt86}
 use Rattle.asm86.specs.Stream.{lines_of_number, AddsLine, Ending, TextLinesGive, none_left, next, ends, breaks}
 use Rattle.commented_text_def.specs.Reading.{NeverFalls}
 
--- lines that were added behind others, with no number below one
+-- lines that were added after others, with no number below one
 record Adds (n : ℕ) (xs zs : List Line86) : Type 0 where
   more : List Line86
   is : zs ≡ xs ++ more

@@ -1,12 +1,12 @@
 -- The commented text: the lines of a source as comments among the lines that were written for its program.
-use Rattle.std.specs.Prelude.{◌≡◌, ℕ, ◌-◌, max, codes, List, [], ◌∷◌, ◌++◌, take, drop, Bool}
+use Rattle.std.specs.Prelude.{◌≡◌, ℕ, ◌-◌, max, codes, List, [], ◌∷◌, ◌++◌, take, drop, Bool, true, false, Option, Some, None}
 use Rattle.std.specs.List.{flat_map}
 use Rattle.asm80_text.specs.Stream.{IsStream, complete}
 use Rattle.asm80_program_types.specs.Program.{Program}
 use Rattle.asm86_line_types.specs.declared.line.Line86.{Line86}
 use Rattle.asm86_line_types.specs.declared.line.Stmt86.{Stmt86}
 use Rattle.asm86_line_types.specs.declared.line.Stmt86.TheVariants.{Cseg, Dseg}
-use Rattle.asm86_line_types.specs.Written.{written_line}
+use Rattle.asm86_line_types.specs.Written.{written_line, written_text}
 use Rattle.templates.specs.Plain.{prologue, runtime, data_from, ending}
 use Rattle.templates.specs.Style.{Style, styled}
 use Rattle.commented_text_def.specs.Groups.{Group, groups}
@@ -54,3 +54,13 @@ pub record Commented (source : List ℕ) (p : Program) (lines : List Line86) (te
   pub source_lines : List (List ℕ)
   pub cut : AreLinesOf source source_lines
   pub is : text ≡ commented style p source_lines
+
+-- the bytes of a source, where its lines are to stand in the text
+abbrev pub kept_of : Bool → List ℕ → Option (List ℕ)
+kept_of true source = Some source
+kept_of false source = None
+
+-- what is written for a program's lines: their text, or with the bytes of a source their commented text
+abbrev pub IsOutput : Option (List ℕ) → Program → List Line86 → List ℕ → Type 0
+IsOutput None p lines text = text ≡ written_text lines
+IsOutput (Some source) p lines text = Commented source p lines text

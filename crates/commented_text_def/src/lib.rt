@@ -1,24 +1,24 @@
 // Definitions: the commented text of a source, a program and its text (`Commented`): the lines of the source as comments, each once and in
 // order, those up to an instruction's own line before the first line of its group (`Group`), and those that are left before the runtime.
 //
-// Law `commented_texts_read_back`: where the text without comments is read as lines, the commented text is read as the same statements in
-// the same order, with numbers of lines that never fall, whatever the source (`reads`); so it has the same image (`image`).
+// Law `commented_texts_read_back`: where the text without comments is read as lines, what is written, with comments or without
+// (`IsOutput`), is read as the same statements in the same order, with numbers of lines that never fall, whatever the source (`reads`); so
+// it has the same image (`image`).
 #![tactic(auto)]
 
-ghost use Rattle.std.specs.Prelude.{◌≡◌, ℕ, List, Ok};
+ghost use Rattle.std.specs.Prelude.{ℕ, List, Option, Ok};
 ghost use Rattle.asm80_program_types.specs.Program.{Program};
 ghost use Rattle.asm86_line_types.specs.Image.{Image};
 ghost use Rattle.asm86_line_types.specs.Written.{written_text};
 ghost use Rattle.asm86_line_types.specs.declared.line.Line86.{Line86};
 ghost use Rattle.asm86.specs.Images.{HasImage};
 ghost use Rattle.asm86.specs.Stream.{TextGives};
-ghost use Rattle.commented_text_def.specs.Commented.{Commented};
+ghost use Rattle.commented_text_def.specs.Commented.{IsOutput};
 ghost use Rattle.commented_text_def.specs.Reading.{ReadsAs};
 
-/// A law, of every source, program and text of it: with the lines of the source as comments the text is read as the same statements,
-/// and has the same image.
+/// A law, of every source, program and text of it: with the lines of the source as comments or without, the text is read as the same
+/// statements, and has the same image.
 pub fn commented_texts_read_back()
-    ensures plain { (lines : List Line86) → TextGives (written_text lines) (Ok lines) → ReadsAs lines (written_text lines) }
-    ensures reads { (source : List ℕ) (p : Program) (lines : List Line86) (text : List ℕ) → Commented source p lines text → TextGives (written_text lines) (Ok lines) → ReadsAs lines text }
-    ensures image { (source : List ℕ) (p : Program) (lines : List Line86) (text : List ℕ) (image : Image) → Commented source p lines text → HasImage (written_text lines) image → HasImage text image }
+    ensures reads { (kept : Option (List ℕ)) (p : Program) (lines : List Line86) (text : List ℕ) → IsOutput kept p lines text → TextGives (written_text lines) (Ok lines) → ReadsAs lines text }
+    ensures image { (kept : Option (List ℕ)) (p : Program) (lines : List Line86) (text : List ℕ) (image : Image) → IsOutput kept p lines text → HasImage (written_text lines) image → HasImage text image }
 {}

@@ -29,7 +29,7 @@ some_before (suc n) h = omega arith
 
 -- ---- a block
 
--- the address behind one instruction more
+-- the address after one instruction more
 pub one_behind : (p : Program) (at next n m : ℕ) (o : Option Instr80) → instr_at p at ≡ o → next ≡ address_after_instruction at o → m ≡ suc n → place_after p next n ≡ place_after p at m
 one_behind p at next n m o here e more = ap (λ a. place_after p a n) (e ∙ ap (address_after_instruction at) (sym here)) ∙ ap (place_after p at) (sym more)
 
@@ -52,7 +52,7 @@ within_none p at function i e start =
     by_unlisted true = ap (λ o. or_else (by_rule at P9 o) (by_rule at P1 (cond (is_start p (at + length80 i)) None (going_on function i)))) (asks_none i e)
     by_unlisted false = refl
 
--- the instruction behind so many, where another one comes next
+-- the instruction after so many, where another one comes next
 goes_next : (p : Program) (a n k : ℕ) → IsStraight p a n → suc k < n → (function : Option ℕ) → leaving_where p (place_after p a k) function (instr_at p (place_after p a k)) ≡ None
 goes_next p a zero k h lt function = absurd (omega (arith, lt))
 goes_next p a (suc zero) k h lt function = absurd (omega (arith, lt))

@@ -37,7 +37,7 @@ fn last_of(program: &Program80, leader: u16, count: u32) -> u16
     at
 }
 
-// The number that is known to be in C behind so many instructions of a block.
+// The number that is known to be in C after so many instructions of a block.
 fn known_function(work: &mut Work, program: &Program80, leader: u16, before: u32) -> Option<u16>
     requires { 0 < before → MayRun program.now leader before }
     ensures { result ≡ known_function program.now leader before }

@@ -8,7 +8,7 @@ use Rattle.asm80_program_types.specs.Program.{Program, placed_in, instr_of_place
 use Rattle.flow.specs.Blocks.{IsStraight, place_after}
 use Rattle.sym_block_def.specs.Block80.{MayRun, OnlyLastEnds, instrs_from}
 
--- the instruction behind so many
+-- the instruction after so many
 pub instr_behind : (p : Program) (a n k : ℕ) → IsStraight p a n → k < n → (i : Instr80) × (instr_at p (place_after p a k) ≡ Some i)
 instr_behind p a zero k h lt = absurd (omega (arith, lt))
 instr_behind p a (suc n) zero h lt = (h.0, h.1)

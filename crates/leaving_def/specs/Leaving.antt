@@ -23,7 +23,7 @@ abbrev pub number_in : Term → Option ℕ
 number_in (Num n) = Some n
 number_in t = None
 
--- the function that is known behind so many instructions of a block: the number that C's term is in their outcome
+-- the function that is known after so many instructions of a block: the number that C's term is in their outcome
 abbrev pub known_function : Program → ℕ → ℕ → Option ℕ
 known_function p first before = number_in (block80 p first before).held.c
 
@@ -43,7 +43,7 @@ asking i = None
 
 -- P1: no instruction starts at the next place
 
--- function 0 ends before the place behind the call is looked at
+-- function 0 ends before the place after the call is looked at
 abbrev pub returning : Option ℕ → Option Certainty
 returning None = Some May
 returning (Some zero) = None
@@ -84,13 +84,13 @@ abbrev pub leaving_where : Program → ℕ → Option ℕ → Option Instr80 →
 leaving_where p at function None = None
 leaving_where p at function (Some i) = leaving_by p at function i
 
--- the instruction behind so many of a block
+-- the instruction after so many of a block
 abbrev pub leaving_at : Program → ℕ → ℕ → Option Departure
 leaving_at p first before =
     let at = place_after p first before in
     leaving_where p at (known_function p first before) (instr_at p at)
 
--- so many instructions of a block, behind so many
+-- so many instructions of a block, after so many
 abbrev pub leaving_from : Program → ℕ → ℕ → ℕ → List Departure
 leaving_from p first before zero = []
 leaving_from p first before (suc n) = cons_option (leaving_at p first before) (leaving_from p first (suc before) n)

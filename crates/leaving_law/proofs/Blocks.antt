@@ -1,4 +1,4 @@
--- Where a run stands behind the front of a block.
+-- Where a run stands after the front of a block.
 use Rattle.std.proofs.Common.{◌≡◌, ◌∙◌, ℕ, zero, suc, ◌+◌, ◌-◌, ◌<◌, ◌≤◌, false, cond, List, [], Option, Some, refl, sym, ap, subst, arith, ◌⊎◌, inl, inr}
 use Rattle.cells.specs.declared.Place.TheVariants.{At}
 use Rattle.cells.specs.declared.Cell.TheVariants.{Num}
@@ -61,7 +61,7 @@ number_is : (n : ℕ) (t : Term) (s u : State80) (loads : List Load80) → numbe
 number_is n (Number m) s u loads e v = cc
 number_is n t s u loads e v = absurd (cc)
 
--- after the front of a block the run has left the profile; or it stands behind it, and C is what it is known to be
+-- after the front of a block the run has left the profile; or it stands after it, and C is what it is known to be
 pub record Arrives (p : Program) (at : ℕ) (function : Option ℕ) (r : Run State80 Rule) : Type 0 where
   pub stands : StandsAt p at r
   pub known : IsKnown function r.state

@@ -1,3 +1,4 @@
 mod Stepping
 mod Blocks
 mod Listing
+mod Rising

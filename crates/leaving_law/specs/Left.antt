@@ -1,5 +1,5 @@
 -- What it means that a place is listed: no run of the tagged 8080 passes it.
-use Rattle.std.specs.Prelude.{◌≡◌, ℕ, suc, ◌<◌, ◌⊎◌, false, [], Option, Some, None, All}
+use Rattle.std.specs.Prelude.{◌≡◌, ℕ, suc, ◌<◌, ◌≤◌, ◌⊎◌, false, List, [], ◌∷◌, Option, Some, None, All}
 use Rattle.cells.specs.declared.Place.TheVariants.{At}
 use Rattle.cells.specs.declared.Cell.TheVariants.{Num}
 use Rattle.cells.specs.declared.Rule.{Rule}
@@ -65,3 +65,12 @@ pub record IsLeft (p : Program) (x : Departure) : Type 0 where
 -- so it is with each place that is listed
 abbrev pub PlacesAreLeft : Type 0
 PlacesAreLeft = (p : Program) → IsProgram p → All (IsLeft p) (leaving p)
+
+-- places ascend, from an address up
+abbrev pub RisesFrom : ℕ → List Departure → Type 0
+RisesFrom low [] = Unit {0}
+RisesFrom low (x ∷ xs) = (low ≤ x.at) × RisesFrom (suc x.at) xs
+
+-- so do those of every program
+abbrev pub PlacesAscend : Type 0
+PlacesAscend = (p : Program) → IsProgram p → RisesFrom 0x100 (leaving p)

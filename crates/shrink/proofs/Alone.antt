@@ -93,7 +93,7 @@ module _ (p : Program) (cut : BlocksCut p) (n : Needs) (first inner rest : List 
   match_less : block_reason p (statements less) (needed_by p n) a stands.count ≡ None → HasFrame p (statements less) (image_of less) → MatchesBlocks p n more → MatchesBlocks p n less
   match_less here f m = record { opening = f.opening; runtime = f.runtime; cells = f.cells; blocks = blocks_stay here m.blocks }
 
--- lines with a place at which a candidate was left out, behind the label of a block
+-- lines with a place at which a candidate was left out, after the label of a block
 module _ (p : Program) (cut : BlocksCut p) (lines : List Line86) (at place a : ℕ) (stands : LabelStands p lines at a) (past : at < place) (within : place ≤ length lines) (n : Needs) (x : Line86) (candidate : is_candidate x.stmt ≡ true) where
   abbrev inner : List Line86
   inner = take (place - (at + 1)) (drop (at + 1) lines)

@@ -110,7 +110,7 @@ module _ (p : Program) where
       by_test false s = refl
   block_inner b n e y is = refl
 
--- ---- an instruction behind a label, with inner statements between
+-- ---- an instruction after a label, with inner statements between
 
 module _ (before inner after : List Stmt86) (a : ℕ) (i : Instr86) where
   abbrev long : List Stmt86

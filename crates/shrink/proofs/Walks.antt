@@ -19,9 +19,9 @@ use Rattle.sym_block_def.specs.Outcome.{Way, Call, Sys as AskSystem, In, Out, On
 use Rattle.sym_block_def.specs.Symbolic86.{Symbolic86, with_reg16, offset_term, effect86}
 use Rattle.sym_block_def.specs.Walk86.{Surroundings, after_label, way_to, is_passed, Met, EndsAt, Instruction, Nothing, met_label, met, follows, call_way, go_behind, jump_to, way_by, way_from, flag_of_jump, jumps_at, outcome86, one_way, two_ways, is_call, direct_call, port_way, run_by, walk_by, walk_through, walk_some, walk_behind}
 
--- the two texts have these behind a label of an address
+-- the two texts have these after a label of an address
 module _ (a : ℕ) (long short : List Stmt86) where
-  -- the same stands behind two positions, or they are before that label
+  -- the same stands after two positions, or they are before that label
   pub data AsFar : List Stmt86 → List Stmt86 → Type 0 where
     alike : (xs : List Stmt86) → AsFar xs xs
     over : (q : List Stmt86) → AsFar (q ++ Mark (At a) ∷ long) (q ++ Mark (At a) ∷ short)
@@ -109,7 +109,7 @@ module _ (a : ℕ) (long short : List Stmt86) where
       call_as xs ys r Sys = ap (λ b. Ok (AskSystem (cond (b || not w.goes_on) (AtPlace w.after) EndPlace))) (follows_as (At w.after) xs ys r)
       call_as xs ys r l = refl
 
-      -- ---- the ways behind a conditional jump
+      -- ---- the ways after a conditional jump
 
       way_by_as : (s : Symbolic86) (on with : List Stmt86 → Result Way Reason) → ((xs ys : List Stmt86) → AsFar xs ys → on xs ≡ with ys) → (xs ys : List Stmt86) → AsFar xs ys → (x : Stmt86) → way_by w s on xs x ≡ way_by v s with ys x
       way_by_as s on with h xs ys r (Jmp l) = jump_as Ok on with h l

@@ -6,3 +6,5 @@ mod Labels
 pub mod Still
 mod Coming
 pub mod Showing
+mod Stops
+mod Refusals

@@ -4,3 +4,4 @@ pub mod Places
 pub mod Outcomes
 pub mod Seen
 pub mod Five
+pub mod Stop

@@ -53,8 +53,8 @@ pub fn way_to(label: Label) -> Option<Way>
     }
 }
 
-// Whether the label is that of an instruction of the block, or one that a text has for itself.
-fn is_passed(around: &Around<'_>, label: Label) -> bool
+/// Whether the label is that of an instruction of the block, or one that a text has for itself.
+pub fn is_passed(around: &Around<'_>, label: Label) -> bool
     ensures { result ≡ is_passed (surroundings_of around.now) label }
 {
     match label {

@@ -8,7 +8,8 @@
 // place after each label (`behind`), and `run_text` comes to `walk86` exactly, or to the reason that the walk meets first (`WalksTo`): at
 // most 240 nodes for each instruction of the block and 32 more join, with that much room there is an answer, and without one no room is
 // left; where a way of a conditional jump is refused, none joins (`refused` of `two_ways`), since the ends are found first, without terms
-// (`both_from`).
+// (`both_from`). `walk_end` answers, without terms, the place of the statement at which a walk ends (`stop_in`); law `ends_say_why`: a walk
+// that is refused is Missing where the text has no label for it, and else it is refused for what stands there (`reason_of_stop`).
 #![tactic(auto)]
 
 mod agreement;
@@ -19,11 +20,14 @@ mod index;
 mod known;
 mod lasts;
 mod seen;
+mod stop;
 mod walk;
 mod work;
 
 pub use ends::End;
 pub use index::Index86;
+pub use seen::same;
+pub use stop::{ends_say_why, walk_end};
 pub use sym_block_def::Reason;
 pub use sym_micro::{Action, Exit, Way};
 pub use walk::run_text;

@@ -209,6 +209,13 @@ impl Work {
         &self.second
     }
 
+    /// The terms of both outcomes.
+    pub fn terms(&self) -> &Terms
+        ensures { result.now ≡ self.now.terms }
+    {
+        &self.terms
+    }
+
     /// Whether a term of the 8080 agrees with one of the 8086. No term is made, and none is walked.
     pub fn agree(&self, s: Term, t: Term) -> bool
         requires s { IsGiven self.now.terms s }

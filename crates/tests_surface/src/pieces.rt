@@ -54,7 +54,8 @@ fn cut_file(
     Ok(file)
 }
 
-fn words_of(alloc: Global, text: &str) -> Result<Vec<String>, AllocError> {
+/// The words of a text, parted by blanks.
+pub fn words_of(alloc: Global, text: &str) -> Result<Vec<String>, AllocError> {
     let mut words = Vec::new(alloc);
     for word in text.split_whitespace() {
         words.push(String::from_str(alloc, word)?)?;

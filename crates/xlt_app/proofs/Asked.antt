@@ -8,7 +8,7 @@ use Rattle.cmd_arguments.specs.declared.table.CommandName.TheVariants as named
 use Rattle.cmd_arguments.specs.Table.{Word}
 use Rattle.cmd_arguments.specs.Values.{top_among, top_value, number_in, count_within, count_value, file_name}
 use Rattle.cmd_arguments.specs.Given.{Gathered, Names, NoName, OneName, TwoNames, MoreNames, ThreeNames}
-use Rattle.cmd_arguments.specs.Words.{Translate, Check, Flags, Run80, Both, Sample, Hex80, RunHex, Command, Translates, Checks, ListsFlags, Runs80, Runs86, RunsBoth, MakesSample, MakesCmd, ShowsCmd, WritesHex, RunsHex, IsCommand, command_of, translate_of, check_of, flags_command_of, run80_of, run86_of, both_of, sample_of, cmd_of, cmd_show_of, hex80_of, run_hex_of, run_options_of, flag_of, one_file, two_files, count_and_file, top_of, choice_of, text_or, Shrink, ShrinksText, shrink_of, three_files}
+use Rattle.cmd_arguments.specs.Words.{Translate, Check, Listing, Run80, Both, Sample, Hex80, RunHex, Command, Translates, Checks, ListsFlags, Runs80, Runs86, RunsBoth, MakesSample, MakesCmd, ShowsCmd, WritesHex, RunsHex, IsCommand, command_of, translate_of, check_of, listing_of, run80_of, run86_of, both_of, sample_of, cmd_of, cmd_show_of, hex80_of, run_hex_of, run_options_of, flag_of, one_file, two_files, count_and_file, top_of, choice_of, text_or, Shrink, ShrinksText, ListsLeaves, shrink_of, three_files}
 use Rattle.cmd_sample.specs.Samples.{IsCount}
 use Rattle.xlt_app.specs.Top.{HasLawfulValues}
 
@@ -47,7 +47,8 @@ unfolding translation_top_in taken
 translate_top g c e =
     let a = taken (flag_of g.plain) _ c e in
     let z = taken (flag_of g.zilog) _ c a.2 in
-    let b = taken (two_files g.names) _ c z.2 in
+    let m = taken (flag_of g.comments) _ c z.2 in
+    let b = taken (two_files g.names) _ c m.2 in
     let d = taken (top_of g) _ c b.2 in
     subst (λ n. is_top n ≡ true) (ap translation_top_in d.2) (top_of_is g d.0 d.1)
 
@@ -63,17 +64,17 @@ check_top g c e =
     let b = taken (top_of g) _ c a.2 in
     subst (λ n. is_top n ≡ true) (ap check_top_in b.2) (top_of_is g b.0 b.1)
 
-flags_top_in : Option Flags → ℕ
-flags_top_in None = 0
-flags_top_in (Some c) = c.top
+listing_top_in : Option Listing → ℕ
+listing_top_in None = 0
+listing_top_in (Some c) = c.top
 
-flags_top : (g : Gathered) (c : Flags) → flags_command_of g ≡ Some c → is_top c.top ≡ true
-unfolding flags_top_in taken
-flags_top g c e =
+listing_top : (g : Gathered) (c : Listing) → listing_of g ≡ Some c → is_top c.top ≡ true
+unfolding listing_top_in taken
+listing_top g c e =
     let z = taken (flag_of g.zilog) _ c e in
     let a = taken (one_file g.names) _ c z.2 in
     let b = taken (top_of g) _ c a.2 in
-    subst (λ n. is_top n ≡ true) (ap flags_top_in b.2) (top_of_is g b.0 b.1)
+    subst (λ n. is_top n ≡ true) (ap listing_top_in b.2) (top_of_is g b.0 b.1)
 
 run80_top_in : Option Run80 → ℕ
 run80_top_in None = 0
@@ -181,7 +182,7 @@ sample_count g c e =
 asked_by_name : (name : CommandName) (g : Gathered) (c : Command) → command_of name g ≡ Some c → HasLawfulValues c
 asked_by_name named.Translate g c e = let h = mapped (translate_of g) Translates c e in subst HasLawfulValues h.2 (translate_top g h.0 h.1)
 asked_by_name named.Check g c e = let h = mapped (check_of g) Checks c e in subst HasLawfulValues h.2 (check_top g h.0 h.1)
-asked_by_name named.Flags g c e = let h = mapped (flags_command_of g) ListsFlags c e in subst HasLawfulValues h.2 (flags_top g h.0 h.1)
+asked_by_name named.Flags g c e = let h = mapped (listing_of g) ListsFlags c e in subst HasLawfulValues h.2 (listing_top g h.0 h.1)
 asked_by_name named.Run80 g c e = let h = mapped (run80_of g) Runs80 c e in subst HasLawfulValues h.2 (run80_top g h.0 h.1)
 asked_by_name named.Run86 g c e = let h = mapped (run86_of g) Runs86 c e in subst HasLawfulValues h.2 tt
 asked_by_name named.Both g c e = let h = mapped (both_of g) RunsBoth c e in subst HasLawfulValues h.2 (both_top g h.0 h.1)
@@ -191,6 +192,7 @@ asked_by_name named.CmdShow g c e = let h = mapped (cmd_show_of g) ShowsCmd c e 
 asked_by_name named.Hex80 g c e = let h = mapped (hex80_of g) WritesHex c e in subst HasLawfulValues h.2 (hex80_top g h.0 h.1)
 asked_by_name named.RunHex g c e = let h = mapped (run_hex_of g) RunsHex c e in subst HasLawfulValues h.2 (run_hex_top g h.0 h.1)
 asked_by_name named.Shrink g c e = let h = mapped (shrink_of g) ShrinksText c e in subst HasLawfulValues h.2 (shrink_top g h.0 h.1)
+asked_by_name named.Leaves g c e = let h = mapped (listing_of g) ListsLeaves c e in subst HasLawfulValues h.2 (listing_top g h.0 h.1)
 
 -- so the work of each command that words are may be done
 pub words_ask : (words : List Word) (c : Command) → IsCommand words c → HasLawfulValues c

@@ -3,8 +3,7 @@ use Rattle.std.proofs.Common.{◌≡◌, ℕ, List, Option, Some, None, inl, inr
 use Rattle.host.specs.Host.{HostState, SameFiles}
 use Rattle.host.proofs.HostLemmas.{OnlyReads-refl}
 use Rattle.asm86_line_types.specs.Image.{image_of}
-use Rattle.asm86_line_types.specs.Written.{written_text}
-use Rattle.cmd_arguments.specs.Words.{Translate, Check, Cmd, Hex80, Command, Translates, Checks, ListsFlags, Runs80, Runs86, RunsBoth, MakesSample, MakesCmd, ShowsCmd, WritesHex, RunsHex, IsCommand, IsNoCommand, Shrink, ShrinksText}
+use Rattle.cmd_arguments.specs.Words.{Translate, Check, Cmd, Hex80, Command, Translates, Checks, ListsFlags, Runs80, Runs86, RunsBoth, MakesSample, MakesCmd, ShowsCmd, WritesHex, RunsHex, IsCommand, IsNoCommand, Shrink, ShrinksText, ListsLeaves}
 use Rattle.cmd_common.specs.declared.stop.Stop.TheVariants.{OutOfMemory}
 use Rattle.cmd_common.specs.Said.{IsRefusedWords, SaysLast, Closes, said, unsaid}
 use Rattle.cmd_common.specs.Lines.{memory_line}
@@ -14,12 +13,11 @@ use Rattle.cmd_shrink.specs.Shrinks.{ShrunkHeadline}
 use Rattle.cmd_translate.specs.Translates as translation
 use Rattle.cmd_check.specs.Checks as checking
 use Rattle.cmd_sample.specs.Samples as making
-use Rattle.cmd_flags.specs.Listing as listing
 use Rattle.cmd_runs.specs.Keeping.{DiskAlone}
 use Rattle.cmd_runs.specs.Kinds as running_one
 use Rattle.cmd_runs.specs.Works as running
 use Rattle.cmd_runs.specs.BothLoads as running_both
-use Rattle.cmd_makes.specs.Makes as files
+use Rattle.cmd_common.specs.Makes as files
 use Rattle.cmd_makes.specs.Cmds.{HasCommandFile}
 use Rattle.cmd_makes.specs.Hexes.{HasHexFile}
 use Rattle.xlt_app.specs.Top.{Headline, CheckedHeadline, IsStatus, refused as words_are_refused, no_memory as words_want_memory, Outcomes, CommandAnswers}
@@ -31,7 +29,7 @@ headline_by : (c : Translate) (old new : HostState) (status : ℕ) → translati
 headline_by c old new _ (translation.translated p lines a w s l f) e = record {
   source = a.bytes;
   program = p;
-  text = written_text lines;
+  text = a.out;
   image = s.image;
   given = a.file.0;
   is_source = a.source;
@@ -144,7 +142,7 @@ module _ (words : List (List ℕ)) (old new : HostState) (status : ℕ) where
       files = same;
     }
     wanting (ListsFlags c) = record {
-      gives = listing.stopped old OutOfMemory (listing.no_memory (OnlyReads-refl old)) closes;
+      gives = files.stopped old OutOfMemory (files.unmade (OnlyReads-refl old) files.no_memory) closes;
       completes = λ none bytes told other. absurd (other is_5);
       files = same;
     }
@@ -191,6 +189,12 @@ module _ (words : List (List ℕ)) (old new : HostState) (status : ℕ) where
       gives = shrinking.stopped old OutOfMemory (shrinking.unloaded (checking.out_of_memory (OnlyReads-refl old))) closes;
       completes = λ none s t a b. inl is_5;
       headline = λ e. absurd (omega (arith, e, is_5));
+    }
+    wanting (ListsLeaves c) = record {
+      gives = files.stopped old OutOfMemory (files.unmade (OnlyReads-refl old) files.no_memory) closes;
+      completes = λ none bytes told other. absurd (other is_5);
+      files = same;
+      left = λ e. absurd (omega (arith, e, is_5));
     }
 
     pub by_memory : Outcomes words old new status

@@ -4,12 +4,11 @@ use Rattle.std.specs.Prelude.{Option, Result, Ok, Err}
 use Rattle.host.specs.declared.HostFault.{HostFault}
 use Rattle.host.specs.declared.HostFault.TheVariants.{Failed, Memory}
 use Rattle.host.specs.Host.{HostState}
-use Rattle.cmd_arguments.specs.Words.{Translate, Check, Flags, Sample, Command, Translates, Checks, ListsFlags, Runs80, Runs86, RunsBoth, MakesSample, MakesCmd, ShowsCmd, WritesHex, RunsHex, Shrink, ShrinksText}
+use Rattle.cmd_arguments.specs.Words.{Translate, Check, Sample, Command, Translates, Checks, ListsFlags, Runs80, Runs86, RunsBoth, MakesSample, MakesCmd, ShowsCmd, WritesHex, RunsHex, Shrink, ShrinksText, ListsLeaves}
 use Rattle.cmd_common.specs.declared.stop.Stop.{Stop}
 use Rattle.cmd_common.specs.declared.stop.Stop.TheVariants.{SourceLine, SourceProgram, ReadFailed, WriteFailed, OutOfMemory, LeftProfile, StepLimit, NotShown, InputEnded, TextLine, ShortJump, NoInstruction, StackSegment, OddCall, BadDisk, NoDrive, CodeTooLarge, FileTooLong, BadCommandFile, BadHex, TooManyStatements}
 use Rattle.cmd_common.specs.Lines.{status_of}
 use Rattle.cmd_common.specs.Said.{IsDone, whole, failed, no_memory, Closes, said, unsaid}
-use Rattle.std.specs.List.{concat}
 use Rattle.cmd_runs.specs.Ends.{unsaid_status}
 use Rattle.cmd_runs.specs.Lasts.{steps_line, SaysEnd}
 use Rattle.cmd_runs.specs.Works as running
@@ -18,16 +17,17 @@ use Rattle.cmd_runs.specs.Runs80.{work80}
 use Rattle.cmd_runs.specs.Runs86.{work86}
 use Rattle.cmd_runs.specs.RunsHex.{work_hex}
 use Rattle.cmd_runs.specs.BothRuns.{work_both}
-use Rattle.cmd_makes.specs.Kinds.{MakeKind}
-use Rattle.cmd_makes.specs.Makes as files
-use Rattle.cmd_makes.specs.Makes.{MakeGives}
+use Rattle.cmd_common.specs.Kinds.{MakeKind}
+use Rattle.cmd_common.specs.Makes as files
+use Rattle.cmd_common.specs.Makes.{MakeGives}
 use Rattle.cmd_makes.specs.Cmds.{cmd_kind}
 use Rattle.cmd_makes.specs.Shows.{cmd_show_kind}
 use Rattle.cmd_makes.specs.Hexes.{hex_kind}
 use Rattle.cmd_shrink.specs.Shrinks as shrinking
 use Rattle.cmd_translate.specs.Translates as translation
 use Rattle.cmd_check.specs.Checks as checking
-use Rattle.cmd_flags.specs.Listing as listing
+use Rattle.cmd_lists.specs.Saves.{flags_kind}
+use Rattle.cmd_lists.specs.Departures.{leaves_kind}
 use Rattle.cmd_sample.specs.Samples as making
 use Rattle.xlt_app.specs.Top.{IsStatus, CommandAnswers}
 
@@ -145,10 +145,6 @@ of_checking : (c : Check) (old new : HostState) (status : ℕ) → checking.Chec
 of_checking c old new status (checking.shown mid line h d) = of_done line mid new status d
 of_checking c old new status (checking.stopped mid stop s k) = of_closes stop mid new status k
 
-of_listing : (c : Flags) (old new : HostState) (status : ℕ) → listing.FlagsGive c old new status → IsOfCommand status
-of_listing c old new status (listing.reported mid lines h d) = of_done (concat lines) mid new status d
-of_listing c old new status (listing.stopped mid stop s k) = of_closes stop mid new status k
-
 of_ending : (second : Option ℕ) (came : Result ℕ Stop) (old new : HostState) (status : ℕ) → SaysEnd second came old new status → IsOfCommand status
 of_ending second (Ok steps) old new status e = of_done (steps_line second steps) old new status e
 of_ending second (Err stop) old new status e = of_closes stop old new status e
@@ -177,7 +173,7 @@ of_shrinking c old new status (shrinking.stopped mid stop s k) = of_closes stop 
 pub of_answer : (c : Command) (old new : HostState) (status : ℕ) → CommandAnswers c old new status → IsOfCommand status
 of_answer (Translates c) old new status a = of_translation c old new status a.gives
 of_answer (Checks c) old new status a = of_checking c old new status a.gives
-of_answer (ListsFlags c) old new status a = of_listing c old new status a.gives
+of_answer (ListsFlags c) old new status a = of_file (flags_kind c) old new status a.gives
 of_answer (Runs80 c) old new status a = of_work (work80 c) old new status a.gives
 of_answer (Runs86 c) old new status a = of_work (work86 c) old new status a.gives
 of_answer (RunsBoth c) old new status a = of_work (work_both c) old new status a.gives
@@ -187,3 +183,4 @@ of_answer (ShowsCmd c) old new status a = of_file (cmd_show_kind c) old new stat
 of_answer (WritesHex c) old new status a = of_file (hex_kind c) old new status a.gives
 of_answer (RunsHex c) old new status a = of_work (work_hex c) old new status a.gives
 of_answer (ShrinksText c) old new status a = of_shrinking c old new status a.gives
+of_answer (ListsLeaves c) old new status a = of_file (leaves_kind c) old new status a.gives

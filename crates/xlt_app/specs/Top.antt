@@ -7,7 +7,7 @@ use Rattle.asm86_line_types.specs.Image.{Image}
 use Rattle.asm80_program_types.specs.Program.{Program, is_top}
 use Rattle.cmd_common.specs.Sources.{reading_of}
 use Rattle.asm80_source_def.specs.Source.{IsSource}
-use Rattle.cmd_arguments.specs.Words.{Translate, Check, Flags, Run80, Run86, Both, Sample, Cmd, CmdShow, Hex80, RunHex, Command, Translates, Checks, ListsFlags, Runs80, Runs86, RunsBoth, MakesSample, MakesCmd, ShowsCmd, WritesHex, RunsHex, IsCommand, IsNoCommand, Shrink, ShrinksText}
+use Rattle.cmd_arguments.specs.Words.{Translate, Check, Listing, Run80, Run86, Both, Sample, Cmd, CmdShow, Hex80, RunHex, Command, Translates, Checks, ListsFlags, Runs80, Runs86, RunsBoth, MakesSample, MakesCmd, ShowsCmd, WritesHex, RunsHex, IsCommand, IsNoCommand, Shrink, ShrinksText, ListsLeaves}
 use Rattle.cmd_common.specs.Lines.{memory_line}
 use Rattle.cmd_common.specs.Said.{IsRefusedWords, SaysLast}
 use Rattle.asm86.specs.Images.{HasImage}
@@ -17,7 +17,8 @@ use Rattle.cmd_check.specs.Checks as checking
 use Rattle.cmd_check.specs.Completes as checking_completes
 use Rattle.cmd_check.specs.OwnTexts.{ShowsOwnText}
 use Rattle.cmd_sample.specs.Samples as making
-use Rattle.cmd_flags.specs.Listing as listing
+use Rattle.cmd_lists.specs.Saves.{flags_kind}
+use Rattle.cmd_lists.specs.Departures.{leaves_kind, HasDepartures}
 use Rattle.cmd_runs.specs.Keeping.{DiskAlone}
 use Rattle.cmd_runs.specs.Works.{WorkGives}
 use Rattle.cmd_runs.specs.Outcomes.{RunCompletes}
@@ -26,7 +27,7 @@ use Rattle.cmd_runs.specs.Runs86.{kind86, work86}
 use Rattle.cmd_runs.specs.RunsHex.{kind_hex, work_hex}
 use Rattle.cmd_runs.specs.BothRuns.{work_both}
 use Rattle.cmd_runs.specs.BothCompletes.{BothComplete}
-use Rattle.cmd_makes.specs.Makes.{MakeGives, MakeCompletes}
+use Rattle.cmd_common.specs.Makes.{MakeGives, MakeCompletes}
 use Rattle.cmd_makes.specs.Cmds.{cmd_kind, HasCommandFile}
 use Rattle.cmd_makes.specs.Shows.{cmd_show_kind}
 use Rattle.cmd_makes.specs.Hexes.{hex_kind, HasHexFile}
@@ -83,9 +84,9 @@ pub record Checked (c : Check) (old new : HostState) (status : ℕ) : Type 0 whe
   pub own : ShowsOwnText c old new status
   pub files : SameFiles old new
 
-pub record Listed (c : Flags) (old new : HostState) (status : ℕ) : Type 0 where
-  pub gives : listing.FlagsGive c old new status
-  pub completes : listing.Completes c old new status
+pub record ListedFlags (c : Listing) (old new : HostState) (status : ℕ) : Type 0 where
+  pub gives : MakeGives (flags_kind c) old new status
+  pub completes : MakeCompletes (flags_kind c) old new status
   pub files : SameFiles old new
 
 pub record Ran80 (c : Run80) (old new : HostState) (status : ℕ) : Type 0 where
@@ -132,10 +133,16 @@ pub record Shrunk (c : Shrink) (old new : HostState) (status : ℕ) : Type 0 whe
   pub completes : ShrinkCompletes c old new status
   pub headline : status ≡ 0 → ShrunkHeadline c old new
 
+pub record ListedLeaves (c : Listing) (old new : HostState) (status : ℕ) : Type 0 where
+  pub gives : MakeGives (leaves_kind c) old new status
+  pub completes : MakeCompletes (leaves_kind c) old new status
+  pub files : SameFiles old new
+  pub left : status ≡ 0 → HasDepartures c old new
+
 abbrev pub CommandAnswers : Command → HostState → HostState → ℕ → Type 0
 CommandAnswers (Translates c) old new status = Translated c old new status
 CommandAnswers (Checks c) old new status = Checked c old new status
-CommandAnswers (ListsFlags c) old new status = Listed c old new status
+CommandAnswers (ListsFlags c) old new status = ListedFlags c old new status
 CommandAnswers (Runs80 c) old new status = Ran80 c old new status
 CommandAnswers (Runs86 c) old new status = Ran86 c old new status
 CommandAnswers (RunsBoth c) old new status = RanBoth c old new status
@@ -145,6 +152,7 @@ CommandAnswers (ShowsCmd c) old new status = ShowedCmd c old new status
 CommandAnswers (WritesHex c) old new status = WroteHex c old new status
 CommandAnswers (RunsHex c) old new status = RanHex c old new status
 CommandAnswers (ShrinksText c) old new status = Shrunk c old new status
+CommandAnswers (ListsLeaves c) old new status = ListedLeaves c old new status
 
 -- ---- what is answered to words
 
@@ -174,3 +182,4 @@ HasLawfulValues (ShowsCmd c) = Unit {0}
 HasLawfulValues (WritesHex c) = is_top c.top ≡ true
 HasLawfulValues (RunsHex c) = is_top c.top ≡ true
 HasLawfulValues (ShrinksText c) = is_top c.top ≡ true
+HasLawfulValues (ListsLeaves c) = is_top c.top ≡ true

@@ -25,7 +25,7 @@ ghost use Rattle.xlt_app.specs.Top.{Headline, CheckedHeadline, Outcomes, Command
 use cmd_arguments::{Command, read_words, words_are_one_command};
 use cmd_check::check;
 use cmd_common::{Stop, say_stop, words_refused};
-use cmd_flags::flags;
+use cmd_lists::{flags, leaves};
 use cmd_makes::{cmd, cmdshow, hex80};
 use cmd_runs::{both, run80, run86, runhex};
 use cmd_sample::sample;
@@ -76,5 +76,6 @@ fn answer<H: Host>(alloc: Global, host: &mut H, command: &Command<'_>) -> u8
         Command::Hex80(command) => hex80(alloc, host, command),
         Command::RunHex(command) => runhex(alloc, host, command),
         Command::Shrink(command) => shrink(alloc, host, command),
+        Command::Leaves(command) => leaves(alloc, host, command),
     }
 }

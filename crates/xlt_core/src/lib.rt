@@ -3,8 +3,9 @@
 // Proved: `validate` answers what is found of lines with an image (clause `finding`: `IsFinding`), and where they are shown, program and
 // image are `Same` (clause `same`). Law `shown_is_same` says it of every program and such lines. Law `own_texts_are_shown`: a program's
 // text whose code fits matches the program block by block with what is needed kept, in either mode (`matches`), and the one thing that is
-// found of it is that all blocks are shown (`shown`). By its name are also `translate`, `own_texts_are_same`, `plain_matches_alone`,
-// `validate_in`, `findings_are_one`, `text_reads_back`, `block_is_linked`, `blocks_follow`, `matches_is_same` and `saves`.
+// found of lines with its statements is that all blocks are shown (`shown`). By its name are also `translate`, `own_texts_are_same`,
+// `plain_matches_alone`, `validate_in`, `findings_are_one`, `text_reads_back`, `block_is_linked`, `blocks_follow`, `matches_is_same` and
+// `saves`.
 #![tactic(auto)]
 
 mod laws;

@@ -1,4 +1,5 @@
 pub mod Among
+pub mod Listed
 pub mod Spelling
 pub mod Giving
 pub mod Apart

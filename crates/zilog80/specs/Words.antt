@@ -15,13 +15,13 @@ abbrev pub is_directive : List ℕ → Bool
 is_directive word = list_any (λ name. bytes_eq name word) directives
 
 -- the word stands in a row of the table, by the number of its operands
-unfoldable pub is_bare : List ℕ → Bool
+abbrev pub is_bare : List ℕ → Bool
 is_bare word = list_any (λ (r : List ℕ × List ℕ). bytes_eq r.0 word) bare_rows
 
-unfoldable pub is_unary : List ℕ → Bool
+abbrev pub is_unary : List ℕ → Bool
 is_unary word = list_any (λ (r : List ℕ × Class × List ℕ). bytes_eq r.0 word) unary_rows
 
-unfoldable pub is_binary : List ℕ → Bool
+abbrev pub is_binary : List ℕ → Bool
 is_binary word = list_any (λ (r : List ℕ × Class × Class × List ℕ). bytes_eq r.0 word) binary_rows
 
 abbrev pub is_in_table : List ℕ → Bool

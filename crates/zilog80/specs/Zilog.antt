@@ -1,7 +1,7 @@
 -- Sources in Zilog's spelling: lines, labels, numbers, strings, expressions, directives and the rules of lines are those of the
 -- assembler in the CP/M 2.2 Operating System Manual; the instructions are those of the table, and a statement is given in Intel's
 -- spelling.
-use Rattle.std.specs.Prelude.{◌≡◌, ℕ, List, [], ◌∷◌, ◌++◌, Bool, true, false, Option, Some, Contains}
+use Rattle.std.specs.Prelude.{◌≡◌, ℕ, List, [], ◌∷◌, ◌++◌, Bool, true, false, Some, Contains}
 use Rattle.std.specs.List.{slice_split}
 use Rattle.asm80_statement_types.specs.Tree.{Operand}
 use Rattle.asm80_statement_types.specs.Reading.{Reading}

@@ -1,4 +1,4 @@
-use Rattle.std.proofs.Common.{◌≡◌, Some, ap, sym, subst}
+use Rattle.std.proofs.Common.{◌≡◌, Some, Ok, ap, sym, subst}
 use Rattle.asm80_program_types.specs.Program.{Program}
 use Rattle.flow.specs.Blocks.{block_at}
 use Rattle.sym_block_def.specs.Block80.{MayRun, block80}
@@ -6,7 +6,7 @@ use Rattle.sym_block_def.specs.Walk86.{walk86}
 use Rattle.block_check_def.specs.BlockMatch.{block_reason}
 use Rattle.simulation_def.specs.Needed.{needed_by}
 use Rattle.block_check.specs.Kept.{KeepsNeeds}
-use Rattle.block_check.specs.Comparing.{HoldsOutcomes, AfterShown, verdict_of}
+use Rattle.block_check.specs.Comparing.{HoldsOutcomes, AreCompared, AfterShown, verdict_of}
 use Rattle.block_check.proofs.Needed.{leader_block, needed_keeps}
 use Rattle.block_check.proofs.block.check.Goals as goal
 
@@ -48,3 +48,14 @@ returns-clause-outcomes c = λ n count needs e.
     let same : c.in-Some.count ≡ count = cc in
     subst (λ n. AfterShown c.check_kept.result (HoldsOutcomes c.check_kept.new.work (block80 p c.args.leader n) (walk86 p c.args.text.now (k.at c.args.leader) c.args.leader n))) same
     (c.check_kept.ensures.outcomes k (subst (λ q. KeepsNeeds q k) (sym c.requires.program) (needed_keeps p n needs)))
+
+pub returns-clause-compared : goal.returns-clause-compared
+returns-clause-compared c = λ n count y needs e walked.
+    let k = needed_by c.args.program.now n in
+    let p = c.args.program.now in
+    let at : block_at c.args.graph.now.program c.args.leader ≡ block_at p c.args.leader = ap (λ (q : Program). block_at q c.args.leader) c.requires.program in
+    let here = c.in-Some.ensures in
+    let same : c.in-Some.count ≡ count = cc in
+    let keeps = subst (λ q. KeepsNeeds q k) (sym c.requires.program) (needed_keeps p n needs) in
+    subst (λ m. walk86 p c.args.text.now (k.at c.args.leader) c.args.leader m ≡ Ok y → AreCompared c.check_kept.new.work (block80 p c.args.leader m) y) same
+    (c.check_kept.ensures.compared k y keeps) walked

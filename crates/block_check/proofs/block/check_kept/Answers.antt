@@ -9,7 +9,7 @@ use Rattle.sym_micro.specs.Exits.{tree_of_exit}
 use Rattle.sym_run.specs.Outcomes.{OutcomeStands, WalkComesTo}
 use Rattle.block_check.specs.Kept.{wanted_parts, lost_of, kept_behind}
 use Rattle.block_check.specs.Comparing.{HoldsOutcomes, first_outcome, second_of, reason_by, verdict_of}
-use Rattle.block_check.proofs.Found.{are_ready, found, after_shown, reason_found}
+use Rattle.block_check.proofs.Found.{are_ready, found, compared, not_refused, ready_after, ready_refused, after_shown, reason_found}
 use Rattle.block_check.proofs.block.check_kept.Goals as goal
 
 pub reason_of-requires : goal.reason_of-requires
@@ -50,6 +50,40 @@ returns-in-Some-Ok-clause-outcomes c = λ k h.
       first = first;
       second = subst (λ held. WalkComesTo w.terms w.second (walk held) (Ok tt)) keep came;
     })
+
+pub returns-in-Some-Ok-clause-ready : goal.returns-in-Some-Ok-clause-ready
+returns-in-Some-Ok-clause-ready c =
+    let w = c.run86.new.self in
+    let x : Outcome = block80 c.args.program.now c.args.leader c.args.count in
+    let walk : Parts → Result Outcome Reason = λ keep. walk86 c.args.program.now c.args.text.now keep c.args.leader c.args.count in
+    let first : OutcomeStands w.terms w.first x = c.run86.ensures.still x c.in-Some.ensures.stands in
+    let came = rw c.in-Some-Ok.field-0-is at c.in-Some-Ok.ensures.stands in
+    ready_after c.verdict_of.result w (are_ready w x (walk c.run80.new.self.keep) first came)
+
+pub returns-in-Some-Err-clause-ready : goal.returns-in-Some-Err-clause-ready
+returns-in-Some-Err-clause-ready c =
+    let came = rw c.in-Some-Err.field-0-is at c.in-Some-Err.ensures.stands in
+    ready_refused c.args.program.now c.args.text.now c.run80.new.self.keep c.args.leader c.args.count c.run86.new.self c.in-Some-Err.reason c.ends_say_why.ensures came
+
+pub returns-in-Some-Ok-clause-compared : goal.returns-in-Some-Ok-clause-compared
+returns-in-Some-Ok-clause-compared c = λ k y h e.
+    let w = c.run86.new.self in
+    let x : Outcome = block80 c.args.program.now c.args.leader c.args.count in
+    let walk : Parts → Result Outcome Reason = λ keep. walk86 c.args.program.now c.args.text.now keep c.args.leader c.args.count in
+    let first : OutcomeStands w.terms w.first x = c.run86.ensures.still x c.in-Some.ensures.stands in
+    let came = rw c.in-Some-Ok.field-0-is at c.in-Some-Ok.ensures.stands in
+    let at : c.kept_from.result ≡ k.at c.args.leader = c.kept_from.ensures k h in
+    let keep : c.run80.new.self.keep ≡ k.at c.args.leader = cc in
+    compared w x y (walk (k.at c.args.leader)) first (subst (λ held. WalkComesTo w.terms w.second (walk held) (Ok tt)) keep came) e
+
+pub returns-in-Some-Err-clause-compared : goal.returns-in-Some-Err-clause-compared
+returns-in-Some-Err-clause-compared c = λ k y h e.
+    let w = c.run86.new.self in
+    let walk : Parts → Result Outcome Reason = λ keep. walk86 c.args.program.now c.args.text.now keep c.args.leader c.args.count in
+    let came = rw c.in-Some-Err.field-0-is at c.in-Some-Err.ensures.stands in
+    let at : c.kept_from.result ≡ k.at c.args.leader = c.kept_from.ensures k h in
+    let keep : c.run80.new.self.keep ≡ k.at c.args.leader = cc in
+    absurd (not_refused w.terms w.second y (walk (k.at c.args.leader)) c.in-Some-Err.reason (subst (λ held. WalkComesTo w.terms w.second (walk held) (Err c.in-Some-Err.reason)) keep came) e)
 
 pub returns-in-Some-Err-clause-verdict : goal.returns-in-Some-Err-clause-verdict
 returns-in-Some-Err-clause-verdict c = λ k h.

@@ -29,6 +29,8 @@ returns-clause-own g c =
     (record {
       reads = c.own_texts_are_same.ensures.reads_back;
       assembles = c.own_texts_are_same.ensures.assembles;
-      shown = λ mode p lines f is text fits h. (_, c.own_texts_are_shown.ensures.shown mode p lines f is text fits h);
+      shown = λ mode p lines others f is text fits same h. (_, c.own_texts_are_shown.ensures.shown mode p lines others f is text fits same h);
+      output_reads = c.commented_texts_read_back.ensures.reads;
+      output_image = c.commented_texts_read_back.ensures.image;
     })
     (check_read c.args.command.now) (g.H.Host.state c.args.host.now) (g.H.Host.state c.carry_out.new.host) c.carry_out.result (comes g c)

@@ -3,9 +3,9 @@ use Rattle.std.specs.String.{string_bytes}
 use Rattle.cmd_arguments.specs.ReadCommands.{hex80_read}
 use Rattle.cmd_common.specs.Said.{IsDone}
 use Rattle.cmd_common.proofs.Said.{never_0}
-use Rattle.cmd_makes.specs.Makes.{MakeGives, made, stopped}
+use Rattle.cmd_common.specs.Makes.{MakeGives, made, stopped}
 use Rattle.cmd_makes.specs.Hexes.{hex_kind}
-use Rattle.cmd_makes.proofs.Deciding.{completes}
+use Rattle.cmd_common.proofs.Deciding.{completes}
 use Rattle.cmd_makes.proofs.HexLaws.{laws_of_hex80, has_hex_file}
 use Rattle.cmd_makes.proofs.hexing.hex80.Given.{Over}
 use Rattle.cmd_makes.proofs.hexing.hex80.Goals as goal

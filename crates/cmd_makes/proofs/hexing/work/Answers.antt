@@ -5,7 +5,7 @@ use Rattle.cmd_arguments.specs.ReadCommands.{hex80_read}
 use Rattle.cmd_common.specs.declared.stop.Stop.TheVariants.{OutOfMemory}
 use Rattle.cmd_common.specs.Sources.{SourceGives, reading_of}
 use Rattle.cmd_common.proofs.Told.{judged}
-use Rattle.cmd_makes.specs.Makes.{IsMade, MakeStops, unmade, no_file, is_refused, no_memory}
+use Rattle.cmd_common.specs.Makes.{IsMade, MakeStops, unmade, no_file, is_refused, no_memory}
 use Rattle.cmd_makes.specs.Hexes.{HexOfProgram, hex_kind}
 use Rattle.cmd_makes.proofs.Stopping.{write_stop, has_made}
 use Rattle.cmd_makes.proofs.hexing.work.Goals as goal

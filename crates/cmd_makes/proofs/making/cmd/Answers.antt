@@ -2,9 +2,9 @@ use Rattle.std.proofs.Common.{subst}
 use Rattle.std.specs.String.{string_bytes}
 use Rattle.cmd_arguments.specs.ReadCommands.{cmd_read}
 use Rattle.cmd_common.specs.Said.{IsDone}
-use Rattle.cmd_makes.specs.Makes.{MakeGives, made, stopped}
+use Rattle.cmd_common.specs.Makes.{MakeGives, made, stopped}
 use Rattle.cmd_common.proofs.Said.{never_0}
-use Rattle.cmd_makes.proofs.Deciding.{completes}
+use Rattle.cmd_common.proofs.Deciding.{completes}
 use Rattle.cmd_makes.specs.Cmds.{cmd_kind}
 use Rattle.cmd_makes.proofs.Laws.{laws_of_cmd, has_command_file}
 use Rattle.cmd_makes.proofs.making.cmd.Given.{Over}

@@ -5,7 +5,7 @@ use Rattle.cmd_common.specs.Lines.{command_file_line}
 use Rattle.cmd_common.specs.Texts.{BytesGiveLines}
 use Rattle.cmd_common.proofs.Texts.{lines_refused, image_refused}
 use Rattle.cmd_common.proofs.Told.{judged}
-use Rattle.cmd_makes.specs.Makes.{MakeStops, unmade, no_file, is_refused, no_memory}
+use Rattle.cmd_common.specs.Makes.{MakeStops, unmade, no_file, is_refused, no_memory}
 use Rattle.cmd_makes.proofs.Stopping.{write_stop, has_made}
 use Rattle.cmd_makes.specs.Cmds.{cmd_kind}
 use Rattle.cmd_makes.proofs.making.work.Goals as goal

@@ -2,8 +2,8 @@ use Rattle.std.proofs.Common.{refl, subst}
 use Rattle.std.specs.String.{string_bytes}
 use Rattle.cmd_arguments.specs.ReadCommands.{cmd_show_read}
 use Rattle.cmd_common.specs.Said.{IsDone}
-use Rattle.cmd_makes.specs.Makes.{MakeGives, made, stopped}
-use Rattle.cmd_makes.proofs.Deciding.{completes, files_stay}
+use Rattle.cmd_common.specs.Makes.{MakeGives, made, stopped}
+use Rattle.cmd_common.proofs.Deciding.{completes, files_stay}
 use Rattle.cmd_makes.specs.Shows.{cmd_show_kind}
 use Rattle.cmd_makes.proofs.ShowLaws.{laws_of_cmdshow}
 use Rattle.cmd_makes.proofs.showing.cmdshow.Given.{Over}

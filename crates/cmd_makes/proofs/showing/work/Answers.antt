@@ -8,7 +8,7 @@ use Rattle.cmd_arguments.specs.ReadCommands.{cmd_show_read}
 use Rattle.cmd_common.specs.declared.stop.Stop.TheVariants.{OutOfMemory}
 use Rattle.cmd_common.specs.Files.{IsWholeFile, input_limit}
 use Rattle.cmd_common.proofs.Told.{judged}
-use Rattle.cmd_makes.specs.Makes.{MakeStops, unmade, no_file, is_refused, no_memory}
+use Rattle.cmd_common.specs.Makes.{MakeStops, unmade, no_file, is_refused, no_memory}
 use Rattle.cmd_makes.specs.Shows.{cmd_show_kind, stop_of_file}
 use Rattle.cmd_makes.proofs.showing.work.Goals as goal
 

@@ -2,7 +2,7 @@ use Rattle.std.proofs.Common.{◌≡◌, ◌∙◌, List, ap}
 use Rattle.std.specs.String.{string_bytes}
 use Rattle.std.proofs.lemmas.Result.{IfOk-weaker}
 use Rattle.asm86_line_types.specs.declared.line.Line86.{Line86}
-use Rattle.cmd_flags.specs.declared.savings.Saving.{Saving}
+use Rattle.cmd_lists.specs.declared.savings.Saving.{Saving}
 use Rattle.cmd_sample.specs.SampleReport.{counts_of, sample_line, IsSampleLine}
 use Rattle.cmd_sample.specs.SampleWork.{counts_read}
 use Rattle.cmd_sample.proofs.making.line_of.Goals as goal

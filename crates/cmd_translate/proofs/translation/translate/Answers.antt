@@ -14,6 +14,7 @@ gives-in-Ok g c =
     let new = g.H.Host.state c.say_done.new.host in
     worked (translate_read c.args.command.now) (g.H.Host.state c.args.host.now) mid new
     (record { reads = c.own_texts_are_same.ensures.reads_back; assembles = c.own_texts_are_same.ensures.assembles; reader = c.own_texts_are_same.ensures.reader; same = c.own_texts_are_same.ensures.same })
+    (record { reads = c.commented_texts_read_back.ensures.reads; image = c.commented_texts_read_back.ensures.image })
     (string_bytes c.in-Ok.line) c.in-Ok.ensures.worked c.say_done.result
     (subst (λ l. IsDone l mid new c.say_done.result) c.as_str.ensures.value c.say_done.ensures)
 

@@ -1,19 +1,20 @@
-use Rattle.std.proofs.Common.{◌≡◌, ap, sym, subst}
-use Rattle.asm86_line_types.specs.Written.{written_text}
+use Rattle.std.proofs.Common.{◌≡◌, ℕ, List, Bor, ◌∙◌, option_map, sym, subst}
 use Rattle.asm80_source_def.specs.Source.{IsSource}
 use Rattle.cmd_arguments.specs.ReadCommands.{translate_read}
 use Rattle.cmd_common.specs.Sources.{SourceGives, reading_of}
 use Rattle.templates.specs.Translation.{IsText}
+use Rattle.commented_text_def.specs.Commented.{kept_of}
+use Rattle.cmd_translate.specs.Translates.{mode_of}
 use Rattle.cmd_translate.specs.TranslateWork.{TextStops, StopsBy, unread}
 use Rattle.cmd_common.proofs.Told.{judged}
-use Rattle.cmd_translate.proofs.TranslateWorking.{source_stop, text_stop, write_stop, works}
+use Rattle.cmd_translate.proofs.TranslateWorking.{written_out, source_stop, text_stop, write_stop, works}
 use Rattle.cmd_translate.proofs.translation.work.Goals as goal
 
 pub returns-in_err-source-clause-stopped : goal.returns-in_err-source-clause-stopped
 returns-in_err-source-clause-stopped g c =
     let command = translate_read c.args.command.now in
     let old = g.H.Host.state c.args.host.now in
-    let new = g.H.Host.state c.read_source.new.host in
+    let new = g.H.Host.state c.read_kept.new.host in
     judged c.from_residual.result (λ s. s ≡ c.in_err-source.field-0.0) (StopsBy command old new) c.from_residual.ensures.1
     (λ s is. subst (StopsBy command old new) (sym is) (unread c.in_err-source.ensures.stopped c.in_err-source.ensures.only))
 
@@ -22,7 +23,7 @@ pub returns-in_err-program-clause-stopped : goal.returns-in_err-program-clause-s
 returns-in_err-program-clause-stopped g c =
     let command = translate_read c.args.command.now in
     let old = g.H.Host.state c.args.host.now in
-    let new = g.H.Host.state c.read_source.new.host in
+    let new = g.H.Host.state c.read_kept.new.host in
     let file = c.in_ok-source.ensures in
     let bytes = file.read.bytes in
     judged c.from_residual-in_err-program.result (λ s. s ≡ c.in_err-program.field-0.0) (StopsBy command old new) c.from_residual-in_err-program.ensures.1
@@ -34,7 +35,7 @@ pub returns-in_err-text-clause-stopped : goal.returns-in_err-text-clause-stopped
 returns-in_err-text-clause-stopped g c =
     let command = translate_read c.args.command.now in
     let old = g.H.Host.state c.args.host.now in
-    let new = g.H.Host.state c.read_source.new.host in
+    let new = g.H.Host.state c.read_kept.new.host in
     let file = c.in_ok-source.ensures in
     let bytes = file.read.bytes in
     judged c.from_residual-in_err-text.result (λ s. s ≡ c.in_err-text.field-0.0) (StopsBy command old new) c.from_residual-in_err-text.ensures.1
@@ -42,32 +43,40 @@ returns-in_err-text-clause-stopped g c =
     (text_stop command old new new bytes file.read.file file.only file.counted c.in_ok-program.program (subst (SourceGives (reading_of command.zilog) bytes command.top) c.in_ok-program.was file.read.gives)
     c.in_err-text.field-0.0 (subst (λ m. TextStops m c.in_ok-program.program c.in_err-text.field-0.0) c.mode_of.ensures c.in_err-text.ensures.stopped)))
 
-pub returns-in_err-write_text-clause-stopped : goal.returns-in_err-write_text-clause-stopped
-returns-in_err-write_text-clause-stopped g c =
+pub returns-in_err-write_kept-clause-stopped : goal.returns-in_err-write_kept-clause-stopped
+returns-in_err-write_kept-clause-stopped g c =
     let command = translate_read c.args.command.now in
     let old = g.H.Host.state c.args.host.now in
-    let mid = g.H.Host.state c.read_source.new.host in
-    let new = g.H.Host.state c.write_text.new.host in
+    let mid = g.H.Host.state c.read_kept.new.host in
+    let new = g.H.Host.state c.write_kept.new.host in
     let file = c.in_ok-source.ensures in
     let bytes = file.read.bytes in
     let p = c.in_ok-program.program in
+    let lines = c.in_ok-text.text.lines.items in
     let source : IsSource (reading_of command.zilog) bytes command.top p = subst (SourceGives (reading_of command.zilog) bytes command.top) c.in_ok-program.was file.read.gives in
-    let write = c.in_err-write_text in
-    judged c.from_residual-in_err-write_text.result (λ s. s ≡ write.field-0.0) (StopsBy command old new) c.from_residual-in_err-write_text.ensures.1
+    let text : IsText (mode_of command.plain) p lines = subst (λ m. IsText m p lines) c.mode_of.ensures c.in_ok-text.ensures.text in
+    let write = c.in_err-write_kept in
+    let w =
+    written_out c.plain_is_a_style.ensures.is (mode_of command.plain) p lines c.deref.result.now text c.deref.ensures.value (option_map (λ (b : Bor (List ℕ)). b.now) c.as_deref.result)
+    (kept_of command.comments bytes) (c.as_deref.ensures.value ∙ file.read.keeps) command.output mid new write.ensures.wrote in
+    judged c.from_residual-in_err-write_kept.result (λ s. s ≡ write.field-0.0) (StopsBy command old new) c.from_residual-in_err-write_kept.ensures.1
     (λ s is. subst (StopsBy command old new) (sym is)
-    (write_stop command old mid new bytes file.read.file file.only file.counted p c.in_ok-text.text.lines.items source (subst (λ m. IsText m p c.in_ok-text.text.lines.items) c.mode_of.ensures c.in_ok-text.ensures.text) c.in_ok-text.ensures.fits
-    (written_text c.as_slice.result.now) (ap written_text c.as_slice.ensures.value) write.field-0.0 write.ensures.stopped))
+    (write_stop command old mid new bytes file.read.file file.only file.counted p lines source text c.in_ok-text.ensures.fits w.out w.is write.field-0.0 w.stopped))
 
 pub returns-clause-worked : goal.returns-clause-worked
 returns-clause-worked g c =
     let command = translate_read c.args.command.now in
     let old = g.H.Host.state c.args.host.now in
-    let mid = g.H.Host.state c.read_source.new.host in
-    let new = g.H.Host.state c.write_text.new.host in
+    let mid = g.H.Host.state c.read_kept.new.host in
+    let new = g.H.Host.state c.write_kept.new.host in
     let file = c.in_ok-source.ensures in
     let bytes = file.read.bytes in
     let p = c.in_ok-program.program in
+    let lines = c.in_ok-text.text.lines.items in
     let source : IsSource (reading_of command.zilog) bytes command.top p = subst (SourceGives (reading_of command.zilog) bytes command.top) c.in_ok-program.was file.read.gives in
-    let write = c.in_ok-write_text in
-    works command old mid new bytes file.read.file file.only file.counted p c.in_ok-text.text.lines.items source (subst (λ m. IsText m p c.in_ok-text.text.lines.items) c.mode_of.ensures c.in_ok-text.ensures.text) c.in_ok-text.ensures.fits
-    (written_text c.as_slice.result.now) (ap written_text c.as_slice.ensures.value) write.ensures.only write.ensures.written write.ensures.counted _ c.in_ok-text.ensures.line
+    let text : IsText (mode_of command.plain) p lines = subst (λ m. IsText m p lines) c.mode_of.ensures c.in_ok-text.ensures.text in
+    let write = c.in_ok-write_kept in
+    let w =
+    written_out c.plain_is_a_style.ensures.is (mode_of command.plain) p lines c.deref.result.now text c.deref.ensures.value (option_map (λ (b : Bor (List ℕ)). b.now) c.as_deref.result)
+    (kept_of command.comments bytes) (c.as_deref.ensures.value ∙ file.read.keeps) command.output mid new write.ensures.wrote in
+    works command old mid new bytes file.read.file file.only file.counted p lines source text c.in_ok-text.ensures.fits w.out w.is write.ensures.only w.written write.ensures.counted _ c.in_ok-text.ensures.line

@@ -5,5 +5,5 @@ pub returns-clause-matches : goal.returns-clause-matches
 returns-clause-matches c = c.modes_match.ensures
 
 pub returns-clause-shown : goal.returns-clause-shown
-returns-clause-shown c mode p lines finding is text fits found =
-    only_shown c.findings_are_one.ensures p found.needs lines finding found.are (c.modes_match.ensures mode p found.needs lines is found.are text fits) found
+returns-clause-shown c mode p lines others finding is text fits same found =
+    only_shown c.findings_are_one.ensures p found.needs lines others finding found.are (c.modes_match.ensures mode p found.needs lines is found.are text fits) same found

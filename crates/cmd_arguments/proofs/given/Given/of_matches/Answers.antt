@@ -10,8 +10,10 @@ returns c =
     let f = found_of c.args.matches.now in (
       c.has_flag.result,
       c.has_flag-2.result,
+      c.has_flag-3.result,
       c.has_flag.ensures,
       c.has_flag-2.ensures,
+      c.has_flag-3.ensures,
       same_gathered (c.of_texts.ensures ∙ ap names (names_told f (codes "names") _ c.get_raw.ensures))
           (option_told f _ _ c.get_str.result c.get_str.ensures c.name.ensures)
           (option_told f _ _ c.get_str-2.result c.get_str-2.ensures c.name-2.ensures)
@@ -21,6 +23,7 @@ returns c =
           (option_told f _ _ c.get_str-6.result c.get_str-6.ensures c.name-6.ensures)
           (option_told f _ _ c.get_str-7.result c.get_str-7.ensures c.name-7.ensures)
           (option_told f _ _ c.get_str-8.result c.get_str-8.ensures c.name-8.ensures)
+          refl
           refl
           refl,
     )

@@ -1,0 +1,4 @@
+mod Smaller
+mod Leaves
+mod One
+mod OneText

@@ -1,0 +1,4 @@
+pub mod Smallest
+pub mod Apart
+pub mod Pairs
+pub mod Explained

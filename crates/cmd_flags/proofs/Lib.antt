@@ -1,2 +1,0 @@
-pub mod Finish
-pub mod Gathering

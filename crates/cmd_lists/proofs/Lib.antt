@@ -1,0 +1,3 @@
+mod Gathering
+mod Laws
+mod Departing

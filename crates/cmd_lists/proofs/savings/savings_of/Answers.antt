@@ -1,0 +1,32 @@
+use Rattle.std.proofs.Common.{refl, sym, subst, ◌∙◌, arith}
+use Rattle.std.specs.Prelude.{filter}
+use Rattle.std.proofs.lemmas.List.{take_all}
+use Rattle.i80.specs.declared.Instr80.TheVariants.{Nop}
+use Rattle.asm80_program_types.specs.declared.program.Placed.{Placed}
+use Rattle.flow.specs.Saves.{is_sum_at}
+use Rattle.cmd_lists.specs.Saves.{AreSavings}
+use Rattle.cmd_lists.proofs.Gathering.{kept, passed}
+use Rattle.cmd_lists.proofs.savings.savings_of.Goals as goal
+use Rattle.cmd_lists.proofs.savings.savings_of.Goals.{in-Some+in_ok-push, in_default}
+
+-- what an index past the end would give
+abbrev any_placed : Placed
+any_placed = record { at = 0; line = 0; instr = Nop }
+
+pub loop-placed-preserved : goal.loop-placed-preserved
+loop-placed-preserved c =
+    let p = c.args.program.now in
+    let items = c.instrs-placed-items.result.now in
+    let i = c.loop-placed.placed-index in
+    let before = c.loop-placed.savings.items in
+    elim c.match-saves.branch [
+      | in-Some+in_ok-push w ↦ rw (w.savings-is, w.in_ok-push.ensures.items) (kept p items i any_placed before c.loop-placed-test.true c.loop-placed.invariant _ (sym w.in-Some.ensures.place) (record { at = refl; line = refl; keep = w.in-Some.ensures.saves }))
+      | in_default w ↦ rw w.savings-is (passed p items i any_placed before c.loop-placed-test.true c.loop-placed.invariant (sym w.in_default.ensures.place))
+    ]
+
+pub returns : goal.returns
+returns c =
+    let p = c.args.program.now in
+    subst (λ l. AreSavings p (filter (λ (x : Placed). is_sum_at p x.at) l) c.loop-placed.savings.items)
+    (take_all c.loop-placed.placed-index c.instrs-placed-items.result.now (omega arith) ∙ c.instrs-placed-items.ensures.value)
+    c.loop-placed.invariant

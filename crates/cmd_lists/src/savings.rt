@@ -1,0 +1,51 @@
+// The instructions that may have to save flags, with the flags that each of them has to save.
+ghost use Rattle.std.specs.Prelude.{◌≡◌, IfOk, count_by};
+ghost use Rattle.cmd_lists.specs.Saves.{sums, AreSavings, saves_any};
+
+use asm80_program_types::Program80;
+use cells::{Keep, Part};
+use flow::{Graph, saves};
+use std::alloc::{AllocError, Global};
+
+/// An INX, DCX or DAD: its address, its line in the source, and those of S Z AC P that it has to save.
+#[derive(Clone, Copy)]
+pub struct Saving {
+    pub at: u16,
+    pub line: u32,
+    pub keep: Keep,
+}
+
+/// Those of a program, in ascending order.
+pub fn savings_of(alloc: Global, program: &Program80) -> Result<Vec<Saving>, AllocError>
+    ensures { IfOk result (λ savings. AreSavings program.now (sums program.now) savings.items) }
+{
+    let graph = Graph::solved(alloc, program)?;
+    let mut savings = Vec::new(alloc);
+    for placed in program.instrs() {
+        if let Some(keep) = saves(program, &graph, placed.at) {
+            savings.push(Saving {
+                at: placed.at,
+                line: placed.line,
+                keep,
+            })?;
+        }
+    }
+    Ok(savings)
+}
+
+/// How many of them have a flag to save.
+pub fn saved_among(savings: &[Saving]) -> usize
+    ensures { result ≡ count_by (λ s. saves_any s.keep) savings.now }
+{
+    savings
+        .iter()
+        .filter(|saving| saves_any(saving.keep))
+        .count()
+}
+
+/// Whether a flag has to be saved.
+pub fn saves_any(keep: Keep) -> bool
+    ensures { result ≡ saves_any keep }
+{
+    keep.has(Part::S) || keep.has(Part::Z) || keep.has(Part::Ac) || keep.has(Part::P)
+}
