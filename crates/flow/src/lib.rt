@@ -24,4 +24,4 @@ mod wiring;
 pub use graph::Graph;
 pub use laws::{blocks_cut_the_program, needs_are_closed};
 pub use node::Node;
-pub use saving::saves;
+pub use saving::{is_word_sum, saves};
