@@ -1,3 +1,4 @@
+mod Capitals
 mod Checked
 mod Each
 mod Given

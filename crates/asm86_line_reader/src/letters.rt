@@ -1,10 +1,18 @@
 //! The bytes of a line.
 
-ghost use Rattle.std.specs.Prelude.{◌≡◌, ◌≤◌, ◌∷◌, [], IfOk, MatchOption, length, map};
-ghost use Rattle.asm86_line_reader.specs.Letters.{inside_len, is_blank, is_inside, sign_of, upper};
+ghost use Rattle.std.specs.Prelude.{◌≡◌, ◌≤◌, ◌∷◌, [], IfOk, MatchOption, length, map, not};
+ghost use Rattle.std.specs.List.{list_all};
+ghost use Rattle.asm86_line_reader.specs.Letters.{inside_len, is_blank, is_inside, is_lower, sign_of, upper};
 
 use crate::token::Token;
 use std::alloc::{AllocError, Global};
+
+/// Whether a line is in capitals as it is.
+pub fn has_no_lower(line: &[u8]) -> bool
+    ensures { result ≡ list_all (λ b. not (is_lower b)) line.now }
+{
+    line.iter().all(|b| !b.is_ascii_lowercase())
+}
 
 /// The line in capitals.
 pub fn in_capitals(alloc: Global, line: &[u8]) -> Result<Vec<u8>, AllocError>

@@ -1,6 +1,6 @@
 //! One line.
 
-ghost use Rattle.std.specs.Prelude.{◌≡◌, ◌≢◌, ◌∷◌, ◌++◌, [], codes, ℕ, List, IsTrue, MatchOption, Ok, Result};
+ghost use Rattle.std.specs.Prelude.{◌≡◌, ◌≢◌, ◌≤◌, ◌∷◌, ◌++◌, [], codes, ℕ, List, IsTrue, MatchOption, Ok, Result, length, map};
 ghost use Rattle.std.specs.List.{list_all};
 ghost use Rattle.asm86_line_types.specs.declared.line.Label.{Label};
 ghost use Rattle.asm86_line_types.specs.declared.line.Stmt86.{Stmt86};
@@ -8,6 +8,7 @@ ghost use Rattle.asm86_line_types.specs.declared.line.TextRule.{TextRule};
 ghost use Rattle.asm86_line_types.specs.Written.{written_line};
 ghost use Rattle.asm86_line_reader.specs.declared.token.Operation.{Operation};
 ghost use Rattle.asm86_line_reader.specs.declared.token.Token.{Token};
+ghost use Rattle.asm86_line_reader.specs.Letters.{upper};
 ghost use Rattle.asm86_line_reader.specs.Forms.{body_of, names_labels, statements_of};
 ghost use Rattle.asm86_line_reader.specs.Line.{TextLineGives};
 ghost use Rattle.asm86_line_reader.specs.ReadBack.{has_line};
@@ -15,7 +16,7 @@ ghost use Rattle.asm86_line_reader.specs.Results.{AnswersLine, all_checked};
 
 use crate::fault::LineFault;
 use crate::items::formed;
-use crate::letters::in_capitals;
+use crate::letters::{has_no_lower, in_capitals};
 use crate::operands::operands_of;
 use crate::token::{Operation, Token};
 use crate::tokens::tokens_of;
@@ -32,8 +33,18 @@ pub fn read_line(alloc: Global, line: &[u8]) -> Result<Vec<Stmt86>, LineFault>
     if line.len() > LONGEST_LINE {
         return Err(LineFault::Rule(TextRule::M1));
     }
+    if has_no_lower(line) {
+        return read_capitals(alloc, line);
+    }
     let capitals = in_capitals(alloc, line)?;
-    let Some(tokens) = tokens_of(alloc, &capitals)? else {
+    read_capitals(alloc, &capitals)
+}
+
+// The same of a line that is not too long, from its bytes in capitals.
+fn read_capitals(alloc: Global, capitals: &[u8]) -> Result<Vec<Stmt86>, LineFault>
+    ensures { (line : List ℕ) → length line ≤ 255 → map upper line ≡ capitals.now → AnswersLine (TextLineGives line) result }
+{
+    let Some(tokens) = tokens_of(alloc, capitals)? else {
         return Err(LineFault::Rule(TextRule::M1));
     };
     statements_of(alloc, &tokens)

@@ -15,7 +15,7 @@ use i86::{AluOp, Count, Jump, Reg8, Reg16, Rotate};
 type Words<'a> = &'a [(&'a [u8], Token)];
 
 /// The words of instructions, directives and operands, and the labels without a number, by the letter that they begin with, from A on.
-const WORDS: [Words<'static>; 26] = [
+static WORDS: [Words<'static>; 26] = [
     &[
         (b"ADD", Token::Operation(Operation::Alu(AluOp::Add))),
         (b"ADC", Token::Operation(Operation::Alu(AluOp::Adc))),

@@ -1,15 +1,21 @@
 -- How the edges of a program are kept: for each node, the numbers of the nodes with an edge to it.
 use Rattle.std.specs.Prelude.{◌≡◌, ◌⊎◌, ℕ, ◌+◌, ◌<◌, List, [], ◌∷◌, map, length, take, Option, Some, None}
 use Rattle.std.specs.List.{Contains, sum_by}
-use Rattle.std.specs.Global.{Vec}
 use Rattle.asm80_program_types.specs.Program.{Program}
 use Rattle.flow.specs.declared.node.Node.{Node}
+use Rattle.flow.specs.declared.sources.Row.{Row}
+use Rattle.flow.specs.declared.sources.Row.TheVariants.{None as NoRow, One, More}
 use Rattle.flow.specs.declared.node.Node.TheVariants.{Start, Return}
 use Rattle.flow.specs.Graph.{nodes, edge_to, successors, edge_count, IsEdge}
 use Rattle.flow.specs.Search.{node_at, row}
 
-abbrev pub rows_of : List (Vec ℕ) → List (List ℕ)
-rows_of rows = map (λ (v : Vec ℕ). v.items) rows
+abbrev pub items_of : Row → List ℕ
+items_of NoRow = []
+items_of (One number) = number
+items_of (More numbers) = numbers.items
+
+abbrev pub rows_of : List Row → List (List ℕ)
+rows_of rows = map items_of rows
 
 -- the number of a node
 pub record IsNumber (p : Program) (k : ℕ) (q : Node) : Type 0 where

@@ -1,14 +1,69 @@
 // Which nodes have an edge to a node.
 
 ghost use Rattle.std.specs.Prelude.{◌≡◌, ◌<◌, ◌++◌, ◌∷◌, [], length, IfOk, OnOk, replicate, slice_set, slice_index_or};
+ghost use Rattle.flow.specs.Wiring.{items_of};
 
 use std::alloc::{AllocError, Global};
 use std::marker::Model;
+use std::mem;
+
+/// The numbers of the nodes with an edge to one node: of most nodes it is one, which takes no memory of its own.
+#[derive(Drop)]
+enum Row {
+    None,
+    One([usize; 1]),
+    More(Vec<usize>),
+}
+
+impl Row {
+    // One number more, as the last.
+    fn with(self, alloc: Global, from: usize) -> Result<Row, AllocError>
+        ensures { IfOk result (λ row. items_of row ≡ items_of self ++ from ∷ []) }
+    {
+        match self {
+            Row::None => Ok(Row::One([from])),
+            Row::One(number) => {
+                let [first] = number;
+                two(alloc, first, from)
+            }
+            Row::More(numbers) => one_more(numbers, from),
+        }
+    }
+
+    fn numbers(&self) -> &[usize]
+        ensures { result.now ≡ items_of self.now }
+    {
+        match self {
+            Row::None => &[],
+            Row::One(number) => number,
+            Row::More(numbers) => numbers,
+        }
+    }
+}
+
+// Two numbers.
+fn two(alloc: Global, first: usize, second: usize) -> Result<Row, AllocError>
+    ensures { IfOk result (λ row. items_of row ≡ first ∷ (second ∷ [])) }
+{
+    let mut numbers = Vec::with_capacity(alloc, 2)?;
+    numbers.push(first)?;
+    one_more(numbers, second)
+}
+
+// Some numbers, and one as the last.
+fn one_more(numbers: Vec<usize>, number: usize) -> Result<Row, AllocError>
+    ensures { IfOk result (λ row. items_of row ≡ numbers.items ++ number ∷ []) }
+{
+    let mut numbers = numbers;
+    numbers.push(number)?;
+    Ok(Row::More(numbers))
+}
 
 /// For each node, the numbers of the nodes with an edge to it.
 #[derive(Drop)]
 pub struct Sources {
-    rows: Vec<Vec<usize>>,
+    alloc: Global,
+    rows: Vec<Row>,
 }
 
 impl Model for Sources {
@@ -27,9 +82,9 @@ impl Sources {
     {
         let mut rows = Vec::with_capacity(alloc, count)?;
         for _ in 0..count {
-            rows.push(Vec::new(alloc))?;
+            rows.push(Row::None)?;
         }
-        Ok(Sources { rows })
+        Ok(Sources { alloc, rows })
     }
 
     /// Adds an edge from a node to a node.
@@ -37,7 +92,8 @@ impl Sources {
         requires { to < length self.old }
         ensures { OnOk result (self.new ≡ slice_set self.old to (slice_index_or self.old to [] ++ from ∷ [])) }
     {
-        self.rows[to].push(from)?;
+        let row = mem::replace(&mut self.rows[to], Row::None);
+        self.rows[to] = row.with(self.alloc, from)?;
         Ok(())
     }
 
@@ -46,6 +102,6 @@ impl Sources {
         requires { to < length self.now }
         ensures { result.now ≡ slice_index_or self.now to [] }
     {
-        &self.rows[to]
+        self.rows[to].numbers()
     }
 }

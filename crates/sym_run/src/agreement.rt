@@ -3,12 +3,12 @@
 ghost use Rattle.std.specs.Prelude.{◌≡◌, ◌==◌, ◌&&◌, ◌||◌, true, false};
 ghost use Rattle.cells.specs.declared.Part.TheVariants.{S, Z, Ac, P, Cy};
 ghost use Rattle.sym_terms.specs.Numbers.{part_number};
-ghost use Rattle.sym_terms.specs.Term.{Bit, same_term, is_bit, is_byte, is_flag};
+ghost use Rattle.sym_terms.specs.Term.{Bit, Unknown, same_term, is_bit, is_byte, is_flag};
 ghost use Rattle.sym_terms.specs.Making.{bit};
 ghost use Rattle.sym_terms.specs.Trees.{tree_in, IsGiven, IsA};
 ghost use Rattle.block_check_def.specs.Agree.{agrees};
 ghost use Rattle.sym_run.specs.Seen.{tree_of_seen, SeenIsGiven};
-ghost use Rattle.sym_run.specs.Five.{is_put_together, id_of_five, FiveAre, IsJoin, IsTurnedId};
+ghost use Rattle.sym_run.specs.Five.{is_byte_of_flags, is_put_together, id_of_five, FiveAre, IsJoin, IsTurnedId};
 
 use crate::known::{Five, flags_of, knows_bit, knows_byte, knows_five};
 use crate::seen::{Seen, half_of, is, is_unknown, same};
@@ -24,8 +24,25 @@ pub fn agree(terms: &Terms, s: Term, t: Term) -> bool
     match terms.head(s) {
         Head::Join(high, low) => agree_join(terms, s, high, low, t),
         Head::Turned(carry) => agree_turned(terms, s, carry, t),
-        _ => agree_plain(terms, s, Seen::Of(t)),
+        Head::FlagByte(..) => agree_plain(terms, s, Seen::Of(t)),
+        Head::Unknown => true,
+        _ => agree_known(terms, s, t),
     }
+}
+
+// A term that is put together of none, and is not Unknown: it agrees with itself alone.
+fn agree_known(terms: &Terms, s: Term, t: Term) -> bool
+    requires s { IsGiven terms.now s }
+    requires t { IsGiven terms.now t }
+    requires plain { is_put_together (tree_in terms.now s) ≡ true }
+    requires no_flags { is_byte_of_flags (tree_in terms.now s) ≡ false }
+    requires known { same_term (tree_in terms.now s) Unknown ≡ false }
+    ensures { result ≡ agrees (tree_in terms.now s) (tree_in terms.now t) }
+{
+    made_terms_have_sorts();
+    // for its contract alone: the terms are terms
+    let _mark = terms.mark();
+    same(terms, s, t)
 }
 
 // A word of two bytes: by its halves, where it is not the same and known.

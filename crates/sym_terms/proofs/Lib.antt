@@ -10,6 +10,7 @@ pub mod Places
 pub mod Entries
 pub mod Heads
 pub mod Marks
+pub mod Leaves
 pub mod Growing
 pub mod Interning
 pub mod Reading

@@ -35,6 +35,17 @@ abbrev pub is_flag_byte_head : Head → Bool
 is_flag_byte_head (FlagByteHead s z ac p cy) = true
 is_flag_byte_head h = false
 
+-- a head without operands
+abbrev pub is_leaf_head : Head → Bool
+is_leaf_head (NumHead n) = true
+is_leaf_head (StartHead part) = true
+is_leaf_head StartSpHead = true
+is_leaf_head (Loaded8Head k) = true
+is_leaf_head (Loaded16Head k) = true
+is_leaf_head (CodeHead q high) = true
+is_leaf_head UnknownHead = true
+is_leaf_head h = false
+
 -- a node with a number and up to three operands
 abbrev pub node_with : ℕ → ℕ → ℕ → ℕ → ℕ → Node
 node_with kind number a b c = record { op = kind; num = number; a = a; b = b; c = c }

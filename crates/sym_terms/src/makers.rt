@@ -16,35 +16,35 @@ impl Terms {
     pub fn number(&mut self, n: u16) -> Option<Term>
         ensures { Makes self.old self.new 1 (Num n) result }
     {
-        self.keep(Head::Num(n))
+        self.keep_leaf(Head::Num(n))
     }
 
     /// What a part held at the start.
     pub fn start(&mut self, part: Part) -> Option<Term>
         ensures { Makes self.old self.new 1 (Start part) result }
     {
-        self.keep(Head::Start(part))
+        self.keep_leaf(Head::Start(part))
     }
 
     /// What SP held at the start.
     pub fn start_sp(&mut self) -> Option<Term>
         ensures { Makes self.old self.new 1 StartSp result }
     {
-        self.keep(Head::StartSp)
+        self.keep_leaf(Head::StartSp)
     }
 
     /// What is not known.
     pub fn unknown(&mut self) -> Option<Term>
         ensures { Makes self.old self.new 1 Unknown result }
     {
-        self.keep(Head::Unknown)
+        self.keep_leaf(Head::Unknown)
     }
 
     /// The high half of a code address, or the low one.
     pub fn code(&mut self, place: Place, high: bool) -> Option<Term>
         ensures { Makes self.old self.new 1 (Code place high) result }
     {
-        self.keep(Head::Code(place, high))
+        self.keep_leaf(Head::Code(place, high))
     }
 
     /// The byte or the word that the load with this number brought, counted from 0.
@@ -52,9 +52,9 @@ impl Terms {
         ensures { Makes self.old self.new 1 (cond word (Loaded16 index) (Loaded8 index)) result }
     {
         if word {
-            self.keep(Head::Loaded16(index))
+            self.keep_leaf(Head::Loaded16(index))
         } else {
-            self.keep(Head::Loaded8(index))
+            self.keep_leaf(Head::Loaded8(index))
         }
     }
 
@@ -80,17 +80,16 @@ impl Terms {
         if self.is_open(of) {
             return self.unknown();
         }
-        let head = self.head(of);
         match part {
             Part::Cy => {
-                if is_logic(head) {
+                if is_logic(self.head(of)) {
                     self.number(0)
                 } else {
                     self.keep(Head::Flag(part, of))
                 }
             }
             Part::Ac => {
-                if is_addition(head) {
+                if is_addition(self.head(of)) {
                     self.keep(Head::Flag(part, of))
                 } else {
                     self.unknown()

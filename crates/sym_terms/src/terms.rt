@@ -1,10 +1,10 @@
 // The terms: nodes in a pool.
 
-ghost use Rattle.std.specs.Prelude.{◌≡◌, ◌+◌, ◌-◌, ◌<◌, ◌≤◌, false, [], All, IfOk, length, take};
+ghost use Rattle.std.specs.Prelude.{◌≡◌, ◌+◌, ◌-◌, ◌<◌, ◌≤◌, false, true, [], All, IfOk, length, take};
 ghost use Rattle.xlt_pool.specs.Contents.{NodeStandsAt};
 ghost use Rattle.sym_terms.specs.Making.{IsTermMade};
 ghost use Rattle.sym_terms.specs.Term.{FlagByte, is_bit, is_adjusted};
-ghost use Rattle.sym_terms.specs.Heads.{operands, is_flag_byte_head, number_of_id, term_of};
+ghost use Rattle.sym_terms.specs.Heads.{operands, is_flag_byte_head, is_leaf_head, number_of_id, term_of};
 ghost use Rattle.sym_terms.specs.Trees.{tree_of_head, entries_of, tree_in, flag_byte_of, StandsFor, IsGiven, AreGiven, IsA, AreTerms, Makes, MakesRest};
 ghost use Rattle.sym_terms.specs.Forms.{HasRest};
 
@@ -164,6 +164,15 @@ impl Terms {
     {
         let adjusted = self.adjusts(head);
         self.keep_with(head, Id(0), adjusted)
+    }
+
+    /// The term of a head without operands, in which no Adjust can stand.
+    pub(crate) fn keep_leaf(&mut self, head: Head) -> Option<Term>
+        requires leaf { is_leaf_head head ≡ true }
+        requires made { IsTermMade (tree_of_head (entries_of self.old.nodes) head) }
+        ensures { Makes self.old self.new 1 (tree_of_head (entries_of self.old.nodes) head) result }
+    {
+        self.keep_with(head, Id(0), false)
     }
 
     // The term of a head, in which an Adjust stands or does not; that of a FlagByte has this further node.

@@ -1,8 +1,9 @@
 -- A table stays one where an id is added, and where the last one is taken away; and what a search finds.
 use Rattle.std.proofs.Common.{◌≡◌, ℕ, ◌+◌, ◌-◌, ◌%◌, ◌<◌, ◌≤◌, List, [], ◌∷◌, ◌++◌, length, Option, Some, None, get_or, sym, ap, subst, ◌∙◌, arith, ⊎_elim, length-append, length-set, get_or-set_same}
-use Rattle.std.specs.Prelude.{is_none, count_by, MatchOption}
+use Rattle.std.specs.Prelude.{is_none, count_by}
 use Rattle.std.proofs.Math.ListN.{set}
 use Rattle.std.proofs.lemmas.Bool.{cases_eq, cases_lt}
+use Rattle.std.proofs.lemmas.List.{get_or_append_left, get_or_push}
 use Rattle.std.proofs.lemmas.List.Sums.{sum_by-set}
 use Rattle.std.proofs.lemmas.Option.{slice_get_within}
 use Rattle.xlt_pool.specs.declared.node.Node.{Node}
@@ -161,14 +162,6 @@ search_ends nodes slots node distance t passed round =
     let room : length nodes < length slots = t.room in
     omega arith
 
--- the search for the last node finds its id
-pub last_is_found : (nodes : List Node) (slots : List (Option ℕ)) (node : Node) (last at : ℕ) → AreDistinct nodes → NodeStandsAt nodes last node → MatchOption (get_or slots at None) (IsFreeFor nodes slots node at) (λ id. NodeStandsAt nodes id node) → HasId slots at last
-last_is_found nodes slots node last at distinct stands found = by_slot (get_or slots at None) found
-  where
-    by_slot : (slot : Option ℕ) → MatchOption slot (IsFreeFor nodes slots node at) (λ id. NodeStandsAt nodes id node) → slot ≡ Some last
-    by_slot None free = absurd (free.absent last stands)
-    by_slot (Some id) here = ap Some (distinct id last node here stands)
-
 -- the table without the last node
 pub table_popped : (nodes rest : List Node) (node : Node) (slots : List (Option ℕ)) (at : ℕ) → nodes ≡ rest ++ node ∷ [] → IsTable nodes slots → HasId slots at (length nodes - 1) → IsTable rest (set slots at None)
 table_popped nodes rest node slots at e t has =
@@ -180,3 +173,40 @@ table_popped nodes rest node slots at e t has =
 -- a table keeps its size
 pub set_at_slot : (slots : List (Option ℕ)) (at : ℕ) (v : Option ℕ) (n : ℕ) → n < length slots → n < length (set slots at v)
 set_at_slot slots at v n h = rw length-set h
+
+-- ---- where the ids stand
+
+pub placed_with : (slots : List (Option ℕ)) (places : List ℕ) (at n : ℕ) → length places ≡ n → ((k : ℕ) → k < n → HasId slots (get_or places k 0) k) → at < length slots → get_or slots at None ≡ None → (k : ℕ) → k < n + 1 → HasId (set slots at (Some n)) (get_or (places ++ at ∷ []) k 0) k
+placed_with slots places at n count placed within empty k lt =
+    ⊎_elim
+    (λ below.
+    let kl : k < length places = omega (arith, count, below) in
+    rw (get_or_append_left places (at ∷ []) 0 k kl) (other_slot slots at (get_or places k 0) k (Some n) (nothing_there k) (placed k below)))
+    (λ last.
+    let is : k ≡ n = omega arith in
+    rw (get_or_push places at 0 k (count ∙ sym is)) (get_or-set_same slots at (Some n) None within ∙ ap Some (sym is)))
+    (cases_lt k n)
+  where
+    nothing_there : (id : ℕ) → HasId slots at id → ⊥
+    nothing_there id e = let both : None ≡ Some id = sym empty ∙ e in cc
+
+-- the last id stands at the last place
+pub last_place : (slots : List (Option ℕ)) (places rest : List ℕ) (at n : ℕ) → places ≡ rest ++ at ∷ [] → length places ≡ n → ((k : ℕ) → k < n → HasId slots (get_or places k 0) k) → HasId slots at (n - 1)
+last_place slots places rest at n e count placed =
+    let long : length places ≡ length rest + 1 = ap length e ∙ length-append rest (at ∷ []) in
+    let last : n - 1 < n = omega arith in
+    let before : length rest ≡ n - 1 = omega arith in
+    subst (λ k. HasId slots k (n - 1)) (ap (λ (ps : List ℕ). get_or ps (n - 1) 0) e ∙ get_or_push rest at 0 (n - 1) before) (placed (n - 1) last)
+
+pub placed_without : (slots : List (Option ℕ)) (places rest : List ℕ) (at last n : ℕ) → places ≡ rest ++ last ∷ [] → length rest ≡ n → ((k : ℕ) → k < n + 1 → HasId slots (get_or places k 0) k) → HasId slots at n → (k : ℕ) → k < n → HasId (set slots at None) (get_or rest k 0) k
+placed_without slots places rest at last n e count placed has k lt =
+    let kl : k < length rest = omega (arith, count, lt) in
+    let near : k < n + 1 = omega arith in
+    let same : get_or places k 0 ≡ get_or rest k 0 = ap (λ (ps : List ℕ). get_or ps k 0) e ∙ get_or_append_left rest (last ∷ []) 0 k kl in
+    other_slot slots at (get_or rest k 0) k None (not_there k lt) (subst (λ j. HasId slots j k) same (placed k near))
+  where
+    not_there : (id : ℕ) → id < n → HasId slots at id → ⊥
+    not_there id below e =
+        let both : Some n ≡ Some id = sym has ∙ e in
+        let is : n ≡ id = cc in
+        omega arith

@@ -13,6 +13,8 @@ use std::marker::Model;
 pub struct Pool {
     nodes: Vec<Node>,
     slots: Vec<Option<u32>>,
+    // the slot of each node's id, so that none is searched for where the node is taken away
+    places: Vec<usize>,
     room: u32,
 }
 
@@ -39,6 +41,7 @@ impl Pool {
         Ok(Pool {
             nodes: Vec::with_capacity(alloc, room as usize)?,
             slots: Vec::from_elem(alloc, None, slots)?,
+            places: Vec::with_capacity(alloc, room as usize)?,
             room,
         })
     }
@@ -57,6 +60,7 @@ impl Pool {
         }
         let id = self.nodes.len() as u32;
         self.nodes.push_reserved(node);
+        self.places.push_reserved(slot);
         self.slots[slot] = Some(id);
         Some(Id(id))
     }
@@ -94,9 +98,9 @@ impl Pool {
         ensures nodes { self.new.nodes ≡ take (length self.old.nodes - 1) self.old.nodes }
         ensures spare { self.new.spare ≡ self.old.spare + 1 }
     {
-        let last = self.nodes[self.nodes.len() - 1];
-        let slot = slot_of(&self.nodes, &self.slots, last);
-        self.slots[slot] = None;
-        let _ = self.nodes.pop();
+        if let Some(slot) = self.places.pop() {
+            self.slots[slot] = None;
+            let _ = self.nodes.pop();
+        }
     }
 }

@@ -49,7 +49,7 @@ returns-then-is_logic c =
     let es = entries_of held.nodes in
     let is : flag c.args.part r ≡ Num 0 =
     flag_is c.args.part r (Num 0) (sym c.is_open.ensures.open ∙ c.if-is_open.false)
-    (ap₂ flag_term_of c.in-Cy.is c.head-head.ensures.tree ∙ no_carry es c.head-head.result (sym c.is_logic.ensures ∙ c.if-is_logic.true))
+    (ap₂ flag_term_of c.in-Cy.is c.head.ensures.tree ∙ no_carry es c.head.result (sym c.is_logic.ensures ∙ c.if-is_logic.true))
     in
     subst (λ t. Makes held c.number.new.self 1 t c.number.result) (sym is) c.number.ensures
 
@@ -60,7 +60,7 @@ keep-requires-clause-made c =
     let es = entries_of held.nodes in
     let is : flag c.args.part r ≡ Flag c.args.part r =
     flag_is c.args.part r (Flag c.args.part r) (sym c.is_open.ensures.open ∙ c.if-is_open.false)
-    (ap₂ flag_term_of c.in-Cy.is c.head-head.ensures.tree ∙ carry es c.head-head.result (sym c.is_logic.ensures ∙ c.if-is_logic.false) ∙ sym (ap₂ Flag c.in-Cy.is c.head-head.ensures.tree))
+    (ap₂ flag_term_of c.in-Cy.is c.head.ensures.tree ∙ carry es c.head.result (sym c.is_logic.ensures ∙ c.if-is_logic.false) ∙ sym (ap₂ Flag c.in-Cy.is c.head.ensures.tree))
     in
     (c.is_open.ensures.made, c.requires.of_sort, is)
 
@@ -71,7 +71,7 @@ returns-else-is_logic c =
     let es = entries_of held.nodes in
     let is : flag c.args.part r ≡ Flag c.args.part r =
     flag_is c.args.part r (Flag c.args.part r) (sym c.is_open.ensures.open ∙ c.if-is_open.false)
-    (ap₂ flag_term_of c.in-Cy.is c.head-head.ensures.tree ∙ carry es c.head-head.result (sym c.is_logic.ensures ∙ c.if-is_logic.false) ∙ sym (ap₂ Flag c.in-Cy.is c.head-head.ensures.tree))
+    (ap₂ flag_term_of c.in-Cy.is c.head.ensures.tree ∙ carry es c.head.result (sym c.is_logic.ensures ∙ c.if-is_logic.false) ∙ sym (ap₂ Flag c.in-Cy.is c.head.ensures.tree))
     in
     subst (λ t. Makes held c.keep.new.self 1 t c.keep.result) (sym is) c.keep.ensures
 
@@ -82,7 +82,7 @@ keep-requires-then-is_addition-clause-made c =
     let es = entries_of held.nodes in
     let is : flag c.args.part r ≡ Flag c.args.part r =
     flag_is c.args.part r (Flag c.args.part r) (sym c.is_open.ensures.open ∙ c.if-is_open.false)
-    (ap₂ flag_term_of c.in-Ac.is c.head-head.ensures.tree ∙ half_carry es c.head-head.result (sym c.is_addition.ensures ∙ c.if-is_addition.true) ∙ sym (ap₂ Flag c.in-Ac.is c.head-head.ensures.tree))
+    (ap₂ flag_term_of c.in-Ac.is c.head-in-Ac.ensures.tree ∙ half_carry es c.head-in-Ac.result (sym c.is_addition.ensures ∙ c.if-is_addition.true) ∙ sym (ap₂ Flag c.in-Ac.is c.head-in-Ac.ensures.tree))
     in
     (c.is_open.ensures.made, c.requires.of_sort, is)
 
@@ -93,7 +93,7 @@ returns-then-is_addition c =
     let es = entries_of held.nodes in
     let is : flag c.args.part r ≡ Flag c.args.part r =
     flag_is c.args.part r (Flag c.args.part r) (sym c.is_open.ensures.open ∙ c.if-is_open.false)
-    (ap₂ flag_term_of c.in-Ac.is c.head-head.ensures.tree ∙ half_carry es c.head-head.result (sym c.is_addition.ensures ∙ c.if-is_addition.true) ∙ sym (ap₂ Flag c.in-Ac.is c.head-head.ensures.tree))
+    (ap₂ flag_term_of c.in-Ac.is c.head-in-Ac.ensures.tree ∙ half_carry es c.head-in-Ac.result (sym c.is_addition.ensures ∙ c.if-is_addition.true) ∙ sym (ap₂ Flag c.in-Ac.is c.head-in-Ac.ensures.tree))
     in
     subst (λ t. Makes held c.keep-then-is_addition.new.self 1 t c.keep-then-is_addition.result) (sym is) c.keep-then-is_addition.ensures
 
@@ -104,7 +104,7 @@ returns-else-is_addition c =
     let es = entries_of held.nodes in
     let is : flag c.args.part r ≡ Unknown =
     flag_is c.args.part r Unknown (sym c.is_open.ensures.open ∙ c.if-is_open.false)
-    (ap₂ flag_term_of c.in-Ac.is c.head-head.ensures.tree ∙ no_half_carry es c.head-head.result (sym c.is_addition.ensures ∙ c.if-is_addition.false))
+    (ap₂ flag_term_of c.in-Ac.is c.head-in-Ac.ensures.tree ∙ no_half_carry es c.head-in-Ac.result (sym c.is_addition.ensures ∙ c.if-is_addition.false))
     in
     subst (λ t. Makes held c.unknown-else-is_addition.new.self 1 t c.unknown-else-is_addition.result) (sym is) c.unknown-else-is_addition.ensures
 

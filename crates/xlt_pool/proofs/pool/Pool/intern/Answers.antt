@@ -3,7 +3,7 @@ use Rattle.std.specs.Vec.{vec_len}
 use Rattle.std.proofs.lemmas.List.{get_or_default}
 use Rattle.xlt_pool.specs.Contents.{NodeStandsAt}
 use Rattle.xlt_pool.specs.Table.{IsFreeFor}
-use Rattle.xlt_pool.proofs.Tables.{distinct_with, table_with, set_at_slot}
+use Rattle.xlt_pool.proofs.Tables.{distinct_with, table_with, set_at_slot, placed_with}
 use Rattle.xlt_pool.proofs.pool.Pool.intern.Goals as goal
 
 when_none : (P : Type 0) (Q : ℕ → Type 0) (o : Option ℕ) → o ≡ None → MatchOption o P Q → P
@@ -28,12 +28,17 @@ invariant_of-self c =
     let id : c.len-id.result ≡ length nodes = c.len-id.ensures ∙ len in
     let table = table_with nodes slots node at c.self.invariant.table free within empty more in
     let long : length c.push_reserved.new.self.items ≡ length nodes + 1 = ap length c.push_reserved.ensures.items ∙ length-append nodes (node ∷ []) in
+    let counted : length c.self.inside.places.items ≡ length nodes = c.self.invariant.counted in
+    let placed = placed_with slots c.self.inside.places.items at (length nodes) counted c.self.invariant.placed within empty in
     record {
       table = rw (c.push_reserved.ensures.items, id) table;
       fits = omega arith;
       small = c.self.invariant.small;
       reserved = rw c.push_reserved.ensures.capacity c.self.invariant.reserved;
       slots = set_at_slot slots at (Some c.len-id.result) c.self.inside.room c.self.invariant.slots;
+      counted = ap length c.push_reserved-2.ensures.items ∙ length-append c.self.inside.places.items (at ∷ []) ∙ ap (λ n. n + 1) counted ∙ sym long;
+      placed = rw (c.push_reserved-2.ensures.items, id, long) placed;
+      noted = rw c.push_reserved-2.ensures.capacity c.self.invariant.noted;
     }
 
 pub returns-clause-distinct : goal.returns-clause-distinct
