@@ -63,8 +63,8 @@ fn token_at<N: Notation>(alloc: Global, bytes: &[u8]) -> Result<(Token, &[u8]), 
     };
     match b {
         b'\'' => string_at(alloc, rest),
-        b'0'..=b'9' => number_at(alloc, bytes),
-        b'A'..=b'Z' | b'a'..=b'z' => word_at::<N>(alloc, bytes),
+        b'0'..=b'9' => number_at(bytes),
+        b'A'..=b'Z' | b'a'..=b'z' => word_at::<N>(bytes),
         b' '..=b'~' => Ok((sign_token(b), rest)),
         _ => Err(ScanFault::Rule(LineRule::L1)),
     }
