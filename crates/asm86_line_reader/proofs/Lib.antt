@@ -3,6 +3,7 @@ mod Each
 mod Given
 mod Labels
 pub mod Lines
+mod Listed
 mod Numerals
 mod Parts
 mod Pieces

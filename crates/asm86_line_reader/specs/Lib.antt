@@ -1,6 +1,7 @@
 pub mod Letters
 pub mod Numbers
 pub mod Words
+pub mod Listed
 pub mod Tokens
 pub mod Operands
 pub mod Forms
