@@ -1,0 +1,5 @@
+mod Positions
+mod Blocks
+mod Opening
+mod Data
+mod Completing
