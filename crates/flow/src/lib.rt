@@ -27,4 +27,4 @@ pub use graph::Graph;
 pub use laws::{blocks_cut_the_program, needs_are_closed};
 pub use node::Node;
 pub use places::place_after;
-pub use saving::saves;
+pub use saving::{is_word_sum, saves};

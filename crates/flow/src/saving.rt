@@ -11,7 +11,8 @@ use asm80_program_types::Program80;
 use cells::{Keep, Part};
 use i80::Instr80;
 
-fn is_word_sum(instr: Instr80) -> bool
+/// Whether an instruction is INX, DCX or DAD, which the 8086 has as sums of words.
+pub fn is_word_sum(instr: Instr80) -> bool
     ensures { result ≡ is_word_sum instr }
 {
     matches!(instr, Instr80::Inx(_) | Instr80::Dcx(_) | Instr80::Dad(_))

@@ -54,7 +54,28 @@ pub fn number_of(program: &Program80, node: Node) -> Option<usize>
     }
 }
 
-// Keeps an edge, where its end is a node of the program.
+// Whether the instruction of a number starts at an address.
+fn starts_at(program: &Program80, number: usize, at: u16) -> bool
+    ensures { result ≡ true → IsNumber program.now number (Start at) }
+{
+    match program.starts().get(number) {
+        Some(start) => *start == at,
+        None => false,
+    }
+}
+
+// The number of a node, looked for first at a number that it may well have.
+fn number_near(program: &Program80, near: usize, node: Node) -> Option<usize>
+    requires { IsProgram program.now }
+    ensures { MatchOption result (Contains (nodes program.now) node → ⊥) (λ k. IsNumber program.now k node) }
+{
+    match node {
+        Node::Start(at) if starts_at(program, near, at) => Some(near),
+        _ => number_of(program, node),
+    }
+}
+
+// Keeps an edge, where its end is a node of the program: most lead to the next instruction.
 fn keep_edge(
     sources: &mut Sources,
     program: &Program80,
@@ -66,7 +87,7 @@ fn keep_edge(
     ensures sized { OnOk result (length sources.new ≡ length sources.old) }
     ensures kept { (some : List NodeOf) → IsWiredTo program.now sources.old from some → OnOk result (IsWiredTo program.now sources.new from (some ++ edge_if_node program.now to)) }
 {
-    match number_of(program, to) {
+    match number_near(program, from.wrapping_add(1), to) {
         Some(number) => sources.add(from, number),
         None => Ok(()),
     }

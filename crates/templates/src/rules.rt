@@ -9,7 +9,7 @@ ghost use Rattle.templates.specs.Lean.{has_saved_flag, saves_by_need, loses_noth
 
 use asm80_program_types::Placed;
 use cells::{Keep, Part};
-use flow::{Graph, needs_are_closed};
+use flow::{Graph, is_word_sum, needs_are_closed};
 use i80::{Instr80, Pair, Reg, Src, StackPair, Word};
 
 // The parts that are needed behind an instruction.
@@ -53,20 +53,26 @@ pub fn loses_nothing(graph: &Graph, placed: &Placed) -> bool
     !(need.has(Part::B) || need.has(Part::L))
 }
 
-fn ends_by_sahf(save: bool, instr: Instr80) -> bool
-    ensures { result ≡ ends_by_sahf save instr }
+// Whether the last statement of an instruction is SAHF.
+fn ends_by_sahf(graph: &Graph, placed: &Placed) -> bool
+    requires solved { IsTrue graph.now.is_solved }
+    requires whole { EndsInMemory placed.now }
+    ensures { (n : Needs) → AreAllNeeds graph.now.program n → result ≡ ends_by_sahf (saves_by_need n placed.now) placed.now.instr }
 {
-    match instr {
-        Instr80::Inx(_) | Instr80::Dcx(_) => save,
+    match placed.instr {
+        Instr80::Inx(_) | Instr80::Dcx(_) => saves(graph, placed),
         Instr80::Pop(StackPair::Psw) => true,
         _ => false,
     }
 }
 
-fn begins_by_lahf(save: bool, instr: Instr80) -> bool
-    ensures { result ≡ begins_by_lahf save instr }
+// Whether the first statement of an instruction is LAHF.
+fn begins_by_lahf(graph: &Graph, placed: &Placed) -> bool
+    requires solved { IsTrue graph.now.is_solved }
+    requires whole { EndsInMemory placed.now }
+    ensures { (n : Needs) → AreAllNeeds graph.now.program n → result ≡ begins_by_lahf (saves_by_need n placed.now) placed.now.instr }
 {
-    save && matches!(instr, Instr80::Inx(_) | Instr80::Dcx(_) | Instr80::Dad(_))
+    is_word_sum(placed.instr) && saves(graph, placed)
 }
 
 /// The pair rule: a SAHF and the LAHF that follows it in the block are both left out.
@@ -77,10 +83,7 @@ pub fn is_pair(graph: &Graph, placed: &Placed, rest: &[Placed]) -> bool
     ensures { (n : Needs) → AreAllNeeds graph.now.program n → result ≡ is_pair (long_style n) placed.now rest.now }
 {
     match rest.first() {
-        Some(next) => {
-            ends_by_sahf(saves(graph, placed), placed.instr)
-                && begins_by_lahf(saves(graph, next), next.instr)
-        }
+        Some(next) => ends_by_sahf(graph, placed) && begins_by_lahf(graph, next),
         None => false,
     }
 }

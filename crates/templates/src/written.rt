@@ -11,7 +11,7 @@ use crate::{Text, label_of, template};
 use asm80_program_types::Placed;
 use asm86_line_types::{Jump, Stmt86};
 use cells::Cond;
-use flow::Graph;
+use flow::{Graph, is_word_sum};
 use i80::{Goal, Instr80};
 use i86::Instr86;
 use std::alloc::AllocError;
@@ -73,7 +73,9 @@ pub fn put_written(
     ensures value { (n : Needs) → AreAllNeeds graph.now.program n → OnOk result (text.new ≡ text.old ++ written_in_style (style_by n jumps.now) context.first context.last context.known placed.now) }
     ensures most { OnOk result (length text.new ≤ length text.old + 12) }
 {
-    let whole = template(placed.instr, placed.at, saves(graph, placed));
+    // the template of another instruction is the same with a save, so none is looked for
+    let save = is_word_sum(placed.instr) && saves(graph, placed);
+    let whole = template(placed.instr, placed.at, save);
     match placed.instr {
         Instr80::Jif(cond, goal) => {
             if jumps.shorten(placed) {
