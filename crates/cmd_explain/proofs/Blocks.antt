@@ -1,17 +1,20 @@
 -- From block to block, and what is told of each.
-use Rattle.std.proofs.Common.{◌≡◌, ◌∙◌, ℕ, ◌+◌, ◌<◌, ◌≤◌, List, [], ◌∷◌, ◌++◌, length, Option, Some, None, refl, sym, ap, subst, append_assoc, append-nil}
+use Rattle.std.proofs.Common.{◌≡◌, ◌∙◌, ℕ, ◌+◌, ◌-◌, ◌<◌, ◌≤◌, List, [], ◌∷◌, ◌++◌, length, Option, Some, None, refl, sym, ap, subst, append_assoc, append-nil}
 use Rattle.std.specs.Prelude.{drop}
 use Rattle.std.proofs.lemmas.List.{drop_all}
-use Rattle.asm80_program_types.specs.Program.{Program}
+use Rattle.asm80_program_types.specs.Program.{Program, line_at}
+use Rattle.asm86_line_types.specs.declared.line.Label.TheVariants.{At}
 use Rattle.asm86_line_types.specs.declared.line.Line86.{Line86}
 use Rattle.asm86_line_types.specs.declared.line.Stmt86.{Stmt86}
 use Rattle.asm86_line_types.specs.Image.{statements}
-use Rattle.flow.specs.Blocks.{blocks}
+use Rattle.flow.specs.Blocks.{blocks, place_after}
 use Rattle.flow.proofs.Indexed.{IsBlockAt}
 use Rattle.sym_block_def.specs.declared.reason.Reason.{Reason}
+use Rattle.sym_block_def.specs.Walk86.{after_label}
 use Rattle.block_check_def.specs.BlockMatch.{Keeps, block_reason}
 use Rattle.simulation_def.specs.Matches.{or_next, blocks_reason}
-use Rattle.cmd_explain.specs.Explained.{ToldIfAny, BlocksTold}
+use Rattle.cmd_explain.specs.Lines.{block_line, source_lines}
+use Rattle.cmd_explain.specs.Explained.{WhyTold, BlockTold, ToldIfAny, BlocksTold}
 use Rattle.cmd_explain.specs.Telling.{Tells, or_later, first_of}
 
 -- more was told after what was told
@@ -25,6 +28,11 @@ tells_more Claim More old mid new front e f t = record {
 -- nothing more was told
 pub tells_nothing : (Claim : List ℕ → Type 0) (told : List ℕ) → Claim [] → Tells Claim told told
 tells_nothing Claim told h = record { own = []; is = sym (append-nil told); claim = h }
+
+-- a block is told by its head and what is told of its label
+pub block_told : (p : Program) (lines : List Line86) (k : Keeps) (first count : ℕ) (reason : Reason) (last : ℕ) → last ≡ place_after p first (count - 1) → (from to : ℕ) → line_at p first ≡ Some from → line_at p last ≡ Some to → (own : List ℕ) → WhyTold p lines k first count reason (after_label (statements lines) (At first)) own → BlockTold p lines k first count reason ((block_line first reason ++ source_lines from to) ++ own)
+block_told p lines k first count reason last e from to starts ends own h =
+    record { from = from; to = to; starts = starts; ends = subst (λ a. line_at p a ≡ Some to) e ends; why = own; told = h; is = refl }
 
 module _ (p : Program) (lines : List Line86) (k : Keeps) where
   -- what is told of the blocks from one on goes on from what was told

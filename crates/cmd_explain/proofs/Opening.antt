@@ -1,5 +1,5 @@
 -- The opening, statement by statement.
-use Rattle.std.proofs.Common.{◌≡◌, ◌∙◌, ℕ, List, [], ◌∷◌, ◌++◌, refl, sym, ap, subst, append_assoc}
+use Rattle.std.proofs.Common.{◌≡◌, ◌∙◌, ℕ, List, [], ◌∷◌, ◌++◌, length, refl, sym, ap, subst, append_assoc, arith}
 use Rattle.asm86_line_types.specs.declared.line.Label.TheVariants.{At}
 use Rattle.asm86_line_types.specs.declared.line.Line86.{Line86}
 use Rattle.asm86_line_types.specs.declared.line.Stmt86.{Stmt86}
@@ -36,3 +36,11 @@ module _ (wanted : List Stmt86) (lines : List Line86) (left more : List Stmt86) 
 -- the first that is not the one that is wanted
 pub told_here : (wanted : List Stmt86) (lines : List Line86) (left more : List Stmt86) (rest : List Line86) (s : Stmt86) → left ≡ s ∷ more → IsUnlike s rest → Remains wanted lines left rest → OpeningTold wanted lines (ends_at rest ++ wanted_line s)
 told_here wanted lines left more rest s e u h = h (ends_at rest ++ wanted_line s) (subst (λ l. OpeningTold l rest (ends_at rest ++ wanted_line s)) (sym e) (unlike u))
+
+pub unlike_none : (s : Stmt86) (rest : List Line86) → length rest ≡ 0 → IsUnlike s rest
+unlike_none s [] e = tt
+unlike_none s (x ∷ xs) e = absurd (omega (arith, e))
+
+pub nothing_left : (left ys : List Stmt86) → length left ≡ 0 → ys ≡ left ++ ys
+nothing_left [] ys e = refl
+nothing_left (x ∷ xs) ys e = absurd (omega (arith, e))

@@ -38,7 +38,7 @@ text_line line = codes "text line " ++ (decimal line ++ codes "\n")
 -- ---- where what is wanted ends
 
 abbrev pub end_line : ℕ → Stmt86 → List ℕ
-end_line line s = codes "ends at text line " ++ (decimal line ++ (codes ": " ++ (statement_words s ++ codes "\n")))
+end_line line s = (codes "ends at text line " ++ (decimal line ++ codes ": ")) ++ (statement_words s ++ codes "\n")
 
 -- at the front of some lines; after the last statement there is none to be named
 abbrev pub ends_at : List Line86 → List ℕ

@@ -11,6 +11,7 @@ ghost use Rattle.sym_block_def.specs.Block80.{MayRun};
 ghost use Rattle.sym_block_def.specs.Walk86.{after_label};
 ghost use Rattle.block_check_def.specs.BlockMatch.{Keeps};
 ghost use Rattle.block_explain.specs.Explained.{IsSaid};
+ghost use Rattle.cmd_explain.specs.Lines.{block_line, source_lines};
 ghost use Rattle.cmd_explain.specs.Explained.{ReasonTold, LabelTold, BlockTold, ends_walk};
 ghost use Rattle.cmd_explain.specs.Telling.{Tells, HasHead};
 
@@ -76,9 +77,29 @@ fn head_of(
     let Some(to) = program.line_at(last) else {
         unreachable!()
     };
+    let head = head_lines(alloc, first, reason, from, to)?;
+    Ok(head)
+}
+
+fn head_lines(
+    alloc: Global,
+    first: u16,
+    reason: Reason,
+    from: u32,
+    to: u32,
+) -> Result<String, AllocError>
+    ensures { IfOk result (λ head. string_bytes head ≡ block_line first reason ++ source_lines from to) }
+{
+    let block = block_line(alloc, first, reason)?;
+    format!(in alloc; "{block}source lines {from} to {to}\n")
+}
+
+fn block_line(alloc: Global, first: u16, reason: Reason) -> Result<String, AllocError>
+    ensures { IfOk result (λ line. string_bytes line ≡ block_line first reason) }
+{
     let digits = word_digits(alloc, first)?;
     let name = reason_name(reason);
-    format!(in alloc; "block {digits}, {name}\nsource lines {from} to {to}\n")
+    format!(in alloc; "block {digits}, {name}\n")
 }
 
 // The line of the block's label, which stands before a place, and the reason.

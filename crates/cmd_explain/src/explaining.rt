@@ -64,11 +64,11 @@ fn work<'a, H: Host>(alloc: Global, host: &mut H, command: &Check<'a>) -> Result
 {
     let loaded = load(alloc, host, command)?;
     let explanation = explain_text(alloc, &loaded.program, &loaded.text)?;
-    Ok(worked(alloc, explanation)?)
+    Ok(last_lines(alloc, explanation)?)
 }
 
 // The last line, or the lines before it.
-fn worked(alloc: Global, explanation: Explanation) -> Result<Worked, AllocError>
+fn last_lines(alloc: Global, explanation: Explanation) -> Result<Worked, AllocError>
     ensures { IfOk result (λ worked. IsOfExplanation explanation.finding explanation.text.items worked) }
 {
     match explanation.finding {
@@ -98,8 +98,9 @@ fn say_lines<H: Host>(host: &mut H, text: &[u8]) -> Result<(), HostFault>
 {
     let mut said = 0;
     while said < text.len() {
-        let size = line_size(&text[said..]);
-        say_line(host, &text[said..said + size])?;
+        let rest = &text[said..];
+        let size = line_size(rest);
+        say_line(host, &rest[..size])?;
         said += size;
     }
     Ok(())

@@ -39,15 +39,16 @@ fn tell_named(told: &mut Vec<u8>, before: &str, stmt: Stmt86) -> Result<(), Allo
 {
     told.extend_from_slice(before.as_bytes())?;
     tell_statement(told, stmt)?;
-    told.push(b'\n')
+    told.push(b'\n')?;
+    Ok(())
 }
 
 /// The statement at the front of some lines, as the one at which what is wanted ends.
 pub fn tell_end(alloc: Global, told: &mut Vec<u8>, from: &[Line86]) -> Result<(), AllocError>
     ensures { OnOk result (told.new.items ≡ told.old.items ++ ends_at from.now) }
 {
-    match from.first() {
-        Some(line) => {
+    match from.split_first() {
+        Some((line, _)) => {
             let before = format!(in alloc; "ends at text line {}: ", line.line)?;
             tell_named(told, before.as_str(), line.stmt)
         }
