@@ -1,5 +1,5 @@
 -- From block to block.
-use Rattle.std.proofs.Common.{◌≡◌, ◌∙◌, ℕ, ◌+◌, ◌≤◌, List, [], ◌∷◌, length, Option, Some, None, refl, sym, ap, subst}
+use Rattle.std.proofs.Common.{◌≡◌, ◌∙◌, ℕ, ◌+◌, ◌≤◌, List, [], ◌∷◌, length, Some, sym, ap, subst}
 use Rattle.std.specs.Prelude.{drop}
 use Rattle.std.proofs.lemmas.List.{drop_all}
 use Rattle.asm86_line_types.specs.declared.line.Stmt86.{Stmt86}
@@ -12,17 +12,10 @@ use Rattle.simulation_def.specs.Matches.{or_next, blocks_reason}
 use Rattle.block_check.specs.declared.block.Verdict.{Verdict}
 use Rattle.block_check.specs.declared.block.Verdict.TheVariants.{Shown, NotShown}
 use Rattle.block_check.specs.Comparing.{verdict_of, AfterShown}
+use Rattle.block_check.proofs.Verdicts.{none_found, some_found}
 use Rattle.text_check.specs.Findings.{last_of}
 
 -- ---- reasons
-
-none_found : (r : Option Reason) → Shown ≡ verdict_of r → r ≡ None
-none_found None e = refl
-none_found (Some r) e = absurd (cc)
-
-some_found : (r : Option Reason) (reason : Reason) → NotShown reason ≡ verdict_of r → r ≡ Some reason
-some_found None reason e = absurd (cc)
-some_found (Some r) reason e = cc
 
 module _ (p : Program) (text : List Stmt86) (k : Keeps) (i leader count : ℕ) (at : IsBlockAt p i leader count) where
   pub shown_on : Shown ≡ verdict_of (block_reason p text k leader count) → blocks_reason p text k (drop i (blocks p)) ≡ blocks_reason p text k (blocks p) → blocks_reason p text k (drop (i + 1) (blocks p)) ≡ blocks_reason p text k (blocks p)
