@@ -21,4 +21,4 @@ pub mod Saved
 pub mod AllNeeds
 pub mod OneNeeds
 pub mod Indexed
-mod Further
+pub mod Further

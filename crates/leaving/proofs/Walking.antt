@@ -14,7 +14,7 @@ use Rattle.flow.proofs.Indexed.{block_at_index}
 use Rattle.sym_terms.specs.Term.{Term, Num}
 use Rattle.leaving_def.specs.declared.Departure.{Departure}
 use Rattle.leaving_def.specs.Leaving.{number_in, known_function, is_unlisted, asking, going_on, by_rule, or_else, leaving_where, leaving_at, leaving_from, leaving}
-use Rattle.leaving_def.proofs.Fronts.{start_is}
+use Rattle.flow.proofs.Further.{start_is}
 
 -- ---- the number of a term
 
