@@ -1,5 +1,5 @@
 mod Smaller
 mod Leaves
 mod One
-mod OneText
+pub mod OneText
 mod Blocks

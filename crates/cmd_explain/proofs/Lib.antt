@@ -5,3 +5,4 @@ mod Opening
 mod Data
 mod Saying
 mod Completing
+mod Once

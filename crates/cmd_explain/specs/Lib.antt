@@ -3,3 +3,4 @@ pub mod Explained
 pub mod Telling
 pub mod Explains
 pub mod Worked
+pub mod Laws
