@@ -27,7 +27,7 @@ pub record OwnLaws : Type 0 where
   pub reads : (mode : Mode) (p : Program) (lines : List Line86) → IsProgram p → IsText mode p lines → TextGives (written_text lines) (Ok lines)
   pub assembles : (mode : Mode) (p : Program) (lines : List Line86) → IsProgram p → IsText mode p lines → CodeFits lines → Assembles lines
   pub shown : (mode : Mode) (p : Program) (lines others : List Line86) (f : Finding) → IsProgram p → IsText mode p lines → CodeFits lines → statements others ≡ statements lines → IsFinding p others f → (blocks : ℕ) × (f ≡ Shown blocks)
-  pub output_reads : (kept : Option (List ℕ)) (p : Program) (lines : List Line86) (text : List ℕ) → IsOutput kept p lines text → TextGives (written_text lines) (Ok lines) → ReadsAs lines text
+  pub output_reads : (kept : Option (List ℕ)) (mode : Mode) (p : Program) (lines : List Line86) (text : List ℕ) → IsText mode p lines → IsOutput kept p lines text → TextGives (written_text lines) (Ok lines) → ReadsAs lines text
   pub output_image : (kept : Option (List ℕ)) (p : Program) (lines : List Line86) (text : List ℕ) (image : Image) → IsOutput kept p lines text → HasImage (written_text lines) image → HasImage text image
 
 module _ (law : Laws) (own : OwnLaws) (c : Check) (source text : List ℕ) (t : IsTranslation c.zilog source c.top text) where
@@ -38,7 +38,7 @@ module _ (law : Laws) (own : OwnLaws) (c : Check) (source text : List ℕ) (t : 
   alone_gives = own.reads t.mode t.program t.lines lawful t.is_text
 
   reading : ReadsAs t.lines text
-  reading = own.output_reads (kept_of t.comments source) t.program t.lines text t.is alone_gives
+  reading = own.output_reads (kept_of t.comments source) t.mode t.program t.lines text t.is_text t.is alone_gives
 
   image : HasImage text (image_of t.lines)
   image =

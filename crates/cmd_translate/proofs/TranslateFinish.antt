@@ -41,7 +41,7 @@ pub record TextLaw : Type 0 where
 
 -- the law of commented texts
 pub record CommentLaw : Type 0 where
-  pub reads : (kept : Option (List ℕ)) (p : Program) (lines : List Line86) (text : List ℕ) → IsOutput kept p lines text → TextGives (written_text lines) (Ok lines) → ReadsAs lines text
+  pub reads : (kept : Option (List ℕ)) (mode : Mode) (p : Program) (lines : List Line86) (text : List ℕ) → IsText mode p lines → IsOutput kept p lines text → TextGives (written_text lines) (Ok lines) → ReadsAs lines text
   pub image : (kept : Option (List ℕ)) (p : Program) (lines : List Line86) (text : List ℕ) (image : Image) → IsOutput kept p lines text → HasImage (written_text lines) image → HasImage text image
 
 -- code that fits is not too large
@@ -54,7 +54,7 @@ not_both one mode p lines size text fits large =
 module _ (c : Translate) (old mid new : HostState) where
   has_same : TextLaw → CommentLaw → (p : Program) (lines : List Line86) (a : Accepts c old p lines) → HasSame c old new p lines a.out
   has_same law comments p lines a = record {
-    reads = comments.reads (kept_of c.comments a.bytes) p lines a.out a.written (law.reads (mode_of c.plain) p lines a.source.program.program.lawful a.text);
+    reads = comments.reads (kept_of c.comments a.bytes) (mode_of c.plain) p lines a.out a.text a.written (law.reads (mode_of c.plain) p lines a.source.program.program.lawful a.text);
     image = image_of lines;
     has_image = comments.image (kept_of c.comments a.bytes) p lines a.out (image_of lines) a.written (record {
       lines = lines;

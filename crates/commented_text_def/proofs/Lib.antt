@@ -1,8 +1,8 @@
 mod Whole
 mod Ends
 mod Weaving
-mod Inserting
 mod Rising
+mod Inserting
 mod Reading
 mod Source
 pub mod Texts

@@ -1,9 +1,9 @@
 // Definitions: the commented text of a source, a program and its text (`Commented`): the lines of the source as comments, each once and in
 // order, those up to an instruction's own line before the first line of its group (`Group`), and those that are left before the runtime.
 //
-// Law `commented_texts_read_back`: where the text without comments is read as lines, what is written, with comments or without
-// (`IsOutput`), is read as the same statements in the same order, with numbers of lines that never fall, whatever the source (`reads`); so
-// it has the same image (`image`).
+// Law `commented_texts_read_back`: where a program's text in a mode is read as its lines, what is written of it, with comments or without
+// (`IsOutput`), is read as the same statements in the same order, with numbers of lines that rise, whatever the source (`reads`); it has the
+// same image as the text without comments (`image`).
 #![tactic(auto)]
 
 ghost use Rattle.std.specs.Prelude.{ℕ, List, Option, Ok};
@@ -13,12 +13,14 @@ ghost use Rattle.asm86_line_types.specs.Written.{written_text};
 ghost use Rattle.asm86_line_types.specs.declared.line.Line86.{Line86};
 ghost use Rattle.asm86.specs.Images.{HasImage};
 ghost use Rattle.asm86.specs.Stream.{TextGives};
+ghost use Rattle.templates.specs.declared.translation.Mode.{Mode};
+ghost use Rattle.templates.specs.Translation.{IsText};
 ghost use Rattle.commented_text_def.specs.Commented.{IsOutput};
 ghost use Rattle.commented_text_def.specs.Reading.{ReadsAs};
 
 /// A law, of every source, program and text of it: with the lines of the source as comments or without, the text is read as the same
 /// statements, and has the same image.
 pub fn commented_texts_read_back()
-    ensures reads { (kept : Option (List ℕ)) (p : Program) (lines : List Line86) (text : List ℕ) → IsOutput kept p lines text → TextGives (written_text lines) (Ok lines) → ReadsAs lines text }
+    ensures reads { (kept : Option (List ℕ)) (mode : Mode) (p : Program) (lines : List Line86) (text : List ℕ) → IsText mode p lines → IsOutput kept p lines text → TextGives (written_text lines) (Ok lines) → ReadsAs lines text }
     ensures image { (kept : Option (List ℕ)) (p : Program) (lines : List Line86) (text : List ℕ) (image : Image) → IsOutput kept p lines text → HasImage (written_text lines) image → HasImage text image }
 {}
