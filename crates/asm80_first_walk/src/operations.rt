@@ -18,7 +18,7 @@ type Entries<'a> = &'a [(&'a [u8], Operation)];
 
 /// Each operation's name with what it is, by the first letters of the names: those with A, those with B, and so on (Intel 8080
 /// Assembly Language Programming Manual, chapter 2; CP/M 2.2 Operating System Manual, the assembler, "Assembler directives").
-const OPERATIONS: [Entries<'static>; 26] = [
+static OPERATIONS: [Entries<'static>; 26] = [
     &[
         (b"ADD", Operation::Alu(Op::Add)),
         (b"ADC", Operation::Alu(Op::Adc)),

@@ -1,8 +1,10 @@
 -- What a reader holds after one more byte.
-use Rattle.std.proofs.Common.{◌≡◌, ◌≢◌, ℕ, ◌<◌, ◌+◌, List, [], ◌∷◌, ◌++◌, length, map, Bool, true, false, eqb, ◌-◌, Option, Some, None, Err, refl, sym, ap, subst, ◌∙◌, append_assoc, arith, inl, inr}
+use Rattle.std.proofs.Common.{◌≡◌, ◌≢◌, ℕ, suc, ◌<◌, ◌+◌, take, drop, get_or, List, [], ◌∷◌, ◌++◌, length, map, Bool, true, false, eqb, ◌-◌, Option, Some, None, Err, refl, sym, ap, subst, ◌∙◌, append_assoc, arith, inl, inr}
 use Rattle.std.specs.Prelude.{is_some, slice_index}
+use Rattle.std.specs.List.{flat_map, AllByRecursion}
 use Rattle.std.proofs.lemmas.Bool.{cases_eq, cases_lt, lt-ltb, le-ltb, cases_Bool}
-use Rattle.std.proofs.lemmas.List.{length-take, append-nil, length-append, map-append}
+use Rattle.std.proofs.lemmas.List.{length-take, append-nil, length-append, map-append, take_all, take_more, take-append-drop, length-drop}
+use Rattle.std.proofs.lemmas.Bool.Decides.{nat_tests}
 use Rattle.asm80_statement_types.specs.declared.fault.LineRule.{LineRule}
 use Rattle.asm80_statement_types.specs.declared.fault.ReadFault.{ReadFault}
 use Rattle.asm80_statement_types.specs.declared.fault.ReadFault.TheVariants.{Syntax, Memory}
@@ -12,9 +14,9 @@ use Rattle.asm80_statement_types.specs.Reading.{Finishes}
 use Rattle.asm80_text.specs.Spelling.{Spelling}
 use Rattle.asm80_text.specs.Line.{LineGives, late, long}
 use Rattle.base_types.specs.Held.{held_with_byte, HoldsLine}
-use Rattle.base_types.specs.Cut.{Cut, without_cr, last_line}
-use Rattle.asm80_text.specs.Stream.{IsPlain, IsStream, open_yet, closed, complete, LinesGive, none_left, StreamGives}
-use Rattle.asm80_text.specs.Reader.{Reader, After, rule_of_long, EndsLineBy, EndsLine, AddsBy, EndsStreamBy, EndsStream}
+use Rattle.base_types.specs.Cut.{Cut, ended, without_cr, last_line}
+use Rattle.asm80_text.specs.Stream.{IsPlain, is_plain, plain_len, IsStream, open_yet, closed, complete, LinesGive, none_left, StreamGives}
+use Rattle.asm80_text.specs.Reader.{Reader, After, Advances, rule_of_long, EndsLineBy, EndsLine, AddsBy, Adds, EndsStreamBy, EndsStream}
 use Rattle.base_types.proofs.Cuts.{cut_byte, cut_line, map_push}
 use Rattle.base_types.proofs.Holding.{holds_byte}
 use Rattle.asm80_text.proofs.Grow.{length_map, reads_on, reads_fault, stands}
@@ -225,6 +227,28 @@ module _ (spelling : Spelling) where
     pub after_end : (new : Reader) → new.fault ≢ Some Memory → EndsStream spelling s new → After spelling (stream ++ 26 ∷ []) new
     after_end new ne a = after_end_of new s.held refl ne a
 
+  -- ---- a whole line at once
+
+  held_before : (line : List ℕ) (s : Reader) (bytes : List ℕ) (new : Reader) (f : Option ReadFault) → AddsBy spelling line s new f → AddsBy spelling line (record s { held = Some bytes }) new f
+  held_before line s bytes new None a = a
+  held_before line s bytes new (Some Memory) a = a
+  held_before line s bytes new (Some (Syntax n r)) a = a
+
+  pub after_whole : (stream : List ℕ) (s : Reader) → s.fault ≡ None → s.is_closed ≡ false → After spelling stream s → (bytes : List ℕ) → AllByRecursion IsPlain bytes → s.held ≡ Some [] → (new : Reader) → new.fault ≢ Some Memory → Adds spelling (without_cr bytes) s new → After spelling (stream ++ (bytes ++ 10 ∷ [])) new
+  after_whole stream s fault open_now h bytes plain k new ne a =
+      let c = cut_now stream s fault open_now h in
+      let t : Reader = record s { held = Some bytes } in
+      let g : After spelling (stream ++ bytes) t = record {
+        raw = h.raw;
+        rest = bytes;
+        is_closed = false;
+        cut = open_yet (record { whole = ap (λ (x : List ℕ). x ++ bytes) (c.whole ∙ ap (λ (r : List ℕ). flat_map ended h.raw ++ r) (sym (line_held stream s fault open_now h [] k))) ∙ append_assoc (flat_map ended h.raw) [] bytes; each = c.each; last = plain });
+        lines = reads_now stream s fault open_now h;
+        closing = λ _. open_now;
+        held = λ _ _. (refl, number_now stream s fault open_now h);
+      } in
+      rw (← append_assoc stream bytes (10 ∷ [])) (after_line (stream ++ bytes) t fault open_now g new ne (held_before (without_cr bytes) s bytes new new.fault a))
+
   -- ---- after a fault
 
   pub after_failed : (stream : List ℕ) (s : Reader) (b : ℕ) → s.fault ≢ None → After spelling stream s → After spelling (stream ++ b ∷ []) s
@@ -251,3 +275,47 @@ module _ (spelling : Spelling) where
 
   pub finish_none : (stream : List ℕ) (s : Reader) (entries : List Stmt80) → s.statements ≡ entries → s.fault ≡ None → (s.fault ≢ Some Memory → After spelling (stream ++ 26 ∷ []) s) → StreamGives spelling stream (map statement_of entries) None
   finish_none stream s entries es e h = rw (e, es) at (gives_from stream s (h (λ x. none_not_memory (sym e ∙ x))))
+
+-- ---- several at once
+
+pub nothing_taken : (s : Spelling) (bytes : List ℕ) (reader : Reader) → Advances s bytes bytes reader reader
+nothing_taken s bytes reader = record { front = []; cut = refl; grows = λ ne stream h. rw append-nil h }
+
+some_memory : (f : Option ReadFault) → f ≡ Some Memory → f ≢ None
+some_memory f e n = cc
+
+pub advance_on : (s : Spelling) (bytes mid rest : List ℕ) (old now new : Reader) → (now.fault ≢ None → new ≡ now) → Advances s bytes mid old now → Advances s mid rest now new → Advances s bytes rest old new
+advance_on s bytes mid rest old now new stands a b = record {
+  front = a.front ++ b.front;
+  cut = a.cut ∙ ap (λ (t : List ℕ). a.front ++ t) b.cut ∙ sym (append_assoc a.front b.front rest);
+  grows = λ ne stream h.
+      rw (← append_assoc stream a.front b.front)
+      (b.grows ne (stream ++ a.front) (a.grows (λ e. ne (ap (λ (r : Reader). r.fault) (stands (some_memory now.fault e)) ∙ e)) stream h));
+}
+
+plain_one : (b : ℕ) → is_plain b ≡ true → IsPlain b
+plain_one b e = grind (arith, nat_tests)
+
+pub all_plain : (bytes : List ℕ) → AllByRecursion IsPlain (take (plain_len bytes) bytes)
+all_plain [] = tt
+all_plain (b ∷ bytes) = elim (cases_Bool (is_plain b)) [
+  | inl e ↦ let one : 1 + plain_len bytes ≡ suc (plain_len bytes) = omega arith in rw (e, one) (plain_one b e, all_plain bytes)
+  | inr e ↦ rw e tt
+]
+
+-- a line with its LF at the front of bytes
+pub line_front : (bytes : List ℕ) (k : ℕ) → k < length bytes → get_or bytes k 0 ≡ 10 → bytes ≡ (take k bytes ++ 10 ∷ []) ++ drop (k + 1) bytes
+line_front bytes k lt e =
+    sym (take-append-drop (k + 1) bytes) ∙ ap (λ (t : List ℕ). t ++ drop (k + 1) bytes) (take_more bytes k 0 lt ∙ ap (λ (x : ℕ). take k bytes ++ x ∷ []) e)
+
+pub byte_front : (bytes : List ℕ) → 0 < length bytes → bytes ≡ (get_or bytes 0 0 ∷ []) ++ drop 1 bytes
+byte_front [] lt = absurd (omega arith)
+byte_front (b ∷ bytes) lt = refl
+
+pub rest_of : (bytes : List ℕ) (k : ℕ) → take (length bytes - k) (drop k bytes) ≡ drop k bytes
+rest_of bytes k = take_all (length bytes - k) (drop k bytes) (omega (arith, length-drop k bytes))
+
+-- once nothing is left, all was taken
+pub all_taken : (s : Spelling) (bytes rest : List ℕ) (old new : Reader) → length rest ≡ 0 → Advances s bytes rest old new → new.fault ≢ Some Memory → (stream : List ℕ) → After s stream old → After s (stream ++ bytes) new
+all_taken s bytes [] old new e a ne stream h = rw (a.cut ∙ append-nil a.front) (a.grows ne stream h)
+all_taken s bytes (b ∷ rest) old new e a ne stream h = absurd (omega arith)

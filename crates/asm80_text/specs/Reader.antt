@@ -1,5 +1,5 @@
 -- What a reader of lines holds.
-use Rattle.std.specs.Prelude.{◌≡◌, ℕ, ◌+◌, List, [], ◌∷◌, ◌++◌, Bool, true, false, Option, Some, None, Result, Ok, Err, length, map, nat_lt, if◌then◌else◌}
+use Rattle.std.specs.Prelude.{◌≡◌, ◌≢◌, ℕ, ◌+◌, List, [], ◌∷◌, ◌++◌, Bool, true, false, Option, Some, None, Result, Ok, Err, length, map, nat_lt, if◌then◌else◌}
 use Rattle.std.specs.Global.{Vec}
 use Rattle.asm80_statement_types.specs.declared.fault.LineRule.{LineRule}
 use Rattle.asm80_statement_types.specs.declared.fault.LineRule.TheVariants as rules
@@ -31,6 +31,12 @@ pub record After (s : Spelling) (stream : List ℕ) (reader : Reader) : Type 0 w
   pub lines : LinesGive s 1 (complete raw rest is_closed) (map statement_of reader.statements) reader.fault
   pub closing : reader.fault ≡ None → reader.is_closed ≡ is_closed
   pub held : reader.fault ≡ None → is_closed ≡ false → HoldsLine reader.held rest × (reader.number ≡ length raw)
+
+-- Of these bytes the reader took some at the front, and that is what is left.
+pub record Advances (s : Spelling) (bytes rest : List ℕ) (old new : Reader) : Type 0 where
+  pub front : List ℕ
+  pub cut : bytes ≡ front ++ rest
+  pub grows : new.fault ≢ Some Memory → (stream : List ℕ) → After s stream old → After s (stream ++ front) new
 
 -- the answer while there is this fault, or none
 abbrev pub answer_of : Option ReadFault → Result (Unit {0}) ReadFault

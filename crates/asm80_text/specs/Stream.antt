@@ -1,5 +1,6 @@
 -- The lines of a stream of bytes, and what they give (CP/M 2.2 Operating System Manual, the assembler, "Program format").
-use Rattle.std.specs.Prelude.{◌≡◌, ◌≢◌, ℕ, suc, List, [], ◌∷◌, ◌++◌, Bool, true, false, Option, Some, None, Ok, Err, map}
+use Rattle.std.specs.Prelude.{◌≡◌, ◌≢◌, ℕ, suc, List, [], ◌∷◌, ◌++◌, Bool, true, false, ◌==◌, ◌&&◌, if◌then◌else◌, Option, Some, None, Ok, Err, map}
+use Rattle.std.specs.List.{prefix_len}
 use Rattle.asm80_statement_types.specs.declared.fault.LineRule.{LineRule}
 use Rattle.asm80_statement_types.specs.declared.fault.ReadFault.{ReadFault}
 use Rattle.asm80_statement_types.specs.declared.fault.ReadFault.TheVariants.{Syntax}
@@ -11,6 +12,13 @@ use Rattle.asm80_text.specs.Line.{LineGives}
 -- neither LF nor the byte 1AH
 abbrev pub IsPlain : ℕ → Type 0
 IsPlain b = (b ≢ 10) × (b ≢ 26)
+
+abbrev pub is_plain : ℕ → Bool
+is_plain b = (if b == 10 then false else true) && (if b == 26 then false else true)
+
+-- how many bytes at the front are
+abbrev pub plain_len : List ℕ → ℕ
+plain_len bytes = prefix_len is_plain bytes
 
 -- a stream is a text, which ends at the first byte 1AH, where there is one
 pub data IsStream : List ℕ → List (List ℕ) → List ℕ → Bool → Type 0 where

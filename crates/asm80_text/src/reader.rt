@@ -1,15 +1,15 @@
 //! A reader of lines that is fed a stream in pieces.
 
-ghost use Rattle.std.specs.Prelude.{◌≡◌, ◌≢◌, ◌≤◌, ◌+◌, ◌∷◌, [], ◌++◌, ◌⊎◌, ℕ, List, Option, None, Some, Err, IfOk, IfSome, MatchResult, true, false};
+ghost use Rattle.std.specs.Prelude.{◌≡◌, ◌≢◌, ◌<◌, ◌≤◌, ◌+◌, ◌∷◌, [], ◌++◌, ◌⊎◌, ℕ, List, Option, None, Some, Err, IfOk, IfSome, MatchResult, length, true, false};
 ghost use Rattle.asm80_statement_types.specs.declared.fault.ReadFault.{ReadFault};
 ghost use Rattle.asm80_statement_types.specs.declared.fault.ReadFault.TheVariants.{Memory, Syntax};
 ghost use Rattle.asm80_statement_types.specs.declared.fault.LineRule.{LineRule};
 ghost use Rattle.asm80_statement_types.specs.Tree.{Statement};
 ghost use Rattle.asm80_statement_types.specs.WellFormed.{AreWellFormed};
 ghost use Rattle.base_types.specs.Held.{held_with_byte};
-ghost use Rattle.asm80_text.specs.Stream.{HoldsFault, StreamGives};
+ghost use Rattle.asm80_text.specs.Stream.{HoldsFault, StreamGives, plain_len};
 ghost use Rattle.asm80_statement_types.specs.Reading.{Finishes, HasOneOutcome};
-ghost use Rattle.asm80_text.specs.Reader.{Adds, After, Agrees, EndsLine, EndsStream, answer_of, rule_of_long};
+ghost use Rattle.asm80_text.specs.Reader.{Adds, Advances, After, Agrees, EndsLine, EndsStream, answer_of, rule_of_long};
 
 use crate::Notation;
 use crate::intel::Intel;
@@ -93,10 +93,46 @@ impl<N: Notation> LineReader<N> {
         ensures closed { self.old.is_closed ≡ true → self.new ≡ self.old }
     {
         N::spelling_is_coherent();
-        for b in piece {
-            self.step(*b);
+        let mut rest = piece;
+        while !rest.is_empty() {
+            rest = self.advance(rest);
         }
         self.answer()
+    }
+
+    // Takes a whole line at the front of the bytes, where a line begins there, and else the next byte; the bytes after it.
+    fn advance<'a>(&mut self, bytes: &'a [u8]) -> &'a [u8]
+        requires { 0 < length bytes.now }
+        ensures grows { Advances N.spelling bytes.now result.now self.old self.new }
+        ensures shorter { length result.now < length bytes.now }
+        ensures stands { self.old.fault ≢ None → self.new ≡ self.old }
+        ensures closed { self.old.is_closed ≡ true → self.new ≡ self.old }
+    {
+        if self.is_at_line() {
+            let count = plain_len(bytes);
+            if count < bytes.len() && bytes[count] == b'\n' {
+                self.read(without_cr(&bytes[..count]));
+                return &bytes[count + 1..];
+            }
+        }
+        self.step(bytes[0]);
+        &bytes[1..]
+    }
+
+    // Whether a line begins with the next byte.
+    fn is_at_line(&self) -> bool
+        ensures { result ≡ true → (self.now.fault ≡ None) × (self.now.is_closed ≡ false) × (self.now.held ≡ Some []) }
+    {
+        self.fault.is_none() && !self.is_closed && self.holds_nothing()
+    }
+
+    fn holds_nothing(&self) -> bool
+        ensures { result ≡ true → self.now.held ≡ Some [] }
+    {
+        match self.held.line() {
+            Some(line) => line.is_empty(),
+            None => false,
+        }
     }
 
     // The fault that there is.
@@ -250,6 +286,17 @@ impl<N: Notation> StatementReader for LineReader<N> {
     fn reading_has_one_outcome() {
         stream_has_one_outcome::<N>();
     }
+}
+
+// How many bytes at the front are neither LF nor 1AH.
+fn plain_len(bytes: &[u8]) -> usize
+    ensures value { result ≡ plain_len bytes.now }
+    ensures within { result ≤ length bytes.now }
+{
+    bytes
+        .iter()
+        .take_while(|b| **b != b'\n' && **b != END_OF_FILE)
+        .count()
 }
 
 /// In each spelling a stream has at most one outcome: its statements, or its first fault with the statements before it.

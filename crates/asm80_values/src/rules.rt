@@ -83,6 +83,10 @@ fn fits_kind(kind: Kind, n: u16) -> bool
 fn is_unfit(scope: &Scope<'_>, kind: Kind, arg: &Arg) -> bool
     ensures { result ≡ is_unfit (scope_of scope.now) (kind, operand_of arg.now) }
 {
+    match kind {
+        Kind::Byte | Kind::Restart => {}
+        _ => return false,
+    }
     match operand_number(scope, arg) {
         Some(n) => !fits_kind(kind, n),
         None => false,
