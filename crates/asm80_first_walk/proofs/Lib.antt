@@ -6,3 +6,4 @@ pub mod Verdicts
 pub mod Reaching
 pub mod Nesting
 pub mod Stepping
+pub mod Tables

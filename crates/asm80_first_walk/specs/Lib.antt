@@ -2,3 +2,4 @@ pub mod Entries
 pub mod Scopes
 pub mod Walked
 pub mod State
+pub mod Tables

@@ -1,12 +1,18 @@
 //! Names.
 
-ghost use Rattle.std.specs.Prelude.{◌≡◌, List, length, take, ℕ, ◌-◌};
+ghost use Rattle.std.specs.Prelude.{◌≡◌, List, [], ◌∷◌, length, take, ℕ, ◌-◌};
+ghost use Rattle.std.proofs.Common.{rules};
+ghost use Rattle.std.specs.Cmp.{partial_equiv_from_equiv};
+ghost use Rattle.std.specs.Cmp.Lexicographic.{nat_list_eq_equiv};
+ghost use Rattle.std.specs.Cmp.Rules.{hashing};
+ghost use Rattle.std.specs.Str.{bytes_eq};
 ghost use Rattle.asm80_statement_types.specs.Name.{IsName};
 
+use std::hash::{Hash, Hasher};
 use std::marker::Model;
 
 /// A name of the source: 1 to 16 capital letters and digits.
-#[derive(Clone, Copy, PartialEq, Eq, Hash)]
+#[derive(Clone, Copy)]
 pub struct Name80 {
     bytes: [u8; 16],
     len: usize,
@@ -49,5 +55,30 @@ impl Name80 {
         ensures name { IsName self.now }
     {
         &self.bytes[..self.len]
+    }
+}
+
+impl PartialEq for Name80 {
+    ghost eq = { bytes_eq };
+
+    ghost laws = { partial_equiv_from_equiv nat_list_eq_equiv };
+
+    fn eq(&self, other: &Name80) -> bool {
+        self.as_slice() == other.as_slice()
+    }
+}
+
+impl Eq for Name80 {
+    ghost laws = { nat_list_eq_equiv };
+}
+
+// (a name is hashed by one write of its bytes)
+impl Hash for Name80 {
+    ghost hash_input = { λ n. n ∷ [] };
+
+    ghost respects_eq = { Prim.search (hashing, rules) };
+
+    fn hash<H: Hasher>(&self, state: &mut H) {
+        state.write(self.as_slice());
     }
 }

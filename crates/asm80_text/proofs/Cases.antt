@@ -1,34 +1,36 @@
 -- What an expression begins with, and what each way to begin leaves.
-use Rattle.std.proofs.Common.{◌≡◌, ◌≢◌, ℕ, zero, suc, ◌<◌, ◌-◌, List, ◌∷◌, refl, ap, ◌∙◌, arith, Option, Some, None, Result, Ok, Err}
+use Rattle.std.proofs.Common.{◌≡◌, ◌≢◌, ℕ, zero, suc, ◌<◌, ◌-◌, List, ◌∷◌, refl, sym, ap, ◌∙◌, arith, Option, Some, None, Result, Ok, Err}
 use Rattle.asm80_statement_types.specs.declared.expr.Two.{Two}
 use Rattle.asm80_statement_types.specs.declared.expr.Two.TheVariants.{Mul, Div, Mod, Shl, Shr, Add, Sub, And, Or, Xor}
 use Rattle.std.specs.Borrow.{Bor}
+use Rattle.std.proofs.lemmas.Option.{same_Some}
 use Rattle.asm80_statement_types.specs.declared.expr.Expr.{Expr}
 use Rattle.asm80_statement_types.specs.Tree.{tree_of, Tree, Number, Place, Named, Inverted, Negated, Binary}
 use Rattle.asm80_text.specs.declared.token.Token.{Token}
 use Rattle.asm80_text.specs.declared.token.Token.TheVariants.{Digits, Num, Here, Word, Register, Op, Not, Open, Close}
 use Rattle.asm80_text.specs.declared.fault.ParseFault.{ParseFault}
 use Rattle.asm80_text.specs.declared.fault.ParseFault.TheVariants as faults
-use Rattle.asm80_text.specs.TokenResults.{Sure, Never, Gives, Stops, IsNotOf}
+use Rattle.asm80_text.specs.TokenResults.{Sure, Never, Gives, Stops, IsNotOf, term_of}
 use Rattle.asm80_text.specs.Grammar.{level_of, next_operator, IsLooser, Spells, Begins, Ends, EndsInside, alone, joined, digits, number, here, name, register, parens, tighter, minus, plus, inverse}
 use Rattle.asm80_text.proofs.Chain.{Extends, done, step, Chained, unrolled, ends_inside_all}
 
 -- ---- operands
 
-digits_is : {n : ℕ} {ts r : List Token} {e : Tree} → Begins 0 (Digits n ∷ ts) e r → (Number n ≡ e) × (ts ≡ r)
-digits_is digits = (refl, refl)
+term_begins : (t : Token) (rest : List Token) (e : Tree) → term_of t ≡ Some e → Begins 0 (t ∷ rest) e rest
+term_begins (Digits n) rest e h = rw (sym (same_Some (Number n) e h)) digits
+term_begins (Num n) rest e h = rw (sym (same_Some (Number n) e h)) number
+term_begins Here rest e h = rw (sym (same_Some Place e h)) here
+term_begins (Word n) rest e h = rw (sym (same_Some (Named n) e h)) name
+term_begins (Register n) rest e h = rw (sym (same_Some (Named n) e h)) register
+term_begins _ rest e h = absurd cc
 
-number_is : {n : ℕ} {ts r : List Token} {e : Tree} → Begins 0 (Num n ∷ ts) e r → (Number n ≡ e) × (ts ≡ r)
-number_is number = (refl, refl)
-
-here_is : {ts r : List Token} {e : Tree} → Begins 0 (Here ∷ ts) e r → (Place ≡ e) × (ts ≡ r)
-here_is here = (refl, refl)
-
-name_is : {n : List ℕ} {ts r : List Token} {e : Tree} → Begins 0 (Word n ∷ ts) e r → (Named n ≡ e) × (ts ≡ r)
-name_is name = (refl, refl)
-
-register_is : {n : List ℕ} {ts r : List Token} {e : Tree} → Begins 0 (Register n ∷ ts) e r → (Named n ≡ e) × (ts ≡ r)
-register_is register = (refl, refl)
+term_is : {t : Token} {rest r : List Token} {e f : Tree} → term_of t ≡ Some e → Begins 0 (t ∷ rest) f r → (e ≡ f) × (rest ≡ r)
+term_is {e = e} h (digits {n = n}) = (sym (same_Some (Number n) e h), refl)
+term_is {e = e} h (number {n = n}) = (sym (same_Some (Number n) e h), refl)
+term_is {e = e} h here = (sym (same_Some Place e h), refl)
+term_is {e = e} h (name {bytes = n}) = (sym (same_Some (Named n) e h), refl)
+term_is {e = e} h (register {bytes = n}) = (sym (same_Some (Named n) e h), refl)
+term_is h (parens s) = absurd cc
 
 parens_is : {ts r : List Token} {e : Tree} → Begins 0 (Open ∷ ts) e r → Spells 5 ts e (Close ∷ r)
 parens_is (parens s) = s
@@ -83,20 +85,11 @@ tighter_is (inverse s) a b c = absurd (c refl)
 abbrev pub Operand : List Token → Tree → List Token → Type 0
 Operand ts = Sure (Begins 0 ts) (EndsInside 0)
 
-pub digits_read : (ts rest : List Token) (n : ℕ) → ts ≡ Digits n ∷ rest → Operand ts (Number n) rest
-digits_read ts rest n e = rw e (record { holds = digits; ended = tt; only = λ o r b h. digits_is b })
+pub term_first : (ts rest : List Token) (t : Token) (e : Tree) → ts ≡ t ∷ rest → term_of t ≡ Some e → Begins 0 ts e rest
+term_first ts rest t e p h = rw p (term_begins t rest e h)
 
-pub number_read : (ts rest : List Token) (n : ℕ) → ts ≡ Num n ∷ rest → Operand ts (Number n) rest
-number_read ts rest n e = rw e (record { holds = number; ended = tt; only = λ o r b h. number_is b })
-
-pub here_read : (ts rest : List Token) → ts ≡ Here ∷ rest → Operand ts Place rest
-here_read ts rest e = rw e (record { holds = here; ended = tt; only = λ o r b h. here_is b })
-
-pub name_read : (ts rest : List Token) (n : List ℕ) → ts ≡ Word n ∷ rest → Operand ts (Named n) rest
-name_read ts rest n e = rw e (record { holds = name; ended = tt; only = λ o r b h. name_is b })
-
-pub register_read : (ts rest : List Token) (n : List ℕ) → ts ≡ Register n ∷ rest → Operand ts (Named n) rest
-register_read ts rest n e = rw e (record { holds = register; ended = tt; only = λ o r b h. register_is b })
+pub term_read : (ts rest : List Token) (t : Token) (e : Tree) → ts ≡ t ∷ rest → term_of t ≡ Some e → Operand ts e rest
+term_read ts rest t e p h = rw p (record { holds = term_begins t rest e h; ended = tt; only = λ o r b x. term_is h b })
 
 pub parens_read : (ts after rest : List Token) (e : Tree) → after ≡ Close ∷ rest → Sure (Spells 5 ts) (Ends 5) e after → Operand (Open ∷ ts) e rest
 parens_read ts after rest e p s = record {

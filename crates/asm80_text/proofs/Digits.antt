@@ -1,9 +1,9 @@
 -- The number that digits spell, counted with a cap.
-use Rattle.std.proofs.Common.{◌≡◌, ℕ, ◌+◌, ◌*◌, ◌<◌, ◌≤◌, min, List, [], true, Some, None, length, take, get_or, refl, arith, inl, inr, ltb}
+use Rattle.std.proofs.Common.{◌≡◌, ℕ, ◌+◌, ◌*◌, ◌<◌, ◌≤◌, min, List, [], ◌∷◌, ◌++◌, true, false, ◌&&◌, Some, None, refl, ap, ◌∙◌, arith, inl, inr, ltb}
 use Rattle.std.specs.List.{list_all}
 use Rattle.std.proofs.lemmas.Bool.{cases_lt, le-ltb, lt-ltb, le-leb, lt-leb}
-use Rattle.std.proofs.lemmas.List.Sums.{fold_more}
-use Rattle.std.proofs.lemmas.List.Folds.{list_all_more, list_all_at}
+use Rattle.std.proofs.lemmas.List.Sums.{fold-append}
+use Rattle.std.proofs.lemmas.List.Folds.{list_all-append}
 use Rattle.std.proofs.Math.Nat.{mul-le-mul_right}
 use Rattle.std.proofs.Math.Bool.{and-false}
 use Rattle.asm80_text.specs.Numbers.{digit_of, total, value_in}
@@ -19,17 +19,21 @@ cap_step t c b d pos e =
     ]
 
 -- one more digit
-pub total_more : (base : ℕ) (cs : List ℕ) (i : ℕ) → i < length cs → total base (take (i + 1) cs) ≡ total base (take i cs) * base + digit_of (get_or cs i 0)
+pub total_and_one : (base : ℕ) (cs : List ℕ) (c : ℕ) → total base (cs ++ c ∷ []) ≡ total base cs * base + digit_of c
 unfolding total
-total_more base cs i h = fold_more (λ n c. n * base + digit_of c) 0 cs i 0 h
+total_and_one base cs c = fold-append (λ n d. n * base + digit_of d) 0 cs (c ∷ [])
 
 pub total_none : (base : ℕ) → total base [] ≡ 0
 unfolding total
 total_none base = refl
 
-pub no_value : (base : ℕ) (cs : List ℕ) (i : ℕ) → i < length cs → base ≤ digit_of (get_or cs i 0) → value_in base cs ≡ None
+-- no number, where something is no digit
+pub no_value_at : (base : ℕ) (cs : List ℕ) (c : ℕ) (rest : List ℕ) → base ≤ digit_of c → value_in base ((cs ++ c ∷ []) ++ rest) ≡ None
 unfolding value_in
-no_value base cs i h le = rw (list_all_at (λ c. ltb (digit_of c) base) cs i 0 h (le-ltb _ _ le)) refl
+no_value_at base cs c rest le =
+    let digits = λ (d : ℕ). ltb (digit_of d) base in
+    let wrong : list_all digits ((cs ++ c ∷ []) ++ rest) ≡ false = list_all-append digits (cs ++ c ∷ []) rest ∙ ap (λ b. b && list_all digits rest) (list_all-append digits cs (c ∷ []) ∙ ap (λ b. list_all digits cs && (b && true)) (le-ltb _ _ le) ∙ and-false (list_all digits cs)) in
+    rw wrong refl
 
 pub too_large : (base : ℕ) (cs : List ℕ) (n : ℕ) → n ≡ min (total base cs) 65536 → 65535 < n → value_in base cs ≡ None
 unfolding value_in
@@ -43,5 +47,5 @@ has_value base cs n all e le =
     let same : total base cs ≡ n = omega arith in
     rw (all, same, le-leb n 65535 le) refl
 
-pub digits_more : (base : ℕ) (cs : List ℕ) (i : ℕ) → i < length cs → digit_of (get_or cs i 0) < base → list_all (λ c. ltb (digit_of c) base) (take i cs) ≡ true → list_all (λ c. ltb (digit_of c) base) (take (i + 1) cs) ≡ true
-digits_more base cs i h lt all = rw (list_all_more (λ c. ltb (digit_of c) base) cs i 0 h, all, lt-ltb _ _ lt) refl
+pub digits_and_one : (base : ℕ) (cs : List ℕ) (c : ℕ) → digit_of c < base → list_all (λ d. ltb (digit_of d) base) cs ≡ true → list_all (λ d. ltb (digit_of d) base) (cs ++ c ∷ []) ≡ true
+digits_and_one base cs c lt all = rw (list_all-append (λ d. ltb (digit_of d) base) cs (c ∷ []), all, lt-ltb _ _ lt) refl

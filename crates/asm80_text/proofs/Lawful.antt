@@ -1,17 +1,16 @@
 -- Lawful tokens are well-formed statements.
-use Rattle.std.proofs.Common.{◌≡◌, ℕ, List, [], ◌++◌, cond, Bool, true, false, Option, Some, None, All, refl}
+use Rattle.std.proofs.Common.{◌≡◌, ℕ, List, [], false, Option, Some, None, All, refl}
 use Rattle.std.specs.List.{AllByRecursion}
-use Rattle.std.proofs.lemmas.List.Elements.{All-from_recursion, recursion_from_All, All-append}
+use Rattle.std.proofs.lemmas.List.Elements.{All-from_recursion, recursion_from_All}
 use Rattle.asm80_text.specs.declared.token.Token.{Token}
-use Rattle.asm80_statement_types.specs.declared.stmt.Stmt80.{Stmt80}
-use Rattle.asm80_statement_types.specs.Tree.{Tree, Operand, Statement, statement_of}
+use Rattle.asm80_statement_types.specs.Tree.{Tree, Operand, Statement}
 use Rattle.asm80_text.specs.Spelling.{Spelling}
 use Rattle.asm80_text.specs.Tokens.{IsLawful}
 use Rattle.asm80_text.specs.Coherent.{IsCoherent}
 use Rattle.asm80_text.proofs.Operations.{operates}
 use Rattle.asm80_text.specs.Grammar.{Spells, Begins, alone, joined, digits, number, here, name, register, parens, tighter, minus, plus, inverse}
 use Rattle.asm80_statement_types.specs.Words.{is_register}
-use Rattle.asm80_statement_types.specs.WellFormed.{IsLawfulOperand, IsWellFormed, AreWellFormed}
+use Rattle.asm80_statement_types.specs.WellFormed.{IsLawfulOperand, IsWellFormed}
 use Rattle.asm80_text.specs.Statement.{IsOperand, text, value, AreOperands, last, more, HasOperands, bare, full, IsBody, nothing, operated, IsLabeled, unlabeled, labeled, with_colon, IsStatement, unnumbered, numbered, IsStatementOf}
 
 abbrev AreLawful : Spelling → List Token → Type 0
@@ -76,7 +75,3 @@ module _ (spelling : Spelling) (coherent : IsCoherent spelling) where
 
   pub lawful_statement : (n : ℕ) (ts : List Token) (s : Statement) → All (IsLawful spelling) ts → IsStatementOf spelling n ts s → IsWellFormed s
   lawful_statement n ts s h x = (statement_lawful x.words (recursion_from_All _ _ h)).good s.line
-
-pub well_appended : (new old found : List Stmt80) (done : Bool) → new ≡ cond done (old ++ found) old → AreWellFormed old → AreWellFormed found → AreWellFormed new
-well_appended new old found true e h k = rw e (All-append (λ (s : Stmt80). IsWellFormed (statement_of s)) old found h k)
-well_appended new old found false e h k = rw e h

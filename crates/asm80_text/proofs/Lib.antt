@@ -1,3 +1,4 @@
+pub mod Significant
 pub mod Digits
 pub mod Names
 pub mod Quotes

@@ -1,6 +1,5 @@
 -- A line gives one thing.
 use Rattle.std.proofs.Common.{◌≡◌, ℕ, ◌≤◌, List, Bool, true, false, Option, Result, Ok, Err, length, refl, ap, arith}
-use Rattle.std.specs.Global.{Vec}
 use Rattle.asm80_statement_types.specs.declared.fault.LineRule.{LineRule}
 use Rattle.asm80_statement_types.specs.declared.fault.ReadFault.{ReadFault}
 use Rattle.asm80_statement_types.specs.declared.fault.ReadFault.TheVariants.{Syntax, Memory}
@@ -59,7 +58,7 @@ module _ (spelling : Spelling) (coherent : IsCoherent spelling) where
 
 -- ---- what a function read
 
-pub line_from_text : (s : Spelling) (n : ℕ) (line : List ℕ) (ts : List Token) (parts : List (List Token)) (f : Option LineRule) (r : Result (Vec Stmt80) ReadFault) → n ≤ 32768 → length line ≤ 255 → (IsRemark line → ⊥) → Lexes s line ts f → parts ≡ parts_of ts → ReadsText s n parts f r → ReadsLine s n line r
-line_from_text s n line ts parts f (Ok v) a b c x e h = told a b c x (rw e at h)
-line_from_text s n line ts parts f (Err Memory) a b c x e h = tt
-line_from_text s n line ts parts f (Err (Syntax m r)) a b c x e h = (h.0, told a b c x (rw e at h.1))
+pub line_from_text : (s : Spelling) (n : ℕ) (line : List ℕ) (ts : List Token) (parts : List (List Token)) (f : Option LineRule) (old new : List Stmt80) (r : Result (Unit {0}) ReadFault) → n ≤ 32768 → length line ≤ 255 → (IsRemark line → ⊥) → Lexes s line ts f → parts ≡ parts_of ts → ReadsText s n parts f old new r → ReadsLine s n line old new r
+line_from_text s n line ts parts f old new (Ok u) a b c x e h = (h.0, h.1, told a b c x (rw e at h.2))
+line_from_text s n line ts parts f old new (Err Memory) a b c x e h = tt
+line_from_text s n line ts parts f old new (Err (Syntax m r)) a b c x e h = (h.0, h.1, told a b c x (rw e at h.2))

@@ -3,7 +3,8 @@ use Rattle.std.proofs.Common.{◌≡◌, ℕ, zero, suc, ◌<◌, ◌≤◌, ◌
 use Rattle.asm80_statement_types.specs.Tree.{Tree, Inverted, Negated, Binary}
 use Rattle.asm80_text.specs.declared.token.Token.{Token}
 use Rattle.asm80_text.specs.declared.token.Token.TheVariants.{Close}
-use Rattle.asm80_text.specs.Grammar.{Spells, Begins, Ends, EndsInside, digits, number, here, name, register, parens, tighter, minus, plus, inverse}
+use Rattle.asm80_text.specs.Grammar.{Spells, Begins, Ends, EndsInside, alone, digits, number, here, name, register, parens, tighter, minus, plus, inverse}
+use Rattle.asm80_text.specs.TokenResults.{Sure}
 use Rattle.asm80_text.proofs.Chain.{Extends, done, step, unrolled, ends_inside_all, spells_shorter, begins_shorter}
 use Rattle.asm80_text.proofs.Cases.{ends_three, no_operator, no_not}
 
@@ -63,3 +64,17 @@ known_all (suc d) = λ k ts r s e f lt five a b x y. spells_once d (known_all d)
 -- of each level there is one expression up to where it ends
 pub one_expression : (k : ℕ) (ts r s : List Token) (e f : Tree) → k ≤ 5 → Spells k ts e r → Spells k ts f s → Ends k r → Ends k s → Same e f r s
 one_expression k ts r s e f five a b x y = known_all (suc (6 * length ts + k)) k ts r s e f (omega arith) five a b x y
+
+-- ---- a term alone
+
+at_each_level : (k : ℕ) {ts rest : List Token} {e : Tree} → Begins 0 ts e rest → Spells k ts e rest
+at_each_level zero b = alone b
+at_each_level (suc k) b = alone (tighter (at_each_level k b))
+
+-- a term that an operator of the level does not follow is the expression of that level
+pub term_sure : (k : ℕ) (ts rest : List Token) (e : Tree) → k ≤ 5 → Begins 0 ts e rest → Ends k rest → Sure (Spells k ts) (Ends k) e rest
+term_sure k ts rest e five b x = record {
+  holds = at_each_level k b;
+  ended = x;
+  only = λ o r s y. let h = one_expression k ts rest r e o five (at_each_level k b) s x y in (h.trees, h.rests);
+}

@@ -1,5 +1,5 @@
 -- What the functions on tokens and lines return, by the definitions.
-use Rattle.std.specs.Prelude.{◌≡◌, ℕ, List, ◌∷◌, map, Option, Result, Ok, Err}
+use Rattle.std.specs.Prelude.{◌≡◌, ℕ, List, ◌∷◌, ◌++◌, map, Option, Result, Ok, Err}
 use Rattle.std.specs.Borrow.{Bor}
 use Rattle.std.specs.Global.{Vec}
 use Rattle.asm80_statement_types.specs.declared.arg.Arg.{Arg}
@@ -14,7 +14,7 @@ use Rattle.asm80_statement_types.specs.declared.fault.ReadFault.TheVariants as r
 use Rattle.asm80_statement_types.specs.Tree.{Operand, operand_of, Statement, statement_of}
 use Rattle.asm80_text.specs.Spelling.{Spelling}
 use Rattle.asm80_text.specs.Grammar.{Ends}
-use Rattle.asm80_text.specs.Statement.{IsOperand, AreOperands, HasOperands, IsBody, IsStatementOf, AreStatements}
+use Rattle.asm80_text.specs.Statement.{IsOperand, AreOperands, HasOperands, IsBody, IsStatementOf, kept, AreStatements}
 use Rattle.asm80_text.specs.Line.{TextGives, LineGives}
 
 -- an operand and its rest, and no other up to where an expression cannot go on
@@ -47,10 +47,17 @@ GivesStatement spelling n ts (Ok s) = IsStatementOf spelling n ts (statement_of 
 GivesStatement spelling n ts (Err parse.Memory) = Unit {0}
 GivesStatement spelling n ts (Err parse.Malformed) = (s : Statement) → IsStatementOf spelling n ts s → ⊥
 
-abbrev pub GivesStatements : Spelling → ℕ → List (List Token) → Result (Vec Stmt80) ParseFault → Type 0
-GivesStatements s n parts (Ok v) = AreStatements s n parts (map statement_of v.items)
-GivesStatements s n parts (Err parse.Memory) = Unit {0}
-GivesStatements s n parts (Err parse.Malformed) = (ss : List Statement) → AreStatements s n parts ss → ⊥
+-- a statement was added to others, unless it is empty
+abbrev pub AddsStatement : Spelling → ℕ → List Token → List Stmt80 → List Stmt80 → Result (Unit {0}) ParseFault → Type 0
+AddsStatement spelling n ts old new (Ok u) = (s : Statement) × IsStatementOf spelling n ts s × ((more : List Stmt80) × (new ≡ old ++ more) × (map statement_of more ≡ kept s))
+AddsStatement spelling n ts old new (Err parse.Memory) = Unit {0}
+AddsStatement spelling n ts old new (Err parse.Malformed) = (new ≡ old) × ((s : Statement) → IsStatementOf spelling n ts s → ⊥)
+
+-- the statements of parts were added to others
+abbrev pub GivesStatements : Spelling → ℕ → List (List Token) → List Stmt80 → List Stmt80 → Result (Unit {0}) ParseFault → Type 0
+GivesStatements s n parts old new (Ok u) = (ss : List Stmt80) × (new ≡ old ++ ss) × AreStatements s n parts (map statement_of ss)
+GivesStatements s n parts old new (Err parse.Memory) = Unit {0}
+GivesStatements s n parts old new (Err parse.Malformed) = (new ≡ old) × ((ss : List Statement) → AreStatements s n parts ss → ⊥)
 
 -- the tokens without a line number at the front
 abbrev pub past_number : List Token → List Token
@@ -62,14 +69,14 @@ abbrev pub past_colon : List Token → List Token
 past_colon (Colon ∷ ts) = ts
 past_colon ts = ts
 
--- what was read of the statements of a line
-abbrev pub ReadsText : Spelling → ℕ → List (List Token) → Option LineRule → Result (Vec Stmt80) ReadFault → Type 0
-ReadsText s n parts f (Ok v) = TextGives s n parts f (Ok (map statement_of v.items))
-ReadsText s n parts f (Err read.Memory) = Unit {0}
-ReadsText s n parts f (Err (read.Syntax m r)) = (m ≡ n) × TextGives s n parts f (Err r)
+-- what was read of the statements of a line, which were added to others
+abbrev pub ReadsText : Spelling → ℕ → List (List Token) → Option LineRule → List Stmt80 → List Stmt80 → Result (Unit {0}) ReadFault → Type 0
+ReadsText s n parts f old new (Ok u) = (ss : List Stmt80) × (new ≡ old ++ ss) × TextGives s n parts f (Ok (map statement_of ss))
+ReadsText s n parts f old new (Err read.Memory) = Unit {0}
+ReadsText s n parts f old new (Err (read.Syntax m r)) = (m ≡ n) × (new ≡ old) × TextGives s n parts f (Err r)
 
--- what was read of a line
-abbrev pub ReadsLine : Spelling → ℕ → List ℕ → Result (Vec Stmt80) ReadFault → Type 0
-ReadsLine s n line (Ok v) = LineGives s n line (Ok (map statement_of v.items))
-ReadsLine s n line (Err read.Memory) = Unit {0}
-ReadsLine s n line (Err (read.Syntax m r)) = (m ≡ n) × LineGives s n line (Err r)
+-- what was read of a line, whose statements were added to others
+abbrev pub ReadsLine : Spelling → ℕ → List ℕ → List Stmt80 → List Stmt80 → Result (Unit {0}) ReadFault → Type 0
+ReadsLine s n line old new (Ok u) = (ss : List Stmt80) × (new ≡ old ++ ss) × LineGives s n line (Ok (map statement_of ss))
+ReadsLine s n line old new (Err read.Memory) = Unit {0}
+ReadsLine s n line old new (Err (read.Syntax m r)) = (m ≡ n) × (new ≡ old) × LineGives s n line (Err r)

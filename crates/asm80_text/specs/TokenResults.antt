@@ -15,7 +15,7 @@ use Rattle.asm80_text.specs.Strings.{quoted}
 use Rattle.asm80_text.specs.Spelling.{Spelling}
 use Rattle.asm80_text.specs.Tokens.{Scanned, Got, Bad, token_at}
 use Rattle.asm80_statement_types.specs.declared.arg.Arg.{Arg}
-use Rattle.asm80_statement_types.specs.Tree.{Tree, tree_of, Inverted, Operand, operand_of}
+use Rattle.asm80_statement_types.specs.Tree.{Tree, Number, Place, Named, tree_of, Inverted, Operand, operand_of}
 use Rattle.asm80_text.specs.Grammar.{level_of, next_operator}
 
 -- ---- tokens
@@ -58,6 +58,15 @@ abbrev pub Gives : (Tree → List Token → Type 0) → (List Token → Type 0) 
 Gives rule ends (Ok x) = Sure rule ends (tree_of x.0) x.1.now
 Gives rule ends (Err parse.Memory) = Unit {0}
 Gives rule ends (Err parse.Malformed) = Never rule ends
+
+-- the term that a token is by itself
+abbrev pub term_of : Token → Option Tree
+term_of (tokens.Digits n) = Some (Number n)
+term_of (tokens.Num n) = Some (Number n)
+term_of tokens.Here = Some Place
+term_of (tokens.Word name) = Some (Named name)
+term_of (tokens.Register name) = Some (Named name)
+term_of _ = None
 
 -- an operator, if there is one, is not of level k
 abbrev pub IsNotOf : ℕ → Option Two → Type 0

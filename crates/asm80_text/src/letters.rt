@@ -1,9 +1,7 @@
 //! The bytes of a source.
 
-ghost use Rattle.std.specs.Prelude.{◌≡◌, ◌≤◌, ◌∷◌, [], IfOk, MatchOption, length};
-ghost use Rattle.asm80_text.specs.Letters.{comment_len, inside_len, is_blank, is_inside, is_printable, significant, upper};
-
-use std::alloc::{AllocError, Global};
+ghost use Rattle.std.specs.Prelude.{◌≡◌, ◌≤◌, ◌∷◌, [], MatchOption, length};
+ghost use Rattle.asm80_text.specs.Letters.{comment_len, inside_len, is_blank, is_inside, is_printable, upper};
 
 pub fn is_blank(b: u8) -> bool
     ensures { result ≡ is_blank b }
@@ -23,7 +21,8 @@ fn is_inside(b: u8) -> bool
     b.is_ascii_alphanumeric() || b == b'$'
 }
 
-fn upper(b: u8) -> u8
+/// A letter in capitals, and any other byte.
+pub fn upper(b: u8) -> u8
     ensures { result ≡ upper b }
 {
     b.to_ascii_uppercase()
@@ -43,18 +42,6 @@ pub fn comment_len(bytes: &[u8]) -> usize
     ensures within { result ≤ length bytes.now }
 {
     bytes.iter().take_while(|b| **b != b'!').count()
-}
-
-/// The bytes of a name or a number that count.
-#[tactic(auto, unfolding(crate::specs::Letters::significant))]
-pub fn significant(alloc: Global, bytes: &[u8]) -> Result<Vec<u8>, AllocError>
-    ensures { IfOk result (λ v. v.items ≡ significant bytes.now) }
-{
-    bytes
-        .iter()
-        .filter(|b| **b != b'$')
-        .map(|b| upper(*b))
-        .collect(alloc)
 }
 
 /// The first byte, and those after it.

@@ -1,11 +1,11 @@
 //! Expressions of tokens.
 
-ghost use Rattle.std.specs.Prelude.{◌≡◌, ◌≢◌, ◌≤◌, ◌<◌, List, [], ◌∷◌, IfOk, MatchOption, length};
+ghost use Rattle.std.specs.Prelude.{◌≡◌, ◌≢◌, ◌≤◌, ◌<◌, List, [], ◌∷◌, false, IfOk, IfSome, MatchOption, length, option_map};
 ghost use Rattle.std.specs.List.{prefix_len};
 ghost use Rattle.asm80_text.specs.declared.token.Token.{Token};
 ghost use Rattle.asm80_statement_types.specs.Tree.{Tree, tree_of};
 ghost use Rattle.asm80_text.specs.Grammar.{level_of, Spells, Begins, Ends, EndsInside};
-ghost use Rattle.asm80_text.specs.TokenResults.{Gives, Stops, inverted, is_not};
+ghost use Rattle.asm80_text.specs.TokenResults.{Gives, Stops, inverted, is_not, term_of};
 
 use crate::fault::ParseFault;
 use crate::token::Token;
@@ -29,6 +29,9 @@ fn expression_at<'a>(
     requires { level ≤ 5 }
     ensures { Gives (Spells level tokens.now) (Ends level) result }
 {
+    if let Some(found) = term_alone(level, tokens) {
+        return Ok(found);
+    }
     let (mut left, mut rest) = begin_at(alloc, level, tokens)?;
     while let Some((op, after)) = operator_of(level, rest) {
         let (right, more) = expression_at(alloc, level - 1, after)?;
@@ -64,12 +67,10 @@ fn operand_at<'a>(alloc: Global, tokens: &'a [Token]) -> Result<(Expr, &'a [Toke
     let Some((token, rest)) = first(tokens) else {
         return Err(ParseFault::Malformed);
     };
+    if let Some(term) = term_of(token) {
+        return Ok((term, rest));
+    }
     match token {
-        Token::Digits(n) => Ok((Expr::Num(*n), rest)),
-        Token::Num(n) => Ok((Expr::Num(*n), rest)),
-        Token::Here => Ok((Expr::Here, rest)),
-        Token::Word(name) => Ok((Expr::Name(*name), rest)),
-        Token::Register(name) => Ok((Expr::Name(*name), rest)),
         Token::Open => parenthesized(alloc, rest),
         _ => Err(ParseFault::Malformed),
     }
@@ -139,6 +140,45 @@ fn inverted(alloc: Global, count: usize, e: Expr) -> Result<Expr, AllocError>
         whole = Expr::Not(Box::new(alloc, whole)?);
     }
     Ok(whole)
+}
+
+// A term at the front of the tokens that is the whole expression of a level, since none of its operators follows; most operands are.
+fn term_alone(level: u8, tokens: &[Token]) -> Option<(Expr, &[Token])>
+    ensures { IfSome result (λ x. Begins 0 tokens.now (tree_of x.0) x.1.now × Ends level x.1.now) }
+{
+    let (token, rest) = first(tokens)?;
+    if goes_on(level, rest) {
+        return None;
+    }
+    let term = term_of(token)?;
+    Some((term, rest))
+}
+
+// The term that a token is by itself.
+fn term_of(token: &Token) -> Option<Expr>
+    ensures { option_map tree_of result ≡ term_of token.now }
+{
+    match token {
+        Token::Digits(n) => Some(Expr::Num(*n)),
+        Token::Num(n) => Some(Expr::Num(*n)),
+        Token::Here => Some(Expr::Here),
+        Token::Word(name) => Some(Expr::Name(*name)),
+        Token::Register(name) => Some(Expr::Name(*name)),
+        _ => None,
+    }
+}
+
+// Whether the next token is an operator of a level or of a tighter one.
+fn goes_on(level: u8, tokens: &[Token]) -> bool
+    ensures { result ≡ false → Ends level tokens.now }
+{
+    let Some((token, _)) = first(tokens) else {
+        return false;
+    };
+    match token {
+        Token::Op(op) => level_of(*op) <= level,
+        _ => false,
+    }
 }
 
 fn level_of(op: Two) -> u8

@@ -1,13 +1,14 @@
 //! The statements of a line.
 
-ghost use Rattle.std.specs.Prelude.{◌≡◌, ◌≤◌, ◌++◌, All, IfOk, OnOk, map};
+ghost use Rattle.std.specs.Prelude.{◌≡◌, ◌≤◌, ◌++◌, All, IfOk, List, OnErr, OnOk, map};
 ghost use Rattle.std.specs.List.{list_any};
 ghost use Rattle.asm80_text.specs.Tokens.{IsLawful};
 ghost use Rattle.asm80_statement_types.specs.Tree.{statement_of};
 ghost use Rattle.asm80_statement_types.specs.WellFormed.{AreWellFormed, IsWellFormed};
 ghost use Rattle.asm80_text.specs.Statement.{kept};
 ghost use Rattle.asm80_text.specs.Line.{begins_with_colon, begins_with_reserved, has_reserved_label, is_bang, is_deep, is_name, is_reserved, open_after, parts_of};
-ghost use Rattle.asm80_text.specs.Results.{GivesStatements};
+ghost use Rattle.asm80_statement_types.specs.declared.stmt.Stmt80.{Stmt80};
+ghost use Rattle.asm80_text.specs.Results.{AddsStatement, GivesStatements};
 
 use crate::parse::statement;
 use crate::{Notation, ParseFault, Token, as_operation, first};
@@ -24,6 +25,13 @@ pub fn parts_of<N: Notation>(alloc: Global, tokens: &[Token]) -> Result<Vec<&[To
     ensures lawful { IfOk result (λ v. All (λ part. All (IsLawful N.spelling) part.now) v.items) }
 {
     tokens.split(|t| is_bang(t)).collect(alloc)
+}
+
+/// Whether a `!` parts the tokens.
+pub fn has_bang(tokens: &[Token]) -> bool
+    ensures { result ≡ list_any is_bang tokens.now }
+{
+    tokens.iter().any(|token| is_bang(token))
 }
 
 fn is_bang(token: &Token) -> bool
@@ -132,30 +140,52 @@ fn open_after(count: usize, token: &Token) -> usize
     }
 }
 
-/// The statements that the parts of the line of a number are, without the empty ones.
+/// Adds the statements that the parts of the line of a number are, without the empty ones; where some part is none, nothing is added.
 pub fn statements<N: Notation>(
     alloc: Global,
     line: u32,
     parts: &[&[Token]],
-) -> Result<Vec<Stmt80>, ParseFault>
-    requires { All (λ part. All (IsLawful N.spelling) part.now) parts.now }
-    ensures value { GivesStatements N.spelling line (map (λ x. x.now) parts.now) result }
-    ensures well_formed { IfOk result (λ v. AreWellFormed v.items) }
+    found: &mut Vec<Stmt80>,
+) -> Result<(), ParseFault>
+    requires lawful { All (λ part. All (IsLawful N.spelling) part.now) parts.now }
+    requires well_formed { AreWellFormed found.old.items }
+    ensures value { GivesStatements N.spelling line (map (λ x. x.now) parts.now) found.old.items found.new.items result }
+    ensures well_formed { AreWellFormed found.new.items }
 {
-    let mut found = Vec::new(alloc);
+    let before = found.len();
     for part in parts {
-        let s = statement::<N>(alloc, line, *part)?;
-        keep(&mut found, s)?;
+        if let Err(fault) = add::<N>(alloc, line, *part, found) {
+            found.truncate(before);
+            return Err(fault);
+        }
     }
-    Ok(found)
+    Ok(())
+}
+
+// Adds the statement that tokens are, unless it is empty.
+fn add<N: Notation>(
+    alloc: Global,
+    line: u32,
+    part: &[Token],
+    found: &mut Vec<Stmt80>,
+) -> Result<(), ParseFault>
+    requires lawful { All (IsLawful N.spelling) part.now }
+    requires well_formed { AreWellFormed found.old.items }
+    ensures value { AddsStatement N.spelling line part.now found.old.items found.new.items result }
+    ensures well_formed { AreWellFormed found.new.items }
+{
+    let s = statement::<N>(alloc, line, part)?;
+    keep(found, s)?;
+    Ok(())
 }
 
 // Adds a statement, unless it is empty.
 fn keep(found: &mut Vec<Stmt80>, s: Stmt80) -> Result<(), AllocError>
     requires well { IsWellFormed (statement_of s) }
     requires all { AreWellFormed found.old.items }
-    ensures kept { OnOk result (map statement_of found.new.items ≡ map statement_of found.old.items ++ kept (statement_of s)) }
-    ensures well_formed { OnOk result (AreWellFormed found.new.items) }
+    ensures kept { OnOk result ((more : List Stmt80) × (found.new.items ≡ found.old.items ++ more) × (map statement_of more ≡ kept (statement_of s))) }
+    ensures unchanged { OnErr result (found.new.items ≡ found.old.items) }
+    ensures well_formed { AreWellFormed found.new.items }
 {
     if s.label.is_some() || s.op.is_some() {
         found.push(s)?;

@@ -14,6 +14,7 @@ ghost use Rattle.asm80_text.specs.Reader.{Adds, After, Agrees, EndsLine, EndsStr
 use crate::Notation;
 use crate::intel::Intel;
 use crate::line::{MOST_LINES, read_line};
+use crate::token::Token;
 use asm80_statement_types::{LineRule, ReadFault, StatementReader, Stmt80};
 use base_types::{HeldLine, without_cr};
 use std::alloc::{AllocError, Global};
@@ -32,6 +33,8 @@ pub struct LineReader<N: Notation> {
     alloc: Global,
     statements: Vec<Stmt80>,
     held: HeldLine,
+    /// Room for the tokens of a line.
+    tokens: Vec<Token>,
     number: u32,
     is_closed: bool,
     fault: Option<ReadFault>,
@@ -67,6 +70,7 @@ impl<N: Notation> LineReader<N> {
             alloc,
             statements: Vec::with_capacity(alloc, FIRST_ROOM)?,
             held: HeldLine::new(),
+            tokens: Vec::new(alloc),
             number: 0,
             is_closed: false,
             fault: None,
@@ -215,15 +219,9 @@ impl<N: Notation> LineReader<N> {
         ensures { Adds N.spelling line.now self.old self.new }
     {
         let number = self.number + 1;
-        match read_line::<N>(self.alloc, number, line) {
-            Ok(found) => {
-                let mut more = found;
-                if self.statements.append(&mut more).is_err() {
-                    self.fault = Some(ReadFault::Memory);
-                } else {
-                    self.number = number;
-                }
-            }
+        let (tokens, found) = (&mut self.tokens, &mut self.statements);
+        match read_line::<N>(self.alloc, number, line, tokens, found) {
+            Ok(()) => self.number = number,
             Err(fault) => self.fault = Some(fault),
         }
     }

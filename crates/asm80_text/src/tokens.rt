@@ -1,6 +1,6 @@
 //! The tokens of a line.
 
-ghost use Rattle.std.specs.Prelude.{◌≡◌, ◌<◌, List, ℕ, All, IfOk, Option, length};
+ghost use Rattle.std.specs.Prelude.{◌≡◌, ◌<◌, List, ℕ, All, IfOk, OnOk, Option, length};
 ghost use Rattle.asm80_statement_types.specs.declared.fault.LineRule.{LineRule};
 ghost use Rattle.asm80_text.specs.declared.token.Token.{Token};
 ghost use Rattle.asm80_text.specs.TokenResults.{FindsFirst};
@@ -16,15 +16,16 @@ use crate::words::word_at;
 use asm80_statement_types::{LineRule, Two};
 use std::alloc::{AllocError, Global};
 
-/// The tokens of a line up to the first fault, and which fault it is.
+/// Puts the tokens of a line up to the first fault in the place of others, and tells which fault it is.
 pub fn tokens_of<N: Notation>(
     alloc: Global,
     line: &[u8],
-) -> Result<(Vec<Token>, Option<LineRule>), AllocError>
-    ensures tokens { IfOk result (λ x. Lexes N.spelling line.now x.0.items x.1) }
-    ensures lawful { IfOk result (λ x. All (IsLawful N.spelling) x.0.items) }
+    tokens: &mut Vec<Token>,
+) -> Result<Option<LineRule>, AllocError>
+    ensures tokens { IfOk result (λ fault. Lexes N.spelling line.now tokens.new.items fault) }
+    ensures lawful { OnOk result (All (IsLawful N.spelling) tokens.new.items) }
 {
-    let mut tokens = Vec::new(alloc);
+    tokens.clear();
     let mut rest = line;
     while let Some((b, after)) = first_byte(rest) {
         if is_blank(b) {
@@ -42,12 +43,12 @@ pub fn tokens_of<N: Notation>(
                 rest = next;
             }
             Err(fault) => match fault {
-                ScanFault::Rule(rule) => return Ok((tokens, Some(rule))),
+                ScanFault::Rule(rule) => return Ok(Some(rule)),
                 ScanFault::Memory => return Err(AllocError),
             },
         }
     }
-    Ok((tokens, None))
+    Ok(None)
 }
 
 // The token at the front of the bytes, and the bytes behind it.
@@ -63,8 +64,8 @@ fn token_at<N: Notation>(alloc: Global, bytes: &[u8]) -> Result<(Token, &[u8]), 
     };
     match b {
         b'\'' => string_at(alloc, rest),
-        b'0'..=b'9' => number_at(alloc, bytes),
-        b'A'..=b'Z' | b'a'..=b'z' => word_at::<N>(alloc, bytes),
+        b'0'..=b'9' => number_at(bytes),
+        b'A'..=b'Z' | b'a'..=b'z' => word_at::<N>(bytes),
         b' '..=b'~' => Ok((sign_token(b), rest)),
         _ => Err(ScanFault::Rule(LineRule::L1)),
     }

@@ -1,42 +1,60 @@
 //! Names and reserved words.
 
-ghost use Rattle.std.specs.Prelude.{◌≡◌, ◌+◌, IfOk, Some, length};
-ghost use Rattle.asm80_text.specs.Letters.{inside_len};
+ghost use Rattle.std.specs.Prelude.{◌≡◌, ◌+◌, ◌<◌, ◌≤◌, IfOk, MatchOption, Some, length};
+ghost use Rattle.asm80_text.specs.Letters.{inside_len, significant};
 ghost use Rattle.asm80_statement_types.specs.Name.{IsName};
 ghost use Rattle.asm80_text.specs.TokenResults.{BeginsWithLetter, Finds};
 ghost use Rattle.asm80_text.specs.Tokens.{IsLawful, word_at};
 ghost use Rattle.asm80_text.specs.Words.{as_operation, if_operation, name_token, operator_name, word_token};
 
 use crate::fault::ScanFault;
-use crate::letters::{inside_len, significant};
+use crate::letters::{inside_len, upper};
 use crate::notation::Notation;
 use crate::token::Token;
 use asm80_statement_types::{LineRule, Name80, Two};
-use std::alloc::Global;
 
 /// The name at the front of the bytes, which begin with a letter, and the bytes behind it.
 #[tactic(auto, unfolding(crate::specs::Tokens::word_at))]
-pub fn word_at<N: Notation>(alloc: Global, bytes: &[u8]) -> Result<(Token, &[u8]), ScanFault>
+pub fn word_at<N: Notation>(bytes: &[u8]) -> Result<(Token, &[u8]), ScanFault>
     requires { BeginsWithLetter bytes.now }
     ensures value { Finds (word_at N.spelling bytes.now) result }
     ensures lawful { IfOk result (λ x. IsLawful N.spelling x.0) }
     ensures shorter { IfOk result (λ x. length x.1.now + inside_len bytes.now ≡ length bytes.now) }
 {
     let (text, rest) = bytes.split_at(inside_len(bytes));
-    let name = significant(alloc, text)?;
-    if name.len() > 16 {
-        return Err(ScanFault::Rule(LineRule::L4));
+    match name_of(text) {
+        Some(name) => Ok((word_token::<N>(name), rest)),
+        None => Err(ScanFault::Rule(LineRule::L4)),
     }
-    Ok((word_token::<N>(&name), rest))
+}
+
+// The name that bytes are, unless more than 16 of them count.
+fn name_of(text: &[u8]) -> Option<Name80>
+    requires { length (significant text.now) ≤ 16 → IsName (significant text.now) }
+    ensures { MatchOption result (16 < length (significant text.now)) (λ name. name ≡ significant text.now) }
+{
+    let mut kept = [0; 16];
+    let mut len = 0;
+    for b in text {
+        if *b == b'$' {
+            continue;
+        }
+        if len == kept.len() {
+            return None;
+        }
+        kept[len] = upper(*b);
+        len += 1;
+    }
+    Some(Name80::of(&kept[..len]))
 }
 
 // The token that a word is.
 #[tactic(auto, unfolding(crate::specs::Words::word_token))]
-fn word_token<N: Notation>(name: &[u8]) -> Token
-    requires { IsName name.now }
-    ensures value { result ≡ word_token N.spelling name.now }
+fn word_token<N: Notation>(word: Name80) -> Token
+    ensures value { result ≡ word_token N.spelling word }
     ensures lawful { IsLawful N.spelling result }
 {
+    let name = word.as_slice();
     if name == b"MOD".as_slice() {
         Token::Op(Two::Mod)
     } else if name == b"SHL".as_slice() {
@@ -52,22 +70,21 @@ fn word_token<N: Notation>(name: &[u8]) -> Token
     } else if name == b"NOT".as_slice() {
         Token::Not
     } else {
-        name_token::<N>(name)
+        name_token::<N>(word)
     }
 }
 
 // The token of a word that is no operator.
-fn name_token<N: Notation>(name: &[u8]) -> Token
-    requires { IsName name.now }
-    ensures value { result ≡ name_token N.spelling name.now }
+fn name_token<N: Notation>(word: Name80) -> Token
+    ensures value { result ≡ name_token N.spelling word }
     ensures lawful { IsLawful N.spelling result }
 {
-    if N::is_operation(name) {
-        Token::Operation(Name80::of(name))
-    } else if N::is_register(name) {
-        Token::Register(Name80::of(name))
+    if N::is_operation(word.as_slice()) {
+        Token::Operation(word)
+    } else if N::is_register(word.as_slice()) {
+        Token::Register(word)
     } else {
-        Token::Word(Name80::of(name))
+        Token::Word(word)
     }
 }
 

@@ -2,3 +2,4 @@ mod Smaller
 mod Leaves
 mod One
 mod OneText
+mod Blocks

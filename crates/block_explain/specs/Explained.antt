@@ -1,5 +1,12 @@
 -- Why an outcome of the 8086 does not match that of a block, in lines.
-use Rattle.std.specs.Prelude.{◌≡◌, ◌&&◌, ℕ, codes, Bool, true, false, cond, List, [], ◌++◌, Option, Some, None}
+use Rattle.std.specs.Prelude.{◌≡◌, ◌&&◌, ℕ, codes, Bool, true, false, cond, List, [], ◌++◌, Option, Some, None, Result, Ok, Err}
+use Rattle.std.specs.String.{string_bytes}
+use Rattle.asm86_line_types.specs.declared.line.Stmt86.{Stmt86}
+use Rattle.asm80_program_types.specs.Program.{Program}
+use Rattle.sym_block_def.specs.Block80.{block80}
+use Rattle.sym_block_def.specs.Walk86.{walk86}
+use Rattle.block_check_def.specs.BlockMatch.{Keeps, block_reason}
+use Rattle.block_explain.specs.declared.block.Said.{Said}
 use Rattle.cells.specs.declared.Part.{Part}
 use Rattle.cells.specs.declared.Part.TheVariants.{B, L}
 use Rattle.sym_terms.specs.Term.{Term}
@@ -78,6 +85,20 @@ AreLines (Sides ours theirs (Some p)) text = SidesDiffer ours theirs p text
 -- the lines of a reason, of the outcome of a block and that of the text at its label
 abbrev pub Explains : Reason → Outcome → Outcome → List ℕ → Type 0
 Explains reason x y text = AreLines (told reason x y) text
+
+-- ---- a block
+
+-- where the walk came to an outcome, the lines of the reason; where it was refused there are none
+abbrev pub LinesAre : Reason → Outcome → Result Outcome Reason → List ℕ → Type 0
+LinesAre reason x (Ok y) text = Explains reason x y text
+LinesAre reason x (Err r) text = text ≡ []
+
+-- what is said of a block: nothing where it matches, else the reason and its lines
+abbrev pub IsSaid : Program → List Stmt86 → Keeps → ℕ → ℕ → Option Said → Type 0
+IsSaid p text k first count None = block_reason p text k first count ≡ None
+IsSaid p text k first count (Some said) =
+    (block_reason p text k first count ≡ Some said.reason)
+    × LinesAre said.reason (block80 p first count) (walk86 p text (k.at first) first count) (string_bytes said.lines)
 
 -- ---- a law
 

@@ -3,7 +3,7 @@
 ghost use Rattle.std.specs.Prelude.{◌≡◌, ◌++◌, codes, IfOk};
 ghost use Rattle.std.specs.String.{string_bytes};
 ghost use Rattle.sym_terms.specs.Trees.{tree_in, IsGiven};
-ghost use Rattle.block_check.specs.Comparing.{AreReady, first_outcome, second_of};
+ghost use Rattle.block_check.specs.Comparing.{AreReady, AreReadyFor, first_outcome, second_of};
 ghost use Rattle.block_explain.specs.Pairs.{IsOneGiven, tree_of_one, trees_if_any, GivenIfAny};
 ghost use Rattle.block_explain.specs.Explained.{Sides, action_or_none, terms_told, is_lost, AreLines, Explains};
 
@@ -19,7 +19,7 @@ use sym_words::{action_words, exit_words, term_words};
 /// The lines that say why the second outcome of a work does not match the first one, for the reason that was found. There are none for
 /// a reason that is not of outcomes.
 pub fn explain_outcomes(alloc: Global, work: &Work, reason: Reason) -> Result<String, AllocError>
-    requires { AreReady work.now }
+    requires { AreReadyFor reason work.now }
     ensures { IfOk result (λ text. Explains reason (first_outcome work.now) (second_of work.now) (string_bytes text)) }
 {
     match reason {

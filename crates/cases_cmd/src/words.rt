@@ -55,9 +55,10 @@ fn translate_text(alloc: Global, command: &Translate) -> Result<String, AllocErr
     )
 }
 
-fn check_text(alloc: Global, command: &Check) -> Result<String, AllocError> {
+// `check` or `explain`, by its name.
+fn check_text(alloc: Global, name: &str, command: &Check) -> Result<String, AllocError> {
     format!(in alloc;
-        "check {} {} top {:x}{}",
+        "{name} {} {} top {:x}{}",
         command.source,
         command.text,
         command.top,
@@ -109,7 +110,8 @@ fn hex80_text(alloc: Global, command: &Hex80) -> Result<String, AllocError> {
 fn command_text(alloc: Global, command: &Command) -> Result<String, AllocError> {
     match command {
         Command::Translate(command) => translate_text(alloc, command),
-        Command::Check(command) => check_text(alloc, command),
+        Command::Check(command) => check_text(alloc, "check", command),
+        Command::Explain(command) => check_text(alloc, "explain", command),
         Command::Flags(command) => listing_text(alloc, "flags", command),
         Command::Leaves(command) => listing_text(alloc, "leaves", command),
         Command::Run80(command) => run80_text(alloc, command),

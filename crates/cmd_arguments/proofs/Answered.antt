@@ -10,7 +10,7 @@ use Rattle.clap.specs.Kinds.{Kinds, IsAmong, or_else}
 use Rattle.clap.specs.declared.error.kind.ErrorKind.{ErrorKind}
 use Rattle.clap.proofs.FaultLemmas.{leaf_fault}
 use Rattle.cmd_arguments.specs.declared.table.CommandName.{CommandName}
-use Rattle.cmd_arguments.specs.declared.table.CommandName.TheVariants.{Translate, Check, Flags, Run80, Run86, Both, Sample, Cmd, CmdShow, Hex80, RunHex, Shrink, Leaves}
+use Rattle.cmd_arguments.specs.declared.table.CommandName.TheVariants.{Translate, Check, Flags, Run80, Run86, Both, Sample, Cmd, CmdShow, Hex80, RunHex, Shrink, Leaves, Explain}
 use Rattle.cmd_arguments.specs.declared.table.OptionName.{OptionName}
 use Rattle.cmd_arguments.specs.Table.{Word, options_of, flag_words, long_name, option_word}
 use Rattle.cmd_arguments.specs.Items.{Item, is_value, name, flag, parted, joined, Sorts, none, marked, more}
@@ -41,6 +41,7 @@ words_asked Hex80 ws = refl
 words_asked RunHex ws = refl
 words_asked Shrink ws = refl
 words_asked Leaves ws = refl
+words_asked Explain ws = refl
 
 -- ---- the defaults are without fault
 
@@ -84,6 +85,7 @@ nothing_wanted Hex80 rows = refl
 nothing_wanted RunHex rows = refl
 nothing_wanted Shrink rows = refl
 nothing_wanted Leaves rows = refl
+nothing_wanted Explain rows = refl
 
 or_nothing : (a : Kinds) → or_else a [] ≡ a
 or_nothing [] = refl

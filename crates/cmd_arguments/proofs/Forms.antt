@@ -10,7 +10,7 @@ use Rattle.std.proofs.lemmas.Option.{none-some, same_Some}
 use Rattle.std.proofs.lemmas.Slice.Eq.{bytes_eq-Decides}
 use Rattle.std.proofs.Math.Seq.{drop-cons}
 use Rattle.cmd_arguments.specs.declared.table.CommandName.{CommandName}
-use Rattle.cmd_arguments.specs.declared.table.CommandName.TheVariants.{Translate, Check, Flags, Run80, Run86, Both, Sample, Cmd, CmdShow, Hex80, RunHex, Shrink, Leaves}
+use Rattle.cmd_arguments.specs.declared.table.CommandName.TheVariants.{Translate, Check, Flags, Run80, Run86, Both, Sample, Cmd, CmdShow, Hex80, RunHex, Shrink, Leaves, Explain}
 use Rattle.cmd_arguments.specs.declared.table.OptionName.{OptionName}
 use Rattle.cmd_arguments.specs.declared.table.OptionName.TheVariants.{Top, Choice, Input, Disk, Ports, OutDisk, Tail, Steps, Plain, Zilog, Comments}
 use Rattle.cmd_arguments.specs.Table.{Word, option_word, options_of, flag_words, named_among}
@@ -74,6 +74,7 @@ flags_apart Hex80 = refl
 flags_apart RunHex = refl
 flags_apart Shrink = refl
 flags_apart Leaves = refl
+flags_apart Explain = refl
 
 -- no option of a command is a flag of it
 pub no_flag : (c : CommandName) (o p : OptionName) → named_among (options_of c) (option_word o) ≡ Some p → named_among (flag_words c) (option_word o) ≡ None
@@ -159,3 +160,4 @@ no_item_at_mark Hex80 ws = refl
 no_item_at_mark RunHex ws = refl
 no_item_at_mark Shrink ws = refl
 no_item_at_mark Leaves ws = refl
+no_item_at_mark Explain ws = refl

@@ -7,7 +7,7 @@ use Rattle.std.proofs.lemmas.Bool.{false≢true, or_right}
 use Rattle.clap.specs.Words.{Row}
 use Rattle.clap.specs.Walk.{has_row}
 use Rattle.cmd_arguments.specs.declared.table.CommandName.{CommandName}
-use Rattle.cmd_arguments.specs.declared.table.CommandName.TheVariants.{Translate, Check, Flags, Run80, Run86, Both, Sample, Cmd, CmdShow, Hex80, RunHex, Shrink, Leaves}
+use Rattle.cmd_arguments.specs.declared.table.CommandName.TheVariants.{Translate, Check, Flags, Run80, Run86, Both, Sample, Cmd, CmdShow, Hex80, RunHex, Shrink, Leaves, Explain}
 use Rattle.cmd_arguments.specs.declared.table.OptionName.{OptionName}
 use Rattle.cmd_arguments.specs.declared.table.OptionName.TheVariants.{Top, Choice, Input, Disk, Ports, OutDisk, Tail, Steps, Plain, Zilog, Comments}
 use Rattle.cmd_arguments.specs.Table.{Word, long_name, option_word, named_among, options_of, flag_words}
@@ -226,6 +226,17 @@ repeated Leaves Steps g takes e = absurd (false≢true takes)
 repeated Leaves Plain g takes e = absurd (false≢true takes)
 repeated Leaves Zilog g takes e = no_map _ _ (stops (flag_of g.zilog) _ (ap flag_of e))
 repeated Leaves Comments g takes e = absurd (false≢true takes)
+repeated Explain Top g takes e = no_map _ _ (no_end (flag_of g.zilog) _ (λ z. no_end (two_files g.names) _ (λ x0. stops (top_of g) _ (no_top g e))))
+repeated Explain Choice g takes e = absurd (false≢true takes)
+repeated Explain Input g takes e = absurd (false≢true takes)
+repeated Explain Disk g takes e = absurd (false≢true takes)
+repeated Explain Ports g takes e = absurd (false≢true takes)
+repeated Explain OutDisk g takes e = absurd (false≢true takes)
+repeated Explain Tail g takes e = absurd (false≢true takes)
+repeated Explain Steps g takes e = absurd (false≢true takes)
+repeated Explain Plain g takes e = absurd (false≢true takes)
+repeated Explain Zilog g takes e = no_map _ _ (stops (flag_of g.zilog) _ (ap flag_of e))
+repeated Explain Comments g takes e = absurd (false≢true takes)
 
 of_gathered : (o : OptionName) (items : List Item) → of_option o (gathered items) ≡ occurrence (texts_of o items)
 of_gathered Top items = refl

@@ -16,7 +16,7 @@ use Rattle.clap.specs.Faults.{is_simple_and_free}
 use Rattle.clap.proofs.WalkLemmas.{find-map}
 use Rattle.clap.specs.declared.builder.value_parser.ValueParser.TheVariants as vp
 use Rattle.cmd_arguments.specs.declared.table.CommandName.{CommandName}
-use Rattle.cmd_arguments.specs.declared.table.CommandName.TheVariants.{Translate, Check, Flags, Run80, Run86, Both, Sample, Cmd, CmdShow, Hex80, RunHex, Shrink, Leaves}
+use Rattle.cmd_arguments.specs.declared.table.CommandName.TheVariants.{Translate, Check, Flags, Run80, Run86, Both, Sample, Cmd, CmdShow, Hex80, RunHex, Shrink, Leaves, Explain}
 use Rattle.cmd_arguments.specs.declared.table.OptionName.{OptionName}
 use Rattle.cmd_arguments.specs.declared.table.OptionName.TheVariants.{Top, Choice, Input, Disk, Ports, OutDisk, Tail, Steps, Plain, Zilog, Comments}
 use Rattle.cmd_arguments.specs.Table.{Word, command_word, long_name, option_word, options_of, flag_words, named_among}
@@ -56,6 +56,7 @@ built_is Hex80 = refl
 built_is RunHex = refl
 built_is Shrink = refl
 built_is Leaves = refl
+built_is Explain = refl
 
 pub asked_simple : (c : CommandName) → is_simple (clap_command c) ≡ true
 asked_simple Translate = refl
@@ -71,6 +72,7 @@ asked_simple Hex80 = refl
 asked_simple RunHex = refl
 asked_simple Shrink = refl
 asked_simple Leaves = refl
+asked_simple Explain = refl
 
 pub asked_free : (c : CommandName) → is_simple_and_free (clap_command c) ≡ true
 asked_free Translate = refl
@@ -86,6 +88,7 @@ asked_free Hex80 = refl
 asked_free RunHex = refl
 asked_free Shrink = refl
 asked_free Leaves = refl
+asked_free Explain = refl
 
 -- an option's word is two hyphens and its name
 pub word_is : (o : OptionName) → option_word o ≡ 0x2D ∷ (0x2D ∷ long_name o)
@@ -206,6 +209,7 @@ options_no_flags Hex80 = refl
 options_no_flags RunHex = refl
 options_no_flags Shrink = refl
 options_no_flags Leaves = refl
+options_no_flags Explain = refl
 
 pub flags_are : (c : CommandName) → list_all (λ f. is_flag f) (flag_words c) ≡ true
 flags_are Translate = refl
@@ -221,6 +225,7 @@ flags_are Hex80 = refl
 flags_are RunHex = refl
 flags_are Shrink = refl
 flags_are Leaves = refl
+flags_are Explain = refl
 
 pub options_plain : (c : CommandName) (w : Word) (o : OptionName) → named_among (options_of c) w ≡ Some o → is_flag o ≡ false
 options_plain c w o e = not-true _ (found_with (λ p. not (is_flag p)) (options_of c) w o (options_no_flags c) e)

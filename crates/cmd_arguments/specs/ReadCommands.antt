@@ -14,7 +14,7 @@ use Rattle.cmd_arguments.specs.declared.command.CmdShow.{CmdShow as ReadCmdShow}
 use Rattle.cmd_arguments.specs.declared.command.Hex80.{Hex80 as ReadHex80}
 use Rattle.cmd_arguments.specs.declared.command.RunHex.{RunHex as ReadRunHex}
 use Rattle.cmd_arguments.specs.declared.command.RunOptions.{RunOptions as ReadRunOptions}
-use Rattle.cmd_arguments.specs.Words.{Translate, Check, Listing, RunOptions, Run80, Run86, Both, Sample, Cmd, CmdShow, Hex80, RunHex, Command, Translates, Checks, ListsFlags, Runs80, Runs86, RunsBoth, MakesSample, MakesCmd, ShowsCmd, WritesHex, RunsHex, Shrink, ShrinksText, ListsLeaves}
+use Rattle.cmd_arguments.specs.Words.{Translate, Check, Listing, RunOptions, Run80, Run86, Both, Sample, Cmd, CmdShow, Hex80, RunHex, Command, Translates, Checks, ListsFlags, Runs80, Runs86, RunsBoth, MakesSample, MakesCmd, ShowsCmd, WritesHex, RunsHex, Shrink, ShrinksText, ListsLeaves, ExplainsText}
 use Rattle.cmd_arguments.specs.declared.command.Shrink.{Shrink as ReadShrink}
 
 abbrev pub translate_read : ReadTranslate → Translate
@@ -70,3 +70,4 @@ command_read (read.Hex80 c) = WritesHex (hex80_read c)
 command_read (read.RunHex c) = RunsHex (run_hex_read c)
 command_read (read.Shrink c) = ShrinksText (shrink_read c)
 command_read (read.Leaves c) = ListsLeaves (listing_read c)
+command_read (read.Explain c) = ExplainsText (check_read c)

@@ -2,7 +2,7 @@
 use Rattle.std.specs.Prelude.{ℕ, List, [], ◌∷◌, codes, Option, find}
 use Rattle.std.specs.Str.{bytes_eq}
 use Rattle.cmd_arguments.specs.declared.table.CommandName.{CommandName}
-use Rattle.cmd_arguments.specs.declared.table.CommandName.TheVariants.{Translate, Check, Flags, Run80, Run86, Both, Sample, Cmd, CmdShow, Hex80, RunHex, Shrink, Leaves}
+use Rattle.cmd_arguments.specs.declared.table.CommandName.TheVariants.{Translate, Check, Flags, Run80, Run86, Both, Sample, Cmd, CmdShow, Hex80, RunHex, Shrink, Leaves, Explain}
 use Rattle.cmd_arguments.specs.declared.table.OptionName.{OptionName}
 use Rattle.cmd_arguments.specs.declared.table.OptionName.TheVariants.{Top, Choice, Input, Disk, Ports, OutDisk, Tail, Steps, Plain, Zilog, Comments}
 
@@ -11,7 +11,7 @@ abbrev pub Word : Type 0
 Word = List ℕ
 
 abbrev pub commands : List CommandName
-commands = Translate ∷ (Check ∷ (Flags ∷ (Run80 ∷ (Run86 ∷ (Both ∷ (Sample ∷ (Cmd ∷ (CmdShow ∷ (Hex80 ∷ (RunHex ∷ (Shrink ∷ (Leaves ∷ []))))))))))))
+commands = Translate ∷ (Check ∷ (Flags ∷ (Run80 ∷ (Run86 ∷ (Both ∷ (Sample ∷ (Cmd ∷ (CmdShow ∷ (Hex80 ∷ (RunHex ∷ (Shrink ∷ (Leaves ∷ (Explain ∷ [])))))))))))))
 
 abbrev pub command_word : CommandName → Word
 command_word Translate = codes "translate"
@@ -27,6 +27,7 @@ command_word Hex80 = codes "hex80"
 command_word RunHex = codes "runhex"
 command_word Shrink = codes "shrink"
 command_word Leaves = codes "leaves"
+command_word Explain = codes "explain"
 
 -- an option's name, which stands behind two hyphens in its word
 abbrev pub long_name : OptionName → Word
@@ -70,6 +71,7 @@ options_of Hex80 = Top ∷ []
 options_of RunHex = Top ∷ (Choice ∷ (Input ∷ (Disk ∷ (Ports ∷ (OutDisk ∷ (Tail ∷ (Steps ∷ [])))))))
 options_of Shrink = Top ∷ []
 options_of Leaves = Top ∷ []
+options_of Explain = Top ∷ []
 
 -- the options without a value, its flags
 abbrev pub flag_words : CommandName → List OptionName
@@ -86,6 +88,7 @@ flag_words Hex80 = Zilog ∷ []
 flag_words RunHex = []
 flag_words Shrink = []
 flag_words Leaves = Zilog ∷ []
+flag_words Explain = Zilog ∷ []
 
 -- the command of a word, which is exactly its word
 abbrev pub command_named : Word → Option CommandName

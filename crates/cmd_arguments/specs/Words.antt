@@ -16,7 +16,7 @@ pub record Translate : Type 0 where
   pub comments : Bool
   pub top : ℕ
 
--- `check IN TEXT [--zilog] [--top H]`
+-- `check IN TEXT [--zilog] [--top H]`, or `explain` with the same
 pub record Check : Type 0 where
   pub source : Word
   pub text : Word
@@ -109,6 +109,7 @@ pub data Command : Type 0 where
   RunsHex : (command : RunHex) → Command
   ShrinksText : (command : Shrink) → Command
   ListsLeaves : (command : Listing) → Command
+  ExplainsText : (command : Check) → Command
 
 infixl 10 ◌>>=◌
 abbrev pub ◌>>=◌ : {A B : Type 0} → Option A → (A → Option B) → Option B
@@ -292,6 +293,7 @@ command_of named.Hex80 g = option_map WritesHex (hex80_of g)
 command_of named.RunHex g = option_map RunsHex (run_hex_of g)
 command_of named.Shrink g = option_map ShrinksText (shrink_of g)
 command_of named.Leaves g = option_map ListsLeaves (listing_of g)
+command_of named.Explain g = option_map ExplainsText (check_of g)
 
 -- the words are this command: the first is its name, and the others give its values
 pub record IsCommand (words : List Word) (c : Command) : Type 0 where

@@ -29,6 +29,7 @@ pub enum Command<'a> {
     RunHex(RunHex<'a>),
     Shrink(Shrink<'a>),
     Leaves(Listing<'a>),
+    Explain(Check<'a>),
 }
 
 /// `translate IN OUT [--plain] [--zilog] [--comments] [--top H]`: a source's file, the file for its text, whether it is to be the plain
@@ -44,7 +45,7 @@ pub struct Translate<'a> {
     pub top: u16,
 }
 
-/// `check IN TEXT [--zilog] [--top H]`: a source's file, the file of a text, whether the source is in Zilog's spelling, and the top of
+/// `check IN TEXT [--zilog] [--top H]`, or `explain` with the same: a source's file, the file of a text, whether the source is in Zilog's spelling, and the top of
 /// the program area.
 #[derive(Clone, Copy)]
 pub struct Check<'a> {
@@ -443,6 +444,7 @@ impl<'a> Given<'a> {
             CommandName::RunHex => Some(Command::RunHex(self.run_hex()?)),
             CommandName::Shrink => Some(Command::Shrink(self.shrink()?)),
             CommandName::Leaves => Some(Command::Leaves(self.listing()?)),
+            CommandName::Explain => Some(Command::Explain(self.check()?)),
         }
     }
 }

@@ -19,6 +19,7 @@ pub enum CommandName {
     RunHex,
     Shrink,
     Leaves,
+    Explain,
 }
 
 /// An option's name, or a flag's.
@@ -37,7 +38,7 @@ pub enum OptionName {
     Comments,
 }
 
-const COMMANDS: [CommandName; 13] = [
+const COMMANDS: [CommandName; 14] = [
     CommandName::Translate,
     CommandName::Check,
     CommandName::Flags,
@@ -51,6 +52,7 @@ const COMMANDS: [CommandName; 13] = [
     CommandName::RunHex,
     CommandName::Shrink,
     CommandName::Leaves,
+    CommandName::Explain,
 ];
 
 impl CommandName {
@@ -82,6 +84,7 @@ impl CommandName {
             CommandName::RunHex => "runhex",
             CommandName::Shrink => "shrink",
             CommandName::Leaves => "leaves",
+            CommandName::Explain => "explain",
         }
     }
 
@@ -97,7 +100,8 @@ impl CommandName {
             | CommandName::Flags
             | CommandName::Hex80
             | CommandName::Shrink
-            | CommandName::Leaves => &[Top],
+            | CommandName::Leaves
+            | CommandName::Explain => &[Top],
             CommandName::Run80 => &[Top, Input, Disk, Ports, OutDisk, Tail, Steps],
             CommandName::Run86 => &[Choice, Input, Disk, Ports, OutDisk, Tail, Steps],
             CommandName::Both | CommandName::RunHex => &[
@@ -120,7 +124,8 @@ impl CommandName {
             | CommandName::Run80
             | CommandName::Both
             | CommandName::Hex80
-            | CommandName::Leaves => &[OptionName::Zilog],
+            | CommandName::Leaves
+            | CommandName::Explain => &[OptionName::Zilog],
             CommandName::Run86
             | CommandName::Sample
             | CommandName::Cmd

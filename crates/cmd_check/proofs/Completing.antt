@@ -21,7 +21,7 @@ pub record Laws : Type 0 where
   pub files : FileLaws
   pub finding : OneFinding
 
-one_found : OneFinding → (p : Program) (lines : List Line86) (r s : Result ℕ Stop) → IsFound p lines r → IsFound p lines s → r ≡ s
+pub one_found : OneFinding → (p : Program) (lines : List Line86) (r s : Result ℕ Stop) → IsFound p lines r → IsFound p lines s → r ≡ s
 one_found one p lines r s h k = h.2 ∙ ap found_count (one p lines h.0 k.0 h.1 k.1) ∙ sym k.2
 
 module _ (law : Laws) (c : Check) (old new : HostState) (none : NoneFailed old new) (source text : List ℕ) (first : FileIsTold old c.source input_limit source) (second : FileIsTold old c.text text_limit text) (status : ℕ) where
@@ -36,7 +36,7 @@ module _ (law : Laws) (c : Check) (old new : HostState) (none : NoneFailed old n
       (closes_status (NotShown at reason) mid new status closes)
   by_stop mid _ (unlike p lines l memory_wanting) closes = inl (memory_status OutOfMemory mid new status refl closes)
 
-  done : (mid : HostState) (line : List ℕ) → Shows c old mid line → (n : ℕ) → n ≡ status → IsDone line mid new n → Answer
+  pub done : (mid : HostState) (line : List ℕ) → Shows c old mid line → (n : ℕ) → n ≡ status → IsDone line mid new n → Answer
   done mid line h _ e (whole only s same) =
       by_loading law.files c IsFound (one_found law.finding) old new none source text first second status mid h.program h.lines h.loads (found_count (Shown h.blocks)) (Shown h.blocks, h.shown.finding, refl) (sym e)
   done mid line h _ e (failed s) = absurd (not_unsaid old mid new none h.loads.reads.counted s.cause)

@@ -1,4 +1,4 @@
 pub mod Files
 pub mod Loading
-mod Completing
+pub mod Completing
 mod OwnTexts

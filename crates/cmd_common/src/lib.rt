@@ -30,6 +30,7 @@ pub use done::{
     shown_line, shrunk_line, translated_line,
 };
 pub use files::{SOURCE_LIMIT, read_input, read_named};
+pub use reasons::reason_name;
 pub use rules::profile_rule;
 pub use say::{say_done, say_made, say_report, say_stop, words_refused};
 pub use source::{program_of_bytes, read_source, read_source_by, sources_have_one_outcome};

@@ -12,7 +12,7 @@ use Rattle.flow.specs.Blocks.{place_after, BlocksCut}
 use Rattle.leaving_def.specs.declared.Certainty.TheVariants.{Sure}
 use Rattle.leaving_def.specs.declared.Departure.{Departure}
 use Rattle.leaving_def.specs.Leaving.{leaving}
-use Rattle.leaving_def.proofs.Fronts.{instr_behind, start_is}
+use Rattle.flow.proofs.Further.{instr_behind, start_is}
 use Rattle.leaving_law.specs.Left.{IsLeft, PlacesAreLeft, PlacesAscend}
 use Rattle.cmd_arguments.specs.Words.{Listing}
 use Rattle.cmd_common.specs.Lines.{word_digits, profile_rule, leaves_line}

@@ -1,5 +1,5 @@
 -- What is to be written of a program's text in a style is its commented text.
-use Rattle.std.proofs.Common.{◌≡◌, ℕ, ◌+◌, ◌-◌, max, Bool, true, false, ◌&&◌, List, [], ◌∷◌, ◌++◌, length, take, drop, refl, sym, ap, subst, ◌∙◌, append_assoc}
+use Rattle.std.proofs.Common.{◌≡◌, ℕ, ◌+◌, ◌-◌, max, Bool, true, false, List, [], ◌∷◌, ◌++◌, length, take, drop, refl, sym, ap, subst, ◌∙◌, append_assoc}
 use Rattle.std.proofs.Math.Seq.{take-append_seam, drop-append_seam}
 use Rattle.i80.specs.declared.Instr80.{Instr80}
 use Rattle.i80.specs.Columns.{length80, is_well_formed}
@@ -13,7 +13,8 @@ use Rattle.templates.specs.Plain.{prologue, runtime, data_from, ending}
 use Rattle.templates.proofs.NumberedLines.{statements-numbered}
 use Rattle.flow.specs.Blocks.{cut_from}
 use Rattle.flow.proofs.Cuts.{flat, flat-cut}
-use Rattle.templates.specs.Style.{Style, ends_by_sahf, begins_by_lahf, is_pair, knows_function, written_in_style, blocks_of, styled_statements, styled}
+use Rattle.templates.proofs.Pairs.{BeginsByLahf, pair_last, pair_next}
+use Rattle.templates.specs.Style.{Style, is_pair, knows_function, written_in_style, blocks_of, styled_statements, styled}
 use Rattle.commented_text_def.specs.Groups.{Group, label_if, groups_from, groups_of_blocks, groups}
 use Rattle.commented_text_def.specs.Commented.{comments, written, commented_groups, commented}
 use Rattle.commented_text.specs.Sizes.{group_size}
@@ -21,26 +22,6 @@ use Rattle.commented_text_def.proofs.Texts.{statements_in, of_blocks}
 use Rattle.commented_text.specs.Left.{groups_left, text_left}
 use Rattle.commented_text.proofs.FirstLine.{one_more}
 use Rattle.commented_text.proofs.Cutting.{is_fresh, IsCut, written_cut}
-
--- ---- what is left out of a pair is there to be left out
-
-pair_parts : (a b c : Bool) → (a && (b && c)) ≡ true → (b ≡ true) × (c ≡ true)
-pair_parts true true true h = (refl, refl)
-pair_parts true true false h = let no : false ≡ true = h in absurd cc
-pair_parts true false c h = let no : false ≡ true = h in absurd cc
-pair_parts false b c h = let no : false ≡ true = h in absurd cc
-
-pair_last : (s : Style) (x : Placed) (xs : List Placed) → is_pair s x xs ≡ true → ends_by_sahf (s.saves x) x.instr ≡ true
-pair_last s x [] h = let no : false ≡ true = h in absurd cc
-pair_last s x (y ∷ ys) h = (pair_parts s.pairs (ends_by_sahf (s.saves x) x.instr) (begins_by_lahf (s.saves y) y.instr) h).0
-
-abbrev Begins : Style → Bool → List Placed → Type 0
-Begins s first [] = Unit {0}
-Begins s first (x ∷ xs) = first ≡ true → begins_by_lahf (s.saves x) x.instr ≡ true
-
-pair_next : (s : Style) (x : Placed) (xs : List Placed) → Begins s (is_pair s x xs) xs
-pair_next s x [] = tt
-pair_next s x (y ∷ ys) = λ h. (pair_parts s.pairs (ends_by_sahf (s.saves x) x.instr) (begins_by_lahf (s.saves y) y.instr) h).1
 
 -- ---- the groups of instructions, one for each
 
@@ -68,7 +49,7 @@ label_cut : (labelled : Bool) (x : Placed) (own : List Stmt86) → ((rest : List
 label_cut true x own c = λ rest h. (ap (λ (n : ℕ). 1 + n) (c rest h).count ∙ one_more (length own), refl)
 label_cut false x own c = λ rest h. ((c rest h).bare ∙ (c rest h).count, (c rest h).fresh)
 
-block_groups : (s : Style) (labelled first c : Bool) (xs : List Placed) → AreGood xs → Begins s first xs → AreGroups xs (groups_from s labelled first c xs)
+block_groups : (s : Style) (labelled first c : Bool) (xs : List Placed) → AreGood xs → BeginsByLahf s first xs → AreGroups xs (groups_from s labelled first c xs)
 block_groups s labelled first c [] good begins = tt
 block_groups s labelled first c (x ∷ xs) good begins = (
   refl,
@@ -80,7 +61,7 @@ good_both : (xs ys : List Placed) → AreGood (xs ++ ys) → AreGood xs × AreGo
 good_both [] ys h = (tt, h)
 good_both (x ∷ xs) ys h = let r = good_both xs ys h.1 in ((h.0, r.0), r.1)
 
-starts : (s : Style) (b : List Placed) → Begins s false b
+starts : (s : Style) (b : List Placed) → BeginsByLahf s false b
 starts s [] = tt
 starts s (x ∷ xs) = λ no. let e : false ≡ true = no in absurd cc
 

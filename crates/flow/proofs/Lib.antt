@@ -20,3 +20,5 @@ pub mod Lookup
 pub mod Saved
 pub mod AllNeeds
 pub mod OneNeeds
+pub mod Indexed
+pub mod Further

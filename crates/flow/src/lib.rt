@@ -8,7 +8,8 @@
 // after an INX, DCX or DAD (`AreSaves`), None exactly elsewhere. Laws: `needs_are_sets`; `needs_are_closed` (what is needed at a node is
 // what it reads, and what is needed after it and gets no value at it, no more); `blocks_cut_the_program` (each instruction is in exactly
 // one block, of which the last instruction alone may end it; leaders are 100H, each target, each place that is taken, and each start after
-// an instruction that ends a block, after none or after a block, and no other). How long the rest takes is not claimed.
+// an instruction that ends a block, after none or after a block, and no other). `place_after` is the address after so many instructions
+// of a block. How long the rest takes is not claimed.
 #![tactic(auto)]
 
 mod begin;
@@ -16,6 +17,7 @@ mod cut;
 mod graph;
 mod laws;
 mod node;
+mod places;
 mod saving;
 mod search;
 mod sources;
@@ -24,4 +26,5 @@ mod wiring;
 pub use graph::Graph;
 pub use laws::{blocks_cut_the_program, needs_are_closed};
 pub use node::Node;
+pub use places::place_after;
 pub use saving::{is_word_sum, saves};

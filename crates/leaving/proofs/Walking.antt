@@ -3,18 +3,18 @@ use Rattle.std.proofs.Common.{◌≡◌, ◌∙◌, ℕ, zero, suc, ◌+◌, ◌
 use Rattle.std.specs.Prelude.{drop}
 use Rattle.std.specs.Option.{unwrap_or}
 use Rattle.std.specs.List.{flat_map, cons_option}
-use Rattle.std.proofs.Math.Seq.{drop-cons}
-use Rattle.std.proofs.lemmas.List.{drop_all, get_or-map, get_or_default, length-map, append-nil, append_assoc}
+use Rattle.std.proofs.lemmas.List.{drop_all, append-nil, append_assoc}
 use Rattle.cells.specs.declared.Rule.TheVariants.{P1, P9}
 use Rattle.i80.specs.declared.Instr80.{Instr80}
 use Rattle.i80.specs.declared.Instr80.TheVariants.{Jmp, Jif, Call, Cif}
 use Rattle.i80.specs.Columns.{length80, ends80}
 use Rattle.asm80_program_types.specs.Program.{Program, instr_at, is_start}
-use Rattle.flow.specs.Blocks.{blocks, leaders, block_at, address_after_instruction, place_after, IsStraight, IsBlockOf, BlocksCut}
+use Rattle.flow.specs.Blocks.{blocks, leaders, block_at, address_after_instruction, place_after, IsStraight, BlocksCut}
+use Rattle.flow.proofs.Indexed.{block_at_index}
 use Rattle.sym_terms.specs.Term.{Term, Num}
 use Rattle.leaving_def.specs.declared.Departure.{Departure}
 use Rattle.leaving_def.specs.Leaving.{number_in, known_function, is_unlisted, asking, going_on, by_rule, or_else, leaving_where, leaving_at, leaving_from, leaving}
-use Rattle.leaving_def.proofs.Fronts.{start_is}
+use Rattle.flow.proofs.Further.{start_is}
 
 -- ---- the number of a term
 
@@ -28,10 +28,6 @@ some_before zero h = absurd (h refl)
 some_before (suc n) h = omega arith
 
 -- ---- a block
-
--- the address after one instruction more
-pub one_behind : (p : Program) (at next n m : ℕ) (o : Option Instr80) → instr_at p at ≡ o → next ≡ address_after_instruction at o → m ≡ suc n → place_after p next n ≡ place_after p at m
-one_behind p at next n m o here e more = ap (λ a. place_after p a n) (e ∙ ap (address_after_instruction at) (sym here)) ∙ ap (place_after p at) (sym more)
 
 asks_none : (i : Instr80) → ends80 i ≡ false → asking i ≡ None
 asks_none (Jmp g) e = absurd (cc)
@@ -88,43 +84,14 @@ pub record IsNext (p : Program) (i leader count : ℕ) : Type 0 where
   pub some : 0 < count
   pub few : count ≤ 16
 
-block_at_index : (p : Program) → BlocksCut p → (i : ℕ) (found : Option ℕ) (count : ℕ) → i < length (leaders p) → found ≡ block_at p (get_or (leaders p) i 0) → count ≡ unwrap_or found 0 → IsNext p i (get_or (leaders p) i 0) count
-block_at_index p cut i found count lt f c =
-    subst (IsNext p i leader) (sym is)
-    (record { rest = rest; straight = cut.straight leader b.1 block; some = (cut.sizes leader b.1 block).0; few = (cut.sizes leader b.1 block).1 })
-  where
-    within : i < length (blocks p)
-    within = subst (λ n. i < n) (length-map (blocks p) (λ (b : ℕ × ℕ). b.0)) lt
-
-    b : ℕ × ℕ
-    b = get_or (blocks p) i (0, 0)
-
-    leader : ℕ
-    leader = get_or (leaders p) i 0
-
-    leads : leader ≡ b.0
-    leads = get_or-map (λ (b : ℕ × ℕ). b.0) (blocks p) i (0, 0) 0 within
-
-    pair : ◌≡◌ {A = ℕ × ℕ} (leader, b.1) b
-    pair = λ j. (leads j, b.1)
-
-    next : suc i ≡ i + 1
-    next = omega arith
-
-    rest : drop i (blocks p) ≡ (leader, b.1) ∷ drop (i + 1) (blocks p)
-    rest = drop-cons (blocks p) i (0, 0) within ∙ ((λ j. sym pair j ∷ drop (suc i) (blocks p)) ∙ ap (λ n. (leader, b.1) ∷ drop n (blocks p)) next)
-
-    block : IsBlockOf p leader b.1
-    block = (i, within, get_or_default (blocks p) i (leader, b.1) (0, 0) within ∙ sym pair)
-
-    is : count ≡ b.1
-    is = c ∙ ap (λ o. unwrap_or o 0) (f ∙ cut.found leader b.1 block)
-
 pub next_block : (p q : Program) → BlocksCut p → (ls : List ℕ) (i : ℕ) (found : Option ℕ) (count : ℕ) → q ≡ p → ls ≡ leaders q → i < length ls → found ≡ block_at q (get_or ls i 0) → count ≡ unwrap_or found 0 → IsNext p i (get_or ls i 0) count
 next_block p q cut ls i found count same items lt f c =
-    let is : ls ≡ leaders p = items ∙ ap leaders same in
-    subst (λ l. IsNext p i (get_or l i 0) count) (sym is)
-    (block_at_index p cut i found count (subst (λ l. i < length l) is lt) (f ∙ ap (λ r. block_at r (get_or ls i 0)) same ∙ ap (λ l. block_at p (get_or l i 0)) is) c)
+    let b = block_at_index p ls i 0 (items ∙ ap leaders same) lt in
+    let leader = get_or ls i 0 in
+    let is : count ≡ b.0 = c ∙ ap (λ o. unwrap_or o 0) (f ∙ ap (λ r. block_at r leader) same ∙ cut.found leader b.0 b.1.block) in
+    let sizes = cut.sizes leader b.0 b.1.block in
+    subst (IsNext p i leader) (sym is)
+    (record { rest = b.1.rest; straight = cut.straight leader b.0 b.1.block; some = sizes.0; few = sizes.1 })
 
 -- what is found of one block more
 pub found_more : (p : Program) (i leader count : ℕ) (found more : List Departure) → IsNext p i leader count → leaving_from p leader 0 count ≡ more → IsFound p i found → IsFound p (i + 1) (found ++ more)

@@ -2,13 +2,14 @@
 ghost use Rattle.std.specs.Prelude.{◌≡◌, ◌<◌, ◌≤◌, ◌-◌, []};
 ghost use Rattle.std.specs.List.{cons_option};
 ghost use Rattle.asm80_program_types.specs.Program.{instr_at};
-ghost use Rattle.flow.specs.Blocks.{IsStraight, place_after};
+ghost use Rattle.flow.specs.Blocks.{IsStraight};
 ghost use Rattle.sym_block_def.specs.Block80.{MayRun};
 ghost use Rattle.leaving_def.specs.Leaving.{is_unlisted, asking, going_on, known_function, leaving_where, leaving_from};
 
 use asm80_program_types::Program80;
 use cells::{Part, Rule};
 use dialogue::row_of;
+use flow::place_after;
 use i80::{Goal, Instr80, length};
 use leaving_def::{Certainty, Departure};
 use sym_run::Work;
@@ -21,20 +22,7 @@ pub fn place_of(work: &mut Work, program: &Program80, leader: u16, count: u32) -
     ensures { leaving_from program.now leader 0 count ≡ cons_option result [] }
 {
     let function = known_function(work, program, leader, count - 1);
-    leaving_where(program, last_of(program, leader, count), function)
-}
-
-// The address of a block's last instruction.
-fn last_of(program: &Program80, leader: u16, count: u32) -> u16
-    ensures { result ≡ place_after program.now leader (count - 1) }
-{
-    let mut at = leader;
-    for _done in 1..count {
-        if let Some(instr) = program.instr_at(at) {
-            at += length(instr);
-        }
-    }
-    at
+    leaving_where(program, place_after(program, leader, count - 1), function)
 }
 
 // The number that is known to be in C after so many instructions of a block.

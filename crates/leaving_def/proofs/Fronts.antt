@@ -1,18 +1,9 @@
 -- The front of a block: so many of its instructions, as a block to be run.
-use Rattle.std.proofs.Common.{◌≡◌, ℕ, zero, suc, ◌+◌, ◌<◌, ◌≤◌, true, length, Option, Some, None, refl, ap, arith}
-use Rattle.std.specs.Prelude.{is_some}
-use Rattle.i80.specs.declared.Instr80.{Instr80}
+use Rattle.std.proofs.Common.{◌≡◌, ℕ, zero, suc, ◌+◌, ◌<◌, ◌≤◌, length, refl, ap, arith}
 use Rattle.i80.specs.Columns.{length80}
-use Rattle.asm80_program_types.specs.declared.program.Placed.{Placed}
-use Rattle.asm80_program_types.specs.Program.{Program, placed_in, instr_of_placed, instr_at, is_start}
-use Rattle.flow.specs.Blocks.{IsStraight, place_after}
+use Rattle.asm80_program_types.specs.Program.{Program}
+use Rattle.flow.specs.Blocks.{IsStraight}
 use Rattle.sym_block_def.specs.Block80.{MayRun, OnlyLastEnds, instrs_from}
-
--- the instruction after so many
-pub instr_behind : (p : Program) (a n k : ℕ) → IsStraight p a n → k < n → (i : Instr80) × (instr_at p (place_after p a k) ≡ Some i)
-instr_behind p a zero k h lt = absurd (omega (arith, lt))
-instr_behind p a (suc n) zero h lt = (h.0, h.1)
-instr_behind p a (suc n) (suc k) h lt = rw (h.1) (instr_behind p (a + length80 h.0) n k h.3 (omega (arith, lt)))
 
 front_whole : (p : Program) (a n k : ℕ) → IsStraight p a n → k ≤ n → length (instrs_from p a k) ≡ k
 front_whole p a n zero h le = refl
@@ -30,11 +21,3 @@ front_ends p a (suc (suc n)) (suc (suc k)) h le =
 
 pub front_may_run : (p : Program) (a n k : ℕ) → IsStraight p a n → n ≤ 16 → 0 < k → k ≤ n → MayRun p a k
 front_may_run p a n k h few some le = record { some = some; few = omega (arith, few, le); whole = front_whole p a n k h le; ends = front_ends p a n k h le }
-
--- an instruction starts where one is
-pub start_is : (p : Program) (a : ℕ) (i : Instr80) → instr_at p a ≡ Some i → is_start p a ≡ true
-start_is p a i h = by_placed (placed_in p.instrs a) h
-  where
-    by_placed : (o : Option Placed) → instr_of_placed o ≡ Some i → is_some o ≡ true
-    by_placed None e = absurd (cc)
-    by_placed (Some x) e = refl

@@ -20,7 +20,8 @@ use Rattle.sym_block_def.specs.Block80.{Symbolic80, instrs_from, goto, exit80, e
 use Rattle.simulation_def.specs.Runs80.{env80, Takes80, Answers80, BlockRuns80, BlockLeaves80, BlocksRun80}
 use Rattle.simulation_law.proofs.Running.{run_turns, turn_is, runs_any, moved, leaves_stopped}
 use Rattle.leaving_def.specs.Leaving.{number_in, known_function}
-use Rattle.leaving_def.proofs.Fronts.{instr_behind, front_may_run, start_is}
+use Rattle.flow.proofs.Further.{instr_behind, start_is}
+use Rattle.leaving_def.proofs.Fronts.{front_may_run}
 use Rattle.leaving_law.specs.Left.{after, StandsAt, HasLeft}
 use Rattle.leaving_law.proofs.Stepping.{IsKnown}
 

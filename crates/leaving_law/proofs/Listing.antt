@@ -18,7 +18,7 @@ use Rattle.leaving_def.specs.declared.Certainty.{Certainty}
 use Rattle.leaving_def.specs.declared.Certainty.TheVariants.{Sure, May}
 use Rattle.leaving_def.specs.declared.Departure.{Departure}
 use Rattle.leaving_def.specs.Leaving.{known_function, leaving_by, leaving_where, leaving_at, leaving_from, leaving}
-use Rattle.leaving_def.proofs.Fronts.{instr_behind}
+use Rattle.flow.proofs.Further.{instr_behind}
 use Rattle.leaving_law.specs.Left.{after, StandsAt, HasLeft, Leaves, IsLeft}
 use Rattle.leaving_law.proofs.Stepping.{Stopping, StepsAway, listed_at, leaves_there}
 use Rattle.leaving_law.proofs.Blocks.{Arrives, arrives}

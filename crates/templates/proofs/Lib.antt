@@ -5,3 +5,4 @@ mod Trims
 mod Laid
 mod Joined
 mod Reaching
+pub mod Pairs

@@ -1,5 +1,5 @@
 -- The statements of a program's instructions, block after block, in any style.
-use Rattle.std.proofs.Common.{◌≡◌, ℕ, List, [], ◌∷◌, ◌++◌, refl, subst, append_assoc, Bool, true, false, cond, ◌&&◌}
+use Rattle.std.proofs.Common.{◌≡◌, ℕ, List, [], ◌∷◌, ◌++◌, refl, subst, append_assoc, Bool, true, false, cond}
 use Rattle.asm86_line_types.specs.declared.line.Label.TheVariants.{At as Line}
 use Rattle.asm86_line_types.specs.declared.line.Stmt86.{Stmt86}
 use Rattle.asm86_line_types.specs.declared.line.Stmt86.TheVariants.{Mark}
@@ -7,7 +7,8 @@ use Rattle.i80.specs.declared.Goal.{Goal}
 use Rattle.asm80_program_types.specs.declared.program.Placed.{Placed}
 use Rattle.asm80_program_types.specs.Program.{IsCoded}
 use Rattle.flow.proofs.Cuts.{flat}
-use Rattle.templates.specs.Style.{Style, ends_by_sahf, begins_by_lahf, is_pair, knows_function, written_in_style, label_within, block_from, block_in_style, blocks_of}
+use Rattle.templates.proofs.Pairs.{BeginsByLahf, pair_last, pair_next}
+use Rattle.templates.specs.Style.{Style, is_pair, knows_function, written_in_style, label_within, block_from, block_in_style, blocks_of}
 use Rattle.templates_text_law.proofs.Shapes.{Names, names_map, HasShape, written_shape}
 
 -- the statements of an instruction, with its label or without
@@ -36,27 +37,6 @@ pub known_map : (G H : Goal → Type 0) → ((g : Goal) → G g → H g) → (xs
 known_map G H f [] h = tt
 known_map G H f (x ∷ xs) h = ((h.0.0, names_map G H f x.instr h.0.1), known_map G H f xs h.1)
 
--- ---- what is left out of a pair is there to be left out
-
-pair_parts : (a b c : Bool) → (a && (b && c)) ≡ true → (b ≡ true) × (c ≡ true)
-pair_parts true true true h = (refl, refl)
-pair_parts true true false h = let no : false ≡ true = h in absurd cc
-pair_parts true false c h = let no : false ≡ true = h in absurd cc
-pair_parts false b c h = let no : false ≡ true = h in absurd cc
-
-pair_last : (s : Style) (x : Placed) (xs : List Placed) → is_pair s x xs ≡ true → ends_by_sahf (s.saves x) x.instr ≡ true
-pair_last s x [] h = let no : false ≡ true = h in absurd cc
-pair_last s x (y ∷ ys) h = (pair_parts s.pairs (ends_by_sahf (s.saves x) x.instr) (begins_by_lahf (s.saves y) y.instr) h).0
-
--- where the first one's LAHF is left out, it has one
-abbrev Begins : Style → Bool → List Placed → Type 0
-Begins s first [] = Unit {0}
-Begins s first (x ∷ xs) = first ≡ true → begins_by_lahf (s.saves x) x.instr ≡ true
-
-pair_next : (s : Style) (x : Placed) (xs : List Placed) → Begins s (is_pair s x xs) xs
-pair_next s x [] = tt
-pair_next s x (y ∷ ys) = λ h. (pair_parts s.pairs (ends_by_sahf (s.saves x) x.instr) (begins_by_lahf (s.saves y) y.instr) h).1
-
 -- ---- blocks
 
 -- an instruction's label, if it has one
@@ -72,14 +52,14 @@ regroup a w l b z = simp append_assoc
 
 module _ (G : Goal → Type 0) (s : Style) where
   -- an instruction before those that follow in its block
-  one_more : (has_label first c : Bool) (x : Placed) (xs ps : List Placed) (zs : List Stmt86) → IsKnown G x → Begins s first (x ∷ xs)
+  one_more : (has_label first c : Bool) (x : Placed) (xs ps : List Placed) (zs : List Stmt86) → IsKnown G x → BeginsByLahf s first (x ∷ xs)
       → IsBody G (xs ++ ps) (label_within s xs ++ (block_from s (is_pair s x xs) (knows_function c x.instr) xs ++ zs))
       → IsBody G (x ∷ (xs ++ ps)) (label_if has_label x.at ++ (block_from s first c (x ∷ xs) ++ zs))
   one_more has_label first c x xs ps zs known begins rest =
       subst (IsBody G (x ∷ (xs ++ ps))) (regroup (label_if has_label x.at) (written_in_style s first (is_pair s x xs) c x) (label_within s xs) (block_from s (is_pair s x xs) (knows_function c x.instr) xs) zs)
       (more x (xs ++ ps) _ _ (group_of G has_label x.at _ (written_shape G s first (is_pair s x xs) c x x.instr known.0 known.1 (begins, pair_last s x xs))) rest)
 
-  rest_body : (first c : Bool) (xs ps : List Placed) (zs : List Stmt86) → AreKnown G xs → Begins s first xs → IsBody G ps zs → IsBody G (xs ++ ps) (label_within s xs ++ (block_from s first c xs ++ zs))
+  rest_body : (first c : Bool) (xs ps : List Placed) (zs : List Stmt86) → AreKnown G xs → BeginsByLahf s first xs → IsBody G ps zs → IsBody G (xs ++ ps) (label_within s xs ++ (block_from s first c xs ++ zs))
   rest_body first c [] ps zs known begins h = h
   rest_body first c (x ∷ xs) ps zs known begins h =
       one_more s.all_labels first c x xs ps zs known.0 begins

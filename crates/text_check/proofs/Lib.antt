@@ -1,7 +1,7 @@
 mod Frames
-mod Cells
+pub mod Cells
 mod Numbers
 mod Walking
-mod Found
+pub mod Found
 mod One
 pub mod Matching

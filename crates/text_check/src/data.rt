@@ -28,8 +28,8 @@ pub fn data_stand(program: &Program80, image: &Image86) -> bool
     true
 }
 
-// Whether a cell stands for the image's cell at an address.
-fn cell_stands(image: &Image86, at: u16, cell: Cell) -> bool
+/// Whether a cell stands for the image's cell at an address.
+pub fn cell_stands(image: &Image86, at: u16, cell: Cell) -> bool
     requires { IsStrictlyIncreasing (keys_of image.now.cells) }
     ensures { IsTrue result ↔ CellStands image.now at cell }
 {
@@ -39,8 +39,8 @@ fn cell_stands(image: &Image86, at: u16, cell: Cell) -> bool
     }
 }
 
-// The byte of the image's cell at an address.
-fn byte_at(image: &Image86, at: u16) -> Option<u8>
+/// The byte of the image's cell at an address, found by halves.
+pub fn byte_at(image: &Image86, at: u16) -> Option<u8>
     requires { IsStrictlyIncreasing (keys_of image.now.cells) }
     ensures { result ≡ byte_at image.now.cells at }
 {

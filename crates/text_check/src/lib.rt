@@ -5,7 +5,7 @@
 // those of the last block and of its walk (`HoldsLast`). `lacks` answers the first of the opening, the runtime and the data that a text
 // lacks (`Lacks`), or that it has them all (`HasFrame`). `has_opening`, `has_runtime` and `data_stand` answer exactly whether a text begins
 // with its program's opening, whether the statements of the runtime stand in it one after the other, and whether each data cell of the
-// program stands for the image's cell at its address, found by halves. Laws: `findings_are_one` (of a program and lines just one thing is
+// program stands for the image's cell at its address (`cell_stands` of one cell, by `byte_at`, found by halves). Laws: `findings_are_one` (of a program and lines just one thing is
 // found) and `lines_are_coded` (the numbers in lines that the program holds are in the ranges of their types).
 #![tactic(auto)]
 
@@ -18,6 +18,7 @@ mod validation;
 
 pub use block_check::{Index86, Reason, Work};
 pub use coded::lines_are_coded;
+pub use data::{byte_at, cell_stands};
 pub use finding::Finding;
 pub use laws::findings_are_one;
-pub use validation::{lacks, validate_in};
+pub use validation::{finding_of, lacks, validate_in};

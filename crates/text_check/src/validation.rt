@@ -82,8 +82,8 @@ fn first_not_shown(
     None
 }
 
-// The finding where the blocks are all that is left to be looked at.
-fn finding_of(program: &Program80, graph: &Graph, found: Option<(u16, Reason)>) -> Finding
+/// The finding where the blocks are all that is left to be looked at, and this is the first of them that is not shown.
+pub fn finding_of(program: &Program80, graph: &Graph, found: Option<(u16, Reason)>) -> Finding
     requires { graph.now.program ≡ program.now }
     ensures reason { reason_in result ≡ found }
     ensures counts { CountsBlocks program.now result }

@@ -8,7 +8,7 @@ use Rattle.cmd_arguments.specs.declared.table.CommandName.TheVariants as named
 use Rattle.cmd_arguments.specs.Table.{Word}
 use Rattle.cmd_arguments.specs.Values.{top_among, top_value, number_in, count_within, count_value, file_name}
 use Rattle.cmd_arguments.specs.Given.{Gathered, Names, NoName, OneName, TwoNames, MoreNames, ThreeNames}
-use Rattle.cmd_arguments.specs.Words.{Translate, Check, Listing, Run80, Both, Sample, Hex80, RunHex, Command, Translates, Checks, ListsFlags, Runs80, Runs86, RunsBoth, MakesSample, MakesCmd, ShowsCmd, WritesHex, RunsHex, IsCommand, command_of, translate_of, check_of, listing_of, run80_of, run86_of, both_of, sample_of, cmd_of, cmd_show_of, hex80_of, run_hex_of, run_options_of, flag_of, one_file, two_files, count_and_file, top_of, choice_of, text_or, Shrink, ShrinksText, ListsLeaves, shrink_of, three_files}
+use Rattle.cmd_arguments.specs.Words.{Translate, Check, Listing, Run80, Both, Sample, Hex80, RunHex, Command, Translates, Checks, ListsFlags, Runs80, Runs86, RunsBoth, MakesSample, MakesCmd, ShowsCmd, WritesHex, RunsHex, IsCommand, command_of, translate_of, check_of, listing_of, run80_of, run86_of, both_of, sample_of, cmd_of, cmd_show_of, hex80_of, run_hex_of, run_options_of, flag_of, one_file, two_files, count_and_file, top_of, choice_of, text_or, Shrink, ShrinksText, ListsLeaves, ExplainsText, shrink_of, three_files}
 use Rattle.cmd_sample.specs.Samples.{IsCount}
 use Rattle.xlt_app.specs.Top.{HasLawfulValues}
 
@@ -193,6 +193,7 @@ asked_by_name named.Hex80 g c e = let h = mapped (hex80_of g) WritesHex c e in s
 asked_by_name named.RunHex g c e = let h = mapped (run_hex_of g) RunsHex c e in subst HasLawfulValues h.2 (run_hex_top g h.0 h.1)
 asked_by_name named.Shrink g c e = let h = mapped (shrink_of g) ShrinksText c e in subst HasLawfulValues h.2 (shrink_top g h.0 h.1)
 asked_by_name named.Leaves g c e = let h = mapped (listing_of g) ListsLeaves c e in subst HasLawfulValues h.2 (listing_top g h.0 h.1)
+asked_by_name named.Explain g c e = let h = mapped (check_of g) ExplainsText c e in subst HasLawfulValues h.2 (check_top g h.0 h.1)
 
 -- so the work of each command that words are may be done
 pub words_ask : (words : List Word) (c : Command) → IsCommand words c → HasLawfulValues c

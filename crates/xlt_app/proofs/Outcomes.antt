@@ -3,11 +3,12 @@ use Rattle.std.proofs.Common.{◌≡◌, ℕ, List, Option, Some, None, inl, inr
 use Rattle.host.specs.Host.{HostState, SameFiles}
 use Rattle.host.proofs.HostLemmas.{OnlyReads-refl}
 use Rattle.asm86_line_types.specs.Image.{image_of}
-use Rattle.cmd_arguments.specs.Words.{Translate, Check, Cmd, Hex80, Command, Translates, Checks, ListsFlags, Runs80, Runs86, RunsBoth, MakesSample, MakesCmd, ShowsCmd, WritesHex, RunsHex, IsCommand, IsNoCommand, Shrink, ShrinksText, ListsLeaves}
+use Rattle.cmd_arguments.specs.Words.{Translate, Check, Cmd, Hex80, Command, Translates, Checks, ListsFlags, Runs80, Runs86, RunsBoth, MakesSample, MakesCmd, ShowsCmd, WritesHex, RunsHex, IsCommand, IsNoCommand, Shrink, ShrinksText, ListsLeaves, ExplainsText}
 use Rattle.cmd_common.specs.declared.stop.Stop.TheVariants.{OutOfMemory}
 use Rattle.cmd_common.specs.Said.{IsRefusedWords, SaysLast, Closes, said, unsaid}
 use Rattle.cmd_common.specs.Lines.{memory_line}
 use Rattle.cmd_common.proofs.Said.{never_0}
+use Rattle.cmd_explain.specs.Explains as explaining
 use Rattle.cmd_shrink.specs.Shrinks as shrinking
 use Rattle.cmd_shrink.specs.Shrinks.{ShrunkHeadline}
 use Rattle.cmd_translate.specs.Translates as translation
@@ -195,6 +196,11 @@ module _ (words : List (List ℕ)) (old new : HostState) (status : ℕ) where
       completes = λ none bytes told other. absurd (other is_5);
       files = same;
       left = λ e. absurd (omega (arith, e, is_5));
+    }
+    wanting (ExplainsText c) = record {
+      gives = explaining.stopped old OutOfMemory (checking.out_of_memory (OnlyReads-refl old)) closes;
+      completes = λ none s t a b. inl is_5;
+      files = same;
     }
 
     pub by_memory : Outcomes words old new status

@@ -4,7 +4,7 @@ use Rattle.std.specs.Prelude.{Option, Result, Ok, Err}
 use Rattle.host.specs.declared.HostFault.{HostFault}
 use Rattle.host.specs.declared.HostFault.TheVariants.{Failed, Memory}
 use Rattle.host.specs.Host.{HostState}
-use Rattle.cmd_arguments.specs.Words.{Translate, Check, Sample, Command, Translates, Checks, ListsFlags, Runs80, Runs86, RunsBoth, MakesSample, MakesCmd, ShowsCmd, WritesHex, RunsHex, Shrink, ShrinksText, ListsLeaves}
+use Rattle.cmd_arguments.specs.Words.{Translate, Check, Sample, Command, Translates, Checks, ListsFlags, Runs80, Runs86, RunsBoth, MakesSample, MakesCmd, ShowsCmd, WritesHex, RunsHex, Shrink, ShrinksText, ListsLeaves, ExplainsText}
 use Rattle.cmd_common.specs.declared.stop.Stop.{Stop}
 use Rattle.cmd_common.specs.declared.stop.Stop.TheVariants.{SourceLine, SourceProgram, ReadFailed, WriteFailed, OutOfMemory, LeftProfile, StepLimit, NotShown, InputEnded, TextLine, ShortJump, NoInstruction, StackSegment, OddCall, BadDisk, NoDrive, CodeTooLarge, FileTooLong, BadCommandFile, BadHex, TooManyStatements}
 use Rattle.cmd_common.specs.Lines.{status_of}
@@ -26,6 +26,7 @@ use Rattle.cmd_makes.specs.Hexes.{hex_kind}
 use Rattle.cmd_shrink.specs.Shrinks as shrinking
 use Rattle.cmd_translate.specs.Translates as translation
 use Rattle.cmd_check.specs.Checks as checking
+use Rattle.cmd_explain.specs.Explains as explaining
 use Rattle.cmd_lists.specs.Saves.{flags_kind}
 use Rattle.cmd_lists.specs.Departures.{leaves_kind}
 use Rattle.cmd_sample.specs.Samples as making
@@ -145,6 +146,13 @@ of_checking : (c : Check) (old new : HostState) (status : ℕ) → checking.Chec
 of_checking c old new status (checking.shown mid line h d) = of_done line mid new status d
 of_checking c old new status (checking.stopped mid stop s k) = of_closes stop mid new status k
 
+of_explaining : (c : Check) (old new : HostState) (status : ℕ) → explaining.ExplainGives c old new status → IsOfCommand status
+of_explaining c old new status (explaining.shown mid line h d) = of_done line mid new status d
+of_explaining c old new status (explaining.stopped mid stop s k) = of_closes stop mid new status k
+of_explaining c old new status (explaining.explained {at = at} {reason = reason} mid p lines text l u (explaining.whole told o s f k)) = of_closes (NotShown at reason) told new status k
+of_explaining c old new _ (explaining.explained mid p lines text l u (explaining.failed s)) = of_4
+of_explaining c old new _ (explaining.explained mid p lines text l u (explaining.no_memory s)) = of_5
+
 of_ending : (second : Option ℕ) (came : Result ℕ Stop) (old new : HostState) (status : ℕ) → SaysEnd second came old new status → IsOfCommand status
 of_ending second (Ok steps) old new status e = of_done (steps_line second steps) old new status e
 of_ending second (Err stop) old new status e = of_closes stop old new status e
@@ -184,3 +192,4 @@ of_answer (WritesHex c) old new status a = of_file (hex_kind c) old new status a
 of_answer (RunsHex c) old new status a = of_work (work_hex c) old new status a.gives
 of_answer (ShrinksText c) old new status a = of_shrinking c old new status a.gives
 of_answer (ListsLeaves c) old new status a = of_file (leaves_kind c) old new status a.gives
+of_answer (ExplainsText c) old new status a = of_explaining c old new status a.gives

@@ -7,7 +7,7 @@ use Rattle.asm86_line_types.specs.Image.{Image}
 use Rattle.asm80_program_types.specs.Program.{Program, is_top}
 use Rattle.cmd_common.specs.Sources.{reading_of}
 use Rattle.asm80_source_def.specs.Source.{IsSource}
-use Rattle.cmd_arguments.specs.Words.{Translate, Check, Listing, Run80, Run86, Both, Sample, Cmd, CmdShow, Hex80, RunHex, Command, Translates, Checks, ListsFlags, Runs80, Runs86, RunsBoth, MakesSample, MakesCmd, ShowsCmd, WritesHex, RunsHex, IsCommand, IsNoCommand, Shrink, ShrinksText, ListsLeaves}
+use Rattle.cmd_arguments.specs.Words.{Translate, Check, Listing, Run80, Run86, Both, Sample, Cmd, CmdShow, Hex80, RunHex, Command, Translates, Checks, ListsFlags, Runs80, Runs86, RunsBoth, MakesSample, MakesCmd, ShowsCmd, WritesHex, RunsHex, IsCommand, IsNoCommand, Shrink, ShrinksText, ListsLeaves, ExplainsText}
 use Rattle.cmd_common.specs.Lines.{memory_line}
 use Rattle.cmd_common.specs.Said.{IsRefusedWords, SaysLast}
 use Rattle.asm86.specs.Images.{HasImage}
@@ -31,6 +31,7 @@ use Rattle.cmd_common.specs.Makes.{MakeGives, MakeCompletes}
 use Rattle.cmd_makes.specs.Cmds.{cmd_kind, HasCommandFile}
 use Rattle.cmd_makes.specs.Shows.{cmd_show_kind}
 use Rattle.cmd_makes.specs.Hexes.{hex_kind, HasHexFile}
+use Rattle.cmd_explain.specs.Explains.{ExplainGives}
 use Rattle.cmd_shrink.specs.Shrinks.{ShrinkGives, ShrunkHeadline}
 use Rattle.cmd_shrink.specs.Completes.{ShrinkCompletes}
 
@@ -139,6 +140,11 @@ pub record ListedLeaves (c : Listing) (old new : HostState) (status : ℕ) : Typ
   pub files : SameFiles old new
   pub left : status ≡ 0 → HasDepartures c old new
 
+pub record ExplainedText (c : Check) (old new : HostState) (status : ℕ) : Type 0 where
+  pub gives : ExplainGives c old new status
+  pub completes : checking_completes.CheckCompletes c old new status
+  pub files : SameFiles old new
+
 abbrev pub CommandAnswers : Command → HostState → HostState → ℕ → Type 0
 CommandAnswers (Translates c) old new status = Translated c old new status
 CommandAnswers (Checks c) old new status = Checked c old new status
@@ -153,6 +159,7 @@ CommandAnswers (WritesHex c) old new status = WroteHex c old new status
 CommandAnswers (RunsHex c) old new status = RanHex c old new status
 CommandAnswers (ShrinksText c) old new status = Shrunk c old new status
 CommandAnswers (ListsLeaves c) old new status = ListedLeaves c old new status
+CommandAnswers (ExplainsText c) old new status = ExplainedText c old new status
 
 -- ---- what is answered to words
 
@@ -183,3 +190,4 @@ HasLawfulValues (WritesHex c) = is_top c.top ≡ true
 HasLawfulValues (RunsHex c) = is_top c.top ≡ true
 HasLawfulValues (ShrinksText c) = is_top c.top ≡ true
 HasLawfulValues (ListsLeaves c) = is_top c.top ≡ true
+HasLawfulValues (ExplainsText c) = is_top c.top ≡ true

@@ -25,6 +25,7 @@ ghost use Rattle.xlt_app.specs.Top.{Headline, CheckedHeadline, Outcomes, Command
 use cmd_arguments::{Command, read_words, words_are_one_command};
 use cmd_check::check;
 use cmd_common::{Stop, say_stop, words_refused};
+use cmd_explain::explain;
 use cmd_lists::{flags, leaves};
 use cmd_makes::{cmd, cmdshow, hex80};
 use cmd_runs::{both, run80, run86, runhex};
@@ -77,5 +78,6 @@ fn answer<H: Host>(alloc: Global, host: &mut H, command: &Command<'_>) -> u8
         Command::RunHex(command) => runhex(alloc, host, command),
         Command::Shrink(command) => shrink(alloc, host, command),
         Command::Leaves(command) => leaves(alloc, host, command),
+        Command::Explain(command) => explain(alloc, host, command),
     }
 }

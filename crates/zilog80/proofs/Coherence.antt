@@ -1,6 +1,5 @@
 -- Zilog's spelling is one of statements that can be assembled, and each is spelt in one way.
-use Rattle.std.proofs.Common.{◌≡◌, ℕ, List, [], ◌∷◌, ◌++◌, map, Bool, true, false, not, ◌&&◌, ◌||◌, Option, Some, None, All, refl, sym, ap, ◌∙◌, subst, inl, inr}
-use Rattle.std.specs.Prelude.{Contains}
+use Rattle.std.proofs.Common.{◌≡◌, ℕ, List, [], ◌∷◌, ◌++◌, Bool, true, false, not, All, refl, inl, inr}
 use Rattle.std.specs.List.{AllByRecursion, list_any, list_all, slice_split, onto_first}
 use Rattle.std.specs.Str.{bytes_eq}
 use Rattle.std.proofs.lemmas.List.Elements.{All-from_recursion}
@@ -15,12 +14,12 @@ use Rattle.asm80_text.specs.Coherent.{IsCoherent}
 use Rattle.asm80_text.proofs.Alone.{one_operand_list}
 use Rattle.asm80_text.proofs.Lawful.{list_lawful}
 use Rattle.asm80_text.proofs.Ranges.{list_range}
-use Rattle.zilog80.specs.Operands.{Spelt, Name, AtName, Literal, Value, AtValue, IsSpelt, Class, operands}
+use Rattle.zilog80.specs.Operands.{Spelt, Name, AtName, Literal, Value, AtValue, IsSpelt, Class}
 use Rattle.zilog80.specs.Table.{bare_rows, unary_rows, binary_rows}
 use Rattle.zilog80.specs.Words.{directives, reserved_names, is_directive, is_register}
 use Rattle.zilog80.specs.Zilog.{IsInstruction, bare, unary, binary, IsZilogForm, directive, instruction, operand_parts, is_comma, zilog_spelling}
 use Rattle.zilog80.specs.Read.{value_in}
-use Rattle.zilog80.proofs.Among.{among, named, is_named, passes, two_cases}
+use Rattle.zilog80.proofs.Among.{among, named, passes, two_cases}
 use Rattle.zilog80.proofs.Spelling.{spelt_range}
 use Rattle.zilog80.proofs.Giving.{each_given}
 use Rattle.zilog80.proofs.Rows.{one_instruction}

@@ -1,7 +1,6 @@
 -- What was found in a table, by the rows that the definition has.
-use Rattle.std.proofs.Common.{◌≡◌, ℕ, List, [], ◌∷◌, map, Bool, true, false, ◌&&◌, Option, Some, None, refl, sym, ap, ◌∙◌, subst, inl, inr, ◌⊎◌, Bor, cond}
+use Rattle.std.proofs.Common.{◌≡◌, ℕ, List, [], ◌∷◌, map, Bool, true, false, ◌&&◌, Option, Some, None, refl, sym, ap, ◌∙◌, subst, inl, inr, Bor, cond}
 use Rattle.std.specs.Prelude.{Contains, find, option_map, option_copied, is_some}
-use Rattle.std.specs.List.{list_all}
 use Rattle.std.specs.Str.{bytes_eq}
 use Rattle.std.proofs.lemmas.Bool.{ltb-true, leb-true}
 use Rattle.asm80_statement_types.specs.Name.{IsName}
@@ -10,7 +9,7 @@ use Rattle.asm80_text.proofs.Names.{letters_are_name}
 use Rattle.zilog80.specs.declared.class.Class.{Class as ReadClass}
 use Rattle.zilog80.specs.Operands.{Spelt, Class, Names, renamed, operands}
 use Rattle.zilog80.specs.Read.{class_of, is_word, are_words, BareEntry, UnaryEntry, BinaryEntry, bare_of, unary_of, binary_of, fits_unary, fits_binary, given_unary, given_binary, read_unary, read_binary, IsBareRow, IsUnaryRow, IsBinaryRow}
-use Rattle.zilog80.proofs.Among.{Among, among, contained, passes, both, same_name, itself, found, not_found, find_map}
+use Rattle.zilog80.proofs.Among.{Among, among, contained, passes, both, same_name, itself, found, not_found}
 
 -- ---- names
 

@@ -1,10 +1,10 @@
 -- What an operand of a class gives in Intel's spelling: nothing, a name, or its value.
-use Rattle.std.proofs.Common.{◌≡◌, ℕ, zero, suc, List, [], ◌∷◌, Bool, true, false, Option, Some, None, cond, refl, sym, ap, ◌∙◌, subst}
+use Rattle.std.proofs.Common.{◌≡◌, ℕ, zero, List, [], ◌∷◌, Bool, true, false, Option, Some, None, subst}
 use Rattle.std.specs.Prelude.{find, option_map}
 use Rattle.std.specs.List.{AllByRecursion}
 use Rattle.std.specs.Str.{bytes_eq}
-use Rattle.asm80_statement_types.specs.Tree.{Number, Named, Operand, Whole}
-use Rattle.zilog80.specs.Operands.{Spelt, Name, AtName, Literal, Value, AtValue, Class, Is, At, Register, Memory, Source, Pair, StackPair, Indirect, Bare, Any, Cell, Zero, Names, registers, memory, pairs, stack_pairs, indirects, renamed, nothing_if, of_name, of_name_at, whole, zero_of, operands}
+use Rattle.asm80_statement_types.specs.Tree.{Named, Operand, Whole}
+use Rattle.zilog80.specs.Operands.{Spelt, Name, AtName, Literal, Value, AtValue, Class, Is, At, Register, Memory, Source, Pair, StackPair, Indirect, Bare, Any, Cell, Zero, Names, registers, memory, pairs, stack_pairs, indirects, renamed, nothing_if, of_name, of_name_at, operands}
 use Rattle.zilog80.specs.Read.{value_in}
 
 pub data Gives (a : Spelt) : List Operand → Type 0 where

@@ -1,83 +1,35 @@
--- Words that are listed by their first letters are those of a list, or of the rows of a table.
-use Rattle.std.proofs.Common.{◌≡◌, ℕ, List, [], ◌∷◌, Bool, true, false, ◌||◌, Some, None, refl, sym, ap, ◌∙◌, inl, inr, Bor, ◌==◌}
-use Rattle.std.specs.List.{list_any, list_all, slice_get}
-use Rattle.std.proofs.lemmas.Option.{same_Some}
+-- The words that are operations, as one list.
+use Rattle.std.proofs.Common.{◌≡◌, ℕ, List, [], ◌∷◌, ◌++◌, map, ◌||◌, refl, ap, ◌∙◌}
+use Rattle.std.specs.List.{list_any}
+use Rattle.std.proofs.lemmas.List.Folds.{list_any-append}
 use Rattle.std.specs.Str.{bytes_eq}
 use Rattle.zilog80.specs.Operands.{Class}
 use Rattle.zilog80.specs.Table.{bare_rows, unary_rows, binary_rows}
-use Rattle.zilog80.specs.Words.{directives, is_directive, is_bare, is_unary, is_binary, is_in_table, is_operation, reserved_names, is_register}
-use Rattle.zilog80.specs.Read.{LetterEntry, is_of_letter, is_under_letter, is_listed}
-use Rattle.zilog80.proofs.Among.{both, either, same_name}
+use Rattle.zilog80.specs.Words.{directives, is_directive, is_bare, is_unary, is_operation}
 
--- a word of some row passes what the words of all rows pass
-pub any_row : {X : Type 0} (name : X → List ℕ) (test : List ℕ → Bool) (rows : List X) (w : List ℕ) → list_any (λ r. bytes_eq (name r) w) rows ≡ true → list_all (λ r. test (name r)) rows ≡ true → test w ≡ true
-any_row name test [] w e all = absurd cc
-any_row name test (r ∷ rows) w e all =
-    let parts = both (test (name r)) (list_all (λ r. test (name r)) rows) all in
-    elim (either (bytes_eq (name r) w) (list_any (λ r. bytes_eq (name r) w) rows) e) [
-      | inl here ↦ ap test (sym (same_name (name r) w here)) ∙ parts.0
-      | inr later ↦ any_row name test rows w later parts.1
-    ]
+-- the word of a row is some word if the words of the rows have it
+of_rows : {X : Type 0} (word : X → List ℕ) (rows : List X) (w : List ℕ) → list_any (λ n. bytes_eq n w) (map word rows) ≡ list_any (λ r. bytes_eq (word r) w) rows
+of_rows word [] w = refl
+of_rows word (r ∷ rows) w = ap (λ b. bytes_eq (word r) w || b) (of_rows word rows w)
 
-any_letter : (letter : ℕ) (test : List ℕ → Bool) (lists : List LetterEntry) (w : List ℕ) → list_any (is_of_letter letter w) lists ≡ true → list_all (λ (e : LetterEntry). list_all (λ (n : Bor (List ℕ)). test n.now) e.1.now) lists ≡ true → test w ≡ true
-any_letter letter test [] w e all = absurd cc
-any_letter letter test (x ∷ lists) w e all =
-    let parts = both (list_all (λ (n : Bor (List ℕ)). test n.now) x.1.now) (list_all (λ (e : LetterEntry). list_all (λ (n : Bor (List ℕ)). test n.now) e.1.now) lists) all in
-    elim (either (is_of_letter letter w x) (list_any (is_of_letter letter w) lists) e) [
-      | inl here ↦ any_row (λ (n : Bor (List ℕ)). n.now) test x.1.now w (both (x.0 == letter) (list_any (λ (n : Bor (List ℕ)). bytes_eq n.now w) x.1.now) here).1 parts.0
-      | inr later ↦ any_letter letter test lists w later parts.1
-    ]
+bares : List (List ℕ)
+bares = map (λ (r : List ℕ × List ℕ). r.0) bare_rows
 
--- so does one that is listed
-pub any_listed : (test : List ℕ → Bool) (lists : List LetterEntry) (w : List ℕ) → is_under_letter lists w ≡ true → list_all (λ (e : LetterEntry). list_all (λ (n : Bor (List ℕ)). test n.now) e.1.now) lists ≡ true → test w ≡ true
-any_listed test lists [] e all = absurd cc
-any_listed test lists (letter ∷ rest) e all = any_letter letter test lists (letter ∷ rest) e all
+unaries : List (List ℕ)
+unaries = map (λ (r : List ℕ × Class × List ℕ). r.0) unary_rows
 
--- the lists of the first letter
-pub of_first : (lists : List LetterEntry) (w : List ℕ) (letter : ℕ) → slice_get w 0 ≡ Some letter → list_any (is_of_letter letter w) lists ≡ is_under_letter lists w
-of_first lists [] letter e = absurd cc
-of_first lists (x ∷ rest) letter e = ap (λ l. list_any (is_of_letter l (x ∷ rest)) lists) (sym (same_Some x letter e))
+binaries : List (List ℕ)
+binaries = map (λ (r : List ℕ × Class × Class × List ℕ). r.0) binary_rows
 
-pub of_none : (lists : List LetterEntry) (w : List ℕ) → slice_get w 0 ≡ None → false ≡ is_under_letter lists w
-of_none lists [] e = refl
-of_none lists (x ∷ rest) e = absurd cc
+unfoldable pub words : List (List ℕ)
+words = directives ++ (map (λ (r : List ℕ × List ℕ). r.0) bare_rows ++ (map (λ (r : List ℕ × Class × List ℕ). r.0) unary_rows ++ map (λ (r : List ℕ × Class × Class × List ℕ). r.0) binary_rows))
 
-pub same_test : (a b : Bool) → (a ≡ true → b ≡ true) → (b ≡ true → a ≡ true) → a ≡ b
-same_test true b f g = sym (f refl)
-same_test false true f g = g refl
-same_test false false f g = refl
-
--- ---- the words of the spelling
-
--- each operation is listed, and nothing else is
-pub operation_listed : (lists : List LetterEntry) (w : List ℕ) (result : Bool) → result ≡ is_listed lists w →
-    list_all (λ (e : LetterEntry). list_all (λ (n : Bor (List ℕ)). is_operation n.now) e.1.now) lists ≡ true →
-    list_all (λ n. is_under_letter lists n) directives ≡ true →
-    list_all (λ (r : List ℕ × List ℕ). is_under_letter lists r.0) bare_rows ≡ true →
-    list_all (λ (r : List ℕ × Class × List ℕ). is_under_letter lists r.0) unary_rows ≡ true →
-    list_all (λ (r : List ℕ × Class × Class × List ℕ). is_under_letter lists r.0) binary_rows ≡ true →
-    result ≡ is_operation w
-unfolding is_listed
-operation_listed lists w result is only named bares unaries binaries = is ∙ same_test (is_under_letter lists w) (is_operation w) (λ e. any_listed is_operation lists w e only) back
-  where
-    test : List ℕ → Bool
-    test n = is_under_letter lists n
-
-    back : is_operation w ≡ true → is_under_letter lists w ≡ true
-    back e = elim (either (is_directive w) (is_in_table w) e) [
-      | inl d ↦ any_row (λ n. n) test directives w d named
-      | inr t ↦ elim (either (is_bare w) (is_unary w || is_binary w) t) [
-        | inl b ↦ any_row (λ (r : List ℕ × List ℕ). r.0) test bare_rows w b bares
-        | inr u ↦ elim (either (is_unary w) (is_binary w) u) [
-          | inl one ↦ any_row (λ (r : List ℕ × Class × List ℕ). r.0) test unary_rows w one unaries
-          | inr two ↦ any_row (λ (r : List ℕ × Class × Class × List ℕ). r.0) test binary_rows w two binaries
-        ]
-      ]
-    ]
-
-pub register_listed : (lists : List LetterEntry) (w : List ℕ) (result : Bool) → result ≡ is_listed lists w →
-    list_all (λ (e : LetterEntry). list_all (λ (n : Bor (List ℕ)). is_register n.now) e.1.now) lists ≡ true →
-    list_all (λ n. is_under_letter lists n) reserved_names ≡ true →
-    result ≡ is_register w
-unfolding is_listed
-register_listed lists w result is only named = is ∙ same_test (is_under_letter lists w) (is_register w) (λ e. any_listed is_register lists w e only) (λ e. any_row (λ n. n) (λ n. is_under_letter lists n) reserved_names w e named)
+pub words_are : (w : List ℕ) → list_any (λ n. bytes_eq n w) words ≡ is_operation w
+unfolding words bares unaries binaries
+words_are w =
+    list_any-append (λ n. bytes_eq n w) directives (bares ++ (unaries ++ binaries))
+    ∙ ap (λ b. is_directive w || b) (list_any-append (λ n. bytes_eq n w) bares (unaries ++ binaries))
+    ∙ ap (λ b. is_directive w || (b || list_any (λ n. bytes_eq n w) (unaries ++ binaries))) (of_rows (λ (r : List ℕ × List ℕ). r.0) bare_rows w)
+    ∙ ap (λ b. is_directive w || (is_bare w || b)) (list_any-append (λ n. bytes_eq n w) unaries binaries)
+    ∙ ap (λ b. is_directive w || (is_bare w || (b || list_any (λ n. bytes_eq n w) binaries))) (of_rows (λ (r : List ℕ × Class × List ℕ). r.0) unary_rows w)
+    ∙ ap (λ b. is_directive w || (is_bare w || (is_unary w || b))) (of_rows (λ (r : List ℕ × Class × Class × List ℕ). r.0) binary_rows w)

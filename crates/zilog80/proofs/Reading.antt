@@ -1,6 +1,6 @@
 -- What the functions that read operands and instructions found.
-use Rattle.std.proofs.Common.{◌≡◌, ◌≢◌, ℕ, suc, ◌+◌, List, [], ◌∷◌, ◌++◌, length, take, drop, map, Bool, true, false, not, Option, Some, None, Result, Ok, Err, refl, sym, ap, ◌∙◌, subst, arith, inl, inr, Bor}
-use Rattle.std.specs.Prelude.{Contains, IfSome, OnOk, is_some, option_copied}
+use Rattle.std.proofs.Common.{◌≡◌, ◌≢◌, ℕ, suc, ◌+◌, List, [], ◌∷◌, ◌++◌, take, drop, Bool, true, false, Option, Some, None, Result, Ok, Err, refl, sym, ap, ◌∙◌, arith, inl, inr, Bor}
+use Rattle.std.specs.Prelude.{IfSome, OnOk, is_some, option_copied}
 use Rattle.std.specs.List.{slice_split, onto_first}
 use Rattle.std.specs.Global.{Vec}
 use Rattle.asm80_statement_types.specs.declared.arg.Arg.{Arg}

@@ -1,14 +1,14 @@
 -- A word with its operands is one instruction, and which one was found.
-use Rattle.std.proofs.Common.{◌≡◌, ℕ, List, [], ◌∷◌, ◌++◌, map, Bool, true, false, ◌||◌, Option, Some, None, refl, sym, ap, ◌∙◌, subst, inl, inr, ◌⊎◌}
+use Rattle.std.proofs.Common.{◌≡◌, ℕ, List, ◌++◌, true, Option, Some, refl, sym, ap, ◌∙◌, inl, inr}
 use Rattle.std.specs.Prelude.{Contains}
 use Rattle.asm80_statement_types.specs.Tree.{Operand}
 use Rattle.asm80_text.specs.declared.token.Token.{Token}
-use Rattle.zilog80.specs.Operands.{Spelt, Class, IsSpelt, operands}
+use Rattle.zilog80.specs.Operands.{Spelt, Class, operands}
 use Rattle.zilog80.specs.Table.{bare_rows, unary_rows, binary_rows}
 use Rattle.zilog80.specs.Zilog.{IsInstruction, bare, unary, binary}
 use Rattle.zilog80.proofs.Among.{among, either, only_one}
 use Rattle.zilog80.proofs.Spelling.{one_spelt}
-use Rattle.zilog80.proofs.Apart.{exclude, excluded, bare_exclude, unary_exclude, binary_exclude, bare_apart, unary_apart, binary_apart, same_word}
+use Rattle.zilog80.proofs.Apart.{excluded, bare_exclude, unary_exclude, binary_exclude, bare_apart, unary_apart, binary_apart, same_word}
 
 abbrev BareRow : Type 0
 BareRow = List ℕ × List ℕ

@@ -1,16 +1,16 @@
 -- How an operand is spelt: in one way, and with numbers in range.
-use Rattle.std.proofs.Common.{◌≡◌, ◌≢◌, ℕ, ◌<◌, List, [], ◌∷◌, ◌++◌, Bool, true, false, Option, Some, None, refl, sym, ap, ◌∙◌, subst, arith, inl, inr, ◌⊎◌, ◌||◌}
-use Rattle.std.specs.List.{AllByRecursion, list_any}
-use Rattle.asm80_statement_types.specs.Tree.{Tree, Operand, Whole}
+use Rattle.std.proofs.Common.{◌≡◌, List, [], ◌∷◌, Option, Some, None, sym, ap, ◌∙◌, subst, arith}
+use Rattle.std.specs.List.{AllByRecursion}
+use Rattle.asm80_statement_types.specs.Tree.{Tree, Whole}
 use Rattle.asm80_statement_types.specs.Ranges.{IsInRange}
 use Rattle.asm80_text.specs.declared.token.Token.{Token}
-use Rattle.asm80_text.specs.declared.token.Token.TheVariants.{Digits, Num, Here, Word, Register as Reserved, Operation, Text, Op, Not, Open, Close, Comma, Colon, Bang, Stray}
+use Rattle.asm80_text.specs.declared.token.Token.TheVariants.{Digits, Num, Register as Reserved, Open, Close}
 use Rattle.asm80_text.specs.Small.{AreSmall}
 use Rattle.asm80_text.specs.Grammar.{Spells, alone, tighter, parens}
 use Rattle.asm80_text.specs.Statement.{value as expression, last, full}
 use Rattle.asm80_text.proofs.Unambiguous.{one_expression}
 use Rattle.asm80_text.proofs.Ranges.{list_range}
-use Rattle.zilog80.specs.Operands.{Spelt, Name, AtName, Literal, Value, AtValue, has_reserved, atom_of, IsEnclosed, IsSpelt, atom, value, at_value}
+use Rattle.zilog80.specs.Operands.{Spelt, Name, AtName, Literal, Value, AtValue, atom_of, IsEnclosed, IsSpelt, atom, value, at_value}
 use Rattle.zilog80.specs.Read.{value_in}
 
 -- ---- one way

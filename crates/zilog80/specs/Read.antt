@@ -1,8 +1,8 @@
 -- What the code's operands and classes stand for, and what its functions return.
-use Rattle.std.specs.Prelude.{◌≡◌, ℕ, List, [], ◌∷◌, Bool, Option, Some, None, true, false, is_some, Result, Ok, Err, Contains, map, nat_lt, nat_le, ◌==◌, ◌&&◌, not, length}
+use Rattle.std.specs.Prelude.{◌≡◌, ℕ, List, [], ◌∷◌, Bool, Option, Some, None, true, is_some, Result, Ok, Err, Contains, map, nat_lt, nat_le, ◌&&◌, not, length}
 use Rattle.std.specs.Borrow.{Bor}
 use Rattle.std.specs.declared.alloc.AllocError.{AllocError}
-use Rattle.std.specs.List.{list_all, list_any, prefix_len, slice_split}
+use Rattle.std.specs.List.{list_all, prefix_len, slice_split}
 use Rattle.std.specs.Str.{bytes_eq}
 use Rattle.std.specs.Global.{Vec}
 use Rattle.asm80_statement_types.specs.declared.arg.Arg.{Arg}
@@ -63,24 +63,6 @@ is_word name = list_all is_upper name && (nat_lt 0 (length name) && nat_le (leng
 
 abbrev pub are_words : List (List ℕ) → Bool
 are_words names = list_all is_word names
-
--- ---- words
-
--- words in the code, with the letter that each of them begins with
-abbrev pub LetterEntry : Type 0
-LetterEntry = ℕ × Bor (List (Bor (List ℕ)))
-
--- the word is one of those of its first letter
-abbrev pub is_of_letter : ℕ → List ℕ → LetterEntry → Bool
-is_of_letter letter word e = (e.0 == letter) && list_any (λ (name : Bor (List ℕ)). bytes_eq name.now word) e.1.now
-
-abbrev pub is_under_letter : List LetterEntry → List ℕ → Bool
-is_under_letter lists [] = false
-is_under_letter lists (letter ∷ rest) = list_any (is_of_letter letter (letter ∷ rest)) lists
-
--- the same (`unfoldable`: the lists are read off it)
-unfoldable pub is_listed : List LetterEntry → List ℕ → Bool
-is_listed lists word = is_under_letter lists word
 
 -- ---- operands
 

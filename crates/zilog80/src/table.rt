@@ -1,20 +1,17 @@
 //! The table of instructions, and the reserved words.
 
 ghost use Rattle.std.specs.Prelude.{◌≡◌, List, ℕ, find, map, option_map, true};
-ghost use Rattle.std.specs.List.{list_any};
 ghost use Rattle.std.specs.Str.{bytes_eq};
 ghost use Rattle.zilog80.specs.Operands.{Class as OperandClass};
 ghost use Rattle.zilog80.specs.Table.{bare_rows, binary_rows, unary_rows};
 ghost use Rattle.zilog80.specs.Words.{is_directive, is_operation, is_register};
-ghost use Rattle.zilog80.specs.Read.{BareEntry, BinaryEntry, IsBareRow, IsBinaryRow, IsUnaryRow, UnaryEntry, are_words, bare_of, binary_of, fits_binary, fits_unary, given_binary, given_unary, is_listed, is_of_letter, read_binary, read_unary, spelt_of, unary_of};
+ghost use Rattle.zilog80.specs.Read.{BareEntry, BinaryEntry, IsBareRow, IsBinaryRow, IsUnaryRow, UnaryEntry, are_words, bare_of, binary_of, fits_binary, fits_unary, given_binary, given_unary, read_binary, read_unary, spelt_of, unary_of};
 
 use crate::class::Class::{self, *};
 use crate::class::beside;
 use crate::operand::Spelt;
+use asm80_statement_types::{WordsByLetter, is_listed};
 use asm80_text::Name80;
-
-/// Words, with the letter that each of them begins with.
-type WordsOfLetter<'a> = (u8, &'a [&'a [u8]]);
 
 /// A word, the class of its operand, and the operation in Intel's spelling.
 type UnaryRow<'a> = (&'a [u8], Class, &'a [u8]);
@@ -23,42 +20,93 @@ type UnaryRow<'a> = (&'a [u8], Class, &'a [u8]);
 type BinaryRow<'a> = (&'a [u8], Class, Class, &'a [u8]);
 
 /// The directives of the assembler.
-const DIRECTIVES: [&[u8]; 9] = [
-    b"ORG", b"END", b"EQU", b"SET", b"IF", b"ENDIF", b"DB", b"DW", b"DS",
+const DIRECTIVES: WordsByLetter<'static> = [
+    &[],
+    &[],
+    &[],
+    &[b"DB", b"DW", b"DS"],
+    &[b"END", b"EQU", b"ENDIF"],
+    &[],
+    &[],
+    &[],
+    &[b"IF"],
+    &[],
+    &[],
+    &[],
+    &[],
+    &[],
+    &[b"ORG"],
+    &[],
+    &[],
+    &[],
+    &[b"SET"],
+    &[],
+    &[],
+    &[],
+    &[],
+    &[],
+    &[],
+    &[],
 ];
 
 /// The words that are operations: the directives, and those of the table below.
-const OPERATIONS: [WordsOfLetter<'static>; 14] = [
-    (b'A', &[b"ADC", b"ADD", b"AND"]),
-    (b'C', &[b"CALL", b"CCF", b"CP", b"CPL"]),
-    (b'D', &[b"DAA", b"DB", b"DEC", b"DI", b"DS", b"DW"]),
-    (b'E', &[b"EI", b"END", b"ENDIF", b"EQU", b"EX"]),
-    (b'H', &[b"HALT"]),
-    (b'I', &[b"IF", b"IN", b"INC"]),
-    (b'J', &[b"JP"]),
-    (b'L', &[b"LD"]),
-    (b'N', &[b"NOP"]),
-    (b'O', &[b"OR", b"ORG", b"OUT"]),
-    (b'P', &[b"POP", b"PUSH"]),
-    (b'R', &[b"RET", b"RLA", b"RLCA", b"RRA", b"RRCA", b"RST"]),
-    (b'S', &[b"SBC", b"SCF", b"SET", b"SUB"]),
-    (b'X', &[b"XOR"]),
+const OPERATIONS: WordsByLetter<'static> = [
+    &[b"ADC", b"ADD", b"AND"],
+    &[],
+    &[b"CALL", b"CCF", b"CP", b"CPL"],
+    &[b"DAA", b"DB", b"DEC", b"DI", b"DS", b"DW"],
+    &[b"EI", b"END", b"ENDIF", b"EQU", b"EX"],
+    &[],
+    &[],
+    &[b"HALT"],
+    &[b"IF", b"IN", b"INC"],
+    &[b"JP"],
+    &[],
+    &[b"LD"],
+    &[],
+    &[b"NOP"],
+    &[b"OR", b"ORG", b"OUT"],
+    &[b"POP", b"PUSH"],
+    &[],
+    &[b"RET", b"RLA", b"RLCA", b"RRA", b"RRCA", b"RST"],
+    &[b"SBC", b"SCF", b"SET", b"SUB"],
+    &[],
+    &[],
+    &[],
+    &[],
+    &[b"XOR"],
+    &[],
+    &[],
 ];
 
 /// The names of registers, of register pairs and of conditions, and M and PSW.
-const RESERVED_NAMES: [WordsOfLetter<'static>; 12] = [
-    (b'A', &[b"A", b"AF"]),
-    (b'B', &[b"B", b"BC"]),
-    (b'C', &[b"C"]),
-    (b'D', &[b"D", b"DE"]),
-    (b'E', &[b"E"]),
-    (b'H', &[b"H", b"HL"]),
-    (b'L', &[b"L"]),
-    (b'M', &[b"M"]),
-    (b'N', &[b"NZ", b"NC"]),
-    (b'P', &[b"PO", b"PE", b"P", b"PSW"]),
-    (b'S', &[b"SP"]),
-    (b'Z', &[b"Z"]),
+const RESERVED_NAMES: WordsByLetter<'static> = [
+    &[b"A", b"AF"],
+    &[b"B", b"BC"],
+    &[b"C"],
+    &[b"D", b"DE"],
+    &[b"E"],
+    &[],
+    &[],
+    &[b"H", b"HL"],
+    &[],
+    &[],
+    &[],
+    &[b"L"],
+    &[b"M"],
+    &[b"NZ", b"NC"],
+    &[],
+    &[b"PO", b"PE", b"P", b"PSW"],
+    &[],
+    &[],
+    &[b"SP"],
+    &[],
+    &[],
+    &[],
+    &[],
+    &[],
+    &[],
+    &[b"Z"],
 ];
 
 /// A word without operands, and the operation that it is.
@@ -152,11 +200,10 @@ const BINARY: [BinaryRow<'static>; 38] = [
     (b"OUT", Cell, Is(b"A"), b"OUT"),
 ];
 
-#[tactic(auto, unfolding(crate::specs::Words::directives))]
 pub fn is_directive(word: &[u8]) -> bool
     ensures { result ≡ is_directive word.now }
 {
-    is_among(&DIRECTIVES, word)
+    is_listed(&DIRECTIVES, word)
 }
 
 /// Whether a word is an operation: a directive, or a word of the table.
@@ -171,34 +218,6 @@ pub fn is_register(word: &[u8]) -> bool
     ensures { result ≡ is_register word.now }
 {
     is_listed(&RESERVED_NAMES, word)
-}
-
-// Whether a word is one of those of its first letter.
-fn is_listed(lists: &[WordsOfLetter<'_>], word: &[u8]) -> bool
-    ensures { result ≡ is_listed lists.now word.now }
-{
-    let Some(letter) = word.first() else {
-        return false;
-    };
-    is_listed_under(lists, *letter, word)
-}
-
-fn is_listed_under(lists: &[WordsOfLetter<'_>], letter: u8, word: &[u8]) -> bool
-    ensures { result ≡ list_any (is_of_letter letter word.now) lists.now }
-{
-    lists.iter().any(|list| is_of_letter(list, letter, word))
-}
-
-fn is_of_letter(list: &WordsOfLetter<'_>, letter: u8, word: &[u8]) -> bool
-    ensures { result ≡ is_of_letter letter word.now list.now }
-{
-    list.0 == letter && is_among(list.1, word)
-}
-
-fn is_among(names: &[&[u8]], word: &[u8]) -> bool
-    ensures { result ≡ list_any (λ name. bytes_eq name.now word.now) names.now }
-{
-    names.iter().any(|name| *name == word)
 }
 
 /// The operation that a word without operands is.

@@ -4,13 +4,14 @@ use Rattle.asm80_text.proofs.Several.{any_target}
 use Rattle.asm80_text.proofs.line.read_text.Goals as goal
 
 pub returns-then-some_has_reserved_label-clause-value : goal.returns-then-some_has_reserved_label-clause-value
-returns-then-some_has_reserved_label-clause-value g c = (refl, reserved (sym (any_target (has_reserved_label g.N.Notation.spelling) c.args.parts.now) ∙ sym c.some_has_reserved_label.ensures ∙ c.if-some_has_reserved_label.true))
+returns-then-some_has_reserved_label-clause-value g c = (refl, refl, reserved (sym (any_target (has_reserved_label g.N.Notation.spelling) c.args.parts.now) ∙ sym c.some_has_reserved_label.ensures ∙ c.if-some_has_reserved_label.true))
 
 pub returns-in-Some-clause-value : goal.returns-in-Some-clause-value
-returns-in-Some-clause-value g c = (refl, rw c.in-Some.is (faulty (sym (any_target (has_reserved_label g.N.Notation.spelling) c.args.parts.now) ∙ sym c.some_has_reserved_label.ensures ∙ c.if-some_has_reserved_label.false)))
+returns-in-Some-clause-value g c = (refl, refl, rw c.in-Some.is (faulty (sym (any_target (has_reserved_label g.N.Notation.spelling) c.args.parts.now) ∙ sym c.some_has_reserved_label.ensures ∙ c.if-some_has_reserved_label.false)))
 
 pub returns-then-some_is_deep-clause-value : goal.returns-then-some_is_deep-clause-value
 returns-then-some_is_deep-clause-value g c = (
+  refl,
   refl,
   rw c.in_default.is (sound (sym (any_target (has_reserved_label g.N.Notation.spelling) c.args.parts.now) ∙ sym c.some_has_reserved_label.ensures ∙ c.if-some_has_reserved_label.false)
       (deep (sym (any_target is_deep c.args.parts.now) ∙ sym c.some_is_deep.ensures ∙ c.if-some_is_deep.true))),
@@ -18,12 +19,18 @@ returns-then-some_is_deep-clause-value g c = (
 
 pub returns-in-Ok-clause-value : goal.returns-in-Ok-clause-value
 returns-in-Ok-clause-value g c =
-    rw c.in_default.is (sound (sym (any_target (has_reserved_label g.N.Notation.spelling) c.args.parts.now) ∙ sym c.some_has_reserved_label.ensures ∙ c.if-some_has_reserved_label.false)
-    (formed (sym (any_target is_deep c.args.parts.now) ∙ sym c.some_is_deep.ensures ∙ c.if-some_is_deep.false) c.in-Ok.ensures.value))
+    let h = c.in-Ok.ensures.value in (
+      h.0,
+      h.1,
+      rw c.in_default.is (sound (sym (any_target (has_reserved_label g.N.Notation.spelling) c.args.parts.now) ∙ sym c.some_has_reserved_label.ensures ∙ c.if-some_has_reserved_label.false)
+          (formed (sym (any_target is_deep c.args.parts.now) ∙ sym c.some_is_deep.ensures ∙ c.if-some_is_deep.false) h.2)),
+    )
 
 pub returns-in-Malformed-clause-value : goal.returns-in-Malformed-clause-value
-returns-in-Malformed-clause-value g c = (
-  refl,
-  rw c.in_default.is (sound (sym (any_target (has_reserved_label g.N.Notation.spelling) c.args.parts.now) ∙ sym c.some_has_reserved_label.ensures ∙ c.if-some_has_reserved_label.false)
-      (malformed (sym (any_target is_deep c.args.parts.now) ∙ sym c.some_is_deep.ensures ∙ c.if-some_is_deep.false) (rw c.in-Malformed.is at c.in-Err.ensures.value))),
-)
+returns-in-Malformed-clause-value g c =
+    let h = rw c.in-Malformed.is at c.in-Err.ensures.value in (
+      refl,
+      h.0,
+      rw c.in_default.is (sound (sym (any_target (has_reserved_label g.N.Notation.spelling) c.args.parts.now) ∙ sym c.some_has_reserved_label.ensures ∙ c.if-some_has_reserved_label.false)
+          (malformed (sym (any_target is_deep c.args.parts.now) ∙ sym c.some_is_deep.ensures ∙ c.if-some_is_deep.false) h.1)),
+    )

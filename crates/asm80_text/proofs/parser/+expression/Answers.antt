@@ -1,7 +1,9 @@
-use Rattle.std.proofs.Common.{◌≡◌, ◌∷◌, drop, length, true, false, ap, sym, ◌∙◌, arith, rules}
+use Rattle.std.proofs.Common.{◌≡◌, drop, length, true, false, ap, sym, ◌∙◌, arith, rules}
 use Rattle.std.proofs.lemmas.Result.{err_from_is_err_and}
 use Rattle.asm80_text.proofs.Chain.{spells_shorter, begins_shorter}
-use Rattle.asm80_text.proofs.Cases.{digits_read, number_read, here_read, name_read, register_read, parens_read, signed_never, added, taken_off, tighter_read, tighter_never, unsigned_read, unsigned_never, chain_starts, chain_never, chain_goes_on, chain_breaks, chain_ends, gives_on, fails_on}
+use Rattle.asm80_text.proofs.Cases.{term_read, parens_read, signed_never, added, taken_off, tighter_read, tighter_never, unsigned_read, unsigned_never, chain_starts, chain_never, chain_goes_on, chain_breaks, chain_ends, gives_on, fails_on}
+use Rattle.asm80_text.proofs.Unambiguous.{term_sure}
+use Rattle.asm80_statement_types.specs.Tree.{tree_of}
 use Rattle.asm80_text.proofs.Inverted.{row_read, row_fails}
 use Rattle.asm80_statement_types.specs.contracts.expr.Two.{the_type}
 use denote.Enum.Bare.{same_true}
@@ -24,19 +26,25 @@ expression_at-loop-op-init t c = record { chained = chain_starts _ _ _ _ c.in_ok
 pub expression_at-returns-in_err-right : goal.expression_at-returns-in_err-right
 expression_at-returns-in_err-right t c =
     let p = err_from_is_err_and c.from_residual-in_err-right.result c.from_residual-in_err-right.ensures.1 in
-    rw (p.1, p.2) (fails_on _ _ _ _ c.in_err-right.field-0.0 (chain_breaks _ _ _ _ _ _ c.loop-op.invariant.chained c.in-Some.ensures.0 c.in-Some.ensures.1) c.in_err-right.ensures)
+    rw (p.1, p.2) (fails_on _ _ _ _ c.in_err-right.field-0.0 (chain_breaks _ _ _ _ _ _ c.loop-op.invariant.chained c.in-Some-operator_of.ensures.0 c.in-Some-operator_of.ensures.1) c.in_err-right.ensures)
 
 pub expression_at-loop-op-smaller : goal.expression_at-loop-op-smaller
-expression_at-loop-op-smaller t c = omega (arith, spells_shorter c.in_ok-right.ensures.holds, ap length c.in-Some.ensures.0)
+expression_at-loop-op-smaller t c = omega (arith, spells_shorter c.in_ok-right.ensures.holds, ap length c.in-Some-operator_of.ensures.0)
 
 pub expression_at-loop-op-preserved : goal.expression_at-loop-op-preserved
 expression_at-loop-op-preserved t c = record {
-  chained = rw (c.in_ok-new.ensures.ok, c.in_ok-new-2.ensures.ok) (chain_goes_on _ _ _ _ _ _ _ _ c.loop-op.invariant.chained c.in-Some.ensures.0 c.in-Some.ensures.1 c.in_ok-right.ensures);
-  shorter = omega (arith, spells_shorter c.in_ok-right.ensures.holds, ap length c.in-Some.ensures.0);
+  chained = rw (c.in_ok-new.ensures.ok, c.in_ok-new-2.ensures.ok) (chain_goes_on _ _ _ _ _ _ _ _ c.loop-op.invariant.chained c.in-Some-operator_of.ensures.0 c.in-Some-operator_of.ensures.1 c.in_ok-right.ensures);
+  shorter = omega (arith, spells_shorter c.in_ok-right.ensures.holds, ap length c.in-Some-operator_of.ensures.0);
 }
 
 pub expression_at-returns : goal.expression_at-returns
-expression_at-returns t c = chain_ends _ _ _ _ c.loop-op.invariant.chained c.in_default.ensures
+expression_at-returns t c = chain_ends _ _ _ _ c.loop-op.invariant.chained c.in_default-operator_of.ensures
+
+pub expression_at-returns-in-Some : goal.expression_at-returns-in-Some
+expression_at-returns-in-Some t c = term_sure c.args.level c.args.tokens.now c.in-Some.found.1.now (tree_of c.in-Some.found.0) c.requires c.in-Some.ensures.0 c.in-Some.ensures.1
+
+pub operand_at-returns-in-Some-term_of : goal.operand_at-returns-in-Some-term_of
+operand_at-returns-in-Some-term_of t c = term_read c.args.tokens.now c.in-Some.rest.now c.in-Some.token.now (tree_of c.in-Some-term_of.term) c.in-Some.ensures (sym c.in-Some-term_of.ensures)
 
 pub inverted_at-returns-in_err-sum : goal.inverted_at-returns-in_err-sum
 inverted_at-returns-in_err-sum t c =
@@ -47,21 +55,6 @@ pub inverted_at-returns : goal.inverted_at-returns
 inverted_at-returns t c =
     rw (c.in_ok-inverted.ensures, c.nots_len-count.ensures.value)
     (row_read _ _ _ (rw (c.split_at.ensures.back, c.nots_len-count.ensures.value) at c.in_ok-sum.ensures))
-
-pub operand_at-returns-in-Digits : goal.operand_at-returns-in-Digits
-operand_at-returns-in-Digits t c = digits_read _ _ _ (c.in-Some.ensures ∙ ap (λ x. x ∷ c.in-Some.rest.now) c.in-Digits.is)
-
-pub operand_at-returns-in-Num : goal.operand_at-returns-in-Num
-operand_at-returns-in-Num t c = number_read _ _ _ (c.in-Some.ensures ∙ ap (λ x. x ∷ c.in-Some.rest.now) c.in-Num.is)
-
-pub operand_at-returns-in-Here : goal.operand_at-returns-in-Here
-operand_at-returns-in-Here t c = here_read _ _ (c.in-Some.ensures ∙ ap (λ x. x ∷ c.in-Some.rest.now) c.in-Here.is)
-
-pub operand_at-returns-in-Word : goal.operand_at-returns-in-Word
-operand_at-returns-in-Word t c = name_read _ _ _ (c.in-Some.ensures ∙ ap (λ x. x ∷ c.in-Some.rest.now) c.in-Word.is)
-
-pub operand_at-returns-in-Register : goal.operand_at-returns-in-Register
-operand_at-returns-in-Register t c = register_read _ _ _ (c.in-Some.ensures ∙ ap (λ x. x ∷ c.in-Some.rest.now) c.in-Register.is)
 
 pub parenthesized-returns : goal.parenthesized-returns
 parenthesized-returns t c = parens_read _ _ _ _ c.in-Some.ensures c.in_ok-inside.ensures

@@ -15,5 +15,5 @@ returns c =
     let at = place_after p c.args.leader (c.args.count - 1) in
     last_alone p c.args.leader c.args.count c.leaving_where.result c.requires.straight c.requires.some
     (c.leaving_where.ensures
-    ∙ ap (λ a. leaving_where p a c.known_function-function.result (instr_at p a)) c.last_of.ensures
+    ∙ ap (λ a. leaving_where p a c.known_function-function.result (instr_at p a)) c.place_after.ensures
     ∙ ap (λ f. leaving_where p at f (instr_at p at)) c.known_function-function.ensures)

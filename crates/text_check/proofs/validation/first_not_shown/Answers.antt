@@ -3,7 +3,8 @@ use Rattle.flow.specs.Blocks.{leaders}
 use Rattle.simulation_def.specs.Needed.{needed_by}
 use Rattle.block_check.specs.declared.block.Verdict.TheVariants.{Shown}
 use Rattle.text_check.specs.Findings.{HoldsBlock}
-use Rattle.text_check.proofs.Walking.{block_at_index, all_passed, shown_on, not_shown, last_on, last_left, held}
+use Rattle.flow.proofs.Indexed.{block_at_index, all_passed}
+use Rattle.text_check.proofs.Walking.{shown_on, not_shown, last_on, last_left, held}
 use Rattle.text_check.proofs.validation.first_not_shown.Goals as goal
 
 pub returns-in-NotShown-clause-reason : goal.returns-in-NotShown-clause-reason

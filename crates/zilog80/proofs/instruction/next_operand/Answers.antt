@@ -1,4 +1,4 @@
-use Rattle.std.proofs.Common.{◌≡◌, ◌∷◌, [], List, ap, sym, ◌∙◌, take, drop}
+use Rattle.std.proofs.Common.{◌∷◌, [], List, ap, sym, ◌∙◌, take, drop}
 use Rattle.std.specs.List.{slice_split}
 use Rattle.asm80_text.specs.declared.token.Token.{Token}
 use Rattle.zilog80.specs.Zilog.{is_comma}

@@ -1,5 +1,3 @@
-use Rattle.std.proofs.Common.{map}
-use Rattle.std.specs.Prelude.{OnOk, IfSome}
 use Rattle.zilog80.specs.Operands.{operands}
 use Rattle.zilog80.specs.Read.{class_of, given_by, spelt_of}
 use Rattle.zilog80.proofs.Reading.{pushed_ok, nothing_given}

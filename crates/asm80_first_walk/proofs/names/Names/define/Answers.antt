@@ -1,7 +1,7 @@
 use Rattle.std.proofs.Common.{ap, sym, subst, map, ◌||◌, ◌∙◌}
 use Rattle.std.specs.List.{IsDistinct}
 use Rattle.std.specs.Map.{keys_of}
-use Rattle.asm80_statement_types.specs.contracts.name.Name80PartialEq.TheImpl.{eq-value}
+use Rattle.std.specs.Str.{bytes_eq}
 use Rattle.asm80_source_def.specs.Names.{Name, clashes, overflows, defined}
 use Rattle.asm80_first_walk.specs.declared.names.Entry.{Entry}
 use Rattle.asm80_first_walk.specs.Entries.{name_of_entry}
@@ -22,5 +22,5 @@ returns-clause-made c =
     let e = c.in_ok-insert.ensures.entries in
     let taken = ap (λ ns. clashes ns n || overflows ns n) c.self.view_is ∙ sym (c.is_refused.ensures c.args.meaning) ∙ c.if-is_refused.false in
     ap (map name_of_entry) e
-    ∙ made (eq-value).it key_flips es c.args.name v taken (subst (λ xs. IsDistinct (eq-value).it (keys_of xs)) e c.in_ok-insert.ensures.unique)
+    ∙ made bytes_eq key_flips es c.args.name v taken (subst (λ xs. IsDistinct bytes_eq (keys_of xs)) e c.in_ok-insert.ensures.unique)
     ∙ ap (λ ns. defined ns n) c.self.view_is

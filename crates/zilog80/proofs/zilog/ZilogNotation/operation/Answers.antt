@@ -1,4 +1,3 @@
-use Rattle.std.proofs.Common.{sym, ◌∙◌}
 use Rattle.std.proofs.lemmas.Result.{err_from_is_err_and}
 use Rattle.zilog80.specs.Zilog.{directive}
 use Rattle.zilog80.proofs.Reading.{directive_fails, directive_read, directive_test}

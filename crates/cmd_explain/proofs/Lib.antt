@@ -1,0 +1,7 @@
+mod Positions
+mod Leaders
+mod Blocks
+mod Opening
+mod Data
+mod Saying
+mod Completing

@@ -1,0 +1,5 @@
+pub mod Lines
+pub mod Explained
+pub mod Telling
+pub mod Explains
+pub mod Worked

@@ -1,0 +1,119 @@
+// The work of `explain`: a source and a text in, and what is found of them said, with why.
+
+ghost use Rattle.std.specs.Prelude.{◌≡◌, ◌<◌, ◌≤◌, true, length, IfOk, IfErr, OnOk, OnErr};
+ghost use Rattle.host.specs.Host.{SameFiles, SameFaults, OnlySays, Says, WriteFault};
+ghost use Rattle.host_files.specs.Transfer.{CutsLine};
+ghost use Rattle.asm80_program_types.specs.Program.{is_top};
+ghost use Rattle.cmd_arguments.specs.ReadCommands.{check_read};
+ghost use Rattle.cmd_common.specs.declared.stop.Stop.TheVariants.{NotShown};
+ghost use Rattle.cmd_check.specs.Checks.{LoadStops};
+ghost use Rattle.cmd_check.specs.Completes.{CheckCompletes};
+ghost use Rattle.cmd_explain.specs.Explains.{SaysBefore, ExplainGives};
+ghost use Rattle.cmd_explain.specs.Worked.{IsOfExplanation, ComesTo};
+
+use crate::telling::{Explanation, explain_text};
+use asm86::{images_exclude_refusals, text_has_one_reading};
+use cmd_arguments::Check;
+use cmd_check::load;
+use cmd_common::{Stop, say_done, say_stop, shown_line, sources_have_one_outcome};
+use host::{Host, HostFault};
+use host_files::say_line;
+use std::alloc::{AllocError, Global};
+use sym_block_def::Reason;
+use xlt_core::{Finding, findings_are_one};
+
+/// Checks the text of a command beside its source, says what is found and why, and answers the status. The command's top is one that a
+/// program area may have.
+pub fn explain<H: Host>(alloc: Global, host: &mut H, command: &Check<'_>) -> u8
+    requires { is_top command.now.top ≡ true }
+    ensures gives { ExplainGives (check_read command.now) (H.state host.old) (H.state host.new) result }
+    ensures files { SameFiles (H.state host.old) (H.state host.new) }
+    ensures completes { CheckCompletes (check_read command.now) (H.state host.old) (H.state host.new) result }
+{
+    sources_have_one_outcome();
+    text_has_one_reading();
+    images_exclude_refusals();
+    findings_are_one();
+    carry_out(alloc, host, command)
+}
+
+// The work, and what is said.
+fn carry_out<H: Host>(alloc: Global, host: &mut H, command: &Check<'_>) -> u8
+    requires { is_top command.now.top ≡ true }
+    ensures gives { ExplainGives (check_read command.now) (H.state host.old) (H.state host.new) result }
+    ensures files { SameFiles (H.state host.old) (H.state host.new) }
+{
+    match work(alloc, host, command) {
+        Ok(Worked::Shown(line)) => say_done(host, line.as_str()),
+        Ok(Worked::NotShown(at, reason, text)) => say_why(alloc, host, at, reason, text.as_slice()),
+        Err(stop) => say_stop(alloc, host, stop),
+    }
+}
+
+// What the work comes to: the last line of a text that is shown; or what is found of one that is not, and the lines that say why.
+#[derive(Drop)]
+enum Worked {
+    Shown(String),
+    NotShown(u16, Reason, Vec<u8>),
+}
+
+fn work<'a, H: Host>(alloc: Global, host: &mut H, command: &Check<'a>) -> Result<Worked, Stop<'a>>
+    requires { is_top command.now.top ≡ true }
+    ensures worked { IfOk result (λ worked. ComesTo (check_read command.now) (H.state host.old) (H.state host.new) worked) }
+    ensures stopped { IfErr result (LoadStops (check_read command.now) (H.state host.old) (H.state host.new)) }
+{
+    let loaded = load(alloc, host, command)?;
+    let explanation = explain_text(alloc, &loaded.program, &loaded.text)?;
+    Ok(last_lines(alloc, explanation)?)
+}
+
+// The last line, or the lines before it.
+fn last_lines(alloc: Global, explanation: Explanation) -> Result<Worked, AllocError>
+    ensures { IfOk result (λ worked. IsOfExplanation explanation.finding explanation.text.items worked) }
+{
+    match explanation.finding {
+        Finding::Shown(blocks) => Ok(Worked::Shown(shown_line(alloc, blocks)?)),
+        Finding::NotShown(at, reason) => Ok(Worked::NotShown(at, reason, explanation.text)),
+    }
+}
+
+// Says why a text is not shown, and then the last line.
+fn say_why<H: Host>(alloc: Global, host: &mut H, at: u16, reason: Reason, text: &[u8]) -> u8
+    ensures { SaysBefore text.now (NotShown at reason) (H.state host.old) (H.state host.new) result }
+{
+    match say_lines(host, text) {
+        Ok(()) => say_stop(alloc, host, Stop::NotShown(at, reason)),
+        Err(HostFault::Failed) => 4,
+        Err(HostFault::Memory) => 5,
+    }
+}
+
+// Says lines, each by a call of its own.
+fn say_lines<H: Host>(host: &mut H, text: &[u8]) -> Result<(), HostFault>
+    ensures only { OnlySays (H.state host.old) (H.state host.new) }
+    ensures ok { OnOk result (Says (H.state host.old) (H.state host.new) text.now) }
+    ensures counted { OnOk result (SameFaults (H.state host.old) (H.state host.new)) }
+    ensures fault { OnErr result (CutsLine text.now (H.state host.old) (H.state host.new)) }
+    ensures failed { IfErr result (WriteFault (H.state host.old) (H.state host.new)) }
+{
+    let mut said = 0;
+    while said < text.len() {
+        let rest = &text[said..];
+        let size = line_size(rest);
+        say_line(host, &rest[..size])?;
+        said += size;
+    }
+    Ok(())
+}
+
+// How many bytes the first line of a text has, with its LF.
+fn line_size(text: &[u8]) -> usize
+    requires { 0 < length text.now }
+    ensures some { 0 < result }
+    ensures within { result ≤ length text.now }
+{
+    match text.iter().position(|byte| *byte == b'\n') {
+        Some(place) => place + 1,
+        None => text.len(),
+    }
+}
