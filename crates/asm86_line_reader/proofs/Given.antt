@@ -1,5 +1,5 @@
 -- Items: each gives a statement, or none is one.
-use Rattle.std.proofs.Common.{◌≡◌, ℕ, zero, suc, ◌<◌, List, [], ◌∷◌, get_or, length, true, false, eqb, Option, Some, None, option_map, Err, refl, arith, inl, inr}
+use Rattle.std.proofs.Common.{◌≡◌, ℕ, zero, suc, ◌<◌, List, [], ◌∷◌, get_or, length, true, false, eqb, Option, Some, None, option_map, option_and_then, Err, refl, arith, inl, inr}
 use Rattle.std.specs.List.{list_all}
 use Rattle.std.proofs.lemmas.Bool.{eqb-true}
 use Rattle.std.specs.Option.{is_some}
@@ -52,7 +52,11 @@ no_items f [] e = refl
 no_items f (o ∷ os) e = absurd (omega (arith, eqb-true _ _ e))
 
 -- an operation that is none of DB and DW makes one statement
-pub formed_one : (o : Operation) (os : List Operand) → (o ≡ Db → ⊥) → (o ≡ Dw → ⊥) → formed o os ≡ option_map (λ s. s ∷ []) (single o os)
+formed_one : (o : Operation) (os : List Operand) → (o ≡ Db → ⊥) → (o ≡ Dw → ⊥) → formed o os ≡ option_map (λ s. s ∷ []) (single o os)
 formed_one Db os a b = absurd (a refl)
 formed_one Dw os a b = absurd (b refl)
 formed_one _ os a b = refl
+
+pub formed_of_one : (o : Operation) (os : Option (List Operand)) → (o ≡ Db → ⊥) → (o ≡ Dw → ⊥) → option_and_then (formed o) os ≡ option_map (λ s. s ∷ []) (option_and_then (single o) os)
+formed_of_one o None a b = refl
+formed_of_one o (Some os) a b = formed_one o os a b

@@ -1,5 +1,6 @@
 mod Capitals
 mod Checked
+mod Cut
 mod Each
 mod Given
 mod Labels

@@ -1,15 +1,16 @@
 //! The forms of DB and DW, and of any operation.
 
-ghost use Rattle.std.specs.Prelude.{◌≡◌, IsTrue, is_some};
+ghost use Rattle.std.specs.Prelude.{◌≡◌, IsTrue, is_some, option_and_then};
 ghost use Rattle.std.specs.List.{list_all};
-ghost use Rattle.asm86_line_reader.specs.Forms.{formed, items_of};
-ghost use Rattle.asm86_line_reader.specs.Operands.{each};
-ghost use Rattle.asm86_line_reader.specs.Results.{AnswersLine, all_checked, checked, item_of};
+ghost use Rattle.asm86_line_reader.specs.Forms.{formed, items_of, single};
+ghost use Rattle.asm86_line_reader.specs.Operands.{each, operand_in, operands_in};
+ghost use Rattle.asm86_line_reader.specs.Results.{AnswersLine, all_checked, checked, item_of, or_m2};
 
 use crate::bytes::byte;
 use crate::fault::LineFault;
 use crate::forms::single;
-use crate::token::{Operand, Operation};
+use crate::operands::{cut, operand_of, operands_of};
+use crate::token::{Operand, Operation, Token};
 use asm86_line_types::{Stmt86, TextRule, Value16};
 use std::alloc::Global;
 
@@ -20,22 +21,54 @@ enum Size {
     Word,
 }
 
-/// The statements of an operation with its operands.
+/// The statements of an operation with the operands that tokens are.
 pub fn formed(
     alloc: Global,
     operation: Operation,
-    operands: &[Operand],
+    tokens: &[Token],
 ) -> Result<Vec<Stmt86>, LineFault>
-    ensures { AnswersLine (λ r. r ≡ all_checked (formed operation operands.now)) result }
+    ensures { AnswersLine (λ r. r ≡ all_checked (option_and_then (formed operation) (operands_in tokens.now))) result }
 {
     match operation {
-        Operation::Db => items(alloc, Size::Byte, operands),
-        Operation::Dw => items(alloc, Size::Word, operands),
+        Operation::Db => listed(alloc, Size::Byte, tokens),
+        Operation::Dw => listed(alloc, Size::Word, tokens),
         _ => {
             let mut statements = Vec::new(alloc);
-            statements.push(single(operation, operands)?)?;
+            statements.push(one(operation, tokens)?)?;
             Ok(statements)
         }
+    }
+}
+
+// The statement of an operation that makes one, from the tokens of two operands at most: they are looked at where they stand.
+fn one(operation: Operation, tokens: &[Token]) -> Result<Stmt86, TextRule>
+    ensures { result ≡ checked (option_and_then (single operation) (operands_in tokens.now)) }
+{
+    if tokens.is_empty() {
+        return single(operation, &[]);
+    }
+    let Some((first, rest)) = cut(tokens) else {
+        return single(operation, &[operand(tokens)?]);
+    };
+    if cut(rest).is_some() {
+        return Err(TextRule::M2);
+    }
+    single(operation, &[operand(first)?, operand(rest)?])
+}
+
+fn operand(tokens: &[Token]) -> Result<Operand, TextRule>
+    ensures { result ≡ or_m2 (operand_in tokens.now) }
+{
+    operand_of(tokens).ok_or(TextRule::M2)
+}
+
+// The statements of items of a size.
+fn listed(alloc: Global, size: Size, tokens: &[Token]) -> Result<Vec<Stmt86>, LineFault>
+    ensures { AnswersLine (λ r. r ≡ all_checked (option_and_then (items_of (item_of size)) (operands_in tokens.now))) result }
+{
+    match operands_of(alloc, tokens)? {
+        Some(operands) => items(alloc, size, &operands),
+        None => Err(LineFault::Rule(TextRule::M2)),
     }
 }
 

@@ -17,7 +17,6 @@ ghost use Rattle.asm86_line_reader.specs.Results.{AnswersLine, all_checked};
 use crate::fault::LineFault;
 use crate::items::formed;
 use crate::letters::{has_no_lower, in_capitals};
-use crate::operands::operands_of;
 use crate::token::{Operation, Token};
 use crate::tokens::tokens_of;
 use asm86_line_types::{Label, Stmt86, TextRule};
@@ -98,10 +97,7 @@ fn body_of(alloc: Global, tokens: &[Token]) -> Result<Vec<Stmt86>, LineFault>
     let Some((operation, rest)) = operation_of(tokens) else {
         return Err(LineFault::Rule(TextRule::M2));
     };
-    let Some(operands) = operands_of(alloc, rest)? else {
-        return Err(LineFault::Rule(TextRule::M2));
-    };
-    formed(alloc, operation, &operands)
+    formed(alloc, operation, rest)
 }
 
 // The operation at the front, and the tokens after it.

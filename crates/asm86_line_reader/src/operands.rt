@@ -1,7 +1,7 @@
 //! Operands of tokens.
 
-ghost use Rattle.std.specs.Prelude.{◌≡◌, ◌∷◌, [], IfOk, MatchOption, map, option_map};
-ghost use Rattle.std.specs.List.{slice_split};
+ghost use Rattle.std.specs.Prelude.{◌≡◌, ◌≤◌, ◌∷◌, [], IfOk, MatchOption, length, map, not, option_map};
+ghost use Rattle.std.specs.List.{prefix_len, slice_split};
 ghost use Rattle.asm86_line_reader.specs.Operands.{after_ptr, byte_cell, each, is_closing, is_comma, label_alone, number_alone, operand_in, operands_in, plain_alone, plain_operand, pointer, pointer_alone, word_cell};
 
 use crate::token::{Operand, Token};
@@ -15,6 +15,23 @@ fn first(tokens: &[Token]) -> Option<(Token, &[Token])>
 {
     let (token, rest) = tokens.split_first()?;
     Some((*token, rest))
+}
+
+/// The tokens before the first comma and those after it; none where there is no comma.
+pub fn cut(tokens: &[Token]) -> Option<(&[Token], &[Token])>
+    ensures { MatchOption result (slice_split is_comma tokens.now ≡ tokens.now ∷ []) (λ p. slice_split is_comma tokens.now ≡ p.0.now ∷ slice_split is_comma p.1.now) }
+{
+    let (part, rest) = tokens.split_at(part_len(tokens));
+    let (_, after) = first(rest)?;
+    Some((part, after))
+}
+
+// How many tokens at the front stand before a comma.
+fn part_len(tokens: &[Token]) -> usize
+    ensures value { result ≡ prefix_len (λ token. not (is_comma token)) tokens.now }
+    ensures within { result ≤ length tokens.now }
+{
+    tokens.iter().take_while(|token| !is_comma(**token)).count()
 }
 
 /// The operands that tokens are, with commas between them, if they are some.
@@ -58,8 +75,8 @@ fn each_operand(alloc: Global, parts: &[&[Token]]) -> Result<Option<Vec<Operand>
     Ok(Some(operands))
 }
 
-// The operand that all of the tokens are.
-fn operand_of(tokens: &[Token]) -> Option<Operand>
+/// The operand that all of the tokens are.
+pub fn operand_of(tokens: &[Token]) -> Option<Operand>
     ensures { result ≡ operand_in tokens.now }
 {
     let (token, rest) = first(tokens)?;

@@ -48,6 +48,9 @@ impl Sequence {
     pub(crate) fn one(statement: Stmt86) -> Sequence
         ensures { result ≡ statement ∷ [] }
     {
-        Sequence::of(&[statement])
+        Sequence {
+            statements: [statement; 12],
+            count: 1,
+        }
     }
 }
