@@ -8,7 +8,7 @@ use Rattle.cmd_explain.specs.Explained.{ToldIfAny}
 use Rattle.cmd_explain.specs.Telling.{Tells, first_of}
 use Rattle.cmd_explain.proofs.Blocks.{IsFirstSoFar, one_told, all_told, first_step, first_is}
 use Rattle.cmd_explain.proofs.telling.tell_blocks.Goals as goal
-use Rattle.cmd_explain.proofs.telling.tell_blocks.Goals.{After-first_of-first, After-drop-work-inside-5}
+use Rattle.cmd_explain.proofs.telling.tell_blocks.Goals.{After-first_of-first}
 
 -- the block of the leader
 block : (c : After-first_of-first) → (count : ℕ) × IsBlockAt c.args.sides.now.program.now c.loop-leader.leader-index (get_or c.leaders-leader-items.result.now c.loop-leader.leader-index 0) count
@@ -34,15 +34,12 @@ loop-leader-preserved c =
           (subst (λ o. Tells (ToldIfAny p lines k leader b.0 o) c.loop-leader.told.items c.tell_next.new.told.items) (c.in_ok-reason.ensures.reason n b.0 needs found) (c.in_ok-reason.ensures.told n b.0 needs found));
     }
 
-passed : (c : After-drop-work-inside-5) → length (blocks c.args.sides.now.program.now) ≤ c.loop-leader.leader-index
-passed c = all_passed c.args.sides.now.program.now c.leaders-leader-items.result.now c.loop-leader.leader-index (c.leaders-leader-items.ensures ∙ ap leaders c.requires.program) c.loop-leader-test.false
-
 pub returns-clause-reason : goal.returns-clause-reason
 returns-clause-reason c = λ n needs.
     let p = c.args.sides.now.program.now in
-    first_is p (statements c.args.sides.now.lines.now) (needed_by p n) c.loop-leader.first c.loop-leader.leader-index (passed c) (c.loop-leader.invariant.first n needs)
+    first_is p (statements c.args.sides.now.lines.now) (needed_by p n) c.loop-leader.first c.loop-leader.leader-index (all_passed p c.leaders-leader-items.result.now c.loop-leader.leader-index (c.leaders-leader-items.ensures ∙ ap leaders c.requires.program) c.loop-leader-test.false) (c.loop-leader.invariant.first n needs)
 
 pub returns-clause-told : goal.returns-clause-told
 returns-clause-told c = λ n needs.
     let p = c.args.sides.now.program.now in
-    all_told p c.args.sides.now.lines.now (needed_by p n) c.args.told.now.items c.loop-leader.told.items c.loop-leader.leader-index (passed c) (c.loop-leader.invariant.told n needs)
+    all_told p c.args.sides.now.lines.now (needed_by p n) c.args.told.now.items c.loop-leader.told.items c.loop-leader.leader-index (all_passed p c.leaders-leader-items.result.now c.loop-leader.leader-index (c.leaders-leader-items.ensures ∙ ap leaders c.requires.program) c.loop-leader-test.false) (c.loop-leader.invariant.told n needs)
