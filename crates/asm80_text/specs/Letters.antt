@@ -1,5 +1,5 @@
 -- The bytes of a source.
-use Rattle.std.specs.Prelude.{ℕ, ◌-◌, List, Bool, true, false, nat_le, ◌==◌, ◌&&◌, ◌||◌, if◌then◌else◌, map}
+use Rattle.std.specs.Prelude.{ℕ, ◌-◌, List, Bool, true, false, nat_le, ◌==◌, ◌&&◌, ◌||◌, if◌then◌else◌, map, take}
 use Rattle.std.specs.List.{filter, prefix_len}
 
 -- 0 to 9
@@ -41,3 +41,7 @@ inside_len bytes = prefix_len is_inside bytes
 -- how many bytes at the front belong to a comment, which ends before the next !
 abbrev pub comment_len : List ℕ → ℕ
 comment_len bytes = prefix_len (λ b. if b == 33 then false else true) bytes
+
+-- the bytes that count of the name or the number that begins there
+abbrev pub word_bytes : List ℕ → List ℕ
+word_bytes bytes = significant (take (inside_len bytes) bytes)

@@ -1,6 +1,6 @@
 //! The bytes of a source.
 
-ghost use Rattle.std.specs.Prelude.{◌≡◌, ◌≤◌, ◌∷◌, [], MatchOption, length};
+ghost use Rattle.std.specs.Prelude.{◌≡◌, ◌≤◌, ◌∷◌, [], MatchOption, length, true};
 ghost use Rattle.asm80_text.specs.Letters.{comment_len, inside_len, is_blank, is_inside, is_printable, upper};
 
 pub fn is_blank(b: u8) -> bool
@@ -42,6 +42,14 @@ pub fn comment_len(bytes: &[u8]) -> usize
     ensures within { result ≤ length bytes.now }
 {
     bytes.iter().take_while(|b| **b != b'!').count()
+}
+
+/// The first byte and those after it, where it belongs to a name or a number.
+pub fn first_inside(bytes: &[u8]) -> Option<(u8, &[u8])>
+    ensures { MatchOption result (inside_len bytes.now ≡ 0) (λ p. (bytes.now ≡ p.0 ∷ p.1.now) × (is_inside p.0 ≡ true)) }
+{
+    let (b, rest) = first_byte(bytes)?;
+    if is_inside(b) { Some((b, rest)) } else { None }
 }
 
 /// The first byte, and those after it.

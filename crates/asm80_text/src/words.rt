@@ -1,14 +1,14 @@
 //! Names and reserved words.
 
-ghost use Rattle.std.specs.Prelude.{◌≡◌, ◌+◌, ◌<◌, ◌≤◌, IfOk, MatchOption, Some, length};
-ghost use Rattle.asm80_text.specs.Letters.{inside_len, significant};
+ghost use Rattle.std.specs.Prelude.{◌≡◌, ◌+◌, ◌<◌, IfOk, MatchOption, Some, drop, length};
+ghost use Rattle.asm80_text.specs.Letters.{inside_len, word_bytes};
 ghost use Rattle.asm80_statement_types.specs.Name.{IsName};
 ghost use Rattle.asm80_text.specs.TokenResults.{BeginsWithLetter, Finds};
 ghost use Rattle.asm80_text.specs.Tokens.{IsLawful, word_at};
 ghost use Rattle.asm80_text.specs.Words.{as_operation, if_operation, name_token, operator_name, word_token};
 
 use crate::fault::ScanFault;
-use crate::letters::{inside_len, upper};
+use crate::letters::{first_inside, upper};
 use crate::notation::Notation;
 use crate::token::Token;
 use asm80_statement_types::{LineRule, Name80, Two};
@@ -21,31 +21,32 @@ pub fn word_at<N: Notation>(bytes: &[u8]) -> Result<(Token, &[u8]), ScanFault>
     ensures lawful { IfOk result (λ x. IsLawful N.spelling x.0) }
     ensures shorter { IfOk result (λ x. length x.1.now + inside_len bytes.now ≡ length bytes.now) }
 {
-    let (text, rest) = bytes.split_at(inside_len(bytes));
-    match name_of(text) {
-        Some(name) => Ok((word_token::<N>(name), rest)),
+    match name_at(bytes) {
+        Some((name, rest)) => Ok((word_token::<N>(name), rest)),
         None => Err(ScanFault::Rule(LineRule::L4)),
     }
 }
 
-// The name that bytes are, unless more than 16 of them count.
-fn name_of(text: &[u8]) -> Option<Name80>
-    requires { length (significant text.now) ≤ 16 → IsName (significant text.now) }
-    ensures { MatchOption result (16 < length (significant text.now)) (λ name. name ≡ significant text.now) }
+// The name at the front of the bytes, unless more than 16 of its bytes count, and the bytes after it.
+fn name_at(bytes: &[u8]) -> Option<(Name80, &[u8])>
+    requires { BeginsWithLetter bytes.now }
+    ensures { MatchOption result (16 < length (word_bytes bytes.now)) (λ x. (x.0 ≡ word_bytes bytes.now) × (x.1.now ≡ drop (inside_len bytes.now) bytes.now)) }
 {
     let mut kept = [0; 16];
     let mut len = 0;
-    for b in text {
-        if *b == b'$' {
+    let mut rest = bytes;
+    while let Some((b, after)) = first_inside(rest) {
+        rest = after;
+        if b == b'$' {
             continue;
         }
         if len == kept.len() {
             return None;
         }
-        kept[len] = upper(*b);
+        kept[len] = upper(b);
         len += 1;
     }
-    Some(Name80::of(&kept[..len]))
+    Some((Name80::of(&kept[..len]), rest))
 }
 
 // The token that a word is.

@@ -7,7 +7,7 @@ ghost use Rattle.asm80_source_def.specs.Items.{is_data_op};
 ghost use Rattle.asm80_source_def.specs.Operands as operands;
 ghost use Rattle.asm80_source_def.specs.Layout.{is_foreign_by, misses, misses_by, computes, computes_by, loads_code, loads_code_by, loads_sp, operands_by, same_kind};
 
-use crate::kinds::kinds_of;
+use crate::kinds::{is_value_kind, kinds_of};
 use crate::registers::pair_of;
 use crate::setting::{Setting, code_address, value};
 use asm80_first_walk::has_place_inside;
@@ -89,6 +89,9 @@ fn strays_among(setting: &Setting<'_>, kinds: &[Kind], args: &[Arg]) -> Strays
         return NO_STRAYS;
     };
     let rest = strays_among(setting, kinds, args);
+    if !is_value_kind(*kind) {
+        return rest;
+    }
     Strays {
         misses: misses(setting, *kind, arg) || rest.misses,
         computes: computes(setting, *kind, arg) || rest.computes,

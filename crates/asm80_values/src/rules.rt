@@ -171,7 +171,11 @@ fn broken_by_all(scope: &Scope<'_>, kinds: &[Kind], args: &[Arg]) -> Breaches
     let (Some((kind, kinds)), Some((arg, args))) = (kinds.split_first(), args.split_first()) else {
         return NO_BREACHES;
     };
-    broken_by(scope, *kind, arg).or(broken_by_all(scope, kinds, args))
+    let rest = broken_by_all(scope, kinds, args);
+    if !is_value_kind(*kind) {
+        return rest;
+    }
+    broken_by(scope, *kind, arg).or(rest)
 }
 
 // The rule of an instruction's operands.
