@@ -123,25 +123,16 @@ impl Cpu80 {
             dma: self.dma,
             write: Write::Nothing,
         };
-        let outcome = draft.step(&area);
-        let Draft {
-            registers,
-            flags,
-            sp,
-            memory: _,
-            place,
-            dma,
-            write,
-        } = draft;
-        match outcome {
+        match draft.step(&area) {
             Ok(turn) => match turn {
                 Turn::Ran => {
+                    self.registers = draft.registers;
+                    self.flags = draft.flags;
+                    self.sp = draft.sp;
+                    self.place = draft.place;
+                    self.dma = draft.dma;
+                    let write = draft.write;
                     make(self.memory.as_mut_slice(), write);
-                    self.registers = registers;
-                    self.flags = flags;
-                    self.sp = sp;
-                    self.place = place;
-                    self.dma = dma;
                     Step80::Ran
                 }
                 Turn::Asked(question, back) => {
