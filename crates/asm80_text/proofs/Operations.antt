@@ -1,5 +1,11 @@
 -- The tokens that are words where a statement has its operation.
-use Rattle.std.proofs.Common.{◌≡◌, ℕ, List, Bool, true, false, Option, Some, None, refl}
+use Rattle.std.proofs.Common.{◌≡◌, ◌≢◌, ℕ, ◌≤◌, List, [], ◌∷◌, length, ltb, Bool, true, false, Option, Some, None, refl, ap, arith, inl, inr}
+use Rattle.std.specs.List.{list_all, list_any}
+use Rattle.std.specs.Str.{bytes_eq}
+use Rattle.std.proofs.lemmas.Bool.{cases_Bool}
+use Rattle.std.proofs.lemmas.Slice.Eq.{bytes_eq-Decides}
+use borrow.Author.Tests.{ltb-true}
+use Rattle.asm80_statement_types.specs.Words.{operations, is_operation as is_intel_operation}
 use Rattle.std.specs.Prelude.{codes, if◌then◌else◌}
 use Rattle.asm80_statement_types.specs.declared.expr.Two.{Two}
 use Rattle.asm80_text.specs.declared.token.Token.{Token}
@@ -56,3 +62,25 @@ operates s Comma w e h = absurd cc
 operates s Colon w e h = absurd cc
 operates s Bang w e h = absurd cc
 operates s Stray w e h = absurd cc
+
+-- ---- Intel's operations have two letters and more
+
+differs : (a b : List ℕ) → length a ≢ length b → bytes_eq a b ≡ false
+differs a b ne = elim (cases_Bool (bytes_eq a b)) [
+  | inl e ↦ absurd (ne (ap length ((bytes_eq-Decides a b).0 e)))
+  | inr e ↦ e
+]
+
+false_true : false ≡ true → ⊥
+false_true e = cc
+
+none_short : (words : List (List ℕ)) (name : List ℕ) → list_all (λ w. ltb 1 (length w)) words ≡ true → length name ≤ 1 → list_any (λ w. bytes_eq w name) words ≡ false
+none_short [] name all le = refl
+none_short (one ∷ words) name all le = elim (cases_Bool (ltb 1 (length one))) [
+  | inl long ↦ rw (differs one name (λ e. omega (arith, ltb-true 1 (length one) long))) (none_short words name (rw long at all) le)
+  | inr short ↦ absurd (false_true (rw short at all))
+]
+
+pub one_letter : (name : List ℕ) → length name ≤ 1 → is_intel_operation name ≡ false
+unfolding operations
+one_letter name le = none_short operations name refl le

@@ -15,7 +15,8 @@ impl Notation for Intel {
     ghost spelling = { intel_spelling };
 
     fn is_operation(word: &[u8]) -> bool {
-        asm80_statement_types::is_operation(word)
+        // (most registers are one letter, and no operation is)
+        word.len() > 1 && asm80_statement_types::is_operation(word)
     }
 
     fn is_register(word: &[u8]) -> bool {

@@ -1,6 +1,6 @@
 //! The statements of a line.
 
-ghost use Rattle.std.specs.Prelude.{◌≡◌, ◌≤◌, ◌++◌, All, IfOk, List, OnErr, OnOk, map};
+ghost use Rattle.std.specs.Prelude.{◌≡◌, ◌≤◌, ◌++◌, All, IfOk, List, OnErr, OnOk, is_some, map};
 ghost use Rattle.std.specs.List.{list_any};
 ghost use Rattle.asm80_text.specs.Tokens.{IsLawful};
 ghost use Rattle.asm80_statement_types.specs.Tree.{statement_of};
@@ -9,6 +9,7 @@ ghost use Rattle.asm80_text.specs.Statement.{kept};
 ghost use Rattle.asm80_text.specs.Line.{begins_with_colon, begins_with_reserved, has_reserved_label, is_bang, is_deep, is_name, is_reserved, open_after, parts_of};
 ghost use Rattle.asm80_statement_types.specs.declared.stmt.Stmt80.{Stmt80};
 ghost use Rattle.asm80_text.specs.Results.{AddsStatement, GivesStatements};
+ghost use Rattle.asm80_text.specs.Words.{as_operation};
 
 use crate::parse::statement;
 use crate::{Notation, ParseFault, Token, as_operation, first};
@@ -68,10 +69,20 @@ fn begins_with_reserved<N: Notation>(tokens: &[Token]) -> bool
     let Some((token, rest)) = first(tokens) else {
         return false;
     };
-    if as_operation::<N>(token).is_some() {
+    if operates::<N>(token) {
         begins_with_colon(rest)
     } else {
         is_reserved(token)
+    }
+}
+
+// Whether a token is an operation where a statement has one.
+fn operates<N: Notation>(token: &Token) -> bool
+    ensures { result ≡ is_some (as_operation N.spelling token.now) }
+{
+    match token {
+        Token::Operation(_) => true,
+        _ => as_operation::<N>(token).is_some(),
     }
 }
 
