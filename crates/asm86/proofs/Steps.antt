@@ -1,16 +1,17 @@
 -- What a reader holds after one more byte.
-use Rattle.std.proofs.Common.{◌≡◌, ◌≢◌, ℕ, ◌<◌, ◌+◌, ◌||◌, List, [], ◌∷◌, ◌++◌, take, length, map, Bool, true, false, Option, Some, None, refl, sym, ap, subst, ◌∙◌, append_assoc, arith, inl, inr}
+use Rattle.std.proofs.Common.{◌≡◌, ◌≢◌, ℕ, suc, ◌<◌, ◌+◌, ◌-◌, ◌||◌, List, [], ◌∷◌, ◌++◌, take, drop, length, map, Bool, true, false, Option, Some, None, refl, sym, ap, subst, ◌∙◌, append_assoc, arith, inl, inr}
 use Rattle.std.specs.Prelude.{is_some}
+use Rattle.std.specs.List.{flat_map, AllByRecursion}
 use Rattle.std.proofs.Math.ListN.{get_or}
-use Rattle.std.proofs.lemmas.Bool.{cases_eq, cases_Bool}
-use Rattle.std.proofs.lemmas.List.{take_more, length-map, append-nil, length-append}
+use Rattle.std.proofs.lemmas.Bool.{cases_eq, cases_Bool, ne_eqb}
+use Rattle.std.proofs.lemmas.List.{take_more, take_all, take-append-drop, length-map, length-drop, append-nil, length-append}
 use Rattle.asm86_line_types.specs.declared.line.Line86.{Line86}
 use Rattle.asm86.specs.declared.text_fault.TextFault.{TextFault}
 use Rattle.asm86.specs.declared.text_fault.TextFault.TheVariants.{Line, Memory}
 use Rattle.base_types.specs.Held.{held_with_byte, HoldsLine}
-use Rattle.asm86.specs.Stream.{IsNotLf, has_end, Ending, Open, Ended, Broken, TextLinesGive, none_left, next, ends, breaks}
-use Rattle.asm86.specs.Reader.{TextReader, IsBehind, IsOf, AfterText, ReadsBy, ReadsLine}
-use Rattle.base_types.specs.Cut.{Cut, without_cr}
+use Rattle.asm86.specs.Stream.{IsNotLf, line_len, has_end, Ending, Open, Ended, Broken, TextLinesGive, none_left, next, ends, breaks}
+use Rattle.asm86.specs.Reader.{TextReader, IsBehind, IsOf, AfterText, Advances, ReadsBy, ReadsLine}
+use Rattle.base_types.specs.Cut.{Cut, ended, without_cr}
 use Rattle.base_types.proofs.Holding.{holds_byte}
 use Rattle.base_types.proofs.Cuts.{cut_byte, cut_line, map_push}
 use Rattle.asm86.proofs.Lines.{true_false, open_not_ended, reads_on, stands, open_without_end, ended_with_end}
@@ -148,9 +149,58 @@ pub not_done : (f : Option TextFault) (ended : Bool) → (is_some f || ended) �
 not_done None ended h = (refl, h)
 not_done (Some f) ended h = absurd cc
 
--- ---- a piece
+-- ---- a whole line at once
 
-pub piece_grows : (piece : List ℕ) (i : ℕ) (first old new : TextReader) → i < length piece → (old.fault ≢ None → new ≡ old) → (new.fault ≢ Some Memory → (stream : List ℕ) → AfterText stream old → AfterText (stream ++ get_or piece i 0 ∷ []) new) → (old.fault ≢ Some Memory → (stream : List ℕ) → AfterText stream first → AfterText (stream ++ take i piece) old) → new.fault ≢ Some Memory → (stream : List ℕ) → AfterText stream first → AfterText (stream ++ take (i + 1) piece) new
-piece_grows piece i first old new lt stands step before ne stream h =
-    let old_ne : old.fault ≢ Some Memory = λ x. ne (ap (λ (r : TextReader). r.fault) (stands (λ y. no_fault Memory (sym x ∙ y))) ∙ x) in
-    rw (take_more piece i 0 lt, ← append_assoc stream (take i piece) (get_or piece i 0 ∷ [])) (step ne (stream ++ take i piece) (before old_ne stream h))
+pub after_whole : (stream : List ℕ) (s new : TextReader) (bytes : List ℕ) → Opened stream s → AllByRecursion IsNotLf bytes → s.held ≡ Some [] → new.fault ≢ Some Memory → ReadsLine (without_cr bytes) s new → AfterText (stream ++ (bytes ++ 10 ∷ [])) new
+after_whole stream s new bytes o plain held ne reads =
+    let g = given (without_cr bytes) s new ne reads in
+    let t : TextReader = record s { held = Some bytes } in
+    let none : [] ≡ o.rest = rw held at o.held in
+    let now : Opened (stream ++ bytes) t = record {
+      raw = o.raw;
+      rest = bytes;
+      cut = record { whole = ap (λ (x : List ℕ). x ++ bytes) (o.cut.whole ∙ ap (λ (r : List ℕ). flat_map ended o.raw ++ r) (sym none)) ∙ append_assoc (flat_map ended o.raw) [] bytes; each = o.cut.each; last = plain };
+      lines = o.lines;
+      fault = o.fault;
+      number = o.number;
+      held = refl;
+    } in
+    rw (← append_assoc stream bytes (10 ∷ [])) (after_line (stream ++ bytes) t new now (record { found = g.found; ending = g.ending; gives = g.gives; is = g.is; goes_on = g.goes_on }))
+
+-- ---- several at once
+
+pub nothing_taken : (bytes : List ℕ) (reader : TextReader) → Advances bytes bytes reader reader
+nothing_taken bytes reader = record { front = []; cut = refl; grows = λ ne stream h. rw append-nil h }
+
+pub advance_on : (bytes mid rest : List ℕ) (old now new : TextReader) → (now.fault ≢ None → new ≡ now) → Advances bytes mid old now → Advances mid rest now new → Advances bytes rest old new
+advance_on bytes mid rest old now new stands a b = record {
+  front = a.front ++ b.front;
+  cut = a.cut ∙ ap (λ (t : List ℕ). a.front ++ t) b.cut ∙ sym (append_assoc a.front b.front rest);
+  grows = λ ne stream h.
+      rw (← append_assoc stream a.front b.front)
+      (b.grows ne (stream ++ a.front) (a.grows (λ e. ne (ap (λ (r : TextReader). r.fault) (stands (λ y. no_fault Memory (sym e ∙ y))) ∙ e)) stream h));
+}
+
+pub all_plain : (bytes : List ℕ) → AllByRecursion IsNotLf (take (line_len bytes) bytes)
+all_plain [] = tt
+all_plain (b ∷ bytes) = elim (cases_eq b 10) [
+  | inl e ↦ rw e tt
+  | inr ne ↦ let one : 1 + line_len bytes ≡ suc (line_len bytes) = omega arith in rw (ne_eqb b 10 ne, one) (ne, all_plain bytes)
+]
+
+-- a line with its LF at the front of bytes, and one byte there
+pub line_front : (bytes : List ℕ) (k : ℕ) → k < length bytes → get_or bytes k 0 ≡ 10 → bytes ≡ (take k bytes ++ 10 ∷ []) ++ drop (k + 1) bytes
+line_front bytes k lt e =
+    sym (take-append-drop (k + 1) bytes) ∙ ap (λ (t : List ℕ). t ++ drop (k + 1) bytes) (take_more bytes k 0 lt ∙ ap (λ (x : ℕ). take k bytes ++ x ∷ []) e)
+
+pub byte_front : (bytes : List ℕ) → 0 < length bytes → bytes ≡ (get_or bytes 0 0 ∷ []) ++ drop 1 bytes
+byte_front [] lt = absurd (omega arith)
+byte_front (b ∷ bytes) lt = refl
+
+pub rest_of : (bytes : List ℕ) (k : ℕ) → take (length bytes - k) (drop k bytes) ≡ drop k bytes
+rest_of bytes k = take_all (length bytes - k) (drop k bytes) (omega (arith, length-drop k bytes))
+
+-- once nothing is left, all was taken
+pub all_taken : (bytes rest : List ℕ) (old new : TextReader) → length rest ≡ 0 → Advances bytes rest old new → new.fault ≢ Some Memory → (stream : List ℕ) → AfterText stream old → AfterText (stream ++ bytes) new
+all_taken bytes [] old new e a ne stream h = rw (a.cut ∙ append-nil a.front) (a.grows ne stream h)
+all_taken bytes (b ∷ rest) old new e a ne stream h = absurd (omega arith)

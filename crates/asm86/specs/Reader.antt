@@ -1,5 +1,5 @@
 -- What a reader of a text holds.
-use Rattle.std.specs.Prelude.{◌≡◌, ℕ, ◌+◌, ◌<◌, List, [], ◌∷◌, ◌++◌, false, Option, Some, None, Result, Ok, Err, length, map}
+use Rattle.std.specs.Prelude.{◌≡◌, ◌≢◌, ℕ, ◌+◌, ◌<◌, List, [], ◌∷◌, ◌++◌, false, Option, Some, None, Result, Ok, Err, length, map}
 use Rattle.std.specs.Global.{Vec}
 use Rattle.asm86_line_types.specs.declared.line.Line86.{Line86}
 use Rattle.asm86_line_types.specs.declared.line.Stmt86.{Stmt86}
@@ -37,6 +37,12 @@ pub record AfterText (stream : List ℕ) (reader : TextReader) : Type 0 where
   pub cut : Cut IsNotLf stream raw rest
   pub lines : TextLinesGive 1 [] (map without_cr raw) found ending
   pub behind : IsBehind reader raw rest found ending
+
+-- Of these bytes the reader took some at the front, and that is what is left.
+pub record Advances (bytes rest : List ℕ) (old new : TextReader) : Type 0 where
+  pub front : List ℕ
+  pub cut : bytes ≡ front ++ rest
+  pub grows : new.fault ≢ Some Memory → (stream : List ℕ) → AfterText stream old → AfterText (stream ++ front) new
 
 -- what the reader has of a whole text, by how its lines end
 abbrev pub IsOf : TextReader → List Line86 → Ending → Type 0

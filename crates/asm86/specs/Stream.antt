@@ -1,7 +1,7 @@
 -- The lines of a stream of bytes, and what they give (CP/M-86 Programmer's Guide, "ASM-86"; the rules M1 to M6 are this
 -- project's).
-use Rattle.std.specs.Prelude.{◌≡◌, ◌≢◌, ℕ, suc, Bool, true, false, List, [], ◌∷◌, ◌++◌, map, Result, Ok, Err}
-use Rattle.std.specs.List.{list_any}
+use Rattle.std.specs.Prelude.{◌≡◌, ◌≢◌, ℕ, suc, Bool, true, false, ◌==◌, if◌then◌else◌, List, [], ◌∷◌, ◌++◌, map, Result, Ok, Err}
+use Rattle.std.specs.List.{list_any, prefix_len}
 use Rattle.asm86_line_types.specs.declared.line.Line86.{Line86}
 use Rattle.asm86_line_types.specs.declared.line.Stmt86.{Stmt86}
 use Rattle.asm86_line_types.specs.declared.line.TextRule.{TextRule}
@@ -14,6 +14,13 @@ use Rattle.base_types.specs.Cut.{Cut, without_cr, last_line}
 -- the bytes of a line
 abbrev pub IsNotLf : ℕ → Type 0
 IsNotLf b = b ≢ 10
+
+abbrev pub is_not_lf : ℕ → Bool
+is_not_lf b = if b == 10 then false else true
+
+-- how many bytes at the front stand before a LF
+abbrev pub line_len : List ℕ → ℕ
+line_len bytes = prefix_len is_not_lf bytes
 
 -- ---- statements
 

@@ -1,5 +1,5 @@
 // A reader of a text that is fed a stream in pieces.
-ghost use Rattle.std.specs.Prelude.{◌≡◌, ◌≢◌, ◌<◌, ◌^◌, ◌∷◌, [], ◌++◌, ◌⊎◌, ℕ, List, Option, None, Some, Result, Err, IfOk, IfSome, MatchResult, true, length, is_some, ◌||◌};
+ghost use Rattle.std.specs.Prelude.{◌≡◌, ◌≢◌, ◌<◌, ◌≤◌, ◌^◌, ◌∷◌, [], ◌++◌, ◌⊎◌, ℕ, List, Option, None, Some, Result, Err, IfOk, IfSome, MatchResult, true, false, length, is_some, ◌||◌};
 ghost use Rattle.asm86_line_types.specs.declared.line.Line86.{Line86};
 ghost use Rattle.asm86_line_types.specs.declared.line.TextRule.{TextRule};
 ghost use Rattle.asm86_line_types.specs.Image.{statements};
@@ -8,8 +8,8 @@ ghost use Rattle.asm86.specs.declared.text_fault.TextFault.{TextFault};
 ghost use Rattle.asm86.specs.declared.text_fault.TextFault.TheVariants.{Line, Memory};
 ghost use Rattle.base_types.specs.Cut.{without_cr};
 ghost use Rattle.base_types.specs.Held.{held_with_byte, HoldsLine};
-ghost use Rattle.asm86.specs.Reader.{AfterText, AfterAll, AgreesWithText, FinishesText, ReadsLine, ReadsRest, answer_of_fault};
-ghost use Rattle.asm86.specs.Stream.{HoldsTextFault, TextGives, has_end};
+ghost use Rattle.asm86.specs.Reader.{Advances, AfterText, AfterAll, AgreesWithText, FinishesText, ReadsLine, ReadsRest, answer_of_fault};
+ghost use Rattle.asm86.specs.Stream.{HoldsTextFault, TextGives, has_end, line_len};
 
 use crate::listing::Listing;
 use crate::text_fault::TextFault;
@@ -66,10 +66,46 @@ impl Text86 {
         ensures stands { self.old.fault ≢ None → self.new ≡ self.old }
         ensures ended { has_end self.old.lines ≡ true → self.new ≡ self.old }
     {
-        for b in piece {
-            self.step(*b);
+        let mut rest = piece;
+        while !rest.is_empty() {
+            rest = self.advance(rest);
         }
         self.answer()
+    }
+
+    // Takes a whole line at the front of the bytes, where a line begins there, and else the next byte; the bytes after it.
+    fn advance<'a>(&mut self, bytes: &'a [u8]) -> &'a [u8]
+        requires { 0 < length bytes.now }
+        ensures grows { Advances bytes.now result.now self.old self.new }
+        ensures shorter { length result.now < length bytes.now }
+        ensures stands { self.old.fault ≢ None → self.new ≡ self.old }
+        ensures ended { has_end self.old.lines ≡ true → self.new ≡ self.old }
+    {
+        if self.is_at_line() {
+            let count = line_len(bytes);
+            if count < bytes.len() && bytes[count] == b'\n' {
+                self.read(without_cr(&bytes[..count]));
+                return &bytes[count + 1..];
+            }
+        }
+        self.step(bytes[0]);
+        &bytes[1..]
+    }
+
+    // Whether a line begins with the next byte.
+    fn is_at_line(&self) -> bool
+        ensures { result ≡ true → ((is_some self.now.fault || has_end self.now.lines) ≡ false) × (self.now.held ≡ Some []) }
+    {
+        !self.is_done() && self.holds_nothing()
+    }
+
+    fn holds_nothing(&self) -> bool
+        ensures { result ≡ true → self.now.held ≡ Some [] }
+    {
+        match self.held.line() {
+            Some(line) => line.is_empty(),
+            None => false,
+        }
     }
 
     // The fault that there is.
@@ -206,4 +242,12 @@ impl Text86 {
             self.fault = Some(fault);
         }
     }
+}
+
+// How many bytes at the front stand before a LF.
+fn line_len(bytes: &[u8]) -> usize
+    ensures value { result ≡ line_len bytes.now }
+    ensures within { result ≤ length bytes.now }
+{
+    bytes.iter().take_while(|b| **b != b'\n').count()
 }

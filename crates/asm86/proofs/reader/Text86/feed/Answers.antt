@@ -1,22 +1,25 @@
-use Rattle.std.proofs.Common.{rules, ◌∙◌}
-use Rattle.std.proofs.lemmas.List.{take_all}
-use Rattle.asm86.proofs.Steps.{piece_grows}
+use Rattle.std.proofs.Common.{refl, sym, ap, ◌∙◌}
+use borrow.Author.Tests.{eqb-true}
+use Rattle.asm86.specs.Reader.{TextReader}
+use Rattle.asm86.proofs.Steps.{advance_on, all_taken, nothing_taken}
 use Rattle.asm86.proofs.Whole.{faulty_in, found_in}
 use Rattle.asm86.proofs.reader.Text86.feed.Goals as goal
 
-pub loop-b-preserved : goal.loop-b-preserved
-loop-b-preserved c = record {
-  grows = piece_grows c.args.piece.now c.loop-b.b-index c.args.self.now c.loop-b.self c.step.new.self c.loop-b-test.true c.step.ensures.stands c.step.ensures.grows c.loop-b.invariant.grows;
-  stands = search rules;
-  ended = λ h. c.step.ensures.ended (rw (c.loop-b.invariant.ended h) h) ∙ c.loop-b.invariant.ended h;
+pub loop-rest-init : goal.loop-rest-init
+loop-rest-init c = record { grows = nothing_taken c.args.piece.now c.args.self.now; stands = λ _. refl; ended = λ _. refl }
+
+pub loop-rest-preserved : goal.loop-rest-preserved
+loop-rest-preserved c = record {
+  grows = advance_on c.args.piece.now _ _ c.args.self.now c.loop-rest.self c.advance-rest.new.self c.advance-rest.ensures.stands c.loop-rest.invariant.grows c.advance-rest.ensures.grows;
+  stands = λ ne. let same = c.loop-rest.invariant.stands ne in c.advance-rest.ensures.stands (λ e. ne (ap (λ (r : TextReader). r.fault) (sym same) ∙ e)) ∙ same;
+  ended = λ h. let same = c.loop-rest.invariant.ended h in c.advance-rest.ensures.ended (rw same h) ∙ same;
 }
 
+pub returns-clause-grows : goal.returns-clause-grows
+returns-clause-grows c = all_taken c.args.piece.now c.loop-rest.rest.now c.args.self.now c.loop-rest.self (eqb-true _ _ (sym c.is_empty.ensures ∙ c.loop-rest-test.false)) c.loop-rest.invariant.grows
+
 pub returns-clause-faulty : goal.returns-clause-faulty
-returns-clause-faulty c = λ stream n rule h e.
-    let all = take_all c.loop-b.b-index c.args.piece.now c.loop-b-test.false in
-    faulty_in _ c.loop-b.self n rule _ c.answer.ensures (λ ne. rw all at (c.loop-b.invariant.grows ne stream h)) e
+returns-clause-faulty c = λ stream n rule h e. faulty_in _ c.loop-rest.self n rule _ c.answer.ensures (λ ne. returns-clause-grows c ne stream h) e
 
 pub returns-clause-found : goal.returns-clause-found
-returns-clause-found c = λ stream n rule h b.
-    let all = take_all c.loop-b.b-index c.args.piece.now c.loop-b-test.false in
-    found_in _ c.loop-b.self n rule _ c.answer.ensures (λ ne. rw all at (c.loop-b.invariant.grows ne stream h)) b
+returns-clause-found c = λ stream n rule h b. found_in _ c.loop-rest.self n rule _ c.answer.ensures (λ ne. returns-clause-grows c ne stream h) b
