@@ -26,7 +26,7 @@ use Rattle.cpu80_tagged_def.specs.State.{State80, num_of}
 use Rattle.cpu80_tagged_def.specs.Call.{seen_by_tagged, is_place}
 use Rattle.cpu80_tagged_def.specs.Step.{step80, return_at, replied80, replied_to}
 use Rattle.cpu80_tagged_step.specs.declared.turn.Return.{Return}
-use Rattle.cpu80_tagged_step.specs.Area.{HasClosed}
+use Rattle.cpu80_tagged_step.specs.Area.{HasUses}
 use Rattle.cpu80_tagged_step.specs.Draft.{memory_of}
 use Rattle.cpu80_tagged_step.specs.Sight.{closed_in}
 use Rattle.cpu80_tagged_step.specs.Turn.{return_of_turn, shape_at}
@@ -47,10 +47,10 @@ pub of_call : (p : Program) (s : State80) (kept : Return) (w : IsCalling p s kep
 of_call p s kept w P h v asks = subst P (asked_same p s (Call (request_of w.shape (seen_by_tagged p s kept.is_popped))) v w.asked asks) h
 
 -- the shape by what the machine keeps is the definition's
-pub same_shape : (p : Program) (c : Cpu80) (is_popped : Bool) → HasClosed p c.closed.items → tagged_shape c is_popped ≡ shape_at p (tagged_state c) is_popped
+pub same_shape : (p : Program) (c : Cpu80) (is_popped : Bool) → HasUses p c.uses.items → tagged_shape c is_popped ≡ shape_at p (tagged_state c) is_popped
 same_shape p c is_popped h =
     ap (λ (seen : Seen). shape_of (num_of c.registers.c) (num_of c.registers.d) (num_of c.registers.e) c.dma seen)
-    (same_seen p (tagged_state c) c.closed.items (memory_of c.memory.items) is_popped h refl)
+    (same_seen p (tagged_state c) c.uses.items (memory_of c.memory.items) is_popped h refl)
 
 try_ok : {X Y : Type 0} (r : Result X Rule) (f : X → Result Y Rule) (y : Y) → try_then r f ≡ Ok y → (x : X) × (f x ≡ Ok y)
 try_ok (Ok x) f y e = (x, e)
@@ -76,22 +76,22 @@ shape_function (Some f) d e dma seen shape h = by_row (row_of f) h
     by_row (Some row) g = ap Some (row_function f row d e dma seen shape g)
 
 -- the shape that the machine finds again is the one that it asked by
-shape_again : (p : Program) (c : Cpu80) (kept : Return) (shape : Shape) (h : HasClosed p c.closed.items) (w : IsCalling p (tagged_state c) kept) → tagged_shape c kept.is_popped ≡ Ok shape → shape ≡ w.shape
+shape_again : (p : Program) (c : Cpu80) (kept : Return) (shape : Shape) (h : HasUses p c.uses.items) (w : IsCalling p (tagged_state c) kept) → tagged_shape c kept.is_popped ≡ Ok shape → shape ≡ w.shape
 shape_again p c kept shape h w e =
     let same = same_shape p c kept.is_popped h in
     let given = w.given in
     cc
 
-pub no_shape : (p : Program) (c : Cpu80) (kept : Return) (r : Rule) → HasClosed p c.closed.items → IsCalling p (tagged_state c) kept → tagged_shape c kept.is_popped ≡ Err r → ⊥
+pub no_shape : (p : Program) (c : Cpu80) (kept : Return) (r : Rule) → HasUses p c.uses.items → IsCalling p (tagged_state c) kept → tagged_shape c kept.is_popped ≡ Err r → ⊥
 no_shape p c kept r h w e =
     let same = same_shape p c kept.is_popped h in
     let given = w.given in
     cc
 
-pub asked_is : (p : Program) (c : Cpu80) (kept : Return) (shape : Shape) (q : Request) → HasClosed p c.closed.items → IsCalling p (tagged_state c) kept → tagged_shape c kept.is_popped ≡ Ok shape → q ≡ request_of shape (seen_of c kept.is_popped) → IsLawfulRequest q → IsAskedBy p (tagged_state c) (Call q)
+pub asked_is : (p : Program) (c : Cpu80) (kept : Return) (shape : Shape) (q : Request) → HasUses p c.uses.items → IsCalling p (tagged_state c) kept → tagged_shape c kept.is_popped ≡ Ok shape → q ≡ request_of shape (seen_of c kept.is_popped) → IsLawfulRequest q → IsAskedBy p (tagged_state c) (Call q)
 asked_is p c kept shape q h w e is lawful =
     let again : shape ≡ w.shape = shape_again p c kept shape h w e in
-    let seen : seen_of c kept.is_popped ≡ seen_by_tagged p (tagged_state c) kept.is_popped = same_seen p (tagged_state c) c.closed.items (memory_of c.memory.items) kept.is_popped h refl in
+    let seen : seen_of c kept.is_popped ≡ seen_by_tagged p (tagged_state c) kept.is_popped = same_seen p (tagged_state c) c.uses.items (memory_of c.memory.items) kept.is_popped h refl in
     let same : request_of w.shape (seen_by_tagged p (tagged_state c) kept.is_popped) ≡ q =
     sym (is ∙ ap (λ s. request_of s (seen_of c kept.is_popped)) again ∙ ap (request_of w.shape) seen) in
     let function : num_of c.registers.c ≡ Some w.shape.function = shape_function _ _ _ _ _ w.shape w.given in
@@ -103,7 +103,7 @@ asked_is p c kept shape q h w e is lawful =
     }
 
 -- what is asked has the machine's shape
-pub asked_shape : (p : Program) (c : Cpu80) (kept : Return) (shape : Shape) (q : Request) → HasClosed p c.closed.items → IsCalling p (tagged_state c) kept → tagged_shape c kept.is_popped ≡ Ok shape → step80 p (tagged_state c) ≡ Asks (Call q) (tagged_state c) → shape ≡ q.shape
+pub asked_shape : (p : Program) (c : Cpu80) (kept : Return) (shape : Shape) (q : Request) → HasUses p c.uses.items → IsCalling p (tagged_state c) kept → tagged_shape c kept.is_popped ≡ Ok shape → step80 p (tagged_state c) ≡ Asks (Call q) (tagged_state c) → shape ≡ q.shape
 asked_shape p c kept shape q h w e asks =
     let again : shape ≡ w.shape = shape_again p c kept shape h w e in
     let asked = w.asked in
@@ -127,9 +127,9 @@ taken_by closed s kept q r y e = ap (λ sh. after_taken_reply closed s kept (rec
 pub return_place : (p : Program) (s : State80) (kept : Return) → return_at p s s.place ≡ Ok (return_of_turn kept) → is_place p kept.place ≡ true
 return_place p s kept back = subst (Returns p) back (returns_to p s s.place)
 
-pub replied : (p : Program) (c : Cpu80) (kept : Return) (q : Request) (y : Reply) → HasClosed p c.closed.items → IsCalling p (tagged_state c) kept → after_taken_reply (closed_in c.closed.items) (tagged_state c) kept q y ≡ replied80 p (tagged_state c) (Call q) y
+pub replied : (p : Program) (c : Cpu80) (kept : Return) (q : Request) (y : Reply) → HasUses p c.uses.items → IsCalling p (tagged_state c) kept → after_taken_reply (closed_in c.uses.items) (tagged_state c) kept q y ≡ replied80 p (tagged_state c) (Call q) y
 replied p c kept q y h w =
-    ap (λ (f : ℕ → Bool). after_taken_reply f (tagged_state c) kept q y) (same_closed p c.closed.items h)
+    ap (λ (f : ℕ → Bool). after_taken_reply f (tagged_state c) kept q y) (same_closed p c.uses.items h)
     ∙ sym (ap (λ r. replied_to p (tagged_state c) r (Call q) y) w.back)
 
 -- the reply to a port
@@ -138,12 +138,12 @@ pub port_refused : (p : Program) (c : Cpu80) (kept : Return) (e : Event) (y : Re
 port_refused p c kept e y w misfit =
     (refl, λ on v asks. subst (λ (x : Event). fits_event x y ≡ false) (asked_same p (tagged_state c) e v w.asked asks) misfit)
 
-pub port_taken : (p : Program) (c after : Cpu80) (kept : Return) (e : Event) (y : Reply) → HasClosed p c.closed.items → asks c ≡ true → IsAtPort p (tagged_state c) kept e → fits_event e y ≡ true → after.closed.items ≡ c.closed.items → after.phase ≡ Running → after.place ≡ kept.place → tagged_state after ≡ replied_to p (tagged_state c) (Ok (return_of_turn kept)) e y → IsReplyTo p c y true after
-port_taken p c after kept e y closed on w fit same runs place state =
+pub port_taken : (p : Program) (c after : Cpu80) (kept : Return) (e : Event) (y : Reply) → HasUses p c.uses.items → asks c ≡ true → IsAtPort p (tagged_state c) kept e → fits_event e y ≡ true → after.uses.items ≡ c.uses.items → after.phase ≡ Running → after.place ≡ kept.place → tagged_state after ≡ replied_to p (tagged_state c) (Ok (return_of_turn kept)) e y → IsReplyTo p c y true after
+port_taken p c after kept e y uses on w fit same runs place state =
     let back : is_place p after.place ≡ true = subst (λ q. is_place p q ≡ true) (sym place) (return_place p (tagged_state c) kept w.back) in (
       on,
       ap waits runs,
-      runs_on p c.closed.items after closed same runs back,
+      runs_on p c.uses.items after uses same runs back,
       λ v asks_it.
           let is : e ≡ v = asked_same p (tagged_state c) e v w.asked asks_it in (
             subst (λ (x : Event). fits_event x y ≡ true) is fit,

@@ -1,5 +1,5 @@
 -- What a step answers, by the answer of the definition.
-use Rattle.std.proofs.Common.{◌≡◌, ◌≢◌, Bool, true, List, Some, Result, Ok, Err, is_ok, refl, sym, ap, ◌∙◌, subst}
+use Rattle.std.proofs.Common.{◌≡◌, ◌≢◌, true, List, Some, Result, Ok, Err, is_ok, refl, sym, ap, ◌∙◌, subst}
 use Rattle.cells.specs.declared.Rule.{Rule}
 use Rattle.dialogue.specs.declared.request.Shape.{Shape}
 use Rattle.dialogue.specs.declared.request.Event.{Event}
@@ -15,7 +15,8 @@ use Rattle.cpu80_tagged_step.specs.declared.turn.Turn.{Turn}
 use Rattle.cpu80_tagged_step.specs.declared.turn.Turn.TheVariants.{Ran as TurnRan, Asked as TurnAsked}
 use Rattle.cpu80_tagged_step.specs.Turn.{return_of_turn, shape_at, answer_of_question, answer_of_turn, MayAsk, IsAsking}
 use Rattle.cpu80_tagged.specs.declared.processor.Step80.TheVariants.{Asked as DidAsk}
-use Rattle.cpu80_tagged_step.specs.Area.{HasClosed}
+use Rattle.cpu80_tagged_step.specs.declared.area.CellUse.{CellUse}
+use Rattle.cpu80_tagged_step.specs.Area.{HasUses}
 use Rattle.cpu80_tagged.specs.declared.processor.Cpu80.{Cpu80}
 use Rattle.cpu80_tagged.specs.declared.processor.Phase.TheVariants.{Running}
 use Rattle.cpu80_tagged.specs.State.{tagged_state}
@@ -63,10 +64,10 @@ asked_waits p s start t r turn what kept same e is answer call =
     let whole = subst (IsAsking p start (return_at p start start.place)) (e ∙ ap Ok is) call in
     subst (λ x. WaitsBy p x kept what) same (waiting p start what kept asked_so whole.0 whole.1)
 
--- a machine that runs, with the closed cells as before and a place to go on at
-pub runs_on : (p : Program) (closed : List Bool) (c : Cpu80) → HasClosed p closed → c.closed.items ≡ closed → c.phase ≡ Running → is_place p c.place ≡ true → IsMachineOf p c
-runs_on p closed c h same runs place = record {
-  closed = subst (HasClosed p) (sym same) h;
+-- a machine that runs, with the uses of cells as before and a place to go on at
+pub runs_on : (p : Program) (uses : List CellUse) (c : Cpu80) → HasUses p uses → c.uses.items ≡ uses → c.phase ≡ Running → is_place p c.place ≡ true → IsMachineOf p c
+runs_on p uses c h same runs place = record {
+  uses = subst (HasUses p) (sym same) h;
   place = place;
   phase = subst (IsPhase p (tagged_state c)) (sym runs) tt;
 }

@@ -16,7 +16,7 @@ use Rattle.cpu80_tagged_def.specs.Step.{step80, return_at, replied80}
 use Rattle.cpu80_tagged_step.specs.declared.turn.Question.{Question}
 use Rattle.cpu80_tagged_step.specs.declared.turn.Question.TheVariants.{System, In, Out}
 use Rattle.cpu80_tagged_step.specs.declared.turn.Return.{Return}
-use Rattle.cpu80_tagged_step.specs.Area.{HasClosed}
+use Rattle.cpu80_tagged_step.specs.Area.{HasUses}
 use Rattle.cpu80_tagged_step.specs.Turn.{return_of_turn, shape_at}
 use Rattle.cpu80_tagged.specs.declared.processor.Cpu80.{Cpu80}
 use Rattle.cpu80_tagged.specs.declared.processor.Phase.{Phase}
@@ -48,9 +48,9 @@ IsPhase p s Running = Unit {0}
 IsPhase p s (Asking what kept) = WaitsBy p s kept what
 IsPhase p s Ended = step80 p s ≡ Ends
 
--- a machine of a program has its closed cells, and an instruction of it or the end comes next; where it waits, it has asked
+-- a machine of a program has its uses of cells, and an instruction of it or the end comes next; where it waits, it has asked
 pub record IsMachineOf (p : Program) (c : Cpu80) : Type 0 where
-  pub closed : HasClosed p c.closed.items
+  pub uses : HasUses p c.uses.items
   pub place : is_place p c.place ≡ true
   pub phase : IsPhase p (tagged_state c) c.phase
 

@@ -31,7 +31,7 @@ asks c = waits c.phase
 
 -- what a call of it sees of memory, and the shape of the call that its registers make
 abbrev pub seen_of : Cpu80 → Bool → Seen
-seen_of c is_popped = seen_over (closed_in c.closed.items) (memory_of c.memory.items) c.sp is_popped
+seen_of c is_popped = seen_over (closed_in c.uses.items) (memory_of c.memory.items) c.sp is_popped
 
 abbrev pub tagged_shape : Cpu80 → Bool → Result Shape Rule
 tagged_shape c is_popped =

@@ -8,6 +8,7 @@ ghost use Rattle.cpu80_tagged_step.specs.Write.{write_fits};
 ghost use Rattle.cpu80_tagged.specs.Reply.{Fits, spoiled_cells};
 
 use cells::Cell;
+use cpu80_tagged_step::area::CellUse;
 use cpu80_tagged_step::draft::Write;
 use dialogue::Block;
 
@@ -58,14 +59,14 @@ pub fn put_blocks(memory: &mut [Cell], blocks: &[Block])
 }
 
 /// Nothing is known of the eight cells below SP that are not closed.
-pub fn spoil(memory: &mut [Cell], closed: &[bool], sp: u16)
+pub fn spoil(memory: &mut [Cell], uses: &[CellUse], sp: u16)
     requires full { length memory.old ≡ 65536 }
-    requires all { length closed.now ≡ 65536 }
-    ensures { memory_of memory.new ≡ spoiled_cells 8 (closed_in closed.now) sp (memory_of memory.old) }
+    requires all { length uses.now ≡ 65536 }
+    ensures { memory_of memory.new ≡ spoiled_cells 8 (closed_in uses.now) sp (memory_of memory.old) }
 {
     for k in 0..8 {
         let at = sp.wrapping_sub(k + 1);
-        if !closed[at as usize] {
+        if !uses[at as usize].is_closed() {
             memory[at as usize] = Cell::Junk;
         }
     }

@@ -5,7 +5,7 @@ use crate::memory::{make, put_blocks, spoil};
 use crate::replies::answered;
 use asm80_program_types::Program80;
 use cells::{Cell, Flags, Place, Rule};
-use cpu80_tagged_step::area::Area;
+use cpu80_tagged_step::area::{Area, CellUse};
 use cpu80_tagged_step::draft::{Draft, Write};
 use cpu80_tagged_step::numbers::number_in;
 use cpu80_tagged_step::registers::Registers;
@@ -35,7 +35,7 @@ pub enum Phase {
     Ended,
 }
 
-/// The tagged 8080 with 64K of cells. It keeps which of them its program has closed, so that each step is fast.
+/// The tagged 8080 with 64K of cells. It keeps what its program makes of each of them, so that each step is fast.
 #[derive(Drop)]
 pub struct Cpu80 {
     pub(crate) alloc: Global,
@@ -43,12 +43,12 @@ pub struct Cpu80 {
     pub(crate) flags: Flags,
     pub(crate) sp: u16,
     pub(crate) memory: Vec<Cell>,
-    pub(crate) closed: Vec<bool>,
+    pub(crate) uses: Vec<CellUse>,
     pub(crate) place: Place,
     pub(crate) dma: u16,
     pub(crate) phase: Phase,
     ghost full: { length memory.items ≡ 65536 },
-    ghost all_closed: { length closed.items ≡ 65536 },
+    ghost all_used: { length uses.items ≡ 65536 },
 }
 
 impl Cpu80 {
@@ -112,7 +112,7 @@ impl Cpu80 {
     {
         let area = Area {
             program,
-            closed: self.closed.as_slice(),
+            uses: self.uses.as_slice(),
         };
         let mut draft = Draft {
             registers: self.registers,
@@ -150,11 +150,11 @@ impl Cpu80 {
 
     // What a call sees of memory.
     fn sight(&self, is_popped: bool) -> Sight<'_>
-        ensures { seen_by_view (byte_over (closed_in result.closed.now) (memory_of result.memory.now) result.sp) (writable_over (closed_in result.closed.now) result.sp result.is_popped) ≡ seen_of self.now is_popped }
+        ensures { seen_by_view (byte_over (closed_in result.uses.now) (memory_of result.memory.now) result.sp) (writable_over (closed_in result.uses.now) result.sp result.is_popped) ≡ seen_of self.now is_popped }
     {
         Sight {
             memory: self.memory.as_slice(),
-            closed: self.closed.as_slice(),
+            uses: self.uses.as_slice(),
             sp: self.sp,
             is_popped,
         }
@@ -267,12 +267,12 @@ impl Cpu80 {
     fn take(&mut self, back: Return, request: &Request, reply: &Reply)
         requires fit { fits request.now reply.now ≡ true }
         requires within { All Fits reply.now.writes }
-        ensures state { tagged_state self.new ≡ after_taken_reply (closed_in self.old.closed.items) (tagged_state self.old) back request.now reply.now }
-        ensures closed { self.new.closed.items ≡ self.old.closed.items }
+        ensures state { tagged_state self.new ≡ after_taken_reply (closed_in self.old.uses.items) (tagged_state self.old) back request.now reply.now }
+        ensures uses { self.new.uses.items ≡ self.old.uses.items }
         ensures phase { self.new.phase ≡ Phase.Running }
     {
         put_blocks(self.memory.as_mut_slice(), reply.writes.as_slice());
-        spoil(self.memory.as_mut_slice(), self.closed.as_slice(), self.sp);
+        spoil(self.memory.as_mut_slice(), self.uses.as_slice(), self.sp);
         self.registers = answered(answer_of(request), reply.answer);
         self.flags = Flags::unknown();
         self.dma = dma_after(request, self.dma);

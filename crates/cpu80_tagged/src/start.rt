@@ -1,14 +1,16 @@
 // The start of a program.
 ghost use Rattle.std.specs.Prelude.{◌≡◌, ◌<◌, ◌≤◌, length, IfOk};
+ghost use Rattle.asm80_program_types.specs.Program.{is_start};
 ghost use Rattle.cpu80_tagged_def.specs.Memory.{is_closed};
 ghost use Rattle.cpu80_tagged_def.specs.Start.{start_cell80};
-ghost use Rattle.cpu80_tagged_step.specs.Area.{HasClosed};
+ghost use Rattle.cpu80_tagged_step.specs.Area.{HasUses, is_closed_use, is_start_use};
 ghost use Rattle.cpu80_tagged_step.specs.Draft.{memory_of};
 
 use crate::processor::{Cpu80, Phase};
 use crate::replies::junk;
 use asm80_program_types::Program80;
 use cells::{Cell, Flags, Place};
+use cpu80_tagged_step::area::CellUse;
 use dialogue::Page;
 use std::alloc::{AllocError, Global};
 
@@ -31,16 +33,31 @@ fn is_closed_cell(program: &Program80, top: u16, at: u16) -> bool
     at < 6 || (8..PAGE).contains(&at) || top <= at || program.is_code(at)
 }
 
-// Which cells are closed.
-fn closed_cells(alloc: Global, program: &Program80) -> Result<Vec<bool>, AllocError>
-    ensures { IfOk result (λ v. HasClosed program.now v.items) }
+// What a program makes of a cell.
+fn use_of_cell(program: &Program80, top: u16, at: u16) -> CellUse
+    requires { top ≡ program.now.top }
+    ensures closed { is_closed_use result ≡ is_closed program.now at }
+    ensures start { is_start_use result ≡ is_start program.now at }
+{
+    if !is_closed_cell(program, top, at) {
+        CellUse::Open
+    } else if program.instr_at(at).is_some() {
+        CellUse::Start
+    } else {
+        CellUse::Closed
+    }
+}
+
+// What a program makes of each cell.
+fn uses_of_cells(alloc: Global, program: &Program80) -> Result<Vec<CellUse>, AllocError>
+    ensures { IfOk result (λ v. HasUses program.now v.items) }
 {
     let top = program.top();
-    let mut closed = Vec::with_capacity(alloc, MEMORY as usize)?;
+    let mut uses = Vec::with_capacity(alloc, MEMORY as usize)?;
     for at in 0..MEMORY {
-        closed.push(is_closed_cell(program, top, at as u16))?;
+        uses.push(use_of_cell(program, top, at as u16))?;
     }
-    Ok(closed)
+    Ok(uses)
 }
 
 // What a cell holds at the start.
@@ -92,7 +109,7 @@ impl Cpu80 {
             flags: Flags::unknown(),
             sp: program.top() - 2,
             memory: start_memory(alloc, program, page.bytes())?,
-            closed: closed_cells(alloc, program)?,
+            uses: uses_of_cells(alloc, program)?,
             place: Place::At(PROGRAM),
             dma: DEFAULT_DMA,
             phase: Phase::Running,

@@ -1,22 +1,49 @@
-// A program and the cells that it has closed.
+// A program and what it makes of each cell.
 ghost use Rattle.std.specs.Prelude.{◌≡◌, ◌+◌, ◌≤◌, IfSome, IsTrue};
 ghost use Rattle.i80.specs.Columns.{is_well_formed, length80};
 ghost use Rattle.asm80_program_types.specs.Program.{instr_at, is_start};
 ghost use Rattle.cpu80_tagged_def.specs.Memory.{is_closed, may_write};
 ghost use Rattle.cpu80_tagged_def.specs.Call.{is_place, place_if};
-ghost use Rattle.cpu80_tagged_step.specs.Area.{HasClosed};
+ghost use Rattle.cpu80_tagged_step.specs.Area.{HasUses};
 ghost use Rattle.cpu80_tagged_step.specs.Row.{tested};
 
 use asm80_program_types::Program80;
 use cells::{Place, Rule};
 use i80::Instr80;
 
-/// A program, with a list that says of each cell of 64K whether it is closed: neither read nor written.
+/// What a program makes of a cell. A closed cell is neither read nor written; that of a start is closed, and the first of an
+/// instruction.
+#[derive(Clone, Copy)]
+pub enum CellUse {
+    Open,
+    Closed,
+    Start,
+}
+
+impl CellUse {
+    ghost use Rattle.cpu80_tagged_step.specs.Area.{is_closed_use, is_start_use};
+
+    /// Whether the cell is closed.
+    pub fn is_closed(self) -> bool
+        ensures { result ≡ is_closed_use self }
+    {
+        !matches!(self, CellUse::Open)
+    }
+
+    /// Whether an instruction starts at the cell.
+    pub fn is_start(self) -> bool
+        ensures { result ≡ is_start_use self }
+    {
+        matches!(self, CellUse::Start)
+    }
+}
+
+/// A program, with a list that says of each cell of 64K what the program makes of it.
 #[derive(Clone, Copy)]
 pub struct Area<'a> {
     pub program: &'a Program80,
-    pub closed: &'a [bool],
-    ghost agrees: { HasClosed program.now closed.now },
+    pub uses: &'a [CellUse],
+    ghost agrees: { HasUses program.now uses.now },
 }
 
 impl Area<'_> {
@@ -33,7 +60,7 @@ impl Area<'_> {
     pub fn is_start(&self, at: u16) -> bool
         ensures { result ≡ is_start self.now.program.now at }
     {
-        self.program.instr_at(at).is_some()
+        self.uses[at as usize].is_start()
     }
 
     /// A place that a program may go to: an instruction, or the end. P1 where it is neither.
@@ -50,7 +77,7 @@ impl Area<'_> {
     pub fn is_closed(&self, at: u16) -> bool
         ensures { result ≡ is_closed self.now.program.now at }
     {
-        self.closed[at as usize]
+        self.uses[at as usize].is_closed()
     }
 
     /// Whether a cell may be written: P3 where it is closed, or is one of the word at 6.

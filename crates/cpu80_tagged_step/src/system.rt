@@ -24,7 +24,7 @@ impl Draft<'_> {
     {
         let sight = Sight {
             memory: self.memory,
-            closed: area.closed,
+            uses: area.uses,
             sp: self.sp,
             is_popped,
         };

@@ -9,7 +9,7 @@ use Rattle.cpu80_tagged.proofs.start.start_memory.Goals as goal
 
 pub loop-at-preserved : goal.loop-at-preserved
 loop-at-preserved c =
-    filled_more (start_cell80 c.args.program.now c.args.page.now) c.loop-at.memory.items c.push.new.self.items c.start_cell.result c.loop-at.at
+    filled_more Junk (λ a v. v ≡ start_cell80 c.args.program.now c.args.page.now a) c.loop-at.memory.items c.push.new.self.items c.start_cell.result c.loop-at.at
     c.loop-at.invariant c.in_ok-push.ensures.items c.start_cell.ensures
 
 pub returns-clause-cells : goal.returns-clause-cells

@@ -9,10 +9,10 @@ pub returns-in_ok-request-in-Ok : goal.returns-in_ok-request-in-Ok
 returns-in_ok-request-in-Ok c p h =
     let w : IsCalling p (tagged_state c.args.self.now) c.args.back = subst (IsPhase p (tagged_state c.args.self.now)) c.requires h.phase in
     let shape : tagged_shape c.args.self.now c.args.back.is_popped ≡ Ok c.in-Ok.shape = sym c.shape.ensures ∙ c.in-Ok.is in
-    (ap waits c.requires, asked_is p c.args.self.now c.args.back c.in-Ok.shape _ h.closed w shape (c.in_ok-request-in-Ok.ensures.request ∙ ap (request_of c.in-Ok.shape) c.sight.ensures) c.in_ok-request-in-Ok.ensures.lawful)
+    (ap waits c.requires, asked_is p c.args.self.now c.args.back c.in-Ok.shape _ h.uses w shape (c.in_ok-request-in-Ok.ensures.request ∙ ap (request_of c.in-Ok.shape) c.sight.ensures) c.in_ok-request-in-Ok.ensures.lawful)
 
 pub returns-in-Err : goal.returns-in-Err
 returns-in-Err c p h =
     let w : IsCalling p (tagged_state c.args.self.now) c.args.back = subst (IsPhase p (tagged_state c.args.self.now)) c.requires h.phase in
     let shape : tagged_shape c.args.self.now c.args.back.is_popped ≡ Err c.in-Err.field-0 = sym c.shape.ensures ∙ c.in-Err.is in
-    absurd (no_shape p c.args.self.now c.args.back c.in-Err.field-0 h.closed w shape)
+    absurd (no_shape p c.args.self.now c.args.back c.in-Err.field-0 h.uses w shape)

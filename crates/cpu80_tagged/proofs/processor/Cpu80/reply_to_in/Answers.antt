@@ -16,4 +16,4 @@ pub returns : goal.returns
 returns c p h =
     let e : Event = In c.args.port in
     let w : IsAtPort p (tagged_state c.args.self.now) c.args.back e = subst (IsPhase p (tagged_state c.args.self.now)) c.requires h.phase in
-    port_taken p c.args.self.now _ c.args.back e c.args.reply.now h.closed (ap waits c.requires) w (sym c.fits_event.ensures ∙ c.if-not-fits_event.false) refl refl refl refl
+    port_taken p c.args.self.now _ c.args.back e c.args.reply.now h.uses (ap waits c.requires) w (sym c.fits_event.ensures ∙ c.if-not-fits_event.false) refl refl refl refl

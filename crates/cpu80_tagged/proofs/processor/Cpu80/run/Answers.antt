@@ -13,7 +13,7 @@ returns-in-Ran-clause-machine c =
     let p = c.args.program.now in
     let start : State80 = record (tagged_state c.args.self.now) { mem = memory_of c.as_slice-2.result.now } in
     let ran : Ran (draft_state c.step.new.self) ≡ step80 p start = ran_answer p start (draft_state c.step.new.self) c.step.result c.in-Ok.turn c.in-Ok.is c.in-Ran.is c.step.ensures.answer in
-    runs_on p c.args.self.now.closed.items _ c.requires.machine.closed refl c.requires.runs (ran_place p start (draft_state c.step.new.self) ran)
+    runs_on p c.args.self.now.uses.items _ c.requires.machine.uses refl c.requires.runs (ran_place p start (draft_state c.step.new.self) ran)
 
 pub returns-in-Asked-clause-step : goal.returns-in-Asked-clause-step
 returns-in-Asked-clause-step c =
@@ -29,7 +29,7 @@ returns-in-Asked-clause-machine c =
     let start : State80 = record (tagged_state c.args.self.now) { mem = memory_of c.as_slice-2.result.now } in
     let same : start ≡ tagged_state c.args.self.now = ap (λ (m : List Cell). record (tagged_state c.args.self.now) { mem = memory_of m }) c.as_slice-2.ensures.value in
     record {
-      closed = c.requires.machine.closed;
+      uses = c.requires.machine.uses;
       place = c.requires.machine.place;
       phase = asked_waits p (tagged_state c.args.self.now) start (draft_state c.step.new.self) c.step.result c.in-Ok.turn c.in-Asked.question c.in-Asked.back same c.in-Ok.is c.in-Asked.is c.step.ensures.answer c.step.ensures.asking;
     }
