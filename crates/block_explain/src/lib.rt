@@ -1,12 +1,12 @@
 // Why a block does not match: what of its outcome and of that of the text at its label does not agree, in lines.
 //
 // Proved: `explain_block` answers None exactly where the block matches, and else the first reason why not (`block_reason`) with its lines
-// (`IsSaid`), of which there are none where the walk through the text was refused. `explain_outcomes` answers exactly the lines that `Explains` has of the reason and of the two outcomes that the work holds, or
-// gives up for want of memory: both sides of the first load or store that does not agree, of the exits, of the part that is kept or of
-// SP; and of the terms that do not agree the smallest pair that differs (`Smallest`): as long as both terms are of one operation, with the
-// same numbers, places and parts in it, and exactly one pair of their operands is not one term, that pair is taken. Laws: of two terms
-// there is just one such pair (`smallest_pairs_are_one`), and of a reason and two outcomes the lines are just these
-// (`explanations_are_one`).
+// (`IsSaid`), of which there are none where the walk through the text was refused. `explain_outcomes` answers exactly the lines that
+// `Explains` has of the reason and of the two outcomes that the work holds, or gives up for want of memory: both sides of the first load or
+// store that does not agree, of the exits, of the part that is kept or of SP; and of the terms that do not agree the smallest pair that
+// differs (`Smallest`): as long as both terms are of one operation, with the same numbers, places and parts in it, and exactly one pair of
+// their operands is not one term, that pair is taken. Laws: of two terms there is just one such pair (`smallest_pairs_are_one`), and of a
+// reason and two outcomes the lines are just these (`explanations_are_one`).
 #![tactic(auto)]
 
 mod apart;
