@@ -4,5 +4,6 @@ mod Blocks
 mod Opening
 mod Data
 mod Saying
+mod Working
 mod Completing
 mod Once

@@ -1,22 +1,26 @@
--- What the work of `explain` comes to before anything is said.
+-- What the work of `explain` comes to before anything is said, and what is said of it.
 use Rattle.std.specs.Prelude.{◌≡◌, ℕ, List}
-use Rattle.std.specs.String.{string_bytes}
 use Rattle.host.specs.Host.{HostState}
 use Rattle.asm80_program_types.specs.Program.{Program}
 use Rattle.asm86_line_types.specs.declared.line.Line86.{Line86}
 use Rattle.sym_block_def.specs.declared.reason.Reason.{Reason}
-use Rattle.xlt_core.specs.Names.{Finding, Shown as IsFoundShown, NotShown as IsFoundNot}
+use Rattle.xlt_core.specs.Names.{Finding, Shown, NotShown}
 use Rattle.cmd_arguments.specs.Words.{Check}
-use Rattle.cmd_common.specs.Lines.{shown_line}
+use Rattle.cmd_common.specs.declared.stop.Stop.TheVariants.{NotShown as IsNotShownStop}
+use Rattle.cmd_common.specs.Lines.{shown_line, line_of_stop}
+use Rattle.cmd_common.specs.Said.{IsDone}
 use Rattle.cmd_check.specs.Checks.{Loads, Shows}
-use Rattle.cmd_explain.specs.Explains.{IsNotShown}
-use Rattle.cmd_explain.specs.declared.explaining.Worked.{Worked}
-use Rattle.cmd_explain.specs.declared.explaining.Worked.TheVariants.{Shown, NotShown}
+use Rattle.cmd_explain.specs.Explains.{IsNotShown, SaysBefore}
 
--- it is made of a finding and the lines that say why
-abbrev pub IsOfExplanation : Finding → List ℕ → Worked → Type 0
-IsOfExplanation finding text (Shown line) = (blocks : ℕ) × (finding ≡ IsFoundShown blocks) × (string_bytes line ≡ shown_line blocks)
-IsOfExplanation finding text (NotShown at reason lines) = (finding ≡ IsFoundNot at reason) × (lines.items ≡ text)
+-- the last line by what is found
+abbrev pub last_line : Finding → List ℕ
+last_line (Shown blocks) = shown_line blocks
+last_line (NotShown at reason) = line_of_stop (IsNotShownStop at reason)
+
+-- the last line alone is said of a text that is shown, and of any other why it is not before it
+abbrev pub SaysFound : Finding → List ℕ → List ℕ → HostState → HostState → ℕ → Type 0
+SaysFound (Shown blocks) text line old new status = IsDone line old new status
+SaysFound (NotShown at reason) text line old new status = SaysBefore text (IsNotShownStop at reason) old new status
 
 module _ (c : Check) (old new : HostState) where
   -- a loaded text that is not shown, and why
@@ -26,6 +30,10 @@ module _ (c : Check) (old new : HostState) where
     pub loads : Loads c old new program lines
     pub unlike : IsNotShown program lines at reason text
 
-  abbrev pub ComesTo : Worked → Type 0
-  ComesTo (Shown line) = Shows c old new (string_bytes line)
-  ComesTo (NotShown at reason text) = LoadsUnlike at reason text.items
+  abbrev pub IsWorked : Finding → List ℕ → List ℕ → Type 0
+  IsWorked (Shown blocks) text line = Shows c old new line
+  IsWorked (NotShown at reason) text line = LoadsUnlike at reason text
+
+  pub record ComesTo (finding : Finding) (text line : List ℕ) : Type 0 where
+    pub worked : IsWorked finding text line
+    pub is : line ≡ last_line finding

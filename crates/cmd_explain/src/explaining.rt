@@ -1,21 +1,23 @@
 // The work of `explain`: a source and a text in, and what is found of them said, with why.
 
 ghost use Rattle.std.specs.Prelude.{◌≡◌, ◌<◌, ◌≤◌, true, length, IfOk, IfErr, OnOk, OnErr};
+ghost use Rattle.std.specs.String.{string_bytes};
 ghost use Rattle.host.specs.Host.{SameFiles, SameFaults, OnlySays, Says, WriteFault};
 ghost use Rattle.host_files.specs.Transfer.{CutsLine};
 ghost use Rattle.asm80_program_types.specs.Program.{is_top};
 ghost use Rattle.cmd_arguments.specs.ReadCommands.{check_read};
 ghost use Rattle.cmd_common.specs.declared.stop.Stop.TheVariants.{NotShown};
+ghost use Rattle.cmd_common.specs.Lines.{line_of_stop};
 ghost use Rattle.cmd_check.specs.Checks.{LoadStops};
 ghost use Rattle.cmd_check.specs.Completes.{CheckCompletes};
 ghost use Rattle.cmd_explain.specs.Explains.{SaysBefore, ExplainGives};
-ghost use Rattle.cmd_explain.specs.Worked.{IsOfExplanation, ComesTo};
+ghost use Rattle.cmd_explain.specs.Worked.{last_line, SaysFound, ComesTo};
 
 use crate::telling::{Explanation, explain_text};
 use asm86::{images_exclude_refusals, text_has_one_reading};
 use cmd_arguments::Check;
 use cmd_check::load;
-use cmd_common::{Stop, say_done, say_stop, shown_line, sources_have_one_outcome};
+use cmd_common::{Stop, say_done, say_made, say_stop, shown_line, sources_have_one_outcome};
 use host::{Host, HostFault};
 use host_files::say_line;
 use std::alloc::{AllocError, Global};
@@ -44,45 +46,68 @@ fn carry_out<H: Host>(alloc: Global, host: &mut H, command: &Check<'_>) -> u8
     ensures files { SameFiles (H.state host.old) (H.state host.new) }
 {
     match work(alloc, host, command) {
-        Ok(Worked::Shown(line)) => say_done(host, line.as_str()),
-        Ok(Worked::NotShown(at, reason, text)) => say_why(alloc, host, at, reason, text.as_slice()),
+        Ok(worked) => say_worked(host, &worked),
         Err(stop) => say_stop(alloc, host, stop),
     }
 }
 
-// What the work comes to: the last line of a text that is shown; or what is found of one that is not, and the lines that say why.
+// What the work comes to: what is found of a text, with why, and the last line. Both are made before anything is said.
 #[derive(Drop)]
-enum Worked {
-    Shown(String),
-    NotShown(u16, Reason, Vec<u8>),
+struct Worked {
+    explanation: Explanation,
+    last_line: String,
 }
 
 fn work<'a, H: Host>(alloc: Global, host: &mut H, command: &Check<'a>) -> Result<Worked, Stop<'a>>
     requires { is_top command.now.top ≡ true }
-    ensures worked { IfOk result (λ worked. ComesTo (check_read command.now) (H.state host.old) (H.state host.new) worked) }
+    ensures worked { IfOk result (λ w. ComesTo (check_read command.now) (H.state host.old) (H.state host.new) w.explanation.finding w.explanation.text.items (string_bytes w.last_line)) }
     ensures stopped { IfErr result (LoadStops (check_read command.now) (H.state host.old) (H.state host.new)) }
 {
     let loaded = load(alloc, host, command)?;
     let explanation = explain_text(alloc, &loaded.program, &loaded.text)?;
-    Ok(last_lines(alloc, explanation)?)
+    let last_line = last_line(alloc, explanation.finding)?;
+    Ok(Worked {
+        explanation,
+        last_line,
+    })
 }
 
-// The last line, or the lines before it.
-fn last_lines(alloc: Global, explanation: Explanation) -> Result<Worked, AllocError>
-    ensures { IfOk result (λ worked. IsOfExplanation explanation.finding explanation.text.items worked) }
+fn last_line(alloc: Global, finding: Finding) -> Result<String, AllocError>
+    ensures { IfOk result (λ line. string_bytes line ≡ last_line finding) }
 {
-    match explanation.finding {
-        Finding::Shown(blocks) => Ok(Worked::Shown(shown_line(alloc, blocks)?)),
-        Finding::NotShown(at, reason) => Ok(Worked::NotShown(at, reason, explanation.text)),
+    match finding {
+        Finding::Shown(blocks) => shown_line(alloc, blocks),
+        Finding::NotShown(at, reason) => Stop::NotShown(at, reason).line(alloc),
+    }
+}
+
+// Says why a text is not shown, if it is not, and then the last line.
+fn say_worked<H: Host>(host: &mut H, worked: &Worked) -> u8
+    requires { string_bytes worked.now.last_line ≡ last_line worked.now.explanation.finding }
+    ensures { SaysFound worked.now.explanation.finding worked.now.explanation.text.items (string_bytes worked.now.last_line) (H.state host.old) (H.state host.new) result }
+{
+    let last_line = worked.last_line.as_str();
+    match worked.explanation.finding {
+        Finding::Shown(_) => say_done(host, last_line),
+        Finding::NotShown(at, reason) => {
+            say_why(
+                host,
+                at,
+                reason,
+                worked.explanation.text.as_slice(),
+                last_line,
+            )
+        }
     }
 }
 
 // Says why a text is not shown, and then the last line.
-fn say_why<H: Host>(alloc: Global, host: &mut H, at: u16, reason: Reason, text: &[u8]) -> u8
+fn say_why<H: Host>(host: &mut H, at: u16, reason: Reason, text: &[u8], last_line: &str) -> u8
+    requires { last_line.now ≡ line_of_stop (NotShown at reason) }
     ensures { SaysBefore text.now (NotShown at reason) (H.state host.old) (H.state host.new) result }
 {
     match say_lines(host, text) {
-        Ok(()) => say_stop(alloc, host, Stop::NotShown(at, reason)),
+        Ok(()) => say_made(host, Stop::NotShown(at, reason), last_line),
         Err(HostFault::Failed) => 4,
         Err(HostFault::Memory) => 5,
     }

@@ -7,8 +7,8 @@
 // blocks that do not match, ascending, each with its reason (`block_reason`), the lines of its first and last instruction, the line of its
 // label in the text, and by the reason the statement at which the walk ended, or what of both sides does not agree (`LinesAre` of
 // `block_explain`); or it has the first statement of the opening that is not the one wanted, or the first data cell that does not stand, or
-// that the runtime is wanted. Law `texts_are_explained_once`: of a program and a text just one thing is said. All memory but that of the
-// last line is taken before the first line is said; no clause carries that.
+// that the runtime is wanted. Law `texts_are_explained_once`: of a program and a text just one thing is said. All memory is taken before
+// the first line is said; no clause carries that.
 #![tactic(auto)]
 
 mod block;

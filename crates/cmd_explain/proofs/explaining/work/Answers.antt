@@ -1,8 +1,10 @@
 use Rattle.std.proofs.Common.{◌≡◌, sym, subst}
+use Rattle.std.specs.String.{string_bytes}
 use Rattle.cmd_arguments.specs.ReadCommands.{check_read}
 use Rattle.cmd_common.specs.declared.stop.Stop.TheVariants.{OutOfMemory}
 use Rattle.cmd_common.proofs.Told.{judged}
 use Rattle.cmd_check.specs.Checks.{LoadStops, out_of_memory}
+use Rattle.cmd_explain.proofs.Working.{comes_to}
 use Rattle.cmd_explain.proofs.explaining.work.Goals as goal
 
 pub returns-in_err-explanation-clause-stopped : goal.returns-in_err-explanation-clause-stopped
@@ -11,8 +13,15 @@ returns-in_err-explanation-clause-stopped g c =
     judged c.from_residual-in_err-explanation.result (λ s. s ≡ OutOfMemory) stops c.from_residual-in_err-explanation.ensures.1
     (λ s is. subst stops (sym is) (out_of_memory c.in_ok-loaded.ensures.loaded.reads.only))
 
-pub returns-in_err-last_lines-clause-stopped : goal.returns-in_err-last_lines-clause-stopped
-returns-in_err-last_lines-clause-stopped g c =
+pub returns-in_err-last_line-clause-stopped : goal.returns-in_err-last_line-clause-stopped
+returns-in_err-last_line-clause-stopped g c =
     let stops = LoadStops (check_read c.args.command.now) (g.H.Host.state c.args.host.now) (g.H.Host.state c.load.new.host) in
-    judged c.from_residual-in_err-last_lines.result (λ s. s ≡ OutOfMemory) stops c.from_residual-in_err-last_lines.ensures.1
+    judged c.from_residual-in_err-last_line.result (λ s. s ≡ OutOfMemory) stops c.from_residual-in_err-last_line.ensures.1
     (λ s is. subst stops (sym is) (out_of_memory c.in_ok-loaded.ensures.loaded.reads.only))
+
+pub returns-clause-worked : goal.returns-clause-worked
+returns-clause-worked g c =
+    let l = c.in_ok-loaded in
+    let e = c.in_ok-explanation in
+    comes_to (check_read c.args.command.now) (g.H.Host.state c.args.host.now) (g.H.Host.state c.load.new.host) l.loaded.program l.loaded.text.lines.items l.ensures.loaded
+    e.explanation.finding e.explanation.text.items (string_bytes c.in_ok-last_line.last_line) e.ensures.finding e.ensures.same e.ensures.explained c.in_ok-last_line.ensures
