@@ -3,10 +3,12 @@
 ghost use Rattle.std.specs.Prelude.{◌≡◌, ◌||◌, [], Some, None, false, MatchOption, OnOk, OnErr, not, filter, option_map};
 ghost use Rattle.asm80_source_def.specs.declared.meaning.NameKind.{NameKind};
 ghost use Rattle.asm80_source_def.specs.Names.{Name, named, clashes, overflows, defined, is_settable};
+ghost use Rattle.asm80_source_def.specs.FirstFaults.{rule_if};
+ghost use Rattle.asm80_source_def.specs.declared.rule.AsmRule.TheVariants.{V2, V7};
 ghost use Rattle.asm80_source_def.specs.Walk.{meaning_in};
 ghost use Rattle.asm80_first_walk.specs.Entries.{name_of_entry};
 
-use asm80_source_def::{Meaning, NameKind};
+use asm80_source_def::{AsmRule, Meaning, NameKind};
 use asm80_statement_types::Name80;
 use indexmap::IndexMap;
 use std::alloc::{AllocError, Global};
@@ -72,28 +74,18 @@ impl Names {
         Some(entry.kind)
     }
 
-    /// Whether a definition of this kind would define a name twice, SET after SET excepted.
-    pub fn clashes(&self, name: &Name80, kind: NameKind) -> bool
-        ensures { (meaning : Meaning) → result ≡ clashes self.now (record { text = name.now; kind = kind; meaning = meaning }) }
+    /// Which rule a definition of this kind would break: V2 where it would define a name twice, SET after SET excepted, and V7
+    /// where there is no room for a new name.
+    pub fn rule_of(&self, name: &Name80, kind: NameKind) -> Option<AsmRule>
+        ensures { (meaning : Meaning) → result ≡ rule_if (clashes self.now (record { text = name.now; kind = kind; meaning = meaning })) V2 (rule_if (overflows self.now (record { text = name.now; kind = kind; meaning = meaning })) V7 None) }
     {
         match self.kind(name) {
-            Some(old) => old != NameKind::Settable || kind != NameKind::Settable,
-            None => false,
+            Some(old) => rule_if(
+                old != NameKind::Settable || kind != NameKind::Settable,
+                AsmRule::V2,
+            ),
+            None => rule_if(self.entries.len() >= MOST_NAMES, AsmRule::V7),
         }
-    }
-
-    /// Whether a name would be a new one for which there is no room.
-    pub fn overflows(&self, name: &Name80) -> bool
-        ensures { (kind : NameKind) (meaning : Meaning) → result ≡ overflows self.now (record { text = name.now; kind = kind; meaning = meaning }) }
-    {
-        self.kind(name).is_none() && self.entries.len() >= MOST_NAMES
-    }
-
-    // Whether a definition of this kind clashes or has no room.
-    fn is_refused(&self, name: &Name80, kind: NameKind) -> bool
-        ensures { (meaning : Meaning) → result ≡ (clashes self.now (record { text = name.now; kind = kind; meaning = meaning }) || overflows self.now (record { text = name.now; kind = kind; meaning = meaning })) }
-    {
-        self.clashes(name, kind) || self.overflows(name)
     }
 
     /// Defines a name, or sets it again; one that clashes or has no room is not made.
@@ -107,7 +99,7 @@ impl Names {
         ensures unchanged { OnErr result (self.new ≡ self.old) }
         ensures wanted { OnErr result ((clashes self.old (record { text = name; kind = kind; meaning = meaning }) || overflows self.old (record { text = name; kind = kind; meaning = meaning })) ≡ false) }
     {
-        if self.is_refused(&name, kind) {
+        if self.rule_of(&name, kind).is_some() {
             return Ok(());
         }
         self.entries.insert(name, Entry { kind, meaning })?;
@@ -126,4 +118,10 @@ impl Names {
         );
         Names { entries }
     }
+}
+
+fn rule_if(breaks: bool, rule: AsmRule) -> Option<AsmRule>
+    ensures { result ≡ rule_if breaks rule None }
+{
+    if breaks { Some(rule) } else { None }
 }

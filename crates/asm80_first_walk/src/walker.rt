@@ -203,7 +203,7 @@ impl Walker {
         ensures { result ≡ rule_if (label_clashes (walk_of self.now) (statement_of statement.now) (statement_of statement.now).label) V2 (rule_if (label_overflows (walk_of self.now) (statement_of statement.now) (statement_of statement.now).label) V7 None) }
     {
         let label = statement.label?;
-        rule_of_name(&self.names, &label, kind_of_label(operation))
+        self.names.rule_of(&label, kind_of_label(operation))
     }
 
     // V5, V1 and V4, the operand of END aside.
@@ -304,19 +304,6 @@ impl Walker {
         ensures { self.new ≡ record self.old { at = at } }
     {
         self.at = at;
-    }
-}
-
-// V2 where a definition would define a name twice, V7 where there is no room for it.
-fn rule_of_name(names: &Names, label: &Name80, kind: NameKind) -> Option<AsmRule>
-    ensures { (meaning : Meaning) → result ≡ rule_if (clashes names.now (record { text = label.now; kind = kind; meaning = meaning })) V2 (rule_if (overflows names.now (record { text = label.now; kind = kind; meaning = meaning })) V7 None) }
-{
-    if names.clashes(label, kind) {
-        Some(AsmRule::V2)
-    } else if names.overflows(label) {
-        Some(AsmRule::V7)
-    } else {
-        None
     }
 }
 

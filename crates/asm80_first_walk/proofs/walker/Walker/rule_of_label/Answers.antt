@@ -7,5 +7,5 @@ use Rattle.asm80_first_walk.proofs.walker.Walker.rule_of_label.Goals as goal
 
 pub returns : goal.returns
 returns c =
-    rule_of_label c.self.inside.names (walk_of c.args.self.now) (statement_of c.args.statement.now) c.in_ok-label.label c.kind_of_label.result c.rule_of_name.result
-    (ap (λ (x : State). x.names) c.self.view_is) c.in_ok-label.was (c.kind_of_label.ensures ∙ ap kind_of_label c.requires.operation) c.rule_of_name.ensures
+    rule_of_label c.self.inside.names (walk_of c.args.self.now) (statement_of c.args.statement.now) c.in_ok-label.label c.kind_of_label.result c.rule_of.result
+    (ap (λ (x : State). x.names) c.self.view_is) c.in_ok-label.was (c.kind_of_label.ensures ∙ ap kind_of_label c.requires.operation) c.rule_of.ensures
