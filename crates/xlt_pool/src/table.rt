@@ -1,7 +1,7 @@
 // Where the ids stand: a table with open addressing. The search for a node begins at its home slot, and goes from slot to slot, round
 // the end to the first, until it meets the node's id or an empty slot.
 
-ghost use Rattle.std.specs.Prelude.{◌≡◌, ◌<◌, None, MatchOption, length, slice_index_or};
+ghost use Rattle.std.specs.Prelude.{◌≡◌, ◌+◌, ◌%◌, ◌<◌, None, MatchOption, length, slice_index_or};
 ghost use Rattle.xlt_pool.specs.Contents.{NodeStandsAt};
 ghost use Rattle.xlt_pool.specs.Table.{IsTable, IsFreeFor, mixed, home_of};
 
@@ -15,7 +15,7 @@ pub fn slot_of(nodes: &[Node], slots: &[Option<u32>], node: Node) -> usize
 {
     let home = home(node, slots.len());
     for distance in 0..slots.len() {
-        let slot = (home + distance) % slots.len();
+        let slot = round(home, distance, slots.len());
         match slots[slot] {
             None => return slot,
             Some(id) => {
@@ -26,6 +26,20 @@ pub fn slot_of(nodes: &[Node], slots: &[Option<u32>], node: Node) -> usize
         }
     }
     unreachable!()
+}
+
+// The slot so many behind another, of so many, counted round the end: no division, since neither is above their number.
+fn round(home: usize, distance: usize, slots: usize) -> usize
+    requires home { home < slots }
+    requires distance { distance < slots }
+    ensures within { result < slots }
+    ensures value { result ≡ (home + distance) % slots }
+{
+    if distance < slots - home {
+        home + distance
+    } else {
+        distance - (slots - home)
+    }
 }
 
 // The slot at which the search for a node begins.

@@ -13,16 +13,16 @@ returns-in-None-clause-slot c =
     let slots = c.args.slots.now in
     let node = c.args.node in
     let distance = c.loop-distance.distance in
-    let ends : (c.home-home.result + distance) % length slots ≡ (home_of node (length slots) + distance) % length slots = ap (λ h. (h + distance) % length slots) c.home-home.ensures.value in
-    let empty : get_or slots ((c.home-home.result + distance) % length slots) None ≡ None = c.in-None.is in
-    match_at _ _ (get_or slots ((c.home-home.result + distance) % length slots) None) None empty
-    (free_after nodes slots node distance ((c.home-home.result + distance) % length slots) c.requires c.loop-distance.invariant ends empty)
+    let at = c.round-slot.result in
+    let ends : at ≡ (home_of node (length slots) + distance) % length slots = c.round-slot.ensures.value ∙ ap (λ h. (h + distance) % length slots) c.home-home.ensures.value in
+    let empty : get_or slots at None ≡ None = c.in-None.is in
+    match_at _ _ (get_or slots at None) None empty (free_after nodes slots node distance at c.requires c.loop-distance.invariant ends empty)
 
 pub returns-then-eq-clause-slot : goal.returns-then-eq-clause-slot
 returns-then-eq-clause-slot c =
     let nodes = c.args.nodes.now in
     let slots = c.args.slots.now in
-    let at : ℕ = (c.home-home.result + c.loop-distance.distance) % length slots in
+    let at = c.round-slot.result in
     let has : HasId slots at c.in-Some.id = c.in-Some.is in
     match_at _ _ (get_or slots at None) (Some c.in-Some.id) has
     (stands_at nodes c.in-Some.id _ c.args.node (c.requires.held at c.in-Some.id has) (sym c.eq.ensures ∙ c.if-eq.true))
@@ -32,10 +32,10 @@ loop-distance-preserved c =
     let nodes = c.args.nodes.now in
     let slots = c.args.slots.now in
     let node = c.args.node in
-    let home = home_of node (length slots) in
     let distance = c.loop-distance.distance in
-    let ends : (c.home-home.result + distance) % length slots ≡ (home + distance) % length slots = ap (λ h. (h + distance) % length slots) c.home-home.ensures.value in
-    let has : HasId slots ((c.home-home.result + distance) % length slots) c.in-Some.id = c.in-Some.is in
+    let at = c.round-slot.result in
+    let ends : at ≡ (home_of node (length slots) + distance) % length slots = c.round-slot.ensures.value ∙ ap (λ h. (h + distance) % length slots) c.home-home.ensures.value in
+    let has : HasId slots at c.in-Some.id = c.in-Some.is in
     below_more _ _ c.loop-distance.invariant
     (c.in-Some.id, subst (λ k. HasId slots k c.in-Some.id) ends has, stands_not_at nodes c.in-Some.id _ node (sym c.eq.ensures ∙ c.if-eq.false))
 
