@@ -1,13 +1,13 @@
 -- Of a program and a text just one thing is said.
-use Rattle.std.proofs.Common.{◌≡◌, ◌∙◌, ℕ, suc, ◌+◌, ◌-◌, Bool, true, false, List, [], ◌∷◌, ◌++◌, length, length-append, map, Option, Some, None, Result, Ok, Err, refl, sym, ap, subst, arith}
+use Rattle.std.proofs.Common.{◌≡◌, ◌∙◌, ℕ, suc, Bool, true, false, List, [], ◌∷◌, ◌++◌, length, length-append, Option, Some, None, Result, Ok, Err, refl, sym, ap, subst, arith}
 use Rattle.std.proofs.lemmas.List.{length-map}
 use Rattle.cells.specs.declared.Cell.{Cell}
-use Rattle.asm80_program_types.specs.Program.{Program, line_at}
+use Rattle.asm80_program_types.specs.Program.{Program}
 use Rattle.asm86_line_types.specs.declared.line.Label.TheVariants.{At}
 use Rattle.asm86_line_types.specs.declared.line.Line86.{Line86}
 use Rattle.asm86_line_types.specs.declared.line.Stmt86.{Stmt86}
 use Rattle.asm86_line_types.specs.Image.{Image, statements}
-use Rattle.flow.specs.Blocks.{blocks, place_after}
+use Rattle.flow.specs.Blocks.{blocks}
 use Rattle.flow.specs.Solving.{Needs}
 use Rattle.flow.proofs.OneNeeds.{all_needs_once}
 use Rattle.sym_block_def.specs.declared.reason.Reason.{Reason}
@@ -16,14 +16,13 @@ use Rattle.sym_block_def.specs.Block80.{block80}
 use Rattle.sym_block_def.specs.Outcome.{Outcome}
 use Rattle.sym_block_def.specs.Walk86.{after_label, walk86}
 use Rattle.block_check_def.specs.BlockMatch.{Keeps, block_reason}
-use Rattle.simulation_def.specs.Matches.{byte_at}
 use Rattle.simulation_def.specs.Needed.{needed_by}
 use Rattle.sym_run.specs.Stop.{walk_end}
 use Rattle.block_explain.specs.Explained.{told, LinesAre}
 use Rattle.block_explain.proofs.OneText.{one_text}
 use Rattle.text_check.specs.Findings.{HasFrame, Lacks, opening as no_opening, runtime as no_runtime, cells as no_cells}
 use Rattle.cmd_explain.specs.Lines.{block_line, source_lines, text_line, ends_at}
-use Rattle.cmd_explain.specs.Explained.{StandsBefore, EndTold, ends_walk, ReasonTold, LabelTold, WhyTold, BlockTold, ToldIfAny, BlocksTold, IsUnlike, OpeningTold, unlike, alike, DataTold, apart, stands, FrameTold, Explained, frame, of_blocks, opening}
+use Rattle.cmd_explain.specs.Explained.{StandsBefore, EndTold, ends_walk, ReasonTold, LabelTold, WhyTold, BlockTold, ToldIfAny, BlocksTold, OpeningTold, unlike, alike, DataTold, apart, stands, FrameTold, Explained, frame, of_blocks, opening}
 
 -- ---- lines by what stands after them
 

@@ -1,5 +1,5 @@
 -- Lines that are said one after the other, by where they stand in the text.
-use Rattle.std.proofs.Common.{◌≡◌, ◌∙◌, ℕ, ◌+◌, ◌-◌, ◌<◌, ◌≤◌, List, length, take, drop, ap, sym, arith}
+use Rattle.std.proofs.Common.{◌∙◌, ℕ, ◌+◌, ◌-◌, ◌≤◌, List, length, take, drop, ap, sym, arith}
 use Rattle.std.proofs.lemmas.List.{length-take-le, length-drop, take-take}
 use Rattle.host.specs.Host.{HostState, SameFiles, Says, said_more}
 use Rattle.host.proofs.HostLemmas.{said_more-take}

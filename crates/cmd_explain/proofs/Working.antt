@@ -1,5 +1,5 @@
 -- From what the work comes to, to what the command gives.
-use Rattle.std.proofs.Common.{◌≡◌, ◌∙◌, ℕ, ◌<◌, List, length, subst, sym}
+use Rattle.std.proofs.Common.{◌≡◌, ◌∙◌, ℕ, List}
 use Rattle.host.specs.Host.{HostState, SameFiles}
 use Rattle.asm80_program_types.specs.Program.{Program}
 use Rattle.asm86_line_types.specs.declared.line.Line86.{Line86}

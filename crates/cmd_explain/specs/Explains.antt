@@ -1,5 +1,5 @@
 -- What `explain` gives, by its status: what `check` gives, and before the last line of a text that is not shown why it is not.
-use Rattle.std.specs.Prelude.{◌≡◌, ℕ, List}
+use Rattle.std.specs.Prelude.{ℕ, List}
 use Rattle.host.specs.declared.HostFault.TheVariants.{Failed, Memory}
 use Rattle.host.specs.Host.{HostState, Says, SameFaults, OnlySays}
 use Rattle.asm80_program_types.specs.Program.{Program}

@@ -1,7 +1,5 @@
 use Rattle.std.proofs.Common.{◌∙◌, ◌++◌, ◌-◌, refl, ap, get_or, drop}
 use Rattle.std.proofs.lemmas.Result.{on_ok_weaker}
-use Rattle.asm86_line_types.specs.declared.line.Stmt86.TheVariants.{Cseg}
-use Rattle.asm86_line_types.specs.declared.line.Line86.{Line86}
 use Rattle.asm86_line_types.specs.Image.{statements}
 use Rattle.cmd_explain.specs.Lines.{text_line}
 use Rattle.cmd_explain.specs.Explained.{ReasonTold, LabelTold, ends_walk}

@@ -1,6 +1,5 @@
 use Rattle.std.proofs.Common.{◌∙◌, ◌++◌, Some, sym, ap, subst, drop}
 use Rattle.std.proofs.lemmas.Result.{on_ok_weaker}
-use Rattle.asm86_line_types.specs.Image.{statements}
 use Rattle.sym_run.specs.Stop.{walk_end}
 use Rattle.cmd_explain.specs.Lines.{ends_at}
 use Rattle.cmd_explain.specs.Explained.{ReasonTold, EndTold}

@@ -1,7 +1,7 @@
-use Rattle.std.proofs.Common.{arith, ap, subst, take, drop}
+use Rattle.std.proofs.Common.{arith, ap, subst, take}
 use Rattle.std.proofs.lemmas.Grind.{common_steps}
 use Rattle.host.specs.Host.{Says}
-use Rattle.host.proofs.HostLemmas.{OnlySays-trans, handed_on}
+use Rattle.host.proofs.HostLemmas.{OnlySays-trans}
 use Rattle.host_files.specs.Transfer.{CutsLine}
 use Rattle.host_files.proofs.Fills.{on_err}
 use Rattle.cmd_explain.proofs.Positions.{to_the_end}

@@ -1,4 +1,4 @@
-use Rattle.std.proofs.Common.{◌∙◌, ◌++◌, get_or, sym, ap, subst, refl}
+use Rattle.std.proofs.Common.{◌∙◌, ◌++◌, get_or, ap, subst}
 use Rattle.std.proofs.lemmas.Result.{on_ok_weaker}
 use Rattle.cells.specs.declared.Cell.TheVariants.{Num}
 use Rattle.simulation_def.specs.Matches.{byte_at}

@@ -1,7 +1,6 @@
-use Rattle.std.proofs.Common.{◌≡◌, ◌∙◌, ◌++◌, List, refl, sym, ap, subst}
+use Rattle.std.proofs.Common.{◌∙◌, ◌++◌, List, refl, sym, ap, subst}
 use Rattle.asm86_line_types.specs.declared.line.Stmt86.{Stmt86}
 use Rattle.asm86_line_types.specs.Image.{statements}
-use Rattle.asm80_program_types.specs.Program.{Program}
 use Rattle.flow.specs.Solving.{HasNeeds}
 use Rattle.xlt_core.specs.Names.{IsFinding}
 use Rattle.text_check.specs.Findings.{HasFrame, Lacks, AreOfLines}

@@ -1,8 +1,7 @@
-use Rattle.std.proofs.Common.{◌≡◌, ◌∙◌, ℕ, ◌+◌, ◌≤◌, List, length, get_or, sym, ap, subst}
+use Rattle.std.proofs.Common.{◌∙◌, ℕ, ◌+◌, get_or, sym, ap, subst}
 use Rattle.asm86_line_types.specs.Image.{statements}
-use Rattle.flow.specs.Blocks.{blocks, leaders, block_at}
+use Rattle.flow.specs.Blocks.{leaders}
 use Rattle.flow.proofs.Indexed.{IsBlockAt, block_at_index, all_passed}
-use Rattle.block_check_def.specs.BlockMatch.{block_reason}
 use Rattle.simulation_def.specs.Needed.{needed_by}
 use Rattle.cmd_explain.specs.Explained.{ToldIfAny}
 use Rattle.cmd_explain.specs.Telling.{Tells, first_of}
