@@ -32,8 +32,7 @@ fn is_bad(work: &Work, kept: &Wanted, back: Keep, part: Part) -> bool
     ensures { result ≡ is_bad_by (wanted_parts kept.now) (lost_of back) (first_outcome work.now) (second_of work.now) part }
 {
     let is_lost = work.second().direct() && loses(back, part);
-    let agrees = part_agrees(work, part);
-    is_lost || wants(kept, part) && !agrees
+    is_lost || wants(kept, part) && !part_agrees(work, part)
 }
 
 // The first of some parts that is bad.

@@ -6,14 +6,19 @@ use Rattle.std.proofs.lemmas.List.{append-nil, take_more}
 use Rattle.std.proofs.lemmas.List.Elements.{filter-append, All-append, All-map, All-cons, All-from_get_or}
 use Rattle.cells.specs.Parts.{Parts, nothing, has}
 use Rattle.asm80_program_types.specs.declared.program.Placed.{Placed}
-use Rattle.asm80_program_types.specs.Program.{Program}
-use Rattle.flow.specs.Saves.{is_sum_at, AreSaves}
+use Rattle.asm80_program_types.specs.Program.{Program, IsProgram}
+use Rattle.flow.specs.Saves.{is_word_sum, is_sum_in, is_sum_at, AreSaves}
 use Rattle.flow.proofs.Sets.{same_members}
+use Rattle.flow.proofs.Wires.{placed_at}
 use Rattle.cmd_common.specs.Lines.{word_digits, saves_line}
 use Rattle.cmd_lists.specs.declared.savings.Saving.{Saving}
 use Rattle.cmd_lists.specs.Saves.{sums, IsSaving, AreSavings, saves_any, save_text, save_line, report_lines, AreSaveLines}
 
 -- ---- one more instruction
+
+-- whether an instruction of a program is such a sum is told by itself
+pub sum_of_placed : (p : Program) (i : ℕ) (d : Placed) → IsProgram p → i < length p.instrs → is_sum_at p (get_or p.instrs i d).at ≡ is_word_sum (get_or p.instrs i d).instr
+sum_of_placed p i d program lt = ap is_sum_in (placed_at p i d program lt)
 
 savings-append : (p : Program) (xs : List Placed) (ss : List Saving) (x : Placed) (s : Saving) → AreSavings p xs ss → IsSaving p x s → AreSavings p (xs ++ x ∷ []) (ss ++ s ∷ [])
 savings-append p [] [] x s are is = (is, tt)

@@ -4,7 +4,7 @@ ghost use Rattle.cmd_lists.specs.Saves.{sums, AreSavings, saves_any};
 
 use asm80_program_types::Program80;
 use cells::{Keep, Part};
-use flow::{Graph, saves};
+use flow::{Graph, is_word_sum, saves};
 use std::alloc::{AllocError, Global};
 
 /// An INX, DCX or DAD: its address, its line in the source, and those of S Z AC P that it has to save.
@@ -22,6 +22,10 @@ pub fn savings_of(alloc: Global, program: &Program80) -> Result<Vec<Saving>, All
     let graph = Graph::solved(alloc, program)?;
     let mut savings = Vec::new(alloc);
     for placed in program.instrs() {
+        // Only for a sum of words is its address looked for.
+        if !is_word_sum(placed.instr) {
+            continue;
+        }
         if let Some(keep) = saves(program, &graph, placed.at) {
             savings.push(Saving {
                 at: placed.at,
