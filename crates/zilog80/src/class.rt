@@ -50,7 +50,7 @@ pub enum Given {
 
 // Names with those of Intel's spelling.
 
-const REGISTERS: [(&[u8], &[u8]); 7] = [
+static REGISTERS: [(&[u8], &[u8]); 7] = [
     (b"A", b"A"),
     (b"B", b"B"),
     (b"C", b"C"),
@@ -60,18 +60,18 @@ const REGISTERS: [(&[u8], &[u8]); 7] = [
     (b"L", b"L"),
 ];
 
-const MEMORY: [(&[u8], &[u8]); 1] = [(b"HL", b"M")];
+static MEMORY: [(&[u8], &[u8]); 1] = [(b"HL", b"M")];
 
-const PAIRS: [(&[u8], &[u8]); 4] = [(b"BC", b"B"), (b"DE", b"D"), (b"HL", b"H"), (b"SP", b"SP")];
+static PAIRS: [(&[u8], &[u8]); 4] = [(b"BC", b"B"), (b"DE", b"D"), (b"HL", b"H"), (b"SP", b"SP")];
 
-const STACK_PAIRS: [(&[u8], &[u8]); 4] = [
+static STACK_PAIRS: [(&[u8], &[u8]); 4] = [
     (b"BC", b"B"),
     (b"DE", b"D"),
     (b"HL", b"H"),
     (b"AF", b"PSW"),
 ];
 
-const INDIRECTS: [(&[u8], &[u8]); 2] = [(b"BC", b"B"), (b"DE", b"D")];
+static INDIRECTS: [(&[u8], &[u8]); 2] = [(b"BC", b"B"), (b"DE", b"D")];
 
 impl Class {
     /// Whether an operand is of the class.

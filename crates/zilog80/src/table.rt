@@ -20,7 +20,7 @@ type UnaryRow<'a> = (&'a [u8], Class, &'a [u8]);
 type BinaryRow<'a> = (&'a [u8], Class, Class, &'a [u8]);
 
 /// The directives of the assembler.
-const DIRECTIVES: WordsByLetter<'static> = [
+static DIRECTIVES: WordsByLetter<'static> = [
     &[],
     &[],
     &[],
@@ -50,7 +50,7 @@ const DIRECTIVES: WordsByLetter<'static> = [
 ];
 
 /// The words that are operations: the directives, and those of the table below.
-const OPERATIONS: WordsByLetter<'static> = [
+static OPERATIONS: WordsByLetter<'static> = [
     &[b"ADC", b"ADD", b"AND"],
     &[],
     &[b"CALL", b"CCF", b"CP", b"CPL"],
@@ -80,7 +80,7 @@ const OPERATIONS: WordsByLetter<'static> = [
 ];
 
 /// The names of registers, of register pairs and of conditions, and M and PSW.
-const RESERVED_NAMES: WordsByLetter<'static> = [
+static RESERVED_NAMES: WordsByLetter<'static> = [
     &[b"A", b"AF"],
     &[b"B", b"BC"],
     &[b"C"],
@@ -110,7 +110,7 @@ const RESERVED_NAMES: WordsByLetter<'static> = [
 ];
 
 /// A word without operands, and the operation that it is.
-const BARE: [(&[u8], &[u8]); 13] = [
+static BARE: [(&[u8], &[u8]); 13] = [
     (b"RLCA", b"RLC"),
     (b"RRCA", b"RRC"),
     (b"RLA", b"RAL"),
@@ -127,7 +127,7 @@ const BARE: [(&[u8], &[u8]); 13] = [
 ];
 
 /// A word with an operand of a class.
-const UNARY: [UnaryRow<'static>; 28] = [
+static UNARY: [UnaryRow<'static>; 28] = [
     (b"SUB", Source, b"SUB"),
     (b"SUB", Any, b"SUI"),
     (b"AND", Source, b"ANA"),
@@ -159,7 +159,7 @@ const UNARY: [UnaryRow<'static>; 28] = [
 ];
 
 /// A word with two operands.
-const BINARY: [BinaryRow<'static>; 38] = [
+static BINARY: [BinaryRow<'static>; 38] = [
     (b"LD", Register, Source, b"MOV"),
     (b"LD", Memory, Register, b"MOV"),
     (b"LD", Source, Bare, b"MVI"),
