@@ -91,6 +91,8 @@ try 0 translate saves.asm out
 try 0 translate letter.asm out --comments
 try 0 check letter.asm letter.a86
 try 8 check letter.asm other.a86
+try 0 explain letter.asm letter.a86
+try 8 explain letter.asm other.a86
 try 0 flags saves.asm
 try 0 leaves saves.asm
 try 0 run80 letter.asm --input menu.keys --disk disk --ports disk --out-disk out
