@@ -3,15 +3,15 @@ use Rattle.std.proofs.Common.{◌≡◌, ℕ, zero, suc, ◌+◌, ◌-◌, ◌<�
 use Rattle.std.specs.List.Sorted.{IsBinarySearchResult}
 use Rattle.std.specs.Ordering.{nat_cmp}
 use Rattle.std.proofs.lemmas.List.{length-map}
-use Rattle.std.proofs.lemmas.Bool.{leb-true, and_parts}
+use Rattle.std.proofs.lemmas.Bool.{leb-true, eqb-true, and_parts}
 use Rattle.std.proofs.lemmas.Bool.Decides.{nat_tests}
-use Rattle.std.specs.Prelude.{◌%◌, ◌==◌, nat_le, ◌&&◌}
+use Rattle.std.specs.Prelude.{◌%◌, ◌==◌, nat_le, ◌&&◌, is_some}
 use Rattle.std.proofs.lemmas.List.Sorted.{searched}
 use Rattle.i80.specs.declared.Instr80.{Instr80}
 use Rattle.i80.specs.declared.Instr80.TheVariants.{Nop}
 use Rattle.i80.specs.Columns.{length80}
 use Rattle.asm80_program_types.specs.declared.program.Placed.{Placed}
-use Rattle.asm80_program_types.specs.Program.{placed_in, or_before, last_from, is_covered, starts_of, IsLast, IsInstructionLaid, AreLaid, is_top}
+use Rattle.asm80_program_types.specs.Program.{Program, placed_in, instr_of_placed, instr_at, is_start, or_before, last_from, is_covered, starts_of, IsLast, IsInstructionLaid, AreLaid, is_top}
 
 -- where the first starts past an address, none is the last before it
 pub last_from-none : (xs : List Placed) (a : ℕ) → (0 < length xs → leb (get_or (starts_of xs) 0 0) a ≡ false) → last_from xs a ≡ None
@@ -35,6 +35,23 @@ last_from-some (x ∷ xs) a (suc k) d lt before past =
 pub length80-positive : (i : Instr80) → 1 ≤ length80 i
 length80-positive Nop = omega arith
 length80-positive i = omega arith
+
+-- an instruction that is found is not below the place from which they are laid
+pub placed_above : (xs : List Placed) (from limit a : ℕ) (x : Placed) → AreLaid from limit xs → placed_in xs a ≡ Some x → from ≤ a
+placed_above [] from limit a x laid found = absurd (cc)
+placed_above (y ∷ ys) from limit a x laid found = by_place (y.at == a) refl found (placed_above ys (y.at + length80 y.instr) limit a x laid.3)
+  where
+    by_place : (t : Bool) → (y.at == a) ≡ t → cond t (Some y) (placed_in ys a) ≡ Some x → (placed_in ys a ≡ Some x → y.at + length80 y.instr ≤ a) → from ≤ a
+    by_place true same f later = let here = eqb-true y.at a same in omega (arith, here, laid.0)
+    by_place false differs f later = omega (arith, laid.0, later f)
+
+-- where an instruction is found, one starts
+pub start_is : (p : Program) (a : ℕ) (i : Instr80) → instr_at p a ≡ Some i → is_start p a ≡ true
+start_is p a i found = by_placed (placed_in p.instrs a) found
+  where
+    by_placed : (o : Option Placed) → instr_of_placed o ≡ Some i → is_some o ≡ true
+    by_placed None e = absurd (cc)
+    by_placed (Some x) e = refl
 
 pub laid_at : (xs : List Placed) (from limit k : ℕ) (d : Placed) → AreLaid from limit xs → k < length xs → IsInstructionLaid from limit (get_or xs k d)
 laid_at [] from limit k d laid lt = absurd (omega arith)

@@ -10,7 +10,7 @@ use Rattle.cells.specs.declared.Cell.TheVariants.{Lo}
 use Rattle.i80.specs.declared.Instr80.{Instr80}
 use Rattle.i80.specs.Columns.{length80, is_well_formed}
 use Rattle.asm80_program_types.specs.declared.program.Placed.{Placed}
-use Rattle.asm80_program_types.specs.Program.{Program, IsProgram, placed_in, instr_of_placed, instr_at, is_start, is_top, cell_in, AreLaid, AreCoded, NameStarts, IsCoded, named_by}
+use Rattle.asm80_program_types.specs.Program.{Program, IsProgram, placed_in, instr_of_placed, instr_at, is_start, is_top, cell_in, AreLaid, AreCoded, NameStarts, AreData, IsDatum, IsCoded, named_by}
 use Rattle.asm80_program_types.specs.Taken.{takes, place_taken_by, place_placed, place_in_cell}
 
 -- the instruction at an address
@@ -30,6 +30,9 @@ instr_same y x e = cc
 
 number_same : (y x : ℕ) → Some y ≡ Some x → y ≡ x
 number_same y x e = cc
+
+cell_same : (y x : Cell) → Some y ≡ Some x → y ≡ x
+cell_same y x e = cc
 
 -- a place that one instruction takes is among those that are taken
 front_is : (b : ℕ) (o : Option ℕ) (rest : List ℕ) → o ≡ Some b → list_any (λ c. c == b) (cons_option o rest) ≡ true
@@ -118,9 +121,15 @@ pub held_taken : (cs : List (ℕ × Cell)) (a q : ℕ) → cell_in cs a ≡ Some
 held_taken [] a q h = absurd (cc)
 held_taken (c ∷ cs) a q h = by_here (c.0 == a) h (held_taken cs a q)
   where
-    cell_same : (x y : Cell) → ◌≡◌ {A = Option Cell} (Some x) (Some y) → x ≡ y
-    cell_same x y h = cc
-
     by_here : (t : Bool) → cond t (Some c.1) (cell_in cs a) ≡ Some (Lo (At q)) → (cell_in cs a ≡ Some (Lo (At q)) → list_any (λ b. b == q) (filter_map place_in_cell cs) ≡ true) → list_any (λ b. b == q) (filter_map place_in_cell (c ∷ cs)) ≡ true
     by_here true g rest = front_is q (place_in_cell c) (filter_map place_in_cell cs) (ap (λ (v : Cell). place_in_cell (c.0, v)) (cell_same c.1 (Lo (At q)) g))
     by_here false g rest = more_is q (place_in_cell c) (filter_map place_in_cell cs) (rest g)
+
+-- what a data cell is
+pub datum_found : (p : Program) (a : ℕ) (v : Cell) (cs : List (ℕ × Cell)) → AreData p cs → cell_in cs a ≡ Some v → IsDatum p a v
+datum_found p a v [] values found = absurd (cc)
+datum_found p a v (c ∷ cs) values found = by_here (c.0 == a) refl found (datum_found p a v cs values.1)
+  where
+    by_here : (t : Bool) → (c.0 == a) ≡ t → cond t (Some c.1) (cell_in cs a) ≡ Some v → (cell_in cs a ≡ Some v → IsDatum p a v) → IsDatum p a v
+    by_here true same g rest = subst (λ n. IsDatum p n v) (eqb-true c.0 a same) (subst (λ x. IsDatum p c.0 x) (cell_same c.1 v g) values.0)
+    by_here false differs g rest = rest g

@@ -1,5 +1,5 @@
 // The program that a source stands for.
-ghost use Rattle.std.specs.Prelude.{◌≡◌, ◌+◌, ◌-◌, ◌<◌, ◌≤◌, length, All, IsTrue, IfOk, IfSome, MatchOption};
+ghost use Rattle.std.specs.Prelude.{◌≡◌, ◌+◌, ◌-◌, ◌<◌, ◌≤◌, length, slice_index, All, IsTrue, IfOk, IfSome, MatchOption, option_map};
 ghost use Rattle.i80.specs.Columns.{length80, is_well_formed};
 
 use crate::taken::taken_of;
@@ -118,6 +118,36 @@ impl Program80 {
         match self.placed_at(at) {
             Some(placed) => Some(placed.instr),
             None => None,
+        }
+    }
+
+    // The place among the instructions of the last one that starts at an address or before it, looked for first at a place that it may
+    // well have.
+    fn last_place_near(&self, near: usize, at: u16) -> Option<usize>
+        ensures { MatchOption result (last_from self.now.instrs at ≡ None) (λ k. IsLast self.now.instrs at k) }
+    {
+        match self.starts.get(near) {
+            Some(start) if *start == at => Some(near),
+            _ => self.last_place(at),
+        }
+    }
+
+    /// The instruction that starts at an address, with its place among the instructions: none exactly where none starts there. It is
+    /// looked for first at a place that it may well have, as the next place where control goes on, and by a search where it has another.
+    pub fn instr_near(&self, near: usize, at: u16) -> Option<(usize, Instr80)>
+        ensures value { option_map (λ found. found.1) result ≡ instr_at self.now at }
+        ensures place { IfSome result (λ found. found.0 < length self.now.instrs × (slice_index (starts self.now) found.0 ≡ at)) }
+        ensures few { IfSome result (λ found. found.0 < 65022) }
+        ensures within { IfSome result (λ found. at + length80 found.1 + 2 ≤ self.now.top) }
+        ensures well_formed { IfSome result (λ found. IsTrue (is_well_formed found.1)) }
+        ensures small { self.now.top ≤ 0xFF00 }
+    {
+        let place = self.last_place_near(near, at)?;
+        let placed = self.instrs[place];
+        if placed.at == at {
+            Some((place, placed.instr))
+        } else {
+            None
         }
     }
 

@@ -12,11 +12,10 @@ use mathlib.Core.Bool.{or-true}
 use Rattle.cells.specs.declared.Cell.{Cell}
 use Rattle.cells.proofs.Options.{if_none}
 use Rattle.i80.specs.declared.Instr80.{Instr80}
-use Rattle.i80.specs.declared.Instr80.TheVariants.{Nop}
 use Rattle.i80.specs.Columns.{length80, is_well_formed}
 use Rattle.asm80_program_types.specs.declared.program.Placed.{Placed}
 use Rattle.asm80_program_types.specs.Program.{Program, covers, placed_in, is_start, cell_at, named_by, AreLaid, CellsAreLaid, IsInstructionLaid, NameStarts, IsCoded, AreCoded, IsProgram, program_of}
-use Rattle.asm80_program_types.proofs.Lookup.{top_range}
+use Rattle.asm80_program_types.proofs.Lookup.{top_range, length80-positive}
 use Rattle.asm80_values.specs.Forms.{HoldsByte}
 use Rattle.asm80_values.specs.declared.form.Form.{Form}
 use Rattle.asm80_values.specs.declared.form.Form.TheVariants.{Nothing, Instruction, Data}
@@ -28,10 +27,6 @@ use Rattle.asm80_values.specs.Items.{cells_of_item, overlap_from, stands_outside
 use Rattle.asm80_values.specs.Programs.{placed_by, placed_form, placed_item, data_form, data_item, is_instruction_form, starts_item, IsSoundForm, IsSound, NamesStart, AreHalved, OfForm, OfItem, NamesStarts, AreLawful}
 use Rattle.asm80_values.proofs.Times.{one, covered_times, held_times, covered_moved, held_moved, held_append, covered_least, held_least, not_covered, between, filled_counted, held_laid}
 use Rattle.asm80_values.proofs.Halves.{all_found, IsHalf, are_data, halved_weaker, laid_halves}
-
-pub length80-positive : (i : Instr80) → 1 ≤ length80 i
-length80-positive Nop = omega arith
-length80-positive i = omega arith
 
 -- ---- in ascending order
 

@@ -1,5 +1,5 @@
 // The rules of operands: V5, V1, V4 and V3, in this order.
-ghost use Rattle.std.specs.Prelude.{◌≡◌, ◌&&◌, ◌||◌, Some, None, false, map, zip};
+ghost use Rattle.std.specs.Prelude.{◌≡◌, ◌||◌, IfSome, None, false, is_some, map, zip};
 ghost use Rattle.std.specs.List.{list_any};
 ghost use Rattle.asm80_statement_types.specs.Tree.{operand_of};
 ghost use Rattle.asm80_first_walk.specs.Scopes.{scope_of};
@@ -30,19 +30,6 @@ fn is_of_kind(kind: Kind, arg: &Arg) -> bool
             !is_no_value(arg)
         }
     }
-}
-
-// Whether operands are of these kinds, one each.
-fn are_of_kinds(kinds: &[Kind], args: &[Arg]) -> bool
-    ensures { result ≡ are_of_kinds kinds.now (map operand_of args.now) }
-{
-    let Some((kind, kinds)) = kinds.split_first() else {
-        return args.is_empty();
-    };
-    let Some((arg, args)) = args.split_first() else {
-        return false;
-    };
-    is_of_kind(*kind, arg) && are_of_kinds(kinds, args)
 }
 
 // MOV M,M does not exist.
@@ -149,33 +136,39 @@ impl Breaches {
     }
 }
 
-// Which rules one operand breaks.
+// Which rules the value of one operand breaks.
 fn broken_by(scope: &Scope<'_>, kind: Kind, arg: &Arg) -> Breaches
-    ensures unknown { result.has_unknown ≡ (is_value_kind kind && operand_has_unknown (scope_of scope.now) (operand_of arg.now)) }
-    ensures zero { result.divides_by_zero ≡ (is_value_kind kind && operand_divides_by_zero (scope_of scope.now) (operand_of arg.now)) }
+    ensures unknown { result.has_unknown ≡ operand_has_unknown (scope_of scope.now) (operand_of arg.now) }
+    ensures zero { result.divides_by_zero ≡ operand_divides_by_zero (scope_of scope.now) (operand_of arg.now) }
     ensures unfit { result.is_unfit ≡ is_unfit (scope_of scope.now) (kind, operand_of arg.now) }
 {
     Breaches {
-        has_unknown: is_value_kind(kind) && operand_has_unknown(scope, arg),
-        divides_by_zero: is_value_kind(kind) && operand_divides_by_zero(scope, arg),
+        has_unknown: operand_has_unknown(scope, arg),
+        divides_by_zero: operand_divides_by_zero(scope, arg),
         is_unfit: is_unfit(scope, kind, arg),
     }
 }
 
-// Which rules operands of these kinds break.
-fn broken_by_all(scope: &Scope<'_>, kinds: &[Kind], args: &[Arg]) -> Breaches
-    ensures unknown { result.has_unknown ≡ values_break (operand_has_unknown (scope_of scope.now)) (zip kinds.now (map operand_of args.now)) }
-    ensures zero { result.divides_by_zero ≡ values_break (operand_divides_by_zero (scope_of scope.now)) (zip kinds.now (map operand_of args.now)) }
-    ensures unfit { result.is_unfit ≡ list_any (is_unfit (scope_of scope.now)) (zip kinds.now (map operand_of args.now)) }
+// Which rules of values operands break; None where they are not of these kinds, one each.
+fn broken_by_all(scope: &Scope<'_>, kinds: &[Kind], args: &[Arg]) -> Option<Breaches>
+    ensures kinds { is_some result ≡ are_of_kinds kinds.now (map operand_of args.now) }
+    ensures unknown { IfSome result (λ broken. broken.has_unknown ≡ values_break (operand_has_unknown (scope_of scope.now)) (zip kinds.now (map operand_of args.now))) }
+    ensures zero { IfSome result (λ broken. broken.divides_by_zero ≡ values_break (operand_divides_by_zero (scope_of scope.now)) (zip kinds.now (map operand_of args.now))) }
+    ensures unfit { IfSome result (λ broken. broken.is_unfit ≡ list_any (is_unfit (scope_of scope.now)) (zip kinds.now (map operand_of args.now))) }
 {
-    let (Some((kind, kinds)), Some((arg, args))) = (kinds.split_first(), args.split_first()) else {
-        return NO_BREACHES;
+    let Some((kind, kinds)) = kinds.split_first() else {
+        return if args.is_empty() { Some(NO_BREACHES) } else { None };
     };
-    let rest = broken_by_all(scope, kinds, args);
-    if !is_value_kind(*kind) {
-        return rest;
+    let (arg, args) = args.split_first()?;
+    if !is_of_kind(*kind, arg) {
+        return None;
     }
-    broken_by(scope, *kind, arg).or(rest)
+    let rest = broken_by_all(scope, kinds, args)?;
+    if is_value_kind(*kind) {
+        Some(broken_by(scope, *kind, arg).or(rest))
+    } else {
+        Some(rest)
+    }
 }
 
 // The rule of an instruction's operands.
@@ -187,10 +180,9 @@ fn rule_of_instruction(
 ) -> Option<AsmRule>
     ensures { result ≡ rule_of_instruction (scope_of scope.now) operation kinds.now (map operand_of args.now) }
 {
-    if !are_of_kinds(kinds, args) || moves_memory(operation, args) {
-        Some(AsmRule::V5)
-    } else {
-        broken_by_all(scope, kinds, args).rule()
+    match broken_by_all(scope, kinds, args) {
+        Some(broken) if !moves_memory(operation, args) => broken.rule(),
+        _ => Some(AsmRule::V5),
     }
 }
 

@@ -153,7 +153,7 @@ free r a done counts h =
     let last = and_parts (nat_lt a 0x10000) (not (list_any (λ b. b == a) r.filled)) inner.1 in
     counts a ∙ not-true (list_any (λ b. b == a) r.filled) last.1
 
-rest_stands : (r : Reading) (x : Stmt86) (xs : List Stmt86) → in_order r (x ∷ xs) ≡ true → (may_stand r x ≡ true) × (in_order (reading_after r x) xs ≡ true)
+pub rest_stands : (r : Reading) (x : Stmt86) (xs : List Stmt86) → in_order r (x ∷ xs) ≡ true → (may_stand r x ≡ true) × (in_order (reading_after r x) xs ≡ true)
 rest_stands r x xs h =
     let first = and_parts (may_stand r x) ((not (ends_text x) || has_no_statement xs) && in_order (reading_after r x) xs) h in
     (first.0, (and_parts (not (ends_text x) || has_no_statement xs) (in_order (reading_after r x) xs) first.1).1)

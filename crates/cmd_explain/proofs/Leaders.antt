@@ -2,8 +2,9 @@
 use Rattle.std.proofs.Common.{◌≡◌, ◌∙◌, ℕ, ◌-◌, ◌<◌, true, Option, Some, ap, subst, sym, arith}
 use Rattle.std.specs.Option.{unwrap_or}
 use Rattle.asm80_program_types.specs.Program.{Program, is_start}
+use Rattle.asm80_program_types.proofs.Lookup.{start_is}
 use Rattle.flow.specs.Blocks.{IsBlockOf, IsLeader, block_at, place_after, BlocksCut}
-use Rattle.flow.proofs.Further.{instr_behind, start_is}
+use Rattle.flow.proofs.Further.{instr_behind}
 
 -- the block that was found for a leader
 pub block_found : (p q : Program) → BlocksCut p → q ≡ p → (a : ℕ) → IsLeader p a → (found : Option ℕ) (count : ℕ) → found ≡ block_at q a → count ≡ unwrap_or found 0 → (block_at p a ≡ Some count) × IsBlockOf p a count

@@ -1,5 +1,5 @@
 -- The cells of an image stand from 100H up, within memory.
-use Rattle.std.proofs.Common.{◌≡◌, ℕ, ◌+◌, ◌<◌, ◌≤◌, ◌%◌, ◌/◌, nat_lt, nat_le, ◌==◌, ◌&&◌, ◌||◌, true, not, List, [], ◌∷◌, subst, sym}
+use Rattle.std.proofs.Common.{◌≡◌, ℕ, ◌+◌, ◌<◌, ◌≤◌, ◌%◌, ◌/◌, nat_lt, nat_le, ◌==◌, ◌&&◌, true, not, List, [], ◌∷◌, subst, sym}
 use Rattle.std.specs.List.{All, list_any}
 use Rattle.std.proofs.lemmas.Bool.{and_parts, leb-true, ltb-true}
 use Rattle.std.proofs.lemmas.List.Elements.{All-nil, All-cons}
@@ -10,9 +10,10 @@ use Rattle.asm86_line_types.specs.declared.line.Stmt86.{Stmt86}
 use Rattle.asm86_line_types.specs.declared.line.Stmt86.TheVariants.{Cseg, Dseg, Org, Rb, Db, Dw, Mark, Run, MovOffset, Jmp, Jmps, Jcc, Call, EndText}
 use Rattle.asm86_line_types.specs.declared.line.Line86.{Line86}
 use Rattle.asm86_line_types.specs.Cells.{CellsAreSorted}
-use Rattle.asm86_line_types.specs.Order.{Reading, at_start, in_data, is_free_cell, may_stand, reading_after, ends_text, has_no_statement, in_order}
+use Rattle.asm86_line_types.specs.Order.{Reading, at_start, in_data, is_free_cell, reading_after, in_order}
 use Rattle.asm86_line_types.specs.Layout.{place_of}
 use Rattle.asm86_line_types.specs.Image.{Image, IsImage, statements, cells_from, by_address}
+use Rattle.asm86_line_types.proofs.Sorting.{rest_stands}
 
 -- above the system's bytes, and within 64K
 abbrev pub InData : ℕ × ℕ → Type 0
@@ -23,11 +24,6 @@ free r a n h =
     let low = and_parts (nat_le 0x100 a) (nat_lt a 0x10000 && not (list_any (λ b. b == a) r.filled)) h in
     let high = and_parts (nat_lt a 0x10000) (not (list_any (λ b. b == a) r.filled)) low.1 in
     (leb-true 0x100 a low.0, ltb-true a 0x10000 high.0)
-
-rest_stands : (r : Reading) (x : Stmt86) (xs : List Stmt86) → in_order r (x ∷ xs) ≡ true → (may_stand r x ≡ true) × (in_order (reading_after r x) xs ≡ true)
-rest_stands r x xs h =
-    let first = and_parts (may_stand r x) ((not (ends_text x) || has_no_statement xs) && in_order (reading_after r x) xs) h in
-    (first.0, (and_parts (not (ends_text x) || has_no_statement xs) (in_order (reading_after r x) xs) first.1).1)
 
 two_free : (r : Reading) (low high : ℕ) (rest : List (ℕ × ℕ)) → (in_data r.group && (is_free_cell r r.at && is_free_cell r (r.at + 1))) ≡ true → All InData rest → All InData ((r.at, low) ∷ ((r.at + 1, high) ∷ rest))
 two_free r low high rest h more =

@@ -8,21 +8,13 @@ use Rattle.i80.specs.Columns.{length80}
 use Rattle.i80_encoding.specs.Enc80.{enc80}
 use Rattle.asm80_program_types.specs.declared.program.Placed.{Placed}
 use Rattle.asm80_program_types.specs.Program.{placed_in, covers, is_covered, cell_in, AreLaid, CellsAreLaid}
-use Rattle.asm80_program_types.proofs.Lookup.{length80-positive}
+use Rattle.asm80_program_types.proofs.Lookup.{length80-positive, placed_above}
 use Rattle.cpu80_bytes_def.specs.Cells.{code_byte}
 
 placed_same : (y x : Placed) → Some y ≡ Some x → y ≡ x
 placed_same y x e = cc
 
 -- an instruction that is found starts where those of the list may
-placed_above : (xs : List Placed) (from limit a : ℕ) (x : Placed) → AreLaid from limit xs → placed_in xs a ≡ Some x → from ≤ a
-placed_above [] from limit a x l e = absurd (cc)
-placed_above (y ∷ ys) from limit a x l e = by_place (y.at == a) refl e (placed_above ys (y.at + length80 y.instr) limit a x l.3)
-  where
-    by_place : (t : Bool) → (y.at == a) ≡ t → cond t (Some y) (placed_in ys a) ≡ Some x → (placed_in ys a ≡ Some x → y.at + length80 y.instr ≤ a) → from ≤ a
-    by_place true h f later = let same = eqb-true y.at a h in omega (arith, same, l.0)
-    by_place false h f later = omega (arith, l.0, later f)
-
 covers_own : (x : Placed) (a k : ℕ) → x.at ≡ a → k < length80 x.instr → covers x (a + k) ≡ true
 covers_own x a k same lt = grind (arith, nat_tests)
 

@@ -12,11 +12,11 @@ use Rattle.i80.specs.Columns.{length80, ends80}
 use Rattle.asm80_program_types.specs.declared.program.Placed.{Placed}
 use Rattle.asm80_program_types.specs.Program.{Program, IsProgram, instr_at, is_start}
 use Rattle.asm80_program_types.specs.Taken.{taken_places}
-use Rattle.asm80_program_types.proofs.Lookup.{above-laid, rising-laid}
+use Rattle.asm80_program_types.proofs.Lookup.{above-laid, rising-laid, length80-positive}
 use Rattle.flow.specs.Blocks.{is_cut, is_entered, cut_from, extent, blocks, leader_of, count_in, block_at, end_of, target_of, targets, place_after, IsBlockOf, IsLeader, IsStraight, IsBehindNone, BlocksCut, Cause, First, Target, Taken, BehindEnd, BehindNone, BehindSixteen}
 use Rattle.flow.proofs.Cuts.{flat-cut, offset, block, within_flat, at_flat, Located, locate, one_location, joined_block, uncut_inside, sized_block, leader-first, next_block, ended_block, offset-zero}
 use Rattle.flow.proofs.Entries.{target_named, entered_target, entered_taken, cut_entered, cut_ended, cut_apart, target_among, contained}
-use Rattle.flow.proofs.Laid.{strictly, length80-positive, behind_each, one_place, next_place, found_start, at_place}
+use Rattle.flow.proofs.Laid.{strictly, behind_each, one_place, next_place, found_start, at_place}
 use Rattle.flow.proofs.Straight.{straight, after_some, after_end}
 use Rattle.flow.proofs.Wires.{placed_at, named_start, instr_among, taken_are}
 

@@ -3,17 +3,11 @@ use Rattle.std.proofs.Common.{◌≡◌, ℕ, zero, suc, ◌+◌, ◌<◌, ◌�
 use Rattle.std.specs.Prelude.{is_some}
 use Rattle.std.proofs.lemmas.Bool.{eqb-true, eq-eqb, ne_eqb, cases_lt}
 use Rattle.std.proofs.lemmas.List.{get_or-map}
-use Rattle.i80.specs.declared.Instr80.{Instr80}
-use Rattle.i80.specs.declared.Instr80.TheVariants.{Nop}
 use Rattle.i80.specs.Columns.{length80}
 use Rattle.asm80_program_types.specs.declared.program.Placed.{Placed}
 use Rattle.asm80_program_types.specs.Program.{AreLaid, starts_of, placed_in}
-use Rattle.asm80_program_types.proofs.Lookup.{above-laid, rising-laid}
+use Rattle.asm80_program_types.proofs.Lookup.{above-laid, rising-laid, length80-positive}
 use Rattle.flow.specs.Blocks.{end_of}
-
-pub length80-positive : (i : Instr80) → 1 ≤ length80 i
-length80-positive Nop = omega arith
-length80-positive i = omega arith
 
 -- an instruction is found at its address
 pub found_here : (xs : List Placed) (from limit k : ℕ) (d : Placed) → AreLaid from limit xs → k < length xs → placed_in xs (get_or xs k d).at ≡ Some (get_or xs k d)

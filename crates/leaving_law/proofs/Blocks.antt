@@ -10,6 +10,7 @@ use Rattle.i80.specs.Columns.{length80, ends80}
 use Rattle.dialogue.specs.Run.{Run, Going, IsNotStopped, Status, Waiting, Over, Stopped, settle}
 use Rattle.dialogue.proofs.Turns.{turns_add}
 use Rattle.asm80_program_types.specs.Program.{Program, IsProgram}
+use Rattle.asm80_program_types.proofs.Lookup.{start_is}
 use Rattle.cpu80_tagged_def.specs.State.{State80}
 use Rattle.cpu80_tagged_def.specs.Step.{step80, machine80}
 use Rattle.flow.specs.Blocks.{IsStraight, place_after}
@@ -20,7 +21,7 @@ use Rattle.sym_block_def.specs.Block80.{Symbolic80, instrs_from, goto, exit80, e
 use Rattle.simulation_def.specs.Runs80.{env80, Takes80, Answers80, BlockRuns80, BlockLeaves80, BlocksRun80}
 use Rattle.simulation_law.proofs.Running.{run_turns, turn_is, runs_any, moved, leaves_stopped}
 use Rattle.leaving_def.specs.Leaving.{number_in, known_function}
-use Rattle.flow.proofs.Further.{instr_behind, start_is}
+use Rattle.flow.proofs.Further.{instr_behind}
 use Rattle.leaving_def.proofs.Fronts.{front_may_run}
 use Rattle.leaving_law.specs.Left.{after, StandsAt, HasLeft}
 use Rattle.leaving_law.proofs.Stepping.{IsKnown}

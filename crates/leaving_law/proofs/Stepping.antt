@@ -17,12 +17,13 @@ use Rattle.asm80_program_types.specs.Program.{Program, instr_at, is_start}
 use Rattle.cpu80_tagged_def.specs.State.{State80, num_of}
 use Rattle.cpu80_tagged_def.specs.Effect.{effect, push}
 use Rattle.cpu80_tagged_def.specs.Call.{Return, call_by, call_system, popped_return, return_after, ask_after}
-use Rattle.cpu80_tagged_def.specs.Step.{go_on, enter, call, jump, where_holds, act, act_at, step_at, step80}
+use Rattle.cpu80_tagged_def.specs.Step.{go_on, enter, call, jump, where_holds, act, step80}
 use Rattle.leaving_def.specs.declared.Certainty.{Certainty}
 use Rattle.leaving_def.specs.declared.Certainty.TheVariants.{Sure, May}
 use Rattle.leaving_def.specs.declared.Departure.{Departure}
 use Rattle.leaving_def.specs.Leaving.{is_unlisted, asking, returning, going_on, by_rule, or_else, leaving_by}
 use Rattle.leaving_law.specs.Left.{LetsPass}
+use Rattle.sym_sound.proofs.Machine80.Blocks.{step_is}
 
 -- a step that leaves the profile
 abbrev pub Stopping : Answer State80 Rule → Type 0
@@ -39,9 +40,6 @@ StepsAway May rule s i a = Stopping a ⊎ LetsPass s (Some i)
 -- where the function is known, C holds it
 abbrev pub IsKnown : Option ℕ → State80 → Type 0
 IsKnown function s = (n : ℕ) → function ≡ Some n → s.regs.c ≡ Num n
-
-step_is : (p : Program) (s : State80) (at : ℕ) (i : Instr80) → s.place ≡ At at → instr_at p at ≡ Some i → step80 p s ≡ act p s (at + length80 i) i
-step_is p s at i place here = ap (λ q. step_at p s q) place ∙ ap (λ o. act_at p s at o) here
 
 module _ (p : Program) (s : State80) where
   -- ---- P9

@@ -13,12 +13,13 @@ use Rattle.sym_block_def.specs.declared.reason.Reason.{Reason}
 use Rattle.block_check_def.specs.BlockMatch.{Keeps, block_reason}
 use Rattle.block_check.specs.Comparing.{verdict_of}
 use Rattle.block_check.specs.declared.block.Verdict.TheVariants.{NotShown as NotShownBlock}
-use Rattle.simulation_def.specs.Matches.{or_next, blocks_reason}
+use Rattle.simulation_def.specs.Matches.{blocks_reason}
 use Rattle.simulation_def.specs.Needed.{needed_by}
 use Rattle.text_check.specs.declared.finding.Finding.TheVariants.{Shown, NotShown}
 use Rattle.text_check.specs.Findings.{IsFinding}
 use Rattle.text_check.proofs.Matching.{matched, unmatched}
 use Rattle.shrink.specs.Shrunk.{MatchesBlocks}
+use Rattle.simulation_def.proofs.Reasons.{no_reason}
 
 -- ---- a block that is there
 
@@ -35,15 +36,8 @@ is_leader p a n e = leads (blocks p) a n e
 
 -- ---- a block with a reason
 
-some_none : (x : ℕ × Reason) → Some x ≡ None → ⊥
-some_none x e = cc
-
 same_count : (x y : ℕ) → Some x ≡ Some y → x ≡ y
 same_count x y e = cc
-
-pub no_reason : (first : ℕ) (o : Option Reason) (rest : Option (ℕ × Reason)) → or_next first o rest ≡ None → (o ≡ None) × (rest ≡ None)
-no_reason first None rest h = (refl, h)
-no_reason first (Some r) rest h = absurd (some_none (first, r) h)
 
 all_without : (p : Program) (text : List Stmt86) (keeps : Keeps) (bs : List (ℕ × ℕ)) (a n : ℕ) → blocks_reason p text keeps bs ≡ None → count_in bs a ≡ Some n → block_reason p text keeps a n ≡ None
 all_without p text keeps [] a n h e = absurd (cc)

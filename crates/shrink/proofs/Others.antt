@@ -21,8 +21,9 @@ use Rattle.sym_block_def.specs.Walk86.{after_label, way_to, follows, surrounding
 use Rattle.block_check_def.specs.BlockMatch.{Keeps, walked_reason, block_reason}
 use Rattle.simulation_def.specs.Matches.{or_next, blocks_reason}
 use Rattle.shrink.specs.Apart.{is_inner, is_label, begins_with_label}
-use Rattle.shrink.proofs.Matched.{no_reason, is_leader}
+use Rattle.shrink.proofs.Matched.{is_leader}
 use Rattle.shrink.proofs.Walks.{SamePlace, none, some, alike, over, walks_as}
+use Rattle.simulation_def.proofs.Reasons.{no_reason}
 
 -- ---- a leader is no later address of another block
 

@@ -2,7 +2,6 @@
 use Rattle.std.proofs.Common.{◌≡◌, ℕ, zero, suc, ◌+◌, ◌-◌, ◌/◌, ◌%◌, ◌≤◌, ◌<◌, ◌==◌, nat_le, nat_lt, ◌&&◌, ◌||◌, Bool, true, false, cond, List, [], ◌∷◌, ◌++◌, Option, Some, None, refl, sym, ap, subst, ◌∙◌, arith, inl, inr}
 use Rattle.std.specs.Prelude.{All, unwrap_or, slice_index, filter_map}
 use Rattle.std.specs.List.{list_any}
-use Rattle.std.proofs.lemmas.Bool.{eqb-true}
 use Rattle.std.proofs.lemmas.Bool.Decides.{nat_tests}
 use Rattle.std.proofs.lemmas.List.Elements.{All-head, All-tail}
 use Rattle.cells.specs.declared.Place.{Place}
@@ -28,8 +27,8 @@ use Rattle.asm86_line_types.specs.declared.line.Label.TheVariants.{End}
 use Rattle.asm86_line_types.specs.declared.line.Line86.{Line86}
 use Rattle.asm86_line_types.specs.Layout.{offset_of, place_of}
 use Rattle.asm86_line_types.specs.Image.{image_of, statements}
-use Rattle.asm80_program_types.proofs.Standing.{held_taken}
-use Rattle.asm80_program_types.specs.Program.{Program, IsProgram, is_start, is_top, cell_at, cell_in, IsDatum, AreData}
+use Rattle.asm80_program_types.proofs.Standing.{held_taken, datum_found}
+use Rattle.asm80_program_types.specs.Program.{Program, IsProgram, is_start, is_top, cell_at, IsDatum}
 use Rattle.asm80_program_types.specs.Taken.{takes, place_placed, place_in_cell}
 use Rattle.cells.specs.declared.Cell.{Cell}
 use Rattle.cells.specs.declared.Cell.TheVariants.{Num, Lo, Hi, Psw, Junk}
@@ -41,7 +40,6 @@ use Rattle.cpu86_def.specs.Call.{Stop}
 use Rattle.cpu86_def.specs.Step.{machine86}
 use Rattle.dialogue.specs.Fill.{IsFill}
 use Rattle.cpu86_def.specs.Start.{Start, IsStart, start_byte, start86, run86}
-use Rattle.sym_block_def.specs.declared.reason.Reason.{Reason}
 use Rattle.block_check_def.specs.BlockMatch.{Keeps, block_reason}
 use Rattle.simulation_def.specs.States.{IsCell, IsState80}
 use Rattle.simulation_def.specs.Runs86.{offsets_of}
@@ -51,27 +49,24 @@ use Rattle.simulation_law.specs.Linking.{BlocksAreBytes, WriteBytes, BlocksMatch
 use Rattle.simulation_law.proofs.Running.{moved, run_turns}
 use Rattle.simulation_law.proofs.Standing.{StatesStand, are_linked}
 use Rattle.simulation_law.proofs.Linked.{end_label}
-use Rattle.simulation_def.specs.Matches.{or_next, blocks_reason}
+use Rattle.simulation_def.specs.Matches.{blocks_reason}
 use Rattle.simulation_def.specs.Same.{Same}
 use Rattle.dialogue.specs.Replies.{IsReplyBlock, IsReply}
 use Rattle.simulation_law.specs.Laws.{IsMatch, IsFollowed, BlocksFollow, MatchesIsSame}
 use Rattle.simulation_law.proofs.Opening.{s7, segments, label, opens}
 use Rattle.simulation_law.proofs.Memory.{image_cells, opened_bytes, start_stands}
 use Rattle.simulation_law.proofs.FollowBlocks.{Block, At as Reached, blocks_follow, blocks_same}
+use Rattle.simulation_def.proofs.Reasons.{no_reason}
 
 -- every block of the cut matches
-
-next_none : (first : ℕ) (o : Option Reason) (rest : Option (ℕ × Reason)) → or_next first o rest ≡ None → (o ≡ None) × (rest ≡ None)
-next_none first None rest h = (refl, h)
-next_none first (Some r) rest h = absurd (cc)
 
 each_matches : (p : Program) (lines : List Line86) (keeps : Keeps) (cut : List (ℕ × ℕ)) → blocks_reason p (statements lines) keeps cut ≡ None → (first count : ℕ) → HasBlock cut first count → block_reason p (statements lines) keeps first count ≡ None
 each_matches p lines keeps [] h first count has = absurd has
 each_matches p lines keeps (b ∷ bs) h first count (inl is) =
-    let e = next_none b.0 (block_reason p (statements lines) keeps b.0 b.1) (blocks_reason p (statements lines) keeps bs) h in
+    let e = no_reason b.0 (block_reason p (statements lines) keeps b.0 b.1) (blocks_reason p (statements lines) keeps bs) h in
     subst (λ n. block_reason p (statements lines) keeps n count ≡ None) is.0 (subst (λ n. block_reason p (statements lines) keeps b.0 n ≡ None) is.1 e.0)
 each_matches p lines keeps (b ∷ bs) h first count (inr has) =
-    let e = next_none b.0 (block_reason p (statements lines) keeps b.0 b.1) (blocks_reason p (statements lines) keeps bs) h in
+    let e = no_reason b.0 (block_reason p (statements lines) keeps b.0 b.1) (blocks_reason p (statements lines) keeps bs) h in
     each_matches p lines keeps bs e.1 first count has
 
 blocks_match : (p : Program) (lines : List Line86) (cut : List (ℕ × ℕ)) (keeps : Keeps) → IsMatch p lines cut keeps → BlocksMatch p lines cut keeps
@@ -135,17 +130,6 @@ small_at (x ∷ xs) zero h = All-head (λ b. b < 256) x xs h
 small_at (x ∷ xs) (suc i) h = small_at xs i (All-tail (λ b. b < 256) x xs h)
 
 module _ (p : Program) (is : IsProgram p) where
-  data_in : (cs : List (ℕ × Cell)) (a : ℕ) (v : Cell) → AreData p cs → cell_in cs a ≡ Some v → IsDatum p a v
-  data_in [] a v d h = absurd (cc)
-  data_in (c ∷ cs) a v d h = by_here (c.0 == a) refl h (data_in cs a v d.1)
-    where
-      cell_is : (x y : Cell) → ◌≡◌ {A = Option Cell} (Some x) (Some y) → x ≡ y
-      cell_is x y h = cc
-
-      by_here : (t : Bool) → (c.0 == a) ≡ t → cond t (Some c.1) (cell_in cs a) ≡ Some v → (cell_in cs a ≡ Some v → IsDatum p a v) → IsDatum p a v
-      by_here true e g rest = subst (λ n. IsDatum p n v) (eqb-true c.0 a e) (subst (λ x. IsDatum p c.0 x) (cell_is c.1 v g) d.0)
-      by_here false e g rest = rest g
-
   taken_by : (a q : ℕ) → cell_at p a ≡ Some (Lo (At q)) → takes p q ≡ true
   taken_by a q h = any_last q (filter_map place_placed p.instrs) (filter_map place_in_cell p.cells) (held_taken p.cells a q h)
 
@@ -163,7 +147,7 @@ module _ (p : Program) (is : IsProgram p) where
     where
       by_cell : (o : Option Cell) → cell_at p a ≡ o → IsCell p (cell_or_junk o)
       by_cell None e = tt
-      by_cell (Some v) e = datum_cell a v e (data_in p.cells a v is.values e)
+      by_cell (Some v) e = datum_cell a v e (datum_found p a v p.cells is.values e)
 
   top_low : 0x1000 ≤ p.top
   top_low = top_is p.top is.top

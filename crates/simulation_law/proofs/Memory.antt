@@ -1,5 +1,5 @@
 -- Memory at the start of both machines: each cell of the 8080 that is not closed stands for the 8086's, once the opening has run.
-use Rattle.std.proofs.Common.{◌≡◌, ◌≢◌, ℕ, ◌+◌, ◌-◌, ◌/◌, ◌%◌, ◌≤◌, ◌<◌, ◌==◌, nat_le, nat_lt, Bool, true, false, cond, not, List, [], ◌∷◌, ◌&&◌, ◌||◌, Option, Some, None, refl, sym, ap, subst, ◌∙◌, arith}
+use Rattle.std.proofs.Common.{◌≡◌, ◌≢◌, ℕ, ◌+◌, ◌-◌, ◌/◌, ◌%◌, ◌≤◌, ◌<◌, ◌==◌, nat_le, nat_lt, Bool, true, false, cond, not, List, [], ◌∷◌, ◌&&◌, Option, Some, None, refl, sym, ap, subst, ◌∙◌, arith}
 use Rattle.std.specs.Prelude.{All, fold, slice_index}
 use Rattle.std.specs.List.{list_any}
 use Rattle.std.specs.Map.{keys_of, values_of}
@@ -16,8 +16,9 @@ use Rattle.asm86_line_types.specs.declared.line.Label.{Label}
 use Rattle.asm86_line_types.specs.declared.line.Value16.TheVariants.{Num as NumWord, Offset}
 use Rattle.asm86_line_types.specs.declared.line.Stmt86.{Stmt86}
 use Rattle.asm86_line_types.specs.declared.line.Stmt86.TheVariants.{Cseg, Dseg, Org, Rb, Db, Dw, Mark, Run, MovOffset, Jmp, Jmps, Jcc, Call, EndText}
-use Rattle.asm86_line_types.specs.Order.{Reading, at_start, in_data, is_free_cell, may_stand, reading_after, ends_text, has_no_statement, in_order}
+use Rattle.asm86_line_types.specs.Order.{Reading, at_start, in_data, is_free_cell, reading_after, in_order}
 use Rattle.asm86_line_types.specs.Image.{word_cells, cells_from, put_cell, by_address}
+use Rattle.asm86_line_types.proofs.Sorting.{rest_stands}
 use Rattle.asm80_program_types.specs.Program.{Program, cell_at}
 use Rattle.cpu80_tagged_def.specs.Start.{cell_or_junk, start_cell80}
 use Rattle.dialogue.specs.ByteMemory.{put, put_cells}
@@ -43,11 +44,6 @@ free_high r a h = leb-true 0x100 a (and_parts (nat_le 0x100 a) (nat_lt a 0x10000
 
 module _ (off : Label → ℕ) (small : (l : Label) → off l < 0x10000) where
   -- what stands behind a statement
-  rest_in_order : (r : Reading) (x : Stmt86) (xs : List Stmt86) → in_order r (x ∷ xs) ≡ true → (may_stand r x ≡ true) × (in_order (reading_after r x) xs ≡ true)
-  rest_in_order r x xs h =
-      let a = and_parts (may_stand r x) ((not (ends_text x) || has_no_statement xs) && in_order (reading_after r x) xs) h in
-      (a.0, (and_parts (not (ends_text x) || has_no_statement xs) (in_order (reading_after r x) xs) a.1).1)
-
   word_high : (w : ℕ) → w < 0x10000 → w / 256 < 256
   word_high w h = omega (arith, h)
 
@@ -62,27 +58,27 @@ module _ (off : Label → ℕ) (small : (l : Label) → off l < 0x10000) where
 
   cells_are : (r : Reading) (xs : List Stmt86) → in_order r xs ≡ true → DataAreCoded xs → AreCells (cells_from off r.at xs)
   cells_are r [] h d = tt
-  cells_are r (Cseg ∷ xs) h d = cells_are (reading_after r Cseg) xs (rest_in_order r Cseg xs h).1 d.1
-  cells_are r (Dseg ∷ xs) h d = cells_are (reading_after r Dseg) xs (rest_in_order r Dseg xs h).1 d.1
-  cells_are r (Org w ∷ xs) h d = cells_are (reading_after r (Org w)) xs (rest_in_order r (Org w) xs h).1 d.1
-  cells_are r (Rb w ∷ xs) h d = cells_are (reading_after r (Rb w)) xs (rest_in_order r (Rb w) xs h).1 d.1
+  cells_are r (Cseg ∷ xs) h d = cells_are (reading_after r Cseg) xs (rest_stands r Cseg xs h).1 d.1
+  cells_are r (Dseg ∷ xs) h d = cells_are (reading_after r Dseg) xs (rest_stands r Dseg xs h).1 d.1
+  cells_are r (Org w ∷ xs) h d = cells_are (reading_after r (Org w)) xs (rest_stands r (Org w) xs h).1 d.1
+  cells_are r (Rb w ∷ xs) h d = cells_are (reading_after r (Rb w)) xs (rest_stands r (Rb w) xs h).1 d.1
   cells_are r (Db n ∷ xs) h d =
-      let p = rest_in_order r (Db n) xs h in
+      let p = rest_stands r (Db n) xs h in
       ((free_high r r.at (and_parts (in_data r.group) (is_free_cell r r.at) p.0).1, d.0), cells_are (reading_after r (Db n)) xs p.1 d.1)
   cells_are r (Dw (NumWord w) ∷ xs) h d =
-      let p = rest_in_order r (Dw (NumWord w)) xs h in
+      let p = rest_stands r (Dw (NumWord w)) xs h in
       two_cells r w (cells_from off (r.at + 2) xs) d.0 p.0 (cells_are (reading_after r (Dw (NumWord w))) xs p.1 d.1)
   cells_are r (Dw (Offset l) ∷ xs) h d =
-      let p = rest_in_order r (Dw (Offset l)) xs h in
+      let p = rest_stands r (Dw (Offset l)) xs h in
       two_cells r (off l) (cells_from off (r.at + 2) xs) (small l) p.0 (cells_are (reading_after r (Dw (Offset l))) xs p.1 d.1)
-  cells_are r (Mark l ∷ xs) h d = cells_are (reading_after r (Mark l)) xs (rest_in_order r (Mark l) xs h).1 d.1
-  cells_are r (Run i ∷ xs) h d = cells_are (reading_after r (Run i)) xs (rest_in_order r (Run i) xs h).1 d.1
-  cells_are r (MovOffset k l ∷ xs) h d = cells_are (reading_after r (MovOffset k l)) xs (rest_in_order r (MovOffset k l) xs h).1 d.1
-  cells_are r (Jmp l ∷ xs) h d = cells_are (reading_after r (Jmp l)) xs (rest_in_order r (Jmp l) xs h).1 d.1
-  cells_are r (Jmps l ∷ xs) h d = cells_are (reading_after r (Jmps l)) xs (rest_in_order r (Jmps l) xs h).1 d.1
-  cells_are r (Jcc j l ∷ xs) h d = cells_are (reading_after r (Jcc j l)) xs (rest_in_order r (Jcc j l) xs h).1 d.1
-  cells_are r (Call l ∷ xs) h d = cells_are (reading_after r (Call l)) xs (rest_in_order r (Call l) xs h).1 d.1
-  cells_are r (EndText ∷ xs) h d = cells_are (reading_after r EndText) xs (rest_in_order r EndText xs h).1 d.1
+  cells_are r (Mark l ∷ xs) h d = cells_are (reading_after r (Mark l)) xs (rest_stands r (Mark l) xs h).1 d.1
+  cells_are r (Run i ∷ xs) h d = cells_are (reading_after r (Run i)) xs (rest_stands r (Run i) xs h).1 d.1
+  cells_are r (MovOffset k l ∷ xs) h d = cells_are (reading_after r (MovOffset k l)) xs (rest_stands r (MovOffset k l) xs h).1 d.1
+  cells_are r (Jmp l ∷ xs) h d = cells_are (reading_after r (Jmp l)) xs (rest_stands r (Jmp l) xs h).1 d.1
+  cells_are r (Jmps l ∷ xs) h d = cells_are (reading_after r (Jmps l)) xs (rest_stands r (Jmps l) xs h).1 d.1
+  cells_are r (Jcc j l ∷ xs) h d = cells_are (reading_after r (Jcc j l)) xs (rest_stands r (Jcc j l) xs h).1 d.1
+  cells_are r (Call l ∷ xs) h d = cells_are (reading_after r (Call l)) xs (rest_stands r (Call l) xs h).1 d.1
+  cells_are r (EndText ∷ xs) h d = cells_are (reading_after r EndText) xs (rest_stands r EndText xs h).1 d.1
 
 -- they stay so when they are put in their order
 AllHigh : List (ℕ × ℕ) → Type 0

@@ -14,12 +14,14 @@ pub fn addresses(program: &Program80, first: u16, count: u32) -> ([u16; 16], u16
 {
     let mut addresses = [0; 16];
     let mut at = first;
+    let mut near = 0;
     for done in 0..count {
-        let Some(instr) = program.instr_at(at) else {
+        let Some((place, instr)) = program.instr_near(near, at) else {
             unreachable!();
         };
         addresses[done as usize] = at;
         at += length(instr);
+        near = place + 1;
     }
     (addresses, at)
 }

@@ -1,6 +1,6 @@
 // A block of the 8080.
 
-ghost use Rattle.std.specs.Prelude.{◌≡◌, ◌+◌, ◌*◌, ◌≤◌, false, Some, IsSome, IsTrue};
+ghost use Rattle.std.specs.Prelude.{◌≡◌, ◌+◌, ◌*◌, ◌<◌, ◌≤◌, false, Some, IsSome, IsTrue};
 ghost use Rattle.std.specs.Vec.{vec_capacity};
 ghost use Rattle.i80.specs.Columns.{is_well_formed, length80};
 ghost use Rattle.asm80_program_types.specs.Program.{instr_at};
@@ -30,25 +30,28 @@ pub fn run_block(
 {
     begin(terms, run, Keep::all())?;
     let mut at = first;
+    let mut near = 0;
     for _done in 1..count {
-        let instr = instr_at(program, at);
+        let (place, instr) = instr_near(program, near, at);
         step80(terms, run, instr)?;
         at += length(instr);
+        near = place + 1;
     }
-    let last = instr_at(program, at);
+    let (_, last) = instr_near(program, near, at);
     step80(terms, run, last)?;
     exit(terms, run, program, at + length(last), last)
 }
 
-// The instruction that starts at an address.
-fn instr_at(program: &Program80, at: u16) -> Instr80
+// The instruction that starts at an address, with its place, which is looked for first at one that it may well have.
+fn instr_near(program: &Program80, near: usize, at: u16) -> (usize, Instr80)
     requires { IsSome (instr_at program.now at) }
-    ensures found { instr_at program.now at ≡ Some result }
-    ensures well_formed { IsTrue (is_well_formed result) }
-    ensures within { at + length80 result ≤ 0xFF00 }
+    ensures found { instr_at program.now at ≡ Some result.1 }
+    ensures few { result.0 < 65022 }
+    ensures well_formed { IsTrue (is_well_formed result.1) }
+    ensures within { at + length80 result.1 ≤ 0xFF00 }
 {
-    match program.instr_at(at) {
-        Some(instr) => instr,
+    match program.instr_near(near, at) {
+        Some(found) => found,
         None => unreachable!(),
     }
 }

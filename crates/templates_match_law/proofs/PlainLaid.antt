@@ -1,15 +1,9 @@
 -- The instructions of a program, found at their addresses.
-use Rattle.std.proofs.Common.{◌≡◌, ℕ, ◌+◌, ◌≤◌, List, [], ◌∷◌, Some, refl, subst, arith, Bool, true, false, cond, ◌==◌}
+use Rattle.std.proofs.Common.{◌≡◌, ℕ, ◌+◌, List, [], ◌∷◌, Some, refl, subst, arith, Bool, true, false, cond, ◌==◌}
 use Rattle.std.proofs.lemmas.Bool.Decides.{nat_tests}
-use Rattle.i80.specs.declared.Instr80.{Instr80}
-use Rattle.i80.specs.declared.Instr80.TheVariants.{Nop}
 use Rattle.i80.specs.Columns.{length80, is_well_formed}
 use Rattle.asm80_program_types.specs.declared.program.Placed.{Placed}
 use Rattle.asm80_program_types.specs.Program.{placed_in, AreLaid}
-
-pub length80-some : (i : Instr80) → 1 ≤ length80 i
-length80-some Nop = omega arith
-length80-some i = omega arith
 
 -- what is found at an address stands there
 pub found_at : (xs : List Placed) (a : ℕ) (x : Placed) → placed_in xs a ≡ Some x → x.at ≡ a
@@ -20,16 +14,7 @@ found_at (y ∷ ys) a x h = by_test (y.at == a) refl h (found_at ys a x)
     by_test true e g rec = let k : y.at ≡ a = grind (arith, nat_tests) in let same : y ≡ x = cc in subst (λ v. v.at ≡ a) same k
     by_test false e g rec = rec g
 
--- an instruction of a list that is laid from an address up stands at that address or above it
-pub laid_above : (xs : List Placed) (from limit a : ℕ) (x : Placed) → AreLaid from limit xs → placed_in xs a ≡ Some x → from ≤ a
-laid_above [] from limit a x laid h = absurd (cc)
-laid_above (y ∷ ys) from limit a x laid h = by_test (y.at == a) refl h (laid_above ys (y.at + length80 y.instr) limit a x laid.3)
-  where
-    by_test : (t : Bool) → (y.at == a) ≡ t → cond t (Some y) (placed_in ys a) ≡ Some x → (placed_in ys a ≡ Some x → y.at + length80 y.instr ≤ a) → from ≤ a
-    by_test true e g up = let le = laid.0 in grind (arith, nat_tests)
-    by_test false e g up = let le = up g in let le' = laid.0 in omega (arith, le, le')
-
--- and it is well formed
+-- an instruction of a list that is laid is well formed
 pub laid_good : (xs : List Placed) (from limit a : ℕ) (x : Placed) → AreLaid from limit xs → placed_in xs a ≡ Some x → is_well_formed x.instr ≡ true
 laid_good [] from limit a x laid h = absurd (cc)
 laid_good (y ∷ ys) from limit a x laid h = by_test (y.at == a) h (laid_good ys (y.at + length80 y.instr) limit a x laid.3)

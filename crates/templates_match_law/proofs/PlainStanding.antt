@@ -20,11 +20,12 @@ use Rattle.asm86_line_types.specs.Layout.{same_label, marks}
 use Rattle.asm80_program_types.specs.declared.program.Placed.{Placed}
 use Rattle.asm80_program_types.specs.Program.{placed_in, AreLaid}
 use Rattle.asm80_program_types.proofs.Standing.{start_has}
+use Rattle.asm80_program_types.proofs.Lookup.{length80-positive, placed_above}
 use Rattle.templates.specs.Template.{template}
 use Rattle.templates.specs.Plain.{body}
 use Rattle.sym_block_def.specs.Outcome.{Way, Goto, SysReturn}
 use Rattle.sym_block_def.specs.Walk86.{after_label, way_to}
-use Rattle.templates_match_law.proofs.PlainLaid.{length80-some, found_at, laid_above}
+use Rattle.templates_match_law.proofs.PlainLaid.{found_at}
 
 -- labels
 
@@ -145,8 +146,8 @@ first_is (z ∷ zs) from limit laid e = by_test (z.at == from) refl e
     by_test true q f = let k : z.at ≡ from = grind (arith, nat_tests) in ap Line k
     by_test false q f =
         let y = start_has (placed_in zs from) f in
-        let up = laid_above zs (z.at + length80 z.instr) limit from y.0 laid.3 y.1 in
-        let some = length80-some z.instr in
+        let up = placed_above zs (z.at + length80 z.instr) limit from y.0 laid.3 y.1 in
+        let some = length80-positive z.instr in
         let above = laid.0 in
         absurd (omega (arith, up, some, above))
 
@@ -178,11 +179,11 @@ here y ys from limit tail laid =
     split = append_assoc (template y.instr y.at true) (body ys) (Mark Sys ∷ tail)
 
     ne : y.at ≢ y.at + length80 y.instr
-    ne = let some = length80-some y.instr in omega (arith, some)
+    ne = let some = length80-positive y.instr in omega (arith, some)
 
 later : (y x : Placed) (ys : List Placed) (tail : List Stmt86) → y.at + length80 y.instr ≤ x.at → Stands (body ys ++ tail) ys x → Stands (body (y ∷ ys) ++ tail) (y ∷ ys) x
 later y x ys tail le s =
-    let some = length80-some y.instr in
+    let some = length80-positive y.instr in
     let ne : y.at ≢ x.at = omega (arith, some) in
     let ne' : y.at ≢ x.at + length80 x.instr = omega (arith, some) in
     record {
@@ -205,5 +206,5 @@ each_stands (y ∷ ys) from limit a x tail laid h = by_test (y.at == a) refl h (
     by_test : (t : Bool) → (y.at == a) ≡ t → cond t (Some y) (placed_in ys a) ≡ Some x → (placed_in ys a ≡ Some x → Stands (body ys ++ Mark Sys ∷ tail) ys x) → Stands (body (y ∷ ys) ++ Mark Sys ∷ tail) (y ∷ ys) x
     by_test true e g rec = let same : y ≡ x = cc in subst (λ v. Stands (body (y ∷ ys) ++ Mark Sys ∷ tail) (y ∷ ys) v) same (here y ys from limit tail laid)
     by_test false e g rec =
-        let le = laid_above ys (y.at + length80 y.instr) limit a x laid.3 g in
+        let le = placed_above ys (y.at + length80 y.instr) limit a x laid.3 g in
         later y x ys (Mark Sys ∷ tail) (subst (λ n. y.at + length80 y.instr ≤ n) (sym (found_at ys a x g)) le) (rec g)

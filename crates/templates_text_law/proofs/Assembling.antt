@@ -19,7 +19,7 @@ use Rattle.asm86_line_types.proofs.Statements.{Each, offset_past}
 use Rattle.asm86_line_reader.specs.ReadBack.{label_fits, has_line}
 use Rattle.asm80_program_types.specs.declared.program.Placed.{Placed}
 use Rattle.asm80_program_types.specs.Program.{AreLaid}
-use Rattle.flow.proofs.Laid.{length80-positive}
+use Rattle.asm80_program_types.proofs.Lookup.{length80-positive}
 use Rattle.templates.specs.Template.{label_of_goal}
 use Rattle.templates_text_law.specs.Reach.{ShortenedReach}
 use Rattle.templates_text_law.proofs.Statements.{each-append, each-map, HaveLines, stands_behind}

@@ -19,7 +19,8 @@ use Rattle.asm86_line_types.specs.Layout.{offset_of, place_of}
 use Rattle.asm86_line_types.specs.Image.{statements, image_of, cells_from, by_address}
 use Rattle.asm86_line_types.specs.Cells.{AscendingStay}
 use Rattle.asm80_program_types.specs.declared.program.Placed.{Placed}
-use Rattle.asm80_program_types.specs.Program.{Program, cell_in, cell_at, CellsAreLaid, IsDatum, AreData, IsProgram}
+use Rattle.asm80_program_types.specs.Program.{Program, cell_in, cell_at, CellsAreLaid, IsDatum, IsProgram}
+use Rattle.asm80_program_types.proofs.Standing.{datum_found}
 use Rattle.flow.specs.Blocks.{BlocksCut}
 use Rattle.templates.specs.Style.{Style, styled_statements, styled}
 use Rattle.asm86.proofs.Texts.{offset_is}
@@ -73,18 +74,6 @@ byte_found off instrs from limit a v (c ∷ cs) laid h = by_test (c.0 == a) refl
         ∙ ap (λ t. cond t (Some (byte_of off c.1)) None) e
         ∙ ap (λ w. Some (byte_of off w)) value
     by_test false e g rec = ap (λ o. first_or o (cond (c.0 == a) (Some (byte_of off c.1)) None)) (rec g)
-
--- what the cell at an address is
-datum_found : (p : Program) (a : ℕ) (v : Cell) (cs : List (ℕ × Cell)) → AreData p cs → cell_in cs a ≡ Some v → IsDatum p a v
-datum_found p a v [] values h = absurd (cc)
-datum_found p a v (c ∷ cs) values h = by_test (c.0 == a) refl h (datum_found p a v cs values.1)
-  where
-    by_test : (t : Bool) → (c.0 == a) ≡ t → cond t (Some c.1) (cell_in cs a) ≡ Some v → (cell_in cs a ≡ Some v → IsDatum p a v) → IsDatum p a v
-    by_test true e g rec =
-        let place : c.0 ≡ a = grind (arith, nat_tests) in
-        let value : c.1 ≡ v = cc in
-        subst (λ w. IsDatum p a w) value (subst (λ n. IsDatum p n c.1) place values.0)
-    by_test false e g rec = rec g
 
 -- ---- what the byte stands for
 

@@ -15,10 +15,10 @@ use Rattle.asm86_line_types.proofs.Sizes.{count_marks-append}
 use Rattle.asm86_line_types.proofs.Statements.{MarksNot}
 use Rattle.asm80_program_types.specs.declared.program.Placed.{Placed}
 use Rattle.asm80_program_types.specs.Program.{placed_in, AreLaid}
-use Rattle.asm80_program_types.proofs.Lookup.{above-laid}
+use Rattle.asm80_program_types.proofs.Lookup.{above-laid, length80-positive}
 use Rattle.flow.specs.Blocks.{extent}
 use Rattle.flow.proofs.Cuts.{flat}
-use Rattle.flow.proofs.Laid.{length80-positive, found_start}
+use Rattle.flow.proofs.Laid.{found_start}
 use Rattle.templates.specs.Style.{Style, block_from, block_in_style, blocks_of}
 use Rattle.templates_text_law.proofs.Statements.{marks_not-append, stands_behind}
 use Rattle.templates_text_law.proofs.Shapes.{HasShape, straight, past, short, step_marks_not, steps_mark_not, shape_marks_not}

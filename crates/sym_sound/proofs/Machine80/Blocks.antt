@@ -28,10 +28,11 @@ use Rattle.sym_sound.proofs.Machine80.Moves.{Denoted}
 use Rattle.sym_sound.proofs.Machine80.Rows.{row}
 use Rattle.sym_sound.proofs.Machine80.Leaving.{AnswersBy, AnsweredBy, goto_answered, pair_answered, return_answered, jump_answered, call_answered, in_answered, out_answered, one_answered, two_answered}
 use Rattle.asm80_program_types.proofs.Standing.{IsPlaced, is_placed}
-use Rattle.sym_sound.proofs.Machine80.Standing.{starts_there, loads_held, call_taken, cif_taken}
+use Rattle.asm80_program_types.proofs.Lookup.{start_is}
+use Rattle.sym_sound.proofs.Machine80.Standing.{loads_held, call_taken, cif_taken}
 
 -- the step at an instruction
-step_is : (p : Program) (s : State80) (at : ℕ) (i : Instr80) → s.place ≡ At at → instr_at p at ≡ Some i → step80 p s ≡ act p s (at + length80 i) i
+pub step_is : (p : Program) (s : State80) (at : ℕ) (i : Instr80) → s.place ≡ At at → instr_at p at ≡ Some i → step80 p s ≡ act p s (at + length80 i) i
 step_is p s at i place here = ap (at_place) place ∙ ap (λ o. act_at p s at o) here
   where
     at_place : Place → Answer State80 Rule
@@ -204,7 +205,7 @@ module _ (keep : MadeTermsKeepValues) (sorts : MadeTermsHaveSorts) (steps : Step
       (λ r.
       ⊎_elim (λ l. inl (leaves_later p s r.0 used (length is) r.1 l)) (λ k. inr (runs_later p s0 s r.0 used (length is) _ r.1 k))
       (instrs_run is j r.3.loads (effect80 x i) r.0 (at + length80 i) (suc used) r.3.denotes (steps.effect80 x i h.coded o) r.2 stand.1 ends.1))
-      (runs_on keep sorts p g s0 loads x s at i d o place stand.0 h ends.0 (starts_there p (at + length80 i) j stand.1.0))
+      (runs_on keep sorts p g s0 loads x s at i d o place stand.0 h ends.0 (start_is p (at + length80 i) j stand.1.0))
 
 -- the start of a block
 at_start : (p : Program) (s : State80) → IsState80 p s → Denotes p s [] start80 s

@@ -1,21 +1,16 @@
 -- What is known of an instruction of a program.
-use Rattle.std.proofs.Common.{◌≡◌, ℕ, ◌+◌, ◌%◌, ◌<◌, true, Some, refl, ap, subst, arith}
-use Rattle.std.specs.Prelude.{is_some}
+use Rattle.std.proofs.Common.{◌≡◌, ℕ, ◌+◌, ◌%◌, ◌<◌, true, refl, subst, arith}
 use Rattle.cells.specs.declared.Cond.{Cond}
 use Rattle.i80.specs.declared.Goal.{Goal}
 use Rattle.i80.specs.declared.Goal.TheVariants.{At as ToInstr, Boot as ToBoot, Bdos as ToBdos}
 use Rattle.i80.specs.declared.Word.TheVariants.{Code as CodeAt}
 use Rattle.i80.specs.declared.Instr80.{Instr80}
 use Rattle.i80.specs.declared.Instr80.TheVariants.{Lxi, Call, Cif}
-use Rattle.asm80_program_types.specs.Program.{Program, placed_in, instr_at, is_start}
+use Rattle.asm80_program_types.specs.Program.{Program}
 use Rattle.asm80_program_types.specs.Taken.{takes}
-use Rattle.asm80_program_types.proofs.Standing.{IsPlaced, placed_is}
+use Rattle.asm80_program_types.proofs.Standing.{IsPlaced}
 use Rattle.sym_sound.proofs.Machine80.Rows.{LoadsHeld}
 use Rattle.sym_sound.proofs.Machine80.Leaving.{ReturnIsTaken}
-
--- where an instruction stands, one starts
-pub starts_there : (p : Program) (a : ℕ) (i : Instr80) → instr_at p a ≡ Some i → is_start p a ≡ true
-starts_there p a i e = let x = placed_is (placed_in p.instrs a) i e in ap is_some x.1
 
 -- a code address that is loaded may be held
 pub loads_held : (p : Program) (a : ℕ) (i : Instr80) → IsPlaced p a i → LoadsHeld p i
