@@ -11,7 +11,7 @@ use Rattle.asm80_statement_types.specs.declared.fault.ReadFault.TheVariants.{Syn
 use Rattle.asm80_statement_types.specs.declared.stmt.Stmt80.{Stmt80}
 use Rattle.asm80_statement_types.specs.Tree.{statement_of}
 use Rattle.asm80_statement_types.specs.Reading.{Finishes}
-use Rattle.asm80_text.specs.Spelling.{Spelling}
+use Rattle.asm80_tokens.specs.Spelling.{Spelling}
 use Rattle.asm80_text.specs.Line.{LineGives, late, long}
 use Rattle.base_types.specs.Held.{held_with_byte, HoldsLine}
 use Rattle.base_types.specs.Cut.{Cut, without_cr, last_line}
