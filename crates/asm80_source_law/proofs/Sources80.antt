@@ -8,7 +8,7 @@ use Rattle.asm80_text.specs.Stream.{LinesGive, none_left, next, fails, StreamGiv
 use Rattle.asm80_program_types.specs.Program.{Program, is_top}
 use Rattle.asm80_source_def.specs.FirstFaults.{Refusal}
 use Rattle.asm80_source_def.specs.Assembly.{refusal}
-use Rattle.asm80_text.specs.Spelling.{Spelling}
+use Rattle.asm80_tokens.specs.Spelling.{Spelling}
 use Rattle.asm80_source_def.specs.Source.{IsSource, IsNoSource, SourceRule, OfLine, OfProgram, faulty, refused}
 
 -- a fault of lines is that of a rule on a line

@@ -6,7 +6,7 @@ use Rattle.asm80_statement_types.specs.Tree.{Statement}
 use Rattle.base_types.specs.Cut.{Cut}
 use Rattle.base_types.proofs.Cuts.{cut_byte, cut_line}
 use Rattle.asm80_text.specs.Stream.{IsPlain, IsStream, closed, complete, StreamGives}
-use Rattle.asm80_text.specs.Spelling.{Spelling}
+use Rattle.asm80_tokens.specs.Spelling.{Spelling}
 use Rattle.asm80_source_law.proofs.Lines80.{lines_give}
 
 record Lined (stream : List ℕ) : Type 0 where

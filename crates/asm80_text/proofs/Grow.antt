@@ -1,20 +1,13 @@
 -- A stream that grows by a byte.
-use Rattle.std.proofs.Common.{◌≡◌, ◌≢◌, ℕ, suc, ◌+◌, List, [], ◌∷◌, ◌++◌, length, map, Option, Some, None, Ok, Err, refl, sym, ap, ◌∙◌, append_assoc, arith}
+use Rattle.std.proofs.Common.{◌≡◌, ◌≢◌, ℕ, ◌+◌, List, [], ◌∷◌, ◌++◌, length, Option, Some, None, Ok, Err, refl, sym, ◌∙◌, append_assoc, arith}
 use Rattle.std.proofs.lemmas.List.{append-nil}
 use Rattle.asm80_statement_types.specs.declared.fault.LineRule.{LineRule}
 use Rattle.asm80_statement_types.specs.declared.fault.ReadFault.{ReadFault}
 use Rattle.asm80_statement_types.specs.declared.fault.ReadFault.TheVariants.{Syntax}
 use Rattle.asm80_statement_types.specs.Tree.{Statement}
-use Rattle.asm80_text.specs.Spelling.{Spelling}
+use Rattle.asm80_tokens.specs.Spelling.{Spelling}
 use Rattle.asm80_text.specs.Line.{LineGives}
-use Rattle.base_types.specs.Cut.{without_cr}
 use Rattle.asm80_text.specs.Stream.{LinesGive, none_left, next, fails}
-
--- ---- lines
-
-pub length_map : (raw : List (List ℕ)) → length (map without_cr raw) ≡ length raw
-length_map [] = refl
-length_map (x ∷ raw) = ap suc (length_map raw)
 
 pub reads_on : {s : Spelling} {n : ℕ} {lines : List (List ℕ)} {es : List Statement} {f : Option ReadFault} → LinesGive s n lines es f → f ≡ None → (line : List ℕ) (ss : List Statement) (m : ℕ) → m ≡ n + length lines → LineGives s m line (Ok ss) → LinesGive s n (lines ++ line ∷ []) (es ++ ss) None
 reads_on {n = n} none_left e line ss m p h = let q : m ≡ n = p ∙ omega arith in rw (sym (append-nil ss), ← q) (next h none_left)

@@ -1,10 +1,4 @@
-pub mod Significant
-pub mod Digits
-pub mod Names
-pub mod Quotes
-pub mod Symbols
 pub mod Operations
-pub mod Lexing
 pub mod Chain
 pub mod Cases
 pub mod Unambiguous

@@ -1,9 +1,9 @@
 -- What a reader holds after one more byte.
-use Rattle.std.proofs.Common.{◌≡◌, ◌≢◌, ℕ, suc, ◌<◌, ◌+◌, take, drop, get_or, List, [], ◌∷◌, ◌++◌, length, map, Bool, true, false, eqb, ◌-◌, Option, Some, None, Err, refl, sym, ap, subst, ◌∙◌, append_assoc, arith, inl, inr}
+use Rattle.std.proofs.Common.{◌≡◌, ◌≢◌, ℕ, suc, ◌<◌, ◌+◌, take, List, [], ◌∷◌, ◌++◌, length, map, Bool, true, false, eqb, ◌-◌, Option, Some, None, Err, refl, sym, ap, subst, ◌∙◌, append_assoc, arith, inl, inr}
 use Rattle.std.specs.Prelude.{is_some, slice_index}
-use Rattle.std.specs.List.{flat_map, AllByRecursion}
+use Rattle.std.specs.List.{AllByRecursion}
 use Rattle.std.proofs.lemmas.Bool.{cases_eq, cases_lt, lt-ltb, le-ltb, cases_Bool}
-use Rattle.std.proofs.lemmas.List.{length-take, append-nil, length-append, map-append, take_all, take_more, take-append-drop, length-drop}
+use Rattle.std.proofs.lemmas.List.{length-take, length-map, append-nil, length-append, map-append}
 use Rattle.std.proofs.lemmas.Bool.Decides.{nat_tests}
 use Rattle.asm80_statement_types.specs.declared.fault.LineRule.{LineRule}
 use Rattle.asm80_statement_types.specs.declared.fault.ReadFault.{ReadFault}
@@ -11,15 +11,15 @@ use Rattle.asm80_statement_types.specs.declared.fault.ReadFault.TheVariants.{Syn
 use Rattle.asm80_statement_types.specs.declared.stmt.Stmt80.{Stmt80}
 use Rattle.asm80_statement_types.specs.Tree.{statement_of}
 use Rattle.asm80_statement_types.specs.Reading.{Finishes}
-use Rattle.asm80_text.specs.Spelling.{Spelling}
+use Rattle.asm80_tokens.specs.Spelling.{Spelling}
 use Rattle.asm80_text.specs.Line.{LineGives, late, long}
 use Rattle.base_types.specs.Held.{held_with_byte, HoldsLine}
-use Rattle.base_types.specs.Cut.{Cut, ended, without_cr, last_line}
+use Rattle.base_types.specs.Cut.{Cut, without_cr, last_line}
 use Rattle.asm80_text.specs.Stream.{IsPlain, is_plain, plain_len, IsStream, open_yet, closed, complete, LinesGive, none_left, StreamGives}
 use Rattle.asm80_text.specs.Reader.{Reader, After, Advances, rule_of_long, EndsLineBy, EndsLine, AddsBy, Adds, EndsStreamBy, EndsStream}
-use Rattle.base_types.proofs.Cuts.{cut_byte, cut_line, map_push}
+use Rattle.base_types.proofs.Cuts.{cut_byte, cut_bytes, cut_line, map_push}
 use Rattle.base_types.proofs.Holding.{holds_byte}
-use Rattle.asm80_text.proofs.Grow.{length_map, reads_on, reads_fault, stands}
+use Rattle.asm80_text.proofs.Grow.{reads_on, reads_fault, stands}
 
 stream_closed : {stream rest : List ℕ} {raw : List (List ℕ)} {k : Bool} → IsStream stream raw rest k → k ≡ true → (b : ℕ) → IsStream (stream ++ b ∷ []) raw rest k
 stream_closed (open_yet c) e b = absurd cc
@@ -135,7 +135,7 @@ module _ (spelling : Spelling) where
     })
 
     next_number : s.number + 1 ≡ 1 + length (map without_cr h.raw)
-    next_number = omega (arith, number_now, length_map h.raw)
+    next_number = omega (arith, number_now, length-map h.raw without_cr)
 
     line_held : (line : List ℕ) → s.held ≡ Some line → line ≡ h.rest
     line_held line e = holds_line line h.rest (subst (λ (o : Option (List ℕ)). HoldsLine o h.rest) e held_now)
@@ -236,13 +236,12 @@ module _ (spelling : Spelling) where
 
   pub after_whole : (stream : List ℕ) (s : Reader) → s.fault ≡ None → s.is_closed ≡ false → After spelling stream s → (bytes : List ℕ) → AllByRecursion IsPlain bytes → s.held ≡ Some [] → (new : Reader) → new.fault ≢ Some Memory → Adds spelling (without_cr bytes) s new → After spelling (stream ++ (bytes ++ 10 ∷ [])) new
   after_whole stream s fault open_now h bytes plain k new ne a =
-      let c = cut_now stream s fault open_now h in
       let t : Reader = record s { held = Some bytes } in
       let g : After spelling (stream ++ bytes) t = record {
         raw = h.raw;
         rest = bytes;
         is_closed = false;
-        cut = open_yet (record { whole = ap (λ (x : List ℕ). x ++ bytes) (c.whole ∙ ap (λ (r : List ℕ). flat_map ended h.raw ++ r) (sym (line_held stream s fault open_now h [] k))) ∙ append_assoc (flat_map ended h.raw) [] bytes; each = c.each; last = plain });
+        cut = open_yet (cut_bytes stream h.raw h.rest bytes (cut_now stream s fault open_now h) (line_held stream s fault open_now h [] k) plain);
         lines = reads_now stream s fault open_now h;
         closing = λ _. open_now;
         held = λ _ _. (refl, number_now stream s fault open_now h);
@@ -302,18 +301,6 @@ all_plain (b ∷ bytes) = elim (cases_Bool (is_plain b)) [
   | inl e ↦ let one : 1 + plain_len bytes ≡ suc (plain_len bytes) = omega arith in rw (e, one) (plain_one b e, all_plain bytes)
   | inr e ↦ rw e tt
 ]
-
--- a line with its LF at the front of bytes
-pub line_front : (bytes : List ℕ) (k : ℕ) → k < length bytes → get_or bytes k 0 ≡ 10 → bytes ≡ (take k bytes ++ 10 ∷ []) ++ drop (k + 1) bytes
-line_front bytes k lt e =
-    sym (take-append-drop (k + 1) bytes) ∙ ap (λ (t : List ℕ). t ++ drop (k + 1) bytes) (take_more bytes k 0 lt ∙ ap (λ (x : ℕ). take k bytes ++ x ∷ []) e)
-
-pub byte_front : (bytes : List ℕ) → 0 < length bytes → bytes ≡ (get_or bytes 0 0 ∷ []) ++ drop 1 bytes
-byte_front [] lt = absurd (omega arith)
-byte_front (b ∷ bytes) lt = refl
-
-pub rest_of : (bytes : List ℕ) (k : ℕ) → take (length bytes - k) (drop k bytes) ≡ drop k bytes
-rest_of bytes k = take_all (length bytes - k) (drop k bytes) (omega (arith, length-drop k bytes))
 
 -- once nothing is left, all was taken
 pub all_taken : (s : Spelling) (bytes rest : List ℕ) (old new : Reader) → length rest ≡ 0 → Advances s bytes rest old new → new.fault ≢ Some Memory → (stream : List ℕ) → After s stream old → After s (stream ++ bytes) new

@@ -7,8 +7,8 @@ use Rattle.asm80_statement_types.specs.declared.fault.ReadFault.{ReadFault}
 use Rattle.asm80_statement_types.specs.declared.fault.ReadFault.TheVariants.{Syntax, Memory}
 use Rattle.asm80_statement_types.specs.Tree.{Statement, statement_of}
 use Rattle.asm80_statement_types.specs.Reading.{Finishes}
-use Rattle.asm80_text.specs.Spelling.{Spelling}
-use Rattle.asm80_text.specs.Coherent.{IsCoherent}
+use Rattle.asm80_tokens.specs.Spelling.{Spelling}
+use Rattle.asm80_tokens.specs.Coherent.{IsCoherent}
 use Rattle.asm80_text.proofs.Once.{one_line}
 use Rattle.asm80_text.proofs.Steps.{not_memory, none_not_memory}
 use Rattle.base_types.specs.Cut.{Cut, ended}

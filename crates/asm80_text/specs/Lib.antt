@@ -1,13 +1,5 @@
-pub mod Letters
-pub mod Spelling
-pub mod Words
-pub mod Numbers
-pub mod Strings
-pub mod Tokens
 pub mod Grammar
-pub mod TokenResults
-pub mod Small
-pub mod Coherent
+pub mod TreeResults
 pub use Rattle.asm80_statement_types.specs.Name
 pub use Rattle.asm80_statement_types.specs.Tree
 pub use Rattle.asm80_statement_types.specs.WellFormed

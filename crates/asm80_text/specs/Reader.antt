@@ -7,7 +7,7 @@ use Rattle.asm80_statement_types.specs.declared.fault.ReadFault.{ReadFault}
 use Rattle.asm80_statement_types.specs.declared.fault.ReadFault.TheVariants.{Syntax, Memory}
 use Rattle.asm80_statement_types.specs.declared.stmt.Stmt80.{Stmt80}
 use Rattle.asm80_statement_types.specs.Tree.{Statement, statement_of}
-use Rattle.asm80_text.specs.Spelling.{Spelling}
+use Rattle.asm80_tokens.specs.Spelling.{Spelling}
 use Rattle.base_types.specs.Held.{HoldsLine}
 use Rattle.asm80_text.specs.Line.{LineGives}
 use Rattle.base_types.specs.Cut.{without_cr}

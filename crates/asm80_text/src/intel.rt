@@ -1,8 +1,8 @@
 //! Intel's spelling.
 
 use crate::parse::operand_list;
-use crate::{Notation, ParseFault, Token};
 use asm80_statement_types::{Arg, Name80};
+use asm80_tokens::{Notation, ParseFault, Token};
 use std::alloc::Global;
 
 /// Intel's spelling, which is that of the statements themselves (Intel 8080 Assembly Language Programming Manual, chapter 2).

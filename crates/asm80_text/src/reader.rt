@@ -11,11 +11,10 @@ ghost use Rattle.asm80_text.specs.Stream.{HoldsFault, StreamGives, plain_len};
 ghost use Rattle.asm80_statement_types.specs.Reading.{Finishes, HasOneOutcome};
 ghost use Rattle.asm80_text.specs.Reader.{Adds, Advances, After, Agrees, EndsLine, EndsStream, answer_of, rule_of_long};
 
-use crate::Notation;
 use crate::intel::Intel;
 use crate::line::{MOST_LINES, read_line};
-use crate::token::Token;
 use asm80_statement_types::{LineRule, ReadFault, StatementReader, Stmt80};
+use asm80_tokens::{Notation, Token};
 use base_types::{HeldLine, without_cr};
 use std::alloc::{AllocError, Global};
 use std::marker::{Model, PhantomData};

@@ -1,19 +1,18 @@
 -- What a reader holds after one more byte.
-use Rattle.std.proofs.Common.{◌≡◌, ◌≢◌, ℕ, suc, ◌<◌, ◌+◌, ◌-◌, ◌||◌, List, [], ◌∷◌, ◌++◌, take, drop, length, map, Bool, true, false, Option, Some, None, refl, sym, ap, subst, ◌∙◌, append_assoc, arith, inl, inr}
+use Rattle.std.proofs.Common.{◌≡◌, ◌≢◌, ℕ, suc, ◌+◌, ◌-◌, ◌||◌, List, [], ◌∷◌, ◌++◌, take, length, map, Bool, true, false, Option, Some, None, refl, sym, ap, subst, ◌∙◌, append_assoc, arith, inl, inr}
 use Rattle.std.specs.Prelude.{is_some}
-use Rattle.std.specs.List.{flat_map, AllByRecursion}
-use Rattle.std.proofs.Math.ListN.{get_or}
+use Rattle.std.specs.List.{AllByRecursion}
 use Rattle.std.proofs.lemmas.Bool.{cases_eq, cases_Bool, ne_eqb}
-use Rattle.std.proofs.lemmas.List.{take_more, take_all, take-append-drop, length-map, length-drop, append-nil, length-append}
+use Rattle.std.proofs.lemmas.List.{length-map, append-nil, length-append}
 use Rattle.asm86_line_types.specs.declared.line.Line86.{Line86}
 use Rattle.asm86.specs.declared.text_fault.TextFault.{TextFault}
 use Rattle.asm86.specs.declared.text_fault.TextFault.TheVariants.{Line, Memory}
 use Rattle.base_types.specs.Held.{held_with_byte, HoldsLine}
 use Rattle.asm86.specs.Stream.{IsNotLf, line_len, has_end, Ending, Open, Ended, Broken, TextLinesGive, none_left, next, ends, breaks}
 use Rattle.asm86.specs.Reader.{TextReader, IsBehind, IsOf, AfterText, Advances, ReadsBy, ReadsLine}
-use Rattle.base_types.specs.Cut.{Cut, ended, without_cr}
+use Rattle.base_types.specs.Cut.{Cut, without_cr}
 use Rattle.base_types.proofs.Holding.{holds_byte}
-use Rattle.base_types.proofs.Cuts.{cut_byte, cut_line, map_push}
+use Rattle.base_types.proofs.Cuts.{cut_byte, cut_bytes, cut_line, map_push}
 use Rattle.asm86.proofs.Lines.{true_false, open_not_ended, reads_on, stands, open_without_end, ended_with_end}
 
 pub after_none : (reader : TextReader) → reader.lines ≡ [] → reader.number ≡ 0 → reader.held ≡ Some [] → reader.fault ≡ None → AfterText [] reader
@@ -159,7 +158,7 @@ after_whole stream s new bytes o plain held ne reads =
     let now : Opened (stream ++ bytes) t = record {
       raw = o.raw;
       rest = bytes;
-      cut = record { whole = ap (λ (x : List ℕ). x ++ bytes) (o.cut.whole ∙ ap (λ (r : List ℕ). flat_map ended o.raw ++ r) (sym none)) ∙ append_assoc (flat_map ended o.raw) [] bytes; each = o.cut.each; last = plain };
+      cut = cut_bytes stream o.raw o.rest bytes o.cut none plain;
       lines = o.lines;
       fault = o.fault;
       number = o.number;
@@ -187,18 +186,6 @@ all_plain (b ∷ bytes) = elim (cases_eq b 10) [
   | inl e ↦ rw e tt
   | inr ne ↦ let one : 1 + line_len bytes ≡ suc (line_len bytes) = omega arith in rw (ne_eqb b 10 ne, one) (ne, all_plain bytes)
 ]
-
--- a line with its LF at the front of bytes, and one byte there
-pub line_front : (bytes : List ℕ) (k : ℕ) → k < length bytes → get_or bytes k 0 ≡ 10 → bytes ≡ (take k bytes ++ 10 ∷ []) ++ drop (k + 1) bytes
-line_front bytes k lt e =
-    sym (take-append-drop (k + 1) bytes) ∙ ap (λ (t : List ℕ). t ++ drop (k + 1) bytes) (take_more bytes k 0 lt ∙ ap (λ (x : ℕ). take k bytes ++ x ∷ []) e)
-
-pub byte_front : (bytes : List ℕ) → 0 < length bytes → bytes ≡ (get_or bytes 0 0 ∷ []) ++ drop 1 bytes
-byte_front [] lt = absurd (omega arith)
-byte_front (b ∷ bytes) lt = refl
-
-pub rest_of : (bytes : List ℕ) (k : ℕ) → take (length bytes - k) (drop k bytes) ≡ drop k bytes
-rest_of bytes k = take_all (length bytes - k) (drop k bytes) (omega (arith, length-drop k bytes))
 
 -- once nothing is left, all was taken
 pub all_taken : (bytes rest : List ℕ) (old new : TextReader) → length rest ≡ 0 → Advances bytes rest old new → new.fault ≢ Some Memory → (stream : List ℕ) → AfterText stream old → AfterText (stream ++ bytes) new

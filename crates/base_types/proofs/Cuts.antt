@@ -1,10 +1,10 @@
--- How a text is cut into lines: a byte more, and that there is one way.
+-- How a text is cut into lines: a byte or several more, and that there is one way.
 use Rattle.std.proofs.Common.{◌≡◌, ◌≢◌, ℕ, List, [], ◌∷◌, ◌++◌, map, refl, sym, ap, ◌∙◌, append_assoc}
 use Rattle.std.specs.List.{flat_map, AllByRecursion}
 use Rattle.std.proofs.lemmas.List.{append-nil}
 use Rattle.base_types.specs.Cut.{ended, Cut, without_cr}
 
--- ---- a byte more
+-- ---- a byte more, and several
 
 all_push : (IsPart : ℕ → Type 0) (rest : List ℕ) (b : ℕ) → AllByRecursion IsPart rest → IsPart b → AllByRecursion IsPart (rest ++ b ∷ [])
 all_push P [] b h p = (p, tt)
@@ -26,6 +26,14 @@ cut_line {IsPart = P} text raw rest c = record {
   whole = ap (λ (t : List ℕ). t ++ 10 ∷ []) c.whole ∙ append_assoc (flat_map ended raw) rest (10 ∷ []) ∙ sym (flat_push raw rest) ∙ sym (append-nil (flat_map ended (raw ++ rest ∷ [])));
   each = lines_push P raw rest c.each c.last;
   last = tt;
+}
+
+-- bytes with no LF, where nothing stands after the last one
+pub cut_bytes : {IsPart : ℕ → Type 0} (text : List ℕ) (raw : List (List ℕ)) (rest bytes : List ℕ) → Cut IsPart text raw rest → [] ≡ rest → AllByRecursion IsPart bytes → Cut IsPart (text ++ bytes) raw bytes
+cut_bytes text raw rest bytes c e p = record {
+  whole = ap (λ (t : List ℕ). t ++ bytes) (c.whole ∙ ap (λ (r : List ℕ). flat_map ended raw ++ r) (sym e)) ∙ append_assoc (flat_map ended raw) [] bytes;
+  each = c.each;
+  last = p;
 }
 
 pub map_push : (raw : List (List ℕ)) (line : List ℕ) → map without_cr (raw ++ line ∷ []) ≡ map without_cr raw ++ without_cr line ∷ []

@@ -1,3 +1,4 @@
 pub mod Cuts
 pub mod Holding
 pub mod Fronts
+pub mod Pieces

@@ -7,10 +7,10 @@ use Rattle.asm80_statement_types.specs.Tree.{Named, Operand, Whole}
 use Rattle.asm80_statement_types.specs.Words.{operations, registers as statement_registers, is_operation as is_statement_operation, is_register as is_statement_register}
 use Rattle.asm80_statement_types.specs.WellFormed.{IsLawfulOperand}
 use Rattle.asm80_statement_types.specs.Ranges.{IsInRange}
-use Rattle.asm80_text.specs.declared.token.Token.{Token}
-use Rattle.asm80_text.specs.Small.{IsSmall, AreSmall}
-use Rattle.asm80_text.specs.Tokens.{IsLawful}
-use Rattle.asm80_text.specs.Coherent.{IsCoherent}
+use Rattle.asm80_tokens.specs.declared.token.Token.{Token}
+use Rattle.asm80_tokens.specs.Small.{IsSmall, AreSmall}
+use Rattle.asm80_tokens.specs.Tokens.{IsLawful}
+use Rattle.asm80_tokens.specs.Coherent.{IsCoherent}
 use Rattle.asm80_text.proofs.Alone.{one_operand_list}
 use Rattle.asm80_text.proofs.Lawful.{list_lawful}
 use Rattle.asm80_text.proofs.Ranges.{list_range}

@@ -5,7 +5,7 @@ use Rattle.std.specs.Str.{bytes_eq}
 use Rattle.std.proofs.lemmas.Bool.{ltb-true, leb-true}
 use Rattle.asm80_statement_types.specs.Name.{IsName}
 use Rattle.asm80_statement_types.specs.Tree.{Named, Operand, Whole}
-use Rattle.asm80_text.proofs.Names.{letters_are_name}
+use Rattle.asm80_tokens.proofs.Names.{letters_are_name}
 use Rattle.zilog80.specs.declared.class.Class.{Class as ReadClass}
 use Rattle.zilog80.specs.Operands.{Spelt, Class, Names, renamed, operands}
 use Rattle.zilog80.specs.Read.{class_of, is_word, are_words, BareEntry, UnaryEntry, BinaryEntry, bare_of, unary_of, binary_of, fits_unary, fits_binary, given_unary, given_binary, read_unary, read_binary, IsBareRow, IsUnaryRow, IsBinaryRow}

@@ -3,9 +3,9 @@ use Rattle.std.proofs.Common.{◌≡◌, List, [], ◌∷◌, Option, Some, None
 use Rattle.std.specs.List.{AllByRecursion}
 use Rattle.asm80_statement_types.specs.Tree.{Tree, Whole}
 use Rattle.asm80_statement_types.specs.Ranges.{IsInRange}
-use Rattle.asm80_text.specs.declared.token.Token.{Token}
-use Rattle.asm80_text.specs.declared.token.Token.TheVariants.{Digits, Num, Register as Reserved, Open, Close}
-use Rattle.asm80_text.specs.Small.{AreSmall}
+use Rattle.asm80_tokens.specs.declared.token.Token.{Token}
+use Rattle.asm80_tokens.specs.declared.token.Token.TheVariants.{Digits, Num, Register as Reserved, Open, Close}
+use Rattle.asm80_tokens.specs.Small.{AreSmall}
 use Rattle.asm80_text.specs.Grammar.{Spells, alone, tighter, parens}
 use Rattle.asm80_text.specs.Statement.{value as expression, last, full}
 use Rattle.asm80_text.proofs.Unambiguous.{one_expression}

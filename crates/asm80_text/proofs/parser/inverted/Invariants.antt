@@ -1,6 +1,6 @@
 use Rattle.std.proofs.Common.{◌≡◌}
 use Rattle.asm80_statement_types.specs.Tree.{tree_of}
-use Rattle.asm80_text.specs.TokenResults.{inverted}
+use Rattle.asm80_text.specs.TreeResults.{inverted}
 use Rattle.asm80_text.proofs.parser.inverted.Given as goal
 
 abbrev pub invariant-loop-i : goal.invariant-loop-i

@@ -1,6 +1,6 @@
 use Rattle.std.proofs.Common.{◌∷◌, [], List, ap, sym, ◌∙◌, take, drop}
 use Rattle.std.specs.List.{slice_split}
-use Rattle.asm80_text.specs.declared.token.Token.{Token}
+use Rattle.asm80_tokens.specs.declared.token.Token.{Token}
 use Rattle.zilog80.specs.Zilog.{is_comma}
 use Rattle.zilog80.proofs.Reading.{one_part, more_parts}
 use Rattle.zilog80.proofs.instruction.next_operand.Goals as goal

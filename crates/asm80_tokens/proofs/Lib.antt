@@ -1,0 +1,6 @@
+pub mod Significant
+pub mod Digits
+pub mod Names
+pub mod Quotes
+pub mod Symbols
+pub mod Lexing

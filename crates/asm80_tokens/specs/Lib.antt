@@ -1,0 +1,9 @@
+pub mod Letters
+pub mod Spelling
+pub mod Words
+pub mod Numbers
+pub mod Strings
+pub mod Tokens
+pub mod TokenResults
+pub mod Small
+pub mod Coherent

@@ -1,0 +1,59 @@
+//! Why there is no token, no expression and no statement.
+
+ghost use Rattle.std.specs.Prelude.{◌≡◌};
+ghost use Rattle.asm80_tokens.specs.declared.fault.ScanFault.TheVariants as scan;
+ghost use Rattle.asm80_tokens.specs.declared.fault.ParseFault.TheVariants as parse;
+
+use asm80_statement_types::LineRule;
+use std::alloc::{AllocError, AllocFailed};
+use thiserror::Error;
+
+/// Why there is no token.
+#[derive(Clone, Copy, Debug, PartialEq, Eq, Drop, Error)]
+pub enum ScanFault {
+    #[error("{0:?}")]
+    Rule(LineRule),
+    #[error("out of memory")]
+    Memory,
+}
+
+/// Why there is no expression or no statement.
+#[derive(Clone, Copy, Debug, PartialEq, Eq, Drop, Error)]
+pub enum ParseFault {
+    #[error("the tokens form none")]
+    Malformed,
+    #[error("out of memory")]
+    Memory,
+}
+
+impl From<AllocError> for ScanFault {
+    ghost from_gives = { λ _ e. e ≡ scan.Memory };
+
+    fn from(_e: AllocError) -> ScanFault {
+        ScanFault::Memory
+    }
+}
+
+impl<T: Drop> From<AllocFailed<T>> for ScanFault {
+    ghost from_gives = { λ _ e. e ≡ scan.Memory };
+
+    fn from(_e: AllocFailed<T>) -> ScanFault {
+        ScanFault::Memory
+    }
+}
+
+impl From<AllocError> for ParseFault {
+    ghost from_gives = { λ _ e. e ≡ parse.Memory };
+
+    fn from(_e: AllocError) -> ParseFault {
+        ParseFault::Memory
+    }
+}
+
+impl<T: Drop> From<AllocFailed<T>> for ParseFault {
+    ghost from_gives = { λ _ e. e ≡ parse.Memory };
+
+    fn from(_e: AllocFailed<T>) -> ParseFault {
+        ParseFault::Memory
+    }
+}
