@@ -1,5 +1,5 @@
 -- The status of `check` is that of the one thing that it comes to.
-use Rattle.std.proofs.Common.{◌≡◌, ◌∙◌, ℕ, inl, inr, ⊎_elim, List, refl, sym, ap}
+use Rattle.std.proofs.Common.{◌≡◌, ◌∙◌, ℕ, inl, ⊎_elim, List, refl, sym, ap}
 use Rattle.std.specs.Prelude.{Result}
 use Rattle.host.specs.Host.{HostState}
 use Rattle.asm86_line_types.specs.declared.line.Line86.{Line86}

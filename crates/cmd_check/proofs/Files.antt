@@ -1,5 +1,5 @@
 -- The status of a command that reads a source and a text is that of the one thing that both come to, as far as it comes of their bytes.
-use Rattle.std.proofs.Common.{◌≡◌, Bool, ◌∙◌, ℕ, ◌⊎◌, inl, inr, ⊎_elim, List, refl, sym, ap, subst}
+use Rattle.std.proofs.Common.{◌≡◌, Bool, ◌∙◌, ℕ, ◌⊎◌, inl, inr, ⊎_elim, List, refl, ap, subst}
 use Rattle.std.specs.Prelude.{Result, Ok, Err}
 use Rattle.host.specs.Host.{HostState}
 use Rattle.asm86_line_types.specs.declared.line.Line86.{Line86}

@@ -1,5 +1,5 @@
 -- What a program's own text comes to.
-use Rattle.std.proofs.Common.{◌≡◌, ◌∙◌, ℕ, ◌⊎◌, inl, inr, ⊎_elim, List, Option, refl, ap, subst}
+use Rattle.std.proofs.Common.{◌≡◌, ◌∙◌, ℕ, inl, inr, ⊎_elim, List, Option, refl, ap, subst}
 use Rattle.std.specs.Prelude.{Result, Ok}
 use Rattle.host.specs.Host.{HostState}
 use Rattle.asm86_line_types.specs.declared.line.Line86.{Line86}
@@ -19,7 +19,7 @@ use Rattle.cmd_common.specs.declared.stop.Stop.{Stop}
 use Rattle.cmd_common.specs.OneEnd.{came_status}
 use Rattle.cmd_check.specs.Completes.{found_count, FilesComeTo, refused, no_image, loaded, IsFound, CheckCompletes}
 use Rattle.cmd_check.specs.OwnTexts.{IsTranslation, ShowsOwnText}
-use Rattle.cmd_check.proofs.Files.{FileLaws, has_none}
+use Rattle.cmd_check.proofs.Files.{has_none}
 use Rattle.cmd_check.proofs.Completing.{Laws}
 
 -- what is known of the texts that a program is translated to, and of what is written for them

@@ -1,5 +1,5 @@
 -- The status of `shrink` is that of the one thing that it comes to.
-use Rattle.std.proofs.Common.{◌≡◌, ◌∙◌, ℕ, ◌-◌, ◌<◌, ◌≤◌, inl, inr, ⊎_elim, List, length, refl, sym, ap, arith}
+use Rattle.std.proofs.Common.{◌≡◌, ◌∙◌, ℕ, ◌-◌, inl, ⊎_elim, List, length, refl, sym, ap, arith}
 use Rattle.std.specs.Prelude.{Result, Ok, Err}
 use Rattle.host.specs.declared.HostFault.{HostFault}
 use Rattle.host.specs.declared.HostFault.TheVariants.{Failed, Memory}
@@ -8,7 +8,7 @@ use Rattle.host.proofs.HostLemmas.{risen_on}
 use Rattle.asm86_line_types.specs.declared.line.Line86.{Line86}
 use Rattle.asm80_program_types.specs.Program.{Program}
 use Rattle.sym_block_def.specs.declared.reason.Reason.{Reason}
-use Rattle.xlt_core.specs.Names.{Finding, Shown, NotShown as NotFound, OneFinding}
+use Rattle.xlt_core.specs.Names.{Shown, NotShown as NotFound, OneFinding}
 use Rattle.shrink.specs.Laws.{OneShrunk}
 use Rattle.cmd_arguments.specs.Words.{Shrink}
 use Rattle.cmd_common.specs.declared.stop.Stop.{Stop}
@@ -16,12 +16,12 @@ use Rattle.cmd_common.specs.declared.stop.Stop.TheVariants.{OutOfMemory, NotShow
 use Rattle.cmd_common.specs.Said.{IsDone, whole, failed, no_memory, Closes, said, unsaid}
 use Rattle.cmd_common.specs.Files.{NoneFailed, FileIsTold, input_limit, text_limit}
 use Rattle.cmd_common.specs.OneEnd.{HasStatus}
-use Rattle.cmd_common.specs.Writing.{WriteStops, stop_of_write}
+use Rattle.cmd_common.specs.Writing.{stop_of_write}
 use Rattle.cmd_common.proofs.Told.{not_unsaid, closes_status, memory_status}
 use Rattle.cmd_check.specs.Checks.{not_shown as is_not_shown, no_memory as memory_to_find}
 use Rattle.cmd_check.specs.Completes.{found_count, FilesComeTo}
 use Rattle.cmd_check.proofs.Files.{FileLaws, by_loading, by_load_stop}
-use Rattle.cmd_shrink.specs.Shrinks.{check_of, most_statements, IsLeft, too_many, unlike, no_memory as no_room, HasShrunk, Stops, unloaded, unshrunk, unwritten, ShrinkGives, shrunk, stopped}
+use Rattle.cmd_shrink.specs.Shrinks.{check_of, too_many, unlike, no_memory as no_room, HasShrunk, Stops, unloaded, unshrunk, unwritten, ShrinkGives, shrunk, stopped}
 use Rattle.cmd_shrink.specs.Completes.{LeavesOut, too_many as too_many_left, not_shown, shrunk as is_shrunk, ShrinkCompletes}
 
 -- what is known of sources, texts, findings and what is left

@@ -1,6 +1,4 @@
 use Rattle.std.proofs.Common.{◌≡◌, refl, sym, subst}
-use Rattle.hex_file.specs.Written.{IsWritten}
-use Rattle.cpu80_bytes_def.specs.Cells.{program_cells}
 use Rattle.cmd_arguments.specs.ReadCommands.{hex80_read}
 use Rattle.cmd_common.specs.declared.stop.Stop.TheVariants.{OutOfMemory}
 use Rattle.cmd_common.specs.Sources.{SourceGives, reading_of}

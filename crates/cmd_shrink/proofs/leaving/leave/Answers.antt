@@ -1,7 +1,7 @@
 use Rattle.std.proofs.Common.{◌≡◌, ℕ, ◌≤◌, length, ap, sym, subst, arith}
-use Rattle.cmd_common.specs.declared.stop.Stop.TheVariants.{OutOfMemory, TooManyStatements}
+use Rattle.cmd_common.specs.declared.stop.Stop.TheVariants.{TooManyStatements}
 use Rattle.cmd_common.proofs.Told.{judged}
-use Rattle.cmd_shrink.specs.Shrinks.{line_of_left, LeftStops, too_many, unlike, no_memory}
+use Rattle.cmd_shrink.specs.Shrinks.{LeftStops, too_many, unlike}
 use Rattle.cmd_shrink.proofs.leaving.leave.Goals as goal
 
 pub returns-then-count-gt-MOST_STATEMENTS-clause-stopped : goal.returns-then-count-gt-MOST_STATEMENTS-clause-stopped

@@ -1,12 +1,11 @@
 use Rattle.std.proofs.Common.{◌≡◌, true, ap, sym, subst}
-use Rattle.host.specs.Host.{HostState}
 use Rattle.asm86_line_types.specs.Written.{written_text}
 use Rattle.asm80_program_types.specs.Program.{is_top}
 use Rattle.cmd_arguments.specs.Words.{Check}
 use Rattle.cmd_arguments.specs.ReadCommands.{shrink_read}
 use Rattle.cmd_common.proofs.Told.{judged}
 use Rattle.cmd_check.specs.Checks.{Loads, LoadStops}
-use Rattle.cmd_shrink.specs.Shrinks.{check_of, Stops, unloaded, unshrunk}
+use Rattle.cmd_shrink.specs.Shrinks.{Stops, unloaded, unshrunk}
 use Rattle.cmd_shrink.proofs.Working.{write_stop, has_shrunk}
 use Rattle.cmd_shrink.proofs.shrinking.work.Goals as goal
 
