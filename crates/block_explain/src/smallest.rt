@@ -8,7 +8,11 @@ ghost use Rattle.block_explain.specs.Pairs.{trees_of, trees_of_all, AreBothGiven
 use cells::Part;
 use i80::Op;
 use sym_run::same;
-use sym_terms::{Head, Term, Terms};
+use sym_terms::Head::{
+    Adjust, Alu, Bit, Code, Flag, FlagByte, High, Join, Loaded8, Loaded16, Low, Num, Start,
+    StartSp, Sum16, Turn, Turned, Unknown,
+};
+use sym_terms::{Term, Terms};
 
 /// A term of the 8080, and one of the 8086.
 #[derive(Clone, Copy)]
@@ -44,64 +48,58 @@ fn only_difference(terms: &Terms, whole: TermPair) -> Option<TermPair>
 {
     let theirs = terms.head(whole.theirs);
     match terms.head(whole.ours) {
-        Head::Alu(op, a, b, c) => match theirs {
-            Head::Alu(other, x, y, z) => only_one_if(
+        Alu(op, a, b, c) => match theirs {
+            Alu(other, x, y, z) => only_one_if(
                 terms,
                 is_op(op, other),
                 &[pair(a, x), pair(b, y), pair(c, z)],
             ),
             _ => None,
         },
-        Head::Flag(part, a) => match theirs {
-            Head::Flag(other, x) => only_one_if(terms, is_part(part, other), &[pair(a, x)]),
+        Flag(part, a) => match theirs {
+            Flag(other, x) => only_one_if(terms, is_part(part, other), &[pair(a, x)]),
             _ => None,
         },
-        Head::Sum16(a, b) => match theirs {
-            Head::Sum16(x, y) => only_one(terms, &[pair(a, x), pair(b, y)]),
+        Sum16(a, b) => match theirs {
+            Sum16(x, y) => only_one(terms, &[pair(a, x), pair(b, y)]),
             _ => None,
         },
-        Head::High(a) => match theirs {
-            Head::High(x) => only_one(terms, &[pair(a, x)]),
+        High(a) => match theirs {
+            High(x) => only_one(terms, &[pair(a, x)]),
             _ => None,
         },
-        Head::Low(a) => match theirs {
-            Head::Low(x) => only_one(terms, &[pair(a, x)]),
+        Low(a) => match theirs {
+            Low(x) => only_one(terms, &[pair(a, x)]),
             _ => None,
         },
-        Head::Join(a, b) => match theirs {
-            Head::Join(x, y) => only_one(terms, &[pair(a, x), pair(b, y)]),
+        Join(a, b) => match theirs {
+            Join(x, y) => only_one(terms, &[pair(a, x), pair(b, y)]),
             _ => None,
         },
-        Head::FlagByte(s, z, a, p, c) => match theirs {
-            Head::FlagByte(t, y, b, q, d) => only_one(
+        FlagByte(s, z, a, p, c) => match theirs {
+            FlagByte(t, y, b, q, d) => only_one(
                 terms,
                 &[pair(s, t), pair(z, y), pair(a, b), pair(p, q), pair(c, d)],
             ),
             _ => None,
         },
-        Head::Bit(a, part) => match theirs {
-            Head::Bit(x, other) => only_one_if(terms, is_part(part, other), &[pair(a, x)]),
+        Bit(a, part) => match theirs {
+            Bit(x, other) => only_one_if(terms, is_part(part, other), &[pair(a, x)]),
             _ => None,
         },
-        Head::Turn(kind, a, b) => match theirs {
-            Head::Turn(other, x, y) => only_one_if(terms, kind == other, &[pair(a, x), pair(b, y)]),
+        Turn(kind, a, b) => match theirs {
+            Turn(other, x, y) => only_one_if(terms, kind == other, &[pair(a, x), pair(b, y)]),
             _ => None,
         },
-        Head::Turned(a) => match theirs {
-            Head::Turned(x) => only_one(terms, &[pair(a, x)]),
+        Turned(a) => match theirs {
+            Turned(x) => only_one(terms, &[pair(a, x)]),
             _ => None,
         },
-        Head::Adjust(a, b, c) => match theirs {
-            Head::Adjust(x, y, z) => only_one(terms, &[pair(a, x), pair(b, y), pair(c, z)]),
+        Adjust(a, b, c) => match theirs {
+            Adjust(x, y, z) => only_one(terms, &[pair(a, x), pair(b, y), pair(c, z)]),
             _ => None,
         },
-        Head::Num(_)
-        | Head::Start(_)
-        | Head::StartSp
-        | Head::Loaded8(_)
-        | Head::Loaded16(_)
-        | Head::Code(..)
-        | Head::Unknown => None,
+        Num(_) | Start(_) | StartSp | Loaded8(_) | Loaded16(_) | Code(..) | Unknown => None,
     }
 }
 

@@ -1,5 +1,5 @@
 -- The status of `check` is that of the one thing that it comes to.
-use Rattle.std.proofs.Common.{◌≡◌, ◌∙◌, ℕ, inl, inr, ⊎_elim, List, refl, sym, ap}
+use Rattle.std.proofs.Common.{◌≡◌, ◌∙◌, ℕ, inl, ⊎_elim, List, refl, sym, ap}
 use Rattle.std.specs.Prelude.{Result}
 use Rattle.host.specs.Host.{HostState}
 use Rattle.asm86_line_types.specs.declared.line.Line86.{Line86}
@@ -13,18 +13,14 @@ use Rattle.cmd_common.specs.Files.{NoneFailed, FileIsTold, input_limit, text_lim
 use Rattle.cmd_common.specs.OneEnd.{HasStatus}
 use Rattle.cmd_common.proofs.Told.{not_unsaid, closes_status, memory_status}
 use Rattle.cmd_check.specs.Checks.{Shows, not_shown, no_memory as memory_wanting, Stops, unloaded, unlike, CheckGives, shown, stopped}
+use Rattle.cmd_check.specs.Laws.{CheckLaws}
 use Rattle.cmd_check.specs.Completes.{found_count, FilesComeTo, IsFound, CheckCompletes}
-use Rattle.cmd_check.proofs.Files.{FileLaws, by_loading, by_load_stop}
-
--- what is known of sources, texts and findings
-pub record Laws : Type 0 where
-  pub files : FileLaws
-  pub finding : OneFinding
+use Rattle.cmd_check.proofs.Files.{by_loading, by_load_stop}
 
 pub one_found : OneFinding → (p : Program) (lines : List Line86) (r s : Result ℕ Stop) → IsFound p lines r → IsFound p lines s → r ≡ s
 one_found one p lines r s h k = h.2 ∙ ap found_count (one p lines h.0 k.0 h.1 k.1) ∙ sym k.2
 
-module _ (law : Laws) (c : Check) (old new : HostState) (none : NoneFailed old new) (source text : List ℕ) (first : FileIsTold old c.source input_limit source) (second : FileIsTold old c.text text_limit text) (status : ℕ) where
+module _ (law : CheckLaws) (c : Check) (old new : HostState) (none : NoneFailed old new) (source text : List ℕ) (first : FileIsTold old c.source input_limit source) (second : FileIsTold old c.text text_limit text) (status : ℕ) where
   abbrev Answer : Type 0
   Answer = HasStatus (FilesComeTo c IsFound source text) status
 
@@ -46,5 +42,5 @@ module _ (law : Laws) (c : Check) (old new : HostState) (none : NoneFailed old n
   by_gift (shown mid line h d) = done mid line h status refl d
   by_gift (stopped mid stop s closes) = by_stop mid stop s closes
 
-pub completes : Laws → (c : Check) (old new : HostState) (status : ℕ) → CheckGives c old new status → CheckCompletes c old new status
+pub completes : CheckLaws → (c : Check) (old new : HostState) (status : ℕ) → CheckGives c old new status → CheckCompletes c old new status
 completes law c old new status gives none source text first second = by_gift law c old new none source text first second status gives

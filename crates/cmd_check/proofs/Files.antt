@@ -1,5 +1,5 @@
 -- The status of a command that reads a source and a text is that of the one thing that both come to, as far as it comes of their bytes.
-use Rattle.std.proofs.Common.{◌≡◌, Bool, ◌∙◌, ℕ, ◌⊎◌, inl, inr, ⊎_elim, List, refl, sym, ap, subst}
+use Rattle.std.proofs.Common.{◌≡◌, ◌∙◌, ℕ, ◌⊎◌, inl, inr, ⊎_elim, List, refl, ap, subst}
 use Rattle.std.specs.Prelude.{Result, Ok, Err}
 use Rattle.host.specs.Host.{HostState}
 use Rattle.asm86_line_types.specs.declared.line.Line86.{Line86}
@@ -7,9 +7,8 @@ use Rattle.asm86_line_types.specs.Image.{Assembles, image_of}
 use Rattle.asm86.specs.Stream.{TextGives}
 use Rattle.asm86.proofs.Outcomes.{same_lines}
 use Rattle.asm86.specs.declared.fault.ImageFault.{ImageFault}
-use Rattle.asm86.specs.Refusals.{OneRefusal, NotBoth}
 use Rattle.asm86.specs.Images.{IsNoImage}
-use Rattle.asm86.proofs.OneOutcome.{OneReading, never_both, one_fault}
+use Rattle.asm86.proofs.OneOutcome.{never_both, one_fault}
 use Rattle.asm80_program_types.specs.Program.{Program}
 use Rattle.asm80_source_def.specs.Source.{IsSource, SourceRule, IsNoSource, OfLine, OfProgram}
 use Rattle.cmd_arguments.specs.Words.{Check}
@@ -18,19 +17,13 @@ use Rattle.cmd_common.specs.Lines.{status_of}
 use Rattle.cmd_common.specs.Said.{Closes}
 use Rattle.cmd_common.specs.Files.{NoneFailed, FileIsTold, input_limit, text_limit}
 use Rattle.cmd_common.specs.OneEnd.{came_status, IsOnlyEnd, HasStatus}
-use Rattle.cmd_common.specs.Sources.{of_line, of_program, stop_of_rule, reading_of, SourceLaw}
+use Rattle.cmd_common.specs.Sources.{of_line, of_program, stop_of_rule, reading_of}
 use Rattle.cmd_common.specs.Texts.{stop_of_image}
 use Rattle.cmd_common.proofs.Told.{told_whole, read_stops, closes_reads, closes_status, memory_status}
 use Rattle.cmd_check.specs.Checks.{Reads, Loads, LoadStops, no_source, no_text, refused as source_refused, no_image as image_wanting, out_of_memory}
+use Rattle.cmd_check.specs.Laws.{FileLaws}
 use Rattle.cmd_check.specs.Completes.{FilesComeTo, refused, no_image, loaded}
 use Rattle.cmd_common.specs.declared.stop.Stop.TheVariants.{OutOfMemory}
-
--- what is known of sources and texts
-pub record FileLaws : Type 0 where
-  pub source : (zilog : Bool) → SourceLaw (reading_of zilog)
-  pub reading : OneReading
-  pub refuses : OneRefusal
-  pub not_both : NotBoth
 
 module _ (law : FileLaws) (c : Check) where
   -- a text that has an image has no fault

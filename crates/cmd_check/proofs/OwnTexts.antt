@@ -1,5 +1,5 @@
 -- What a program's own text comes to.
-use Rattle.std.proofs.Common.{◌≡◌, ◌∙◌, ℕ, ◌⊎◌, inl, inr, ⊎_elim, List, Option, refl, ap, subst}
+use Rattle.std.proofs.Common.{◌≡◌, ◌∙◌, ℕ, inl, inr, ⊎_elim, List, Option, refl, ap, subst}
 use Rattle.std.specs.Prelude.{Result, Ok}
 use Rattle.host.specs.Host.{HostState}
 use Rattle.asm86_line_types.specs.declared.line.Line86.{Line86}
@@ -18,9 +18,9 @@ use Rattle.cmd_arguments.specs.Words.{Check}
 use Rattle.cmd_common.specs.declared.stop.Stop.{Stop}
 use Rattle.cmd_common.specs.OneEnd.{came_status}
 use Rattle.cmd_check.specs.Completes.{found_count, FilesComeTo, refused, no_image, loaded, IsFound, CheckCompletes}
+use Rattle.cmd_check.specs.Laws.{CheckLaws}
 use Rattle.cmd_check.specs.OwnTexts.{IsTranslation, ShowsOwnText}
-use Rattle.cmd_check.proofs.Files.{FileLaws, has_none}
-use Rattle.cmd_check.proofs.Completing.{Laws}
+use Rattle.cmd_check.proofs.Files.{has_none}
 
 -- what is known of the texts that a program is translated to, and of what is written for them
 pub record OwnLaws : Type 0 where
@@ -30,7 +30,7 @@ pub record OwnLaws : Type 0 where
   pub output_reads : (kept : Option (List ℕ)) (mode : Mode) (p : Program) (lines : List Line86) (text : List ℕ) → IsText mode p lines → IsOutput kept p lines text → TextGives (written_text lines) (Ok lines) → ReadsAs lines text
   pub output_image : (kept : Option (List ℕ)) (p : Program) (lines : List Line86) (text : List ℕ) (image : Image) → IsOutput kept p lines text → HasImage (written_text lines) image → HasImage text image
 
-module _ (law : Laws) (own : OwnLaws) (c : Check) (source text : List ℕ) (t : IsTranslation c.zilog source c.top text) where
+module _ (law : CheckLaws) (own : OwnLaws) (c : Check) (source text : List ℕ) (t : IsTranslation c.zilog source c.top text) where
   lawful : IsProgram t.program
   lawful = t.is_source.program.program.lawful
 
@@ -60,6 +60,6 @@ module _ (law : Laws) (own : OwnLaws) (c : Check) (source text : List ℕ) (t : 
       let shown = found_shown p lines h.0 ((law.files.source c.zilog).program source c.top p t.program is t.is_source) give h.1 in
       ap came_status (h.2 ∙ ap found_count shown.1)
 
-pub shows_own_text : Laws → OwnLaws → (c : Check) (old new : HostState) (status : ℕ) → CheckCompletes c old new status → ShowsOwnText c old new status
+pub shows_own_text : CheckLaws → OwnLaws → (c : Check) (old new : HostState) (status : ℕ) → CheckCompletes c old new status → ShowsOwnText c old new status
 shows_own_text law own c old new status completes none source text first second t =
     ⊎_elim (λ e. inr e) (λ a. inl (a.2 ∙ came law own c source text t a.0 a.1.comes)) (completes none source text first second)

@@ -1,3 +1,4 @@
 pub mod Checks
 pub mod Completes
 pub mod OwnTexts
+pub mod Laws

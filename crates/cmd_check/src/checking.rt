@@ -10,13 +10,13 @@ ghost use Rattle.cmd_check.specs.OwnTexts.{ShowsOwnText};
 
 use crate::finding::find;
 use crate::inputs::load;
-use asm86::{images_exclude_refusals, text_has_one_reading};
+use crate::laws::checks_have_one_outcome;
 use cmd_arguments::Check;
-use cmd_common::{Stop, say_done, say_stop, shown_line, sources_have_one_outcome};
+use cmd_common::{Stop, say_done, say_stop, shown_line};
 use commented_text_def::commented_texts_read_back;
 use host::Host;
 use std::alloc::Global;
-use xlt_core::{findings_are_one, own_texts_are_same, own_texts_are_shown};
+use xlt_core::{own_texts_are_same, own_texts_are_shown};
 
 /// Checks the text of a command beside its source, says what is found, and answers the status. The command's top is one that a
 /// program area may have.
@@ -27,10 +27,7 @@ pub fn check<H: Host>(alloc: Global, host: &mut H, command: &Check<'_>) -> u8
     ensures completes { CheckCompletes (check_read command.now) (H.state host.old) (H.state host.new) result }
     ensures own { ShowsOwnText (check_read command.now) (H.state host.old) (H.state host.new) result }
 {
-    sources_have_one_outcome();
-    text_has_one_reading();
-    images_exclude_refusals();
-    findings_are_one();
+    checks_have_one_outcome();
     own_texts_are_same();
     own_texts_are_shown();
     commented_texts_read_back();

@@ -7,3 +7,4 @@ pub mod Said
 pub mod Lines
 pub mod WriteEnds
 pub mod Deciding
+pub mod Refused

@@ -10,10 +10,10 @@ use Rattle.cmd_common.specs.Lines.{status_of}
 use Rattle.cmd_common.specs.Said.{IsDone, whole, failed as unfinished, no_memory as out_of_memory, Closes, said, unsaid}
 use Rattle.cmd_common.specs.Files.{input_limit, IsWholeFile, IsInput, ReadStops, failed, too_long, no_memory, InputStops, NoneFailed, FileIsTold, InputIsTold}
 
--- a result that is an error is judged as one
-pub judged : {T E : Type 0} (r : Result T E) (P Q : E → Type 0) → IsErrAnd r P → ((error : E) → P error → Q error) → IfErr r Q
-judged (Ok x) P Q e f = absurd e
-judged (Err error) P Q e f = f error e
+-- an error that is handed on is judged as it was
+pub handed_on : {T E : Type 0} (r : Result T E) (error : E) (Q : E → Type 0) → IsErrAnd r (λ e. e ≡ error) → Q error → IfErr r Q
+handed_on (Ok x) error Q e q = absurd e
+handed_on (Err found) error Q e q = subst Q (sym e) q
 
 -- what was read is what is told
 told_file : (told : FileTold) (bytes read : List ℕ) → told ≡ Holds bytes → IsFile told read → bytes ≡ read

@@ -25,10 +25,6 @@ tells_more Claim More old mid new front e f t = record {
   claim = f t.own t.claim;
 }
 
--- nothing more was told
-pub tells_nothing : (Claim : List ℕ → Type 0) (told : List ℕ) → Claim [] → Tells Claim told told
-tells_nothing Claim told h = record { own = []; is = sym (append-nil told); claim = h }
-
 -- a block is told by its head and what is told of its label
 pub block_told : (p : Program) (lines : List Line86) (k : Keeps) (first count : ℕ) (reason : Reason) (last : ℕ) → last ≡ place_after p first (count - 1) → (from to : ℕ) → line_at p first ≡ Some from → line_at p last ≡ Some to → (own : List ℕ) → WhyTold p lines k first count reason (after_label (statements lines) (At first)) own → BlockTold p lines k first count reason ((block_line first reason ++ source_lines from to) ++ own)
 block_told p lines k first count reason last e from to starts ends own h =

@@ -11,12 +11,13 @@ use Rattle.cmd_common.specs.Files.{NoneFailed, FileIsTold, input_limit, text_lim
 use Rattle.cmd_common.specs.OneEnd.{HasStatus}
 use Rattle.cmd_common.proofs.Told.{not_unsaid, closes_status}
 use Rattle.cmd_check.specs.Checks.{Loads}
+use Rattle.cmd_check.specs.Laws.{CheckLaws}
 use Rattle.cmd_check.specs.Completes.{found_count, FilesComeTo, IsFound, CheckCompletes}
 use Rattle.cmd_check.proofs.Files.{by_loading, by_load_stop}
-use Rattle.cmd_check.proofs.Completing.{Laws, one_found, done}
+use Rattle.cmd_check.proofs.Completing.{one_found, done}
 use Rattle.cmd_explain.specs.Explains.{IsNotShown, SaysBefore, whole, failed, no_memory, ExplainGives, shown, stopped, explained}
 
-module _ (law : Laws) (c : Check) (old new : HostState) (none : NoneFailed old new) (source text : List ℕ) (first : FileIsTold old c.source input_limit source) (second : FileIsTold old c.text text_limit text) (status : ℕ) where
+module _ (law : CheckLaws) (c : Check) (old new : HostState) (none : NoneFailed old new) (source text : List ℕ) (first : FileIsTold old c.source input_limit source) (second : FileIsTold old c.text text_limit text) (status : ℕ) where
   abbrev Answer : Type 0
   Answer = HasStatus (FilesComeTo c IsFound source text) status
 
@@ -33,5 +34,5 @@ module _ (law : Laws) (c : Check) (old new : HostState) (none : NoneFailed old n
   by_gift (stopped mid stop s closes) = by_load_stop law.files c IsFound (one_found law.finding) old new none source text first second status mid stop s closes
   by_gift (explained {at = at} {reason = reason} mid p lines why l u s) = said mid p lines at reason why l u status refl s
 
-pub completes : Laws → (c : Check) (old new : HostState) (status : ℕ) → ExplainGives c old new status → CheckCompletes c old new status
+pub completes : CheckLaws → (c : Check) (old new : HostState) (status : ℕ) → ExplainGives c old new status → CheckCompletes c old new status
 completes law c old new status gives none source text first second = by_gift law c old new none source text first second status gives

@@ -1,7 +1,7 @@
 -- Lines of a text by the place of their statement.
 use Rattle.std.proofs.Common.{◌≡◌, ◌∙◌, ℕ, zero, suc, ◌-◌, ◌<◌, ◌≤◌, Bool, true, false, cond, List, [], ◌∷◌, ◌++◌, length, get_or, take, drop, Option, Some, refl, sym, ap, arith}
 use Rattle.std.proofs.Math.Seq.{drop-cons}
-use Rattle.std.proofs.lemmas.List.{take-append-drop, drop-map, length-map, length-drop, take_all}
+use Rattle.std.proofs.lemmas.List.{take-append-drop, drop-map, length-drop, take_all}
 use Rattle.asm86_line_types.specs.declared.line.Label.{Label}
 use Rattle.asm86_line_types.specs.declared.line.Line86.{Line86}
 use Rattle.asm86_line_types.specs.declared.line.Stmt86.{Stmt86}
@@ -15,9 +15,6 @@ use Rattle.cmd_explain.specs.Explained.{StandsBefore, EndTold}
 -- what a slice to the end has
 pub to_the_end : {A : Type 0} (n : ℕ) (xs : List A) → take (length xs - n) (drop n xs) ≡ drop n xs
 to_the_end n xs = let rest = length-drop n xs in take_all (length xs - n) (drop n xs) (omega (arith, rest))
-
-pub statements_count : (lines : List Line86) → length (statements lines) ≡ length lines
-statements_count lines = length-map lines (λ (x : Line86). x.stmt)
 
 -- in place of a line that is not there
 abbrev pub any_line : Line86

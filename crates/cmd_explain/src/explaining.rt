@@ -14,15 +14,14 @@ ghost use Rattle.cmd_explain.specs.Explains.{SaysBefore, ExplainGives};
 ghost use Rattle.cmd_explain.specs.Worked.{last_line, SaysFound, ComesTo};
 
 use crate::telling::{Explanation, explain_text};
-use asm86::{images_exclude_refusals, text_has_one_reading};
 use cmd_arguments::Check;
-use cmd_check::load;
-use cmd_common::{Stop, say_done, say_made, say_stop, shown_line, sources_have_one_outcome};
+use cmd_check::{checks_have_one_outcome, load};
+use cmd_common::{Stop, say_done, say_made, say_stop, shown_line};
 use host::{Host, HostFault};
 use host_files::say_line;
 use std::alloc::{AllocError, Global};
 use sym_block_def::Reason;
-use xlt_core::{Finding, findings_are_one};
+use xlt_core::Finding;
 
 /// Checks the text of a command beside its source, says what is found and why, and answers the status. The command's top is one that a
 /// program area may have.
@@ -32,10 +31,7 @@ pub fn explain<H: Host>(alloc: Global, host: &mut H, command: &Check<'_>) -> u8
     ensures files { SameFiles (H.state host.old) (H.state host.new) }
     ensures completes { CheckCompletes (check_read command.now) (H.state host.old) (H.state host.new) result }
 {
-    sources_have_one_outcome();
-    text_has_one_reading();
-    images_exclude_refusals();
-    findings_are_one();
+    checks_have_one_outcome();
     carry_out(alloc, host, command)
 }
 

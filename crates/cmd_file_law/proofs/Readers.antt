@@ -1,6 +1,7 @@
 -- A reader of a longer code, and the reader of its front that it gives.
 use Rattle.std.proofs.Common.{◌≡◌, ℕ, zero, suc, ◌+◌, ◌<◌, ◌≤◌, nat_le, Bool, true, false, cond, List, [], ◌∷◌, ◌++◌, length, max, Option, Some, None, slice_get, refl, sym, ap, ◌∙◌, subst, arith}
 use Rattle.std.proofs.lemmas.Bool.{leb-true, le-leb}
+use Rattle.std.proofs.lemmas.Option.{same_Some}
 use Rattle.i86.specs.declared.Instr86.{Instr86}
 use Rattle.i86.specs.Enc86.{enc86}
 use Rattle.i86.specs.Code.{HasBytes, ReadsCode}
@@ -46,15 +47,12 @@ whole_in code ip (Some i) = cond (ends_within code ip i) (Some i) None
 abbrev pub front_reader : List ℕ → (ℕ → Option Instr86) → ℕ → Option Instr86
 front_reader code fetch ip = whole_in code ip (fetch ip)
 
-some_is : (i j : Instr86) → Some i ≡ Some j → i ≡ j
-some_is i j e = cc
-
 whole_is : (code : List ℕ) (ip : ℕ) (o : Option Instr86) (i : Instr86) → whole_in code ip o ≡ Some i → (o ≡ Some i) × (ends_within code ip i ≡ true)
 whole_is code ip None i e = absurd (cc)
 whole_is code ip (Some j) i e = by_end (ends_within code ip j) refl e
   where
     by_end : (b : Bool) → ends_within code ip j ≡ b → cond b (Some j) None ≡ Some i → (Some j ≡ Some i) × (ends_within code ip i ≡ true)
-    by_end true h g = (g, subst (λ k. ends_within code ip k ≡ true) (some_is j i g) h)
+    by_end true h g = (g, subst (λ k. ends_within code ip k ≡ true) (same_Some j i g) h)
     by_end false h g = absurd (cc)
 
 -- what it gives, the longer code's reader gives too

@@ -1,5 +1,5 @@
 -- What is known of sources and HEX files, to `hex80`.
-use Rattle.std.proofs.Common.{◌≡◌, ℕ, List, sym, ap, subst, ◌∙◌, arith}
+use Rattle.std.proofs.Common.{◌≡◌, ℕ, List, ap, subst, ◌∙◌, arith}
 use Rattle.host.specs.Host.{HostState}
 use Rattle.hex_file.specs.HexFile.{IsHexOf}
 use Rattle.hex_file.specs.Written.{AreCells, IsWritten}

@@ -1,5 +1,5 @@
 -- What `hex80` is among the commands that make something of one file: it writes the HEX file of a source's program.
-use Rattle.std.specs.Prelude.{◌≡◌, ℕ, List, Some, length, All}
+use Rattle.std.specs.Prelude.{ℕ, List, Some, length, All}
 use Rattle.host.specs.Host.{HostState, IsFile, Rewrites}
 use Rattle.dialogue.specs.declared.request.Reply.{Reply}
 use Rattle.dialogue.specs.Run.{IsNotStopped}

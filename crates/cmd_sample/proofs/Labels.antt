@@ -9,7 +9,7 @@ use Rattle.std.proofs.lemmas.Slice.Eq.{bytes_eq-Decides}
 use Rattle.std.proofs.lemmas.List.{length_push}
 use Rattle.std.proofs.lemmas.List.Folds.{find-append}
 use Rattle.asm80_source_def.specs.declared.meaning.NameKind.TheVariants.{Label}
-use Rattle.asm80_source_def.specs.Names.{Name, named, most_names, clashes, overflows, defined}
+use Rattle.asm80_source_def.specs.Names.{Name, named, most_names, defined}
 
 -- the label of a letter and a number, at an address
 abbrev pub label : ℕ → ℕ → ℕ → Name
@@ -56,17 +56,9 @@ found_last ns n t e same = find-append (λ (x : Name). bytes_eq x.text t) ns (n 
 pub still_new : (ns : List Name) (n : Name) (t : List ℕ) → named ns t ≡ None → bytes_eq n.text t ≡ false → named (with_name ns n) t ≡ None
 still_new ns n t e other = find-append (λ (x : Name). bytes_eq x.text t) ns (n ∷ []) ∙ ap₂ (λ o b. option_or o (cond b (Some n) None)) e other
 
--- a new name, for which there is room: how it is defined, and that no rule is broken
-module _ (ns : List Name) (n : Name) (new : named ns n.text ≡ None) where
-  pub clashes_not : clashes ns n ≡ false
-  clashes_not = rw new refl
-
-  module _ (room : nat_lt (length ns) most_names ≡ true) where
-    pub overflows_not : overflows ns n ≡ false
-    overflows_not = rw (new, room) refl
-
-    pub is_defined : defined ns n ≡ with_name ns n
-    is_defined = rw (new, room) refl
+-- a new name, for which there is room: how it is defined
+pub is_defined : (ns : List Name) (n : Name) → named ns n.text ≡ None → nat_lt (length ns) most_names ≡ true → defined ns n ≡ with_name ns n
+is_defined ns n new room = rw (new, room) refl
 
 -- ---- the names of the routines
 

@@ -1,5 +1,5 @@
 -- What is left of lines is a text that can be loaded.
-use Rattle.std.proofs.Common.{◌≡◌, ◌∙◌, ℕ, ◌<◌, ⊎_elim, List, length, refl, sym, ap, subst, arith}
+use Rattle.std.proofs.Common.{◌∙◌, ◌<◌, ⊎_elim, List, length, refl, sym, ap, subst, arith}
 use Rattle.asm86_line_types.specs.declared.line.Line86.{Line86}
 use Rattle.asm86_line_types.specs.Image.{Assembles, image_of}
 use Rattle.asm86.specs.Refusals.{NotBoth}

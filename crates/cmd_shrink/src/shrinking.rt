@@ -7,14 +7,12 @@ ghost use Rattle.cmd_shrink.specs.Shrinks.{check_of, HasShrunk, Stops, ShrinkGiv
 ghost use Rattle.cmd_shrink.specs.Completes.{ShrinkCompletes};
 
 use crate::leaving::leave;
-use asm86::{images_exclude_refusals, text_has_one_reading};
 use cmd_arguments::{Check, Shrink};
-use cmd_check::load;
-use cmd_common::{Stop, say_done, say_stop, sources_have_one_outcome, write_text};
+use cmd_check::{checks_have_one_outcome, load};
+use cmd_common::{Stop, say_done, say_stop, write_text};
 use host::Host;
 use shrink::shrunk_is_left;
 use std::alloc::Global;
-use xlt_core::findings_are_one;
 
 /// Shrinks the text of a command beside its source, says what came of it, and answers the status. The command's top is one that a program
 /// area may have.
@@ -24,10 +22,7 @@ pub fn shrink<H: Host>(alloc: Global, host: &mut H, command: &Shrink<'_>) -> u8
     ensures completes { ShrinkCompletes (shrink_read command.now) (H.state host.old) (H.state host.new) result }
     ensures headline { result ≡ 0 → ShrunkHeadline (shrink_read command.now) (H.state host.old) (H.state host.new) }
 {
-    sources_have_one_outcome();
-    text_has_one_reading();
-    images_exclude_refusals();
-    findings_are_one();
+    checks_have_one_outcome();
     shrunk_is_left();
     carry_out(alloc, host, command)
 }

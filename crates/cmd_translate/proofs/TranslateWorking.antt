@@ -18,7 +18,7 @@ use Rattle.cmd_common.specs.declared.stop.Stop.{Stop}
 use Rattle.cmd_common.specs.Files.{IsWholeFile, input_limit}
 use Rattle.cmd_common.specs.Sources.{SourceStops, of_line, of_program, reading_of}
 use Rattle.cmd_translate.specs.Translates.{mode_of, line_of_text, Accepts}
-use Rattle.cmd_common.specs.Writing.{Writes, WriteStops}
+use Rattle.cmd_common.specs.Writing.{WriteStops}
 use Rattle.cmd_translate.specs.TranslateWork.{TextStops, is_large, no_room, WritesOut, Works, StopsBy, refused, too_large, no_memory, unwritten}
 use Rattle.cmd_common.proofs.WriteEnds.{writes_behind, fails_behind, wrote}
 

@@ -16,11 +16,6 @@ module _ (stood : ℕ) (ahead : List Placed) where
       let e : suc n - 1 ≡ n = omega arith in
       rw e (append_assoc (comment_line line) (comments (take n lines)) (written (take begun xs) ++ groups_left stood (drop n lines) ahead (drop begun xs)))
 
-  -- no line is left that could be due
-  pub due_none : (due begun : ℕ) (xs : List Stmt86) → text_left 0 begun stood [] ahead xs ≡ text_left due begun stood [] ahead xs
-  due_none zero begun xs = refl
-  due_none (suc n) begun xs = refl
-
   -- a statement of what has begun
   pub begun_put : (begun : ℕ) (lines : List (List ℕ)) (x : Stmt86) (xs : List Stmt86) → 0 < begun → text_left 0 begun stood lines ahead (x ∷ xs) ≡ written_line x ++ text_left 0 (begun - 1) stood lines ahead xs
   begun_put zero lines x xs lt = absurd (omega (arith, lt))
@@ -28,16 +23,9 @@ module _ (stood : ℕ) (ahead : List Placed) where
       let e : suc n - 1 ≡ n = omega arith in
       rw e (append_assoc (written_line x) (written (take n xs)) (groups_left stood lines ahead (drop n xs)))
 
-  pub begun_none : (begun : ℕ) (lines : List (List ℕ)) → text_left 0 0 stood lines ahead [] ≡ text_left 0 begun stood lines ahead []
-  begun_none zero lines = refl
-  begun_none (suc n) lines = refl
-
 -- what is put goes over from what is left to what stands
 pub moved : (piece put left before after : List ℕ) → after ≡ piece ++ put → before ≡ put ++ left → after ++ left ≡ piece ++ before
 moved piece put left before after p q = ap (λ (t : List ℕ). t ++ left) p ∙ append_assoc piece put left ∙ ap (λ (t : List ℕ). piece ++ t) (sym q)
-
-pub last_comment : (line : List ℕ) (lines : List (List ℕ)) (stood : ℕ) (xs : List Stmt86) → text_left 0 0 stood (line ∷ lines) [] xs ≡ comment_line line ++ text_left 0 0 stood lines [] xs
-last_comment line lines stood xs = append_assoc (comment_line line) (comments lines) (written xs)
 
 pub last_put : (x : Stmt86) (xs : List Stmt86) (stood : ℕ) → text_left 0 0 stood [] [] (x ∷ xs) ≡ written_line x ++ text_left 0 0 stood [] [] xs
 last_put x xs stood = refl

@@ -1,34 +1,12 @@
 -- The written line of each statement is a whole line, or there is none.
 use Rattle.std.specs.Prelude.{codes}
 use Rattle.commented_text_def.proofs.Whole.{AreWhole, none, alone_end, one_end, two_end, mark_end}
-use Rattle.i86.specs.declared.Reg8.{Reg8}
-use Rattle.i86.specs.declared.Reg8.TheVariants.{Al, Cl, Dl, Bl, Ah, Ch, Dh, Bh}
-use Rattle.i86.specs.declared.Reg16.{Reg16}
-use Rattle.i86.specs.declared.Reg16.TheVariants.{Ax, Cx, Dx, Bx, Sp, Si}
-use Rattle.i86.specs.declared.Ptr.{Ptr}
-use Rattle.i86.specs.declared.Ptr.TheVariants.{Bx as PtrBx, Si as PtrSi}
-use Rattle.i86.specs.declared.Operand8.{Operand8}
-use Rattle.i86.specs.declared.Operand8.TheVariants.{Reg, Mem}
-use Rattle.i86.specs.declared.Operand16.{Operand16}
-use Rattle.i86.specs.declared.Operand16.TheVariants.{Reg as Reg_16, Direct}
-use Rattle.i86.specs.declared.AluOp.{AluOp}
-use Rattle.i86.specs.declared.AluOp.TheVariants.{Add, Or, Adc, Sbb, And, Sub, Xor, Cmp}
-use Rattle.i86.specs.declared.Count.{Count}
-use Rattle.i86.specs.declared.Count.TheVariants.{Inc, Dec}
-use Rattle.i86.specs.declared.Rotate.{Rotate}
-use Rattle.i86.specs.declared.Rotate.TheVariants.{Rol, Ror, Rcl, Rcr}
-use Rattle.i86.specs.declared.Jump.{Jump}
-use Rattle.i86.specs.declared.Jump.TheVariants.{Jb, Jnb, Jz, Jnz, Js, Jns, Jp, Jnp}
 use Rattle.i86.specs.declared.Instr86.{Instr86}
 use Rattle.i86.specs.declared.Instr86.TheVariants.{MovReg8, MovMem8, MovAlDirect, MovDirectAl, MovNum8, MovNum16, MovMemNum, MovReg16, MovDirect16, MovAxDs, MovSsAx, Alu, AluNum, OrClCl, Add16, Count8, Count16, Push, Pop, Xchg8, Xchg16, Rotate8, Rotate16, Not8, Daa, Sahf, Lahf, Cmc, Stc, Nop, Jcc, JmpNear, JmpShort, JmpBx, CallNear, Ret, Int224, InAl, OutAl}
 use Rattle.i86.specs.Enc86.{reg_of_stack}
-use Rattle.asm86_line_types.specs.declared.line.Label.{Label}
-use Rattle.asm86_line_types.specs.declared.line.Label.TheVariants.{At, Skip, User, Sys, End}
-use Rattle.asm86_line_types.specs.declared.line.Value16.{Value16}
-use Rattle.asm86_line_types.specs.declared.line.Value16.TheVariants.{Num, Offset}
 use Rattle.asm86_line_types.specs.declared.line.Stmt86.{Stmt86}
 use Rattle.asm86_line_types.specs.declared.line.Stmt86.TheVariants.{Cseg, Dseg, Org, Rb, Db, Dw, Mark, Run, MovOffset, Jmp, Jmps, Jcc as JccTo, Call, EndText}
-use Rattle.asm86_line_types.specs.Written.{digit, four_digits, byte_text, word_text, reg8_text, reg16_text, ptr_text, operand8_text, direct8_text, direct16_text, operand16_text, alu_text, count_text, rotate_text, jump_text, label_text, offset_text, value_text, alone, with_one, with_two, instr_line, written_line}
+use Rattle.asm86_line_types.specs.Written.{byte_text, word_text, reg8_text, reg16_text, ptr_text, operand8_text, direct8_text, direct16_text, operand16_text, alu_text, count_text, rotate_text, jump_text, label_text, offset_text, value_text, instr_line, written_line}
 
 instr_ends : (i : Instr86) → AreWhole (instr_line i)
 instr_ends (MovReg8 r o) = two_end (codes "MOV") (reg8_text r) (operand8_text o)

@@ -1,5 +1,5 @@
 -- A commented text is the text that was written for the program, with comments among its lines.
-use Rattle.std.proofs.Common.{◌≡◌, ℕ, ◌+◌, ◌-◌, max, List, [], ◌∷◌, ◌++◌, take, drop, Bool, true, false, refl, sym, ap, ◌∙◌, append_assoc, append-nil}
+use Rattle.std.proofs.Common.{◌≡◌, ℕ, ◌+◌, ◌-◌, max, List, [], ◌∷◌, ◌++◌, take, drop, Bool, true, false, refl, sym, ap, ◌∙◌, append_assoc}
 use Rattle.std.specs.List.{flat_map, AllByRecursion}
 use Rattle.std.proofs.lemmas.Grind.{flat_map-append}
 use Rattle.asm80_program_types.specs.declared.program.Placed.{Placed}
@@ -10,9 +10,9 @@ use Rattle.asm86_line_types.specs.declared.line.Stmt86.TheVariants.{Cseg, Dseg}
 use Rattle.asm86_line_types.specs.Written.{written_line, written_text}
 use Rattle.flow.specs.Blocks.{cut_from}
 use Rattle.templates.specs.Plain.{prologue, runtime, data_from, ending, numbered_from}
-use Rattle.templates.specs.Style.{Style, is_pair, knows_function, written_in_style, label_within, block_from, block_in_style, blocks_of, styled_statements, styled}
+use Rattle.templates.specs.Style.{Style, is_pair, knows_function, written_in_style, label_within, block_from, block_in_style, blocks_of, styled_statements}
 use Rattle.commented_text_def.specs.Groups.{Group, label_if, groups_from, groups_of_blocks, groups}
-use Rattle.commented_text_def.specs.Commented.{comments, written, commented_groups, commented, Commented}
+use Rattle.commented_text_def.specs.Commented.{written, commented_groups, Commented}
 use Rattle.commented_text_def.proofs.Whole.{AreWhole, none, both}
 use Rattle.commented_text_def.proofs.Ends.{line_ends}
 use Rattle.commented_text_def.proofs.Weaving.{Weaves, weaves_same, weaves_both, weaves_comments}

@@ -1,12 +1,10 @@
 -- Where a run stands after the front of a block.
-use Rattle.std.proofs.Common.{◌≡◌, ◌∙◌, ℕ, zero, suc, ◌+◌, ◌-◌, ◌<◌, ◌≤◌, false, cond, List, [], Option, Some, refl, sym, ap, subst, arith, ◌⊎◌, inl, inr}
+use Rattle.std.proofs.Common.{◌≡◌, ◌∙◌, ℕ, zero, suc, ◌+◌, ◌-◌, ◌<◌, ◌≤◌, cond, List, [], Option, Some, refl, sym, ap, subst, arith, ◌⊎◌, inl, inr}
 use Rattle.cells.specs.declared.Place.TheVariants.{At}
 use Rattle.cells.specs.declared.Cell.TheVariants.{Num}
 use Rattle.cells.specs.declared.Rule.{Rule}
 use Rattle.i80.specs.declared.Reg.TheVariants.{C}
-use Rattle.i80.specs.declared.Instr80.{Instr80}
-use Rattle.i80.specs.declared.Instr80.TheVariants.{Pchl, Jmp, Jif, Call, Cif, Ret, Rif, Rst0, In, Out}
-use Rattle.i80.specs.Columns.{length80, ends80}
+use Rattle.i80.specs.Columns.{length80}
 use Rattle.dialogue.specs.Run.{Run, Going, IsNotStopped, Status, Waiting, Over, Stopped, settle}
 use Rattle.dialogue.proofs.Turns.{turns_add}
 use Rattle.asm80_program_types.specs.Program.{Program, IsProgram}
@@ -17,7 +15,8 @@ use Rattle.flow.specs.Blocks.{IsStraight, place_after}
 use Rattle.sym_terms.specs.Term.{Term, Num as Number}
 use Rattle.sym_terms.specs.Values80.{Load80, Byte, Val80}
 use Rattle.sym_block_def.specs.Outcome.{Goto, Leave, One}
-use Rattle.sym_block_def.specs.Block80.{Symbolic80, instrs_from, goto, exit80, effect80, outcome_from, start80, block80}
+use Rattle.sym_block_def.specs.Block80.{Symbolic80, instrs_from, goto, effect80, outcome_from, start80, block80}
+use Rattle.sym_block_def.proofs.Exits.{exit_falls}
 use Rattle.simulation_def.specs.Runs80.{env80, Takes80, Answers80, BlockRuns80, BlockLeaves80, BlocksRun80}
 use Rattle.simulation_law.proofs.Running.{run_turns, turn_is, runs_any, moved, leaves_stopped}
 use Rattle.leaving_def.specs.Leaving.{number_in, known_function}
@@ -28,23 +27,10 @@ use Rattle.leaving_law.proofs.Stepping.{IsKnown}
 
 -- ---- its exit
 
-exit_is : (p : Program) (a : ℕ) (s : Symbolic80) (i : Instr80) → ends80 i ≡ false → exit80 p a s i ≡ One (goto p a)
-exit_is p a s Pchl e = absurd (cc)
-exit_is p a s (Jmp t) e = absurd (cc)
-exit_is p a s (Jif c t) e = absurd (cc)
-exit_is p a s (Call t) e = absurd (cc)
-exit_is p a s (Cif c t) e = absurd (cc)
-exit_is p a s Ret e = absurd (cc)
-exit_is p a s (Rif c) e = absurd (cc)
-exit_is p a s Rst0 e = absurd (cc)
-exit_is p a s (In port) e = absurd (cc)
-exit_is p a s (Out port) e = absurd (cc)
-exit_is p a s i e = refl
-
 front_exit : (p : Program) (a n k : ℕ) (s : Symbolic80) → IsStraight p a n → 0 < k → k < n → (outcome_from p a (instrs_from p a k) s).exit ≡ One (goto p (place_after p a k))
 front_exit p a n zero s h some lt = absurd (omega (arith, some))
 front_exit p a zero (suc k) s h some lt = absurd (omega (arith, lt))
-front_exit p a (suc n) (suc zero) s h some lt = rw (h.1) (exit_is p (a + length80 h.0) (effect80 s h.0) h.0 (h.2 (omega (arith, lt))))
+front_exit p a (suc n) (suc zero) s h some lt = rw (h.1) (exit_falls p (a + length80 h.0) (effect80 s h.0) h.0 (h.2 (omega (arith, lt))))
 front_exit p a (suc zero) (suc (suc k)) s h some lt = absurd (omega (arith, lt))
 front_exit p a (suc (suc n)) (suc (suc k)) s h some lt =
     let rest = front_exit p (a + length80 h.0) (suc n) (suc k) (effect80 s h.0) h.3 (omega arith) (omega (arith, lt)) in

@@ -3,6 +3,7 @@ use Rattle.std.proofs.Common.{◌≡◌, ℕ, Bool, true, false, cond, ◌==◌,
 use Rattle.std.specs.List.{Contains}
 use Rattle.std.proofs.lemmas.Bool.{eqb-true}
 use Rattle.std.proofs.lemmas.List.Elements.{Contains-append_right}
+use Rattle.std.proofs.lemmas.Option.{same_Some}
 use Rattle.asm86_line_types.specs.declared.line.Stmt86.{Stmt86}
 use Rattle.asm86_line_types.specs.declared.line.Line86.{Line86}
 use Rattle.asm80_program_types.specs.Program.{Program}
@@ -36,9 +37,6 @@ is_leader p a n e = leads (blocks p) a n e
 
 -- ---- a block with a reason
 
-same_count : (x y : ℕ) → Some x ≡ Some y → x ≡ y
-same_count x y e = cc
-
 all_without : (p : Program) (text : List Stmt86) (keeps : Keeps) (bs : List (ℕ × ℕ)) (a n : ℕ) → blocks_reason p text keeps bs ≡ None → count_in bs a ≡ Some n → block_reason p text keeps a n ≡ None
 all_without p text keeps [] a n h e = absurd (cc)
 all_without p text keeps (b ∷ bs) a n h e =
@@ -46,7 +44,7 @@ all_without p text keeps (b ∷ bs) a n h e =
     by_test (b.0 == a) refl e parts.0 (all_without p text keeps bs a n parts.1)
   where
     by_test : (t : Bool) → (b.0 == a) ≡ t → cond t (Some b.1) (count_in bs a) ≡ Some n → block_reason p text keeps b.0 b.1 ≡ None → (count_in bs a ≡ Some n → block_reason p text keeps a n ≡ None) → block_reason p text keeps a n ≡ None
-    by_test true is f here rest = subst (λ m. block_reason p text keeps a m ≡ None) (same_count b.1 n f) (subst (λ m. block_reason p text keeps m b.1 ≡ None) (eqb-true b.0 a is) here)
+    by_test true is f here rest = subst (λ m. block_reason p text keeps a m ≡ None) (same_Some b.1 n f) (subst (λ m. block_reason p text keeps m b.1 ≡ None) (eqb-true b.0 a is) here)
     by_test false is f here rest = rest f
 
 -- what is answered of a block tells its reason

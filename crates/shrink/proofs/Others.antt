@@ -4,6 +4,7 @@ use Rattle.std.specs.Prelude.{is_some}
 use Rattle.std.specs.List.{list_any, list_all, Contains}
 use Rattle.std.proofs.lemmas.Bool.{and_parts, eqb-true}
 use Rattle.std.proofs.lemmas.List.Elements.{Contains-append_right}
+use Rattle.std.proofs.lemmas.Option.{same_Some}
 use Rattle.cells.specs.Parts.{Parts}
 use Rattle.i80.specs.declared.Instr80.{Instr80}
 use Rattle.i80.specs.Columns.{length80}
@@ -173,16 +174,13 @@ module _ (before inner after : List Stmt86) (a : ℕ) (i : Instr86) where
         behind l e = absurd (cc)
 
     module _ (keeps : Keeps) (here : block_reason p less keeps a count ≡ None) where
-      same_number : (x y : ℕ) → Some x ≡ Some y → x ≡ y
-      same_number x y e = cc
-
       one_none : (b n : ℕ) → IsBlockOf p b n → block_reason p whole keeps b n ≡ None → block_reason p less keeps b n ≡ None
       one_none b n of h = by_test (a == b) refl
         where
           by_test : (t : Bool) → (a == b) ≡ t → block_reason p less keeps b n ≡ None
           by_test true e =
               let same = eqb-true a b e in
-              let number = same_number count n (sym block ∙ ap (block_at p) same ∙ cut.found b n of) in
+              let number = same_Some count n (sym block ∙ ap (block_at p) same ∙ cut.found b n of) in
               subst (λ m. block_reason p less keeps b m ≡ None) number (subst (λ c. block_reason p less keeps c count ≡ None) same here)
           by_test false e = sym (ap (walked_reason keeps (block80 p b n)) (walk_same (keeps.at b) b n of e)) ∙ h
 

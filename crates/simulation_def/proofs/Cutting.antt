@@ -3,6 +3,7 @@ use Rattle.std.proofs.Common.{◌≡◌, ◌∙◌, ℕ, zero, suc, ◌+◌, ◌
 use Rattle.std.specs.Prelude.{is_some, filter}
 use Rattle.std.specs.List.{Contains}
 use Rattle.std.proofs.lemmas.Bool.{eqb-true}
+use Rattle.std.proofs.lemmas.Option.{same_Some}
 use Rattle.cells.specs.declared.Part.{Part}
 use Rattle.cells.specs.declared.Part.TheVariants.{A, B, C, D, E, H, L, S, Z, Ac, P, Cy}
 use Rattle.cells.specs.declared.Place.TheVariants.{At}
@@ -82,11 +83,8 @@ module _ (p : Program) (is : IsProgram p) (cut : BlocksCut p) (run : (a n : ℕ)
   named : (at a : ℕ) (i : Instr80) → instr_at p at ≡ Some i → named_by i ≡ Some a → IsLeader p a
   named at a (Lxi pair (Code q)) h n =
       let start = names_start p p.instrs is.named at a (Lxi pair (Code q)) h n in
-      let same : q ≡ a = some_is q a n in
+      let same : q ≡ a = same_Some q a n in
       cut.is_taken a (taken_has p a start (subst (λ b. takes p b ≡ true) same (code_is_taken p at q pair h)))
-    where
-      some_is : (x y : ℕ) → Some x ≡ Some y → x ≡ y
-      some_is x y e = cc
   named at a (Lxi pair (Num w)) h n = absurd (cc)
   named at a i h n = cut.target at a i h n
 

@@ -2,6 +2,7 @@
 use Rattle.std.proofs.Common.{◌≡◌, ◌≢◌, ℕ, ◌<◌, ◌==◌, Bool, true, false, cond, Option, Some, None, Result, Ok, Err, refl, sym, ap, subst, ◌∙◌}
 use Rattle.std.specs.Prelude.{All, ◌||◌, is_some}
 use Rattle.std.proofs.lemmas.Bool.{and_parts, eqb-true}
+use Rattle.std.proofs.lemmas.Option.{same_Some}
 use Rattle.cells.specs.declared.Place.{Place}
 use Rattle.cells.specs.declared.Cell.{Cell}
 use Rattle.cells.specs.declared.Cell.TheVariants.{Num, Lo, Hi, Psw, Junk}
@@ -86,10 +87,7 @@ module _ (p : Program) (t : State80) (back : Result Return Rule) where
 
 -- a number in a cell is the byte that stands for it
 pub number_stands : (p : Program) (offset : Place → Option ℕ) (c : Cell) (n b : ℕ) → num_of c ≡ Some n → IsCell p c → Stands offset c b → (n < 256) × (b ≡ n)
-number_stands p offset (Num m) n b e i s = let same : m ≡ n = some_is m n e in (subst (λ k. k < 256) same i, s ∙ same)
-  where
-    some_is : (m n : ℕ) → Some m ≡ Some n → m ≡ n
-    some_is m n e = cc
+number_stands p offset (Num m) n b e i s = let same : m ≡ n = same_Some m n e in (subst (λ k. k < 256) same i, s ∙ same)
 number_stands p offset (Lo q) n b e i s = absurd (cc)
 number_stands p offset (Hi q) n b e i s = absurd (cc)
 number_stands p offset (Psw f) n b e i s = absurd (cc)

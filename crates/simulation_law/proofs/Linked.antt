@@ -62,9 +62,6 @@ use Rattle.simulation_law.proofs.Ways.{Matched, Ended, one_stack, goto, boot, by
 -- the places that are held have labels
 
 module _ (p : Program) (lines : List Line86) (cut : List (ℕ × ℕ)) (keeps : Keeps) (set : BlocksMatch p lines cut keeps) where
-  some_is : (x y : ℕ) → Some x ≡ Some y → x ≡ y
-  some_is x y h = cc
-
   at_offset : (l : Label) (n : ℕ) → offset_of (statements lines) l ≡ Some n → (k : ℕ) × (offsets_of lines l ≡ Some k) × (k < 0x10000)
   at_offset l n h = (n, offsets_are lines l ∙ h, offset_within (statements lines) l n set.assembles.small h)
 

@@ -8,6 +8,7 @@ use Rattle.std.proofs.lemmas.Bool.{and_parts, leb-true}
 use Rattle.std.proofs.lemmas.Bool.Decides.{nat_tests}
 use Rattle.std.proofs.lemmas.List.Elements.{All-nil, All-head, All-tail}
 use Rattle.std.proofs.lemmas.Map.Views.{All-keys-insert_entry, All-values-insert_entry}
+use Rattle.std.proofs.lemmas.Option.{same_Some}
 use Rattle.cells.specs.declared.Place.{Place}
 use Rattle.cells.specs.declared.Place.TheVariants.{Exit}
 use Rattle.cells.specs.declared.Cell.{Cell}
@@ -119,15 +120,12 @@ put_past m (c ∷ cs) a h =
     let e = either_none (byte_at cs a) (cond (c.0 == a) (Some c.1) None) h in
     put_past (put m c.0 c.1) cs a e.0 ∙ ap (λ k. cond k c.1 (m a)) (differs a c.0 c.1 e.1)
 
-some_is : (x y : ℕ) → Some x ≡ Some y → x ≡ y
-some_is x y h = cc
-
 pub put_at : (m : ℕ → ℕ) (cs : List (ℕ × ℕ)) (a b : ℕ) → byte_at cs a ≡ Some b → put_cells m cs a ≡ b
 put_at m [] a b h = absurd (cc)
 put_at m (c ∷ cs) a b h = by_later (byte_at cs a) refl h (put_at (put m c.0 c.1) cs a)
   where
     here_is : (k : Bool) → (c.0 == a) ≡ k → cond k (Some c.1) None ≡ Some b → put m c.0 c.1 a ≡ b
-    here_is true e g = let same : (a == c.0) ≡ true = grind (arith, nat_tests, e) in ap (λ z. cond z c.1 (m a)) same ∙ some_is c.1 b g
+    here_is true e g = let same : (a == c.0) ≡ true = grind (arith, nat_tests, e) in ap (λ z. cond z c.1 (m a)) same ∙ same_Some c.1 b g
     here_is false e g = absurd (cc)
 
     by_later : (o : Option ℕ) → byte_at cs a ≡ o → first_or o (cond (c.0 == a) (Some c.1) None) ≡ Some b → ((b : ℕ) → byte_at cs a ≡ Some b → put_cells (put m c.0 c.1) cs a ≡ b) → put_cells (put m c.0 c.1) cs a ≡ b

@@ -37,7 +37,7 @@ use Rattle.sym_micro.specs.declared.micro.WordValue.{WordValue}
 use Rattle.sym_micro.specs.declared.micro.WordValue.TheVariants.{Of as OfWide, Pointed, Number as NumberWord, Join as JoinWord, StartSp as StartSpWord, Turned as TurnedWord, Loaded as LoadedWord, Unknown as UnknownWord}
 use Rattle.sym_micro.specs.declared.micro.FlagValue.{FlagValue}
 use Rattle.sym_micro.specs.declared.micro.FlagValue.TheVariants.{Number as NumberFlag, Start as StartFlag, OfResult, OfTurned, InByte, BroughtBack, Unknown as UnknownFlag}
-use Rattle.sym_micro.specs.Machine.{Machine, as86, byte_in, with_byte, word_in, with_word, with_flag, part_of_flag, wide_in, with_halves, with_wide, byte_value, word_value, flag_value, ByteIsCoded, WordIsCoded}
+use Rattle.sym_micro.specs.Machine.{Machine, as86, byte_in, with_byte, word_in, with_word, with_flag, part_of_flag, wide_in, byte_value, word_value, flag_value, ByteIsCoded, WordIsCoded}
 use Rattle.sym_micro.specs.Stands.{IsResult, IsTurned, IsSorted}
 
 zero_bit : IsMadeAs is_bit (Num 0)
@@ -108,12 +108,6 @@ with_flag_sorted m Z q h p = record { held = record { a = h.held.a; b = h.held.b
 with_flag_sorted m Ac q h p = record { held = record { a = h.held.a; b = h.held.b; c = h.held.c; d = h.held.d; e = h.held.e; h = h.held.h; l = h.held.l; s = h.held.s; z = h.held.z; ac = p; p = h.held.p; cy = h.held.cy }; ah = h.ah; si = h.si; sp = h.sp; t = h.t; u = h.u; v = h.v; w = h.w; x = h.x; result = h.result; turned = h.turned }
 with_flag_sorted m P q h k = record { held = record { a = h.held.a; b = h.held.b; c = h.held.c; d = h.held.d; e = h.held.e; h = h.held.h; l = h.held.l; s = h.held.s; z = h.held.z; ac = h.held.ac; p = k; cy = h.held.cy }; ah = h.ah; si = h.si; sp = h.sp; t = h.t; u = h.u; v = h.v; w = h.w; x = h.x; result = h.result; turned = h.turned }
 with_flag_sorted m Cy q h p = record { held = record { a = h.held.a; b = h.held.b; c = h.held.c; d = h.held.d; e = h.held.e; h = h.held.h; l = h.held.l; s = h.held.s; z = h.held.z; ac = h.held.ac; p = h.held.p; cy = p }; ah = h.ah; si = h.si; sp = h.sp; t = h.t; u = h.u; v = h.v; w = h.w; x = h.x; result = h.result; turned = h.turned }
-
-pub with_sp_sorted : (m : Machine) (q : Term) → IsSorted m → IsMadeAs is_word q → IsSorted (record m { sp = q })
-with_sp_sorted m q h p = record { held = h.held; ah = h.ah; si = h.si; sp = p; t = h.t; u = h.u; v = h.v; w = h.w; x = h.x; result = h.result; turned = h.turned }
-
-pub with_si_sorted : (m : Machine) (q : Term) → IsSorted m → IsMadeAs is_word q → IsSorted (record m { si = q })
-with_si_sorted m q h p = record { held = h.held; ah = h.ah; si = p; sp = h.sp; t = h.t; u = h.u; v = h.v; w = h.w; x = h.x; result = h.result; turned = h.turned }
 
 pub with_result_sorted : (m : Machine) (q : Term) → IsSorted m → IsResult q → IsSorted (record m { result = q })
 with_result_sorted m q h p = record { held = h.held; ah = h.ah; si = h.si; sp = h.sp; t = h.t; u = h.u; v = h.v; w = h.w; x = h.x; result = p; turned = h.turned }
@@ -256,21 +250,3 @@ module _ (k : MadeTermsHaveSorts) where
 
   pub flag_byte_sorted : (x : Held) → HeldIsSorted x → IsMadeAs is_byte (flag_byte x)
   flag_byte_sorted x h = k.flag_byte x.s x.z x.ac x.p x.cy h.s h.z h.ac h.p h.cy
-
-  with_halves_sorted : (m : Machine) (x y : ByteSlot) (q : Term) → IsSorted m → IsMadeAs is_word q → IsSorted (with_halves m x y q)
-  with_halves_sorted m x y q h p = with_byte_sorted (with_byte m x (high q)) y (low q) (with_byte_sorted m x (high q) h (k.high q p)) (k.low q p)
-
-  with_pair_sorted : (m : Machine) (pair : Pair) (q : Term) → IsSorted m → IsMadeAs is_word q → IsSorted (with_wide m (Wide80 pair) q)
-  with_pair_sorted m PairB q h p = with_halves_sorted m (Byte80 RegB) (Byte80 RegC) q h p
-  with_pair_sorted m PairD q h p = with_halves_sorted m (Byte80 RegD) (Byte80 RegE) q h p
-  with_pair_sorted m PairH q h p = with_halves_sorted m (Byte80 RegH) (Byte80 RegL) q h p
-  with_pair_sorted m PairSp q h p = with_sp_sorted m q h p
-
-  pub with_wide_sorted : (m : Machine) (r : Wide) (q : Term) → IsSorted m → IsMadeAs is_word q → IsSorted (with_wide m r q)
-  with_wide_sorted m (Wide80 pair) q h p = with_pair_sorted m pair q h p
-  with_wide_sorted m (Wide86 Ax) q h p = with_halves_sorted m (Byte86 Ah) (Byte80 RegA) q h p
-  with_wide_sorted m (Wide86 Cx) q h p = with_pair_sorted m PairB q h p
-  with_wide_sorted m (Wide86 Dx) q h p = with_pair_sorted m PairD q h p
-  with_wide_sorted m (Wide86 Bx) q h p = with_pair_sorted m PairH q h p
-  with_wide_sorted m (Wide86 Sp) q h p = with_sp_sorted m q h p
-  with_wide_sorted m (Wide86 Si) q h p = with_si_sorted m q h p

@@ -1,5 +1,6 @@
 -- The ends of ways behind a conditional jump.
-use Rattle.std.proofs.Common.{◌≡◌, ℕ, zero, suc, ◌+◌, ◌-◌, ◌<◌, ◌≤◌, Bool, List, length, Option, Some, None, Result, Ok, Err, refl, sym, ap, subst, arith}
+use Rattle.std.proofs.Common.{◌≡◌, ℕ, zero, suc, ◌+◌, ◌-◌, ◌<◌, ◌≤◌, Bool, List, length, Some, None, Result, Ok, Err, refl, sym, ap, subst, arith}
+use Rattle.std.proofs.lemmas.Option.{same_Some}
 use Rattle.asm86_line_types.specs.declared.line.Label.{Label}
 use Rattle.asm86_line_types.specs.declared.line.Stmt86.{Stmt86}
 use Rattle.asm86_line_types.specs.declared.line.Stmt86.TheVariants.{Jmp, Jmps}
@@ -35,14 +36,8 @@ counted w s (suc n) x rest h =
 
 -- the label of a jump
 pub jumps : (w : Surroundings) (s : Symbolic86) (on : List Stmt86 → Result Way Reason) (rest : List Stmt86) (x : Stmt86) (l : Label) → target x ≡ Some l → way_by w s on rest x ≡ jump_to w Ok on l
-jumps w s on rest (Jmp k) l h = ap (jump_to w Ok on) (some_is k l h)
-  where
-    some_is : (k l : Label) → Option.Some k ≡ Some l → k ≡ l
-    some_is k l h = cc
-jumps w s on rest (Jmps k) l h = ap (jump_to w Ok on) (some_is k l h)
-  where
-    some_is : (k l : Label) → Option.Some k ≡ Some l → k ≡ l
-    some_is k l h = cc
+jumps w s on rest (Jmp k) l h = ap (jump_to w Ok on) (same_Some k l h)
+jumps w s on rest (Jmps k) l h = ap (jump_to w Ok on) (same_Some k l h)
 jumps w s on rest x l h = absurd (cc)
 
 -- two ways

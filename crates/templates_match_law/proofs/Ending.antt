@@ -28,6 +28,7 @@ use Rattle.sym_block_def.specs.Outcome.{Way, Goto, Call, Sys, SysReturn, Boot, I
 use Rattle.sym_block_def.specs.Block80.{Symbolic80, goto, jump, call, return_by, asking, where_holds, exit80, flag_term}
 use Rattle.sym_block_def.specs.Symbolic86.{Symbolic86}
 use Rattle.sym_block_def.specs.Walk86.{Surroundings, EndsAt, after_label, way_to, met, met_label, back_from_call, back_from_system, return_way, bx_way, go_behind, walk_jump, jump_to, way_from, flag_of_jump, jumps_at, outcome86, one_way, two_ways, is_call, walk_through}
+use Rattle.sym_block_def.proofs.Exits.{exit_falls}
 use Rattle.block_check_def.specs.Agree.{agrees, way_agrees}
 use Rattle.templates_match_law.specs.Meeting.{Meets, lost, same, Among, Agree}
 use Rattle.templates_match_law.proofs.Terms.{meets_agree}
@@ -124,20 +125,6 @@ module _ (p : Program) (w : Surroundings) (before : Parts) (at room : ℕ) (save
 
 pub ending : (p : Program) (w : Surroundings) (before : Parts) (i : Instr80) (at room : ℕ) (save : Bool) (rest : List Stmt86) (s : Symbolic80) (t : Symbolic86) → ends80 i ≡ true → w.goes_on ≡ is_start p w.after → EndsBehind w rest → SkipsTo w i at rest → ((q : Part) → Among (uses80 i) q → Among before q) → Agree (Among before) s t → WalkEnds (walk_through w (suc (suc room)) (met w (template i at save ++ rest)) t) t false (exit80 p w.after s i)
 ending p w before i at room save rest s t e g b skip k a = end p w before at room save rest s t g b a i e skip k
-
--- what goes on falls to the address after the block
-pub exit_falls : (p : Program) (a : ℕ) (s : Symbolic80) (i : Instr80) → ends80 i ≡ false → exit80 p a s i ≡ One (goto p a)
-exit_falls p a s Pchl e = absurd (cc)
-exit_falls p a s (Jmp goal) e = absurd (cc)
-exit_falls p a s (Jif c goal) e = absurd (cc)
-exit_falls p a s (CallTo goal) e = absurd (cc)
-exit_falls p a s (Cif c goal) e = absurd (cc)
-exit_falls p a s Ret e = absurd (cc)
-exit_falls p a s (Rif c) e = absurd (cc)
-exit_falls p a s Rst0 e = absurd (cc)
-exit_falls p a s (InFrom n) e = absurd (cc)
-exit_falls p a s (OutTo n) e = absurd (cc)
-exit_falls p a s i e = refl
 
 pub falling : (p : Program) (w : Surroundings) (i : Instr80) (room : ℕ) (rest : List Stmt86) (s : Symbolic80) (t : Symbolic86) → ends80 i ≡ false → w.goes_on ≡ is_start p w.after → EndsBehind w rest → WalkEnds (walk_through w room (met w rest) t) t false (exit80 p w.after s i)
 falling p w i room rest s t e g b = subst (λ x. WalkEnds (walk_through w room (met w rest) t) t false x) (sym (exit_falls p w.after s i e)) (fall p w rest t g b room s)

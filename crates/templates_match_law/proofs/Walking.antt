@@ -35,7 +35,6 @@ use Rattle.templates_match_law.specs.Meeting.{Among, Agree}
 use Rattle.templates_match_law.specs.Rows.{all_passed, RowsAgree, RowsKeepSorts, PairsMayGo}
 use Rattle.templates_match_law.proofs.Row.{in_first}
 use Rattle.templates_match_law.specs.Exits.{StatementsArePassed, TemplatesAreWalked, EndsBehind, SkipsTo, WalkEnds, JumpsWhere, ExitsAgree}
-use Rattle.templates_match_law.proofs.Ending.{exit_falls}
 use Rattle.templates_match_law.proofs.PlainMatching.{end_keeps}
 use Rattle.templates_match_law.proofs.PlainReasons.{no_reason}
 use Rattle.templates_match_law.specs.Own.{Respects}

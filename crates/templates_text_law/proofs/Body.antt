@@ -1,5 +1,5 @@
 -- The statements of a program's instructions, block after block, in any style.
-use Rattle.std.proofs.Common.{◌≡◌, ℕ, List, [], ◌∷◌, ◌++◌, refl, subst, append_assoc, Bool, true, false, cond}
+use Rattle.std.proofs.Common.{◌≡◌, ℕ, List, [], ◌∷◌, ◌++◌, subst, append_assoc, Bool, true, false, cond}
 use Rattle.asm86_line_types.specs.declared.line.Label.TheVariants.{At as Line}
 use Rattle.asm86_line_types.specs.declared.line.Stmt86.{Stmt86}
 use Rattle.asm86_line_types.specs.declared.line.Stmt86.TheVariants.{Mark}

@@ -1,5 +1,6 @@
 -- Of a program and lines just one thing is found.
 use Rattle.std.proofs.Common.{◌≡◌, ◌∙◌, ℕ, List, Option, Some, None, refl, sym, ap, subst}
+use Rattle.std.proofs.lemmas.Option.{same_Some}
 use Rattle.asm86_line_types.specs.declared.line.Line86.{Line86}
 use Rattle.asm80_program_types.specs.Program.{Program}
 use Rattle.flow.specs.Blocks.{blocks}
@@ -31,9 +32,6 @@ one_reason p lines cut keeps _ _ (by_blocks has runs stand) (runtime had other) 
 one_reason p lines cut keeps _ _ (by_blocks has runs stand) (cells had run other) = absurd (other stand)
 one_reason p lines cut keeps _ _ (by_blocks has runs stand) (by_blocks had run stands) = refl
 
-some_is : (x y : ℕ × Reason) → Some x ≡ Some y → x ≡ y
-some_is x y e = cc
-
 not_none : (x : ℕ × Reason) → Some x ≡ None → ⊥
 not_none x e = cc
 
@@ -41,7 +39,7 @@ by_reason : (p : Program) (f g : Finding) → reason_in f ≡ reason_in g → Co
 by_reason p (Shown a) (Shown b) e x y = ap Shown (x ∙ sym y)
 by_reason p (Shown a) (NotShown b r) e x y = absurd (not_none (b, r) (sym e))
 by_reason p (NotShown a r) (Shown b) e x y = absurd (not_none (a, r) e)
-by_reason p (NotShown a r) (NotShown b s) e x y = ap (λ (z : ℕ × Reason). NotShown z.0 z.1) (some_is (a, r) (b, s) e)
+by_reason p (NotShown a r) (NotShown b s) e x y = ap (λ (z : ℕ × Reason). NotShown z.0 z.1) (same_Some {A = ℕ × Reason} (a, r) (b, s) e)
 
 pub one_finding : OneFinding
 one_finding p lines f g x y =

@@ -2,6 +2,7 @@
 use Rattle.std.proofs.Common.{◌≡◌, ◌∙◌, ℕ, ◌+◌, ◌≤◌, List, [], ◌∷◌, length, Some, sym, ap, subst}
 use Rattle.std.specs.Prelude.{drop}
 use Rattle.std.proofs.lemmas.List.{drop_all}
+use Rattle.std.proofs.lemmas.Option.{same_Some}
 use Rattle.asm86_line_types.specs.declared.line.Stmt86.{Stmt86}
 use Rattle.asm80_program_types.specs.Program.{Program}
 use Rattle.flow.specs.Blocks.{blocks}
@@ -34,10 +35,7 @@ LastIs [] b claim = claim
 LastIs (c ∷ cs) b claim = last_of (c ∷ cs) ≡ Some b
 
 last_step : (c : ℕ × ℕ) (rest : List (ℕ × ℕ)) (b : ℕ × ℕ) (claim : ℕ × ℕ → Type 0) → last_of (c ∷ rest) ≡ Some b → claim c → LastIs rest b (claim b)
-last_step c [] b claim e h = subst claim (some_is c b e) h
-  where
-    some_is : (x y : ℕ × ℕ) → Some x ≡ Some y → x ≡ y
-    some_is x y e = cc
+last_step c [] b claim e h = subst claim (same_Some c b e) h
 last_step c (d ∷ ds) b claim e h = e
 
 pub last_on : (p : Program) (i leader count : ℕ) (b : ℕ × ℕ) (before : Type 0) (claim : ℕ × ℕ → Type 0) → IsBlockAt p i leader count → LastIs (drop i (blocks p)) b before → claim (leader, count) → LastIs (drop (i + 1) (blocks p)) b (claim b)

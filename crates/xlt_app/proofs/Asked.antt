@@ -1,7 +1,8 @@
 -- What words give a command: a top that a program area may have, a number of routines.
-use Rattle.std.proofs.Common.{◌≡◌, ℕ, List, refl, ap, subst}
+use Rattle.std.proofs.Common.{◌≡◌, ℕ, List, refl, subst}
 use Rattle.std.specs.Prelude.{Bool, true, false, Option, Some, None, option_map, option_and_then, if◌then◌else◌, nat_le, ◌&&◌}
 use Rattle.std.proofs.lemmas.Bool.{and_parts, leb-true}
+use Rattle.std.proofs.lemmas.Option.{same_Some}
 use Rattle.asm80_program_types.specs.Program.{is_top}
 use Rattle.cmd_arguments.specs.declared.table.CommandName.{CommandName}
 use Rattle.cmd_arguments.specs.declared.table.CommandName.TheVariants as named
@@ -38,106 +39,74 @@ top_is text m e = let h = taken (number_in 16 4 text) top_among m (if_then _ (op
 pub top_of_is : (g : Gathered) (m : ℕ) → top_of g ≡ Some m → is_top m ≡ true
 top_of_is g m e = let h = taken (text_or _ g.top) top_value m e in top_is h.0 m h.2
 
-translation_top_in : Option Translate → ℕ
-translation_top_in None = 0
-translation_top_in (Some c) = c.top
-
 translate_top : (g : Gathered) (c : Translate) → translate_of g ≡ Some c → is_top c.top ≡ true
-unfolding translation_top_in taken
+unfolding taken
 translate_top g c e =
     let a = taken (flag_of g.plain) _ c e in
     let z = taken (flag_of g.zilog) _ c a.2 in
     let m = taken (flag_of g.comments) _ c z.2 in
     let b = taken (two_files g.names) _ c m.2 in
     let d = taken (top_of g) _ c b.2 in
-    subst (λ n. is_top n ≡ true) (ap translation_top_in d.2) (top_of_is g d.0 d.1)
-
-check_top_in : Option Check → ℕ
-check_top_in None = 0
-check_top_in (Some c) = c.top
+    subst (λ (k : Translate). is_top k.top ≡ true) (same_Some _ c d.2) (top_of_is g d.0 d.1)
 
 check_top : (g : Gathered) (c : Check) → check_of g ≡ Some c → is_top c.top ≡ true
-unfolding check_top_in taken
+unfolding taken
 check_top g c e =
     let z = taken (flag_of g.zilog) _ c e in
     let a = taken (two_files g.names) _ c z.2 in
     let b = taken (top_of g) _ c a.2 in
-    subst (λ n. is_top n ≡ true) (ap check_top_in b.2) (top_of_is g b.0 b.1)
-
-listing_top_in : Option Listing → ℕ
-listing_top_in None = 0
-listing_top_in (Some c) = c.top
+    subst (λ (k : Check). is_top k.top ≡ true) (same_Some _ c b.2) (top_of_is g b.0 b.1)
 
 listing_top : (g : Gathered) (c : Listing) → listing_of g ≡ Some c → is_top c.top ≡ true
-unfolding listing_top_in taken
+unfolding taken
 listing_top g c e =
     let z = taken (flag_of g.zilog) _ c e in
     let a = taken (one_file g.names) _ c z.2 in
     let b = taken (top_of g) _ c a.2 in
-    subst (λ n. is_top n ≡ true) (ap listing_top_in b.2) (top_of_is g b.0 b.1)
-
-run80_top_in : Option Run80 → ℕ
-run80_top_in None = 0
-run80_top_in (Some c) = c.top
+    subst (λ (k : Listing). is_top k.top ≡ true) (same_Some _ c b.2) (top_of_is g b.0 b.1)
 
 run80_top : (g : Gathered) (c : Run80) → run80_of g ≡ Some c → is_top c.top ≡ true
-unfolding run80_top_in taken
+unfolding taken
 run80_top g c e =
     let z = taken (flag_of g.zilog) _ c e in
     let a = taken (one_file g.names) _ c z.2 in
     let b = taken (top_of g) _ c a.2 in
     let d = taken (run_options_of g) _ c b.2 in
-    subst (λ n. is_top n ≡ true) (ap run80_top_in d.2) (top_of_is g b.0 b.1)
-
-both_top_in : Option Both → ℕ
-both_top_in None = 0
-both_top_in (Some c) = c.top
+    subst (λ (k : Run80). is_top k.top ≡ true) (same_Some _ c d.2) (top_of_is g b.0 b.1)
 
 both_top : (g : Gathered) (c : Both) → both_of g ≡ Some c → is_top c.top ≡ true
-unfolding both_top_in taken
+unfolding taken
 both_top g c e =
     let z = taken (flag_of g.zilog) _ c e in
     let a = taken (one_file g.names) _ c z.2 in
     let b = taken (top_of g) _ c a.2 in
     let d = taken (choice_of g) _ c b.2 in
     let f = taken (run_options_of g) _ c d.2 in
-    subst (λ n. is_top n ≡ true) (ap both_top_in f.2) (top_of_is g b.0 b.1)
-
-hex80_top_in : Option Hex80 → ℕ
-hex80_top_in None = 0
-hex80_top_in (Some c) = c.top
+    subst (λ (k : Both). is_top k.top ≡ true) (same_Some _ c f.2) (top_of_is g b.0 b.1)
 
 hex80_top : (g : Gathered) (c : Hex80) → hex80_of g ≡ Some c → is_top c.top ≡ true
-unfolding hex80_top_in taken
+unfolding taken
 hex80_top g c e =
     let z = taken (flag_of g.zilog) _ c e in
     let a = taken (two_files g.names) _ c z.2 in
     let b = taken (top_of g) _ c a.2 in
-    subst (λ n. is_top n ≡ true) (ap hex80_top_in b.2) (top_of_is g b.0 b.1)
-
-run_hex_top_in : Option RunHex → ℕ
-run_hex_top_in None = 0
-run_hex_top_in (Some c) = c.top
+    subst (λ (k : Hex80). is_top k.top ≡ true) (same_Some _ c b.2) (top_of_is g b.0 b.1)
 
 run_hex_top : (g : Gathered) (c : RunHex) → run_hex_of g ≡ Some c → is_top c.top ≡ true
-unfolding run_hex_top_in taken
+unfolding taken
 run_hex_top g c e =
     let a = taken (one_file g.names) _ c e in
     let b = taken (top_of g) _ c a.2 in
     let d = taken (choice_of g) _ c b.2 in
     let f = taken (run_options_of g) _ c d.2 in
-    subst (λ n. is_top n ≡ true) (ap run_hex_top_in f.2) (top_of_is g b.0 b.1)
-
-shrink_top_in : Option Shrink → ℕ
-shrink_top_in None = 0
-shrink_top_in (Some c) = c.top
+    subst (λ (k : RunHex). is_top k.top ≡ true) (same_Some _ c f.2) (top_of_is g b.0 b.1)
 
 shrink_top : (g : Gathered) (c : Shrink) → shrink_of g ≡ Some c → is_top c.top ≡ true
-unfolding shrink_top_in taken
+unfolding taken
 shrink_top g c e =
     let a = taken (three_files g.names) _ c e in
     let b = taken (top_of g) _ c a.2 in
-    subst (λ n. is_top n ≡ true) (ap shrink_top_in b.2) (top_of_is g b.0 b.1)
+    subst (λ (k : Shrink). is_top k.top ≡ true) (same_Some _ c b.2) (top_of_is g b.0 b.1)
 
 -- ---- the number of routines
 
@@ -152,30 +121,22 @@ count_among n m e = let h = if_some (nat_le 1 n && nat_le n 500) n m e in subst 
 count_is : (text : Word) (m : ℕ) → count_value text ≡ Some m → IsCount m
 count_is text m e = let h = taken (number_in 10 3 text) count_within m e in count_among h.0 m h.2
 
-count_in : Option Sample → ℕ
-count_in None = 0
-count_in (Some c) = c.count
-
-pair_count_in : Option (ℕ × Word) → ℕ
-pair_count_in None = 0
-pair_count_in (Some x) = x.0
-
 counted : (names : Names) (x : ℕ × Word) → count_and_file names ≡ Some x → IsCount x.0
-unfolding taken pair_count_in
+unfolding taken
 counted NoName x e = absurd (cc)
 counted (OneName w) x e = absurd (cc)
 counted (TwoNames first second) x e =
     let a = taken (count_value first) _ x e in
     let b = taken (file_name second) _ x a.2 in
-    subst IsCount (ap pair_count_in b.2) (count_is first a.0 a.1)
+    subst (λ (y : ℕ × Word). IsCount y.0) (same_Some _ x b.2) (count_is first a.0 a.1)
 counted (ThreeNames first second third) x e = absurd (cc)
 counted MoreNames x e = absurd (cc)
 
 sample_count : (g : Gathered) (c : Sample) → sample_of g ≡ Some c → IsCount c.count
-unfolding count_in taken
+unfolding taken
 sample_count g c e =
     let a = taken (count_and_file g.names) _ c e in
-    subst IsCount (ap count_in a.2) (counted g.names a.0 a.1)
+    subst (λ (k : Sample). IsCount k.count) (same_Some _ c a.2) (counted g.names a.0 a.1)
 
 -- ---- each command
 

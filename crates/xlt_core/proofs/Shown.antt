@@ -1,5 +1,5 @@
 -- What is shown matches, and so means the same; and the one thing that is found of a match is that it is shown.
-use Rattle.std.proofs.Common.{◌≡◌, ℕ, List, length, Option, Some, None, refl, sym, ap, subst}
+use Rattle.std.proofs.Common.{◌≡◌, ℕ, List, length, Some, None, refl, sym, ap, subst}
 use Rattle.cells.specs.declared.Cell.{Cell}
 use Rattle.asm86_line_types.specs.declared.line.Stmt86.{Stmt86}
 use Rattle.asm86_line_types.specs.declared.line.Line86.{Line86}
@@ -8,7 +8,6 @@ use Rattle.asm86_line_types.specs.Image.{Assembles, Image, image_of, statements,
 use Rattle.asm80_program_types.specs.Program.{Program, IsProgram, cell_at}
 use Rattle.flow.specs.Blocks.{blocks}
 use Rattle.flow.specs.Solving.{Needs, AreAllNeeds}
-use Rattle.sym_block_def.specs.declared.reason.Reason.{Reason}
 use Rattle.block_check_def.specs.BlockMatch.{Keeps}
 use Rattle.sym_block_def.specs.Sorts.{StatementsAreCoded}
 use Rattle.sym_block_def.specs.Stands.{Stands}

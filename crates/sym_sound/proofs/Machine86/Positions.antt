@@ -1,6 +1,7 @@
 -- Where a walk is in a text: what stands behind a position, and at which offset.
 use Rattle.std.proofs.Common.{◌≡◌, ℕ, ◌+◌, ◌<◌, ◌≤◌, Bool, true, false, cond, List, [], ◌∷◌, ◌++◌, Option, Some, None, refl, sym, ap, subst, ◌∙◌, arith, append_assoc}
 use Rattle.std.specs.Prelude.{◌||◌, is_some, unwrap_or}
+use Rattle.std.proofs.lemmas.Option.{same_Some}
 use Rattle.i86.specs.Code.{HasBytes}
 use Rattle.asm86_line_types.specs.declared.line.Label.{Label}
 use Rattle.asm86_line_types.specs.declared.line.Stmt86.{Stmt86}
@@ -72,14 +73,11 @@ behind_from at (x ∷ xs) l ys e = by_mark (marks l x) refl e (behind_from (at +
   where
     by_mark : (b : Bool) → marks l x ≡ b → cond b (Some xs) (after_label xs l) ≡ Some ys → (after_label xs l ≡ Some ys → (before : List Stmt86) × (xs ≡ before ++ ys) × (offset_from (at + size_of x) xs l ≡ Some (at + size_of x + sizes_of before))) → (before : List Stmt86) × (x ∷ xs ≡ before ++ ys) × (offset_from at (x ∷ xs) l ≡ Some (at + sizes_of before))
     by_mark true h f later =
-        let same : xs ≡ ys = some_is xs ys f in
+        let same : xs ≡ ys = same_Some xs ys f in
         let none : size_of x ≡ 0 = mark_size x h in
         let sum : at ≡ at + sizes_of (x ∷ []) = omega (arith, none) in
         (x ∷ [], ap (λ zs. x ∷ zs) same, offset_here at l x xs h ∙ ap Some sum)
       where
-        some_is : (xs ys : List Stmt86) → Some xs ≡ Some ys → xs ≡ ys
-        some_is xs ys e = cc
-
         mark_size : (x : Stmt86) → marks l x ≡ true → size_of x ≡ 0
         mark_size (Mark k) e = refl
         mark_size x e = absurd (cc)
@@ -174,10 +172,7 @@ offset_small at [] l n e = absurd (cc)
 offset_small at (x ∷ xs) l n e = by_mark (marks l x) e (offset_small (at + size_of x) xs l n)
   where
     by_mark : (b : Bool) → cond b (Some at) (offset_from (at + size_of x) xs l) ≡ Some n → (offset_from (at + size_of x) xs l ≡ Some n → n ≤ at + size_of x + sizes_of xs) → n ≤ at + sizes_of (x ∷ xs)
-    by_mark true f later = let same : at ≡ n = some_is at n f in omega (arith, same)
-      where
-        some_is : (a b : ℕ) → Some a ≡ Some b → a ≡ b
-        some_is a b e = cc
+    by_mark true f later = let same : at ≡ n = same_Some at n f in omega (arith, same)
     by_mark false f later = let le = later f in omega (arith, le)
 
 pub offset_within : (text : List Stmt86) (l : Label) (n : ℕ) → sizes_of text < 0x10000 → offset_of text l ≡ Some n → n < 0x10000

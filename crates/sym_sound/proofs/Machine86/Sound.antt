@@ -1,5 +1,6 @@
 -- Walks, from each state at a block's label.
 use Rattle.std.proofs.Common.{◌≡◌, ℕ, ◌*◌, Bool, true, false, cond, List, [], Option, Some, None, Ok, refl, sym, subst, ◌∙◌, ◌⊎◌, inl, inr}
+use Rattle.std.proofs.lemmas.Option.{same_Some}
 use Rattle.cells.specs.declared.Part.{Part}
 use Rattle.cells.specs.declared.Part.TheVariants.{A, B, C, D, E, H, L, S, Z, Ac, P, Cy}
 use Rattle.cells.specs.Parts.{Parts, has}
@@ -136,7 +137,7 @@ walks_run keep sorts steps p lines fetch kept first count o choices used s e a c
     by_behind None f g = absurd (err_is_not Missing o g)
     by_behind (Some xs) f g =
         let b = behind_is (statements lines) xs (At first) f in
-        let same : b.0 ≡ s.ip = some_is b.0 s.ip (sym b.1 ∙ sym (offsets_are lines (At first)) ∙ here) in
+        let same : b.0 ≡ s.ip = same_Some b.0 s.ip (sym b.1 ∙ sym (offsets_are lines (At first)) ∙ here) in
         let around = surroundings p (statements lines) first (instrs_from p first count) in
         let walk : Walk = record {
           keep = keep;
@@ -158,6 +159,3 @@ walks_run keep sorts steps p lines fetch kept first count o choices used s e a c
           segments = segments;
         } in
         runs_some walk kept used count (met around xs) o (at_start kept (offsets_of lines) s e is env) (met_at around (statements lines) xs s.ip a.once (subst (Position (statements lines) xs) same b.2)) g
-      where
-        some_is : (x y : ℕ) → Some x ≡ Some y → x ≡ y
-        some_is x y e = cc

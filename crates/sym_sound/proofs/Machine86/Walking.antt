@@ -1,6 +1,7 @@
 -- The walk: each of its instructions is one step of the machine, up to where the taken way leads.
 use Rattle.std.proofs.Common.{◌≡◌, ℕ, zero, suc, ◌+◌, ◌<◌, ◌≤◌, Bool, true, false, cond, not, List, [], ◌∷◌, Option, Some, None, Result, Ok, Err, refl, sym, ap, subst, ◌∙◌, arith, ◌⊎◌, inl, inr, ⊎_elim}
 use Rattle.std.specs.Prelude.{◌||◌}
+use Rattle.std.proofs.lemmas.Option.{same_Some}
 use Rattle.cells.specs.declared.Place.{Place}
 use Rattle.cells.specs.declared.Place.TheVariants.{At as AtPlace, Exit as EndPlace}
 use Rattle.i86.specs.declared.Reg8.TheVariants.{Bh, Bl}
@@ -172,18 +173,9 @@ module _ (walk : Walk) where
   -- where ways lead
 
   pub label_leads : (d : Env86) (l : Label) (way : Way) (t : State86) (n : ℕ) → way_to l ≡ Some way → offset_of (statements lines) l ≡ Some n → Leads86 p (offsets_of lines) d t way (record t { ip = n })
-  label_leads d (At b) way t n h o = subst (λ v. Leads86 p (offsets_of lines) d t v (record t { ip = n })) (some_is h) (n, at_offset (At b) n o, refl)
-    where
-      some_is : {x y : Way} → Some x ≡ Some y → x ≡ y
-      some_is h = cc
-  label_leads d Sys way t n h o = subst (λ v. Leads86 p (offsets_of lines) d t v (record t { ip = n })) (some_is h) (n, at_offset Sys n o, refl)
-    where
-      some_is : {x y : Way} → Some x ≡ Some y → x ≡ y
-      some_is h = cc
-  label_leads d End way t n h o = subst (λ v. Leads86 p (offsets_of lines) d t v (record t { ip = n })) (some_is h) (n, at_offset End n o, refl)
-    where
-      some_is : {x y : Way} → Some x ≡ Some y → x ≡ y
-      some_is h = cc
+  label_leads d (At b) way t n h o = subst (λ v. Leads86 p (offsets_of lines) d t v (record t { ip = n })) (same_Some _ _ h) (n, at_offset (At b) n o, refl)
+  label_leads d Sys way t n h o = subst (λ v. Leads86 p (offsets_of lines) d t v (record t { ip = n })) (same_Some _ _ h) (n, at_offset Sys n o, refl)
+  label_leads d End way t n h o = subst (λ v. Leads86 p (offsets_of lines) d t v (record t { ip = n })) (same_Some _ _ h) (n, at_offset End n o, refl)
   label_leads d (Skip b) way t n h o = absurd (cc)
   label_leads d (User b) way t n h o = absurd (cc)
 
@@ -263,12 +255,9 @@ module _ (walk : Walk) where
       (λ f. way_ends loads x room used t (record t { ip = n }) way d h (subst (λ v. Leads86 p (offsets_of lines) (with_loads e loads) t v (record t { ip = n })) (ok_is f.0 way f.2) (label_leads (with_loads e loads) l f.0 t n f.1 o)))
       (λ f.
       let b = behind_is (statements lines) f.0 l (ap (λ s. after_label s l) (sym same_text) ∙ f.1) in
-      let same : b.0 ≡ n = some_is b.0 n (sym b.1 ∙ o) in
+      let same : b.0 ≡ n = same_Some b.0 n (sym b.1 ∙ o) in
       way_goes_on loads x room used t (record t { ip = n }) way h (again f.0 (record t { ip = n }) (lands loads x t n d) (subst (Position (statements lines) f.0) same b.2) f.2))
       (jump_is w Ok (λ xs. way_from w x room (met w xs)) l way j)
-    where
-      some_is : (x y : ℕ) → Some x ≡ Some y → x ≡ y
-      some_is x y h = cc
 
   way_at : (loads : List Load86) (x : Symbolic86) (room used : ℕ) (t : State86) (s : Stmt86) (rest : List Stmt86) (way : Way) → Denotes e s0 loads x t → Position (statements lines) (s ∷ rest) t.ip → ((xs : List Stmt86) (u : State86) → Denotes e s0 loads x u → Position (statements lines) xs u.ip → way_from w x room (met w xs) ≡ Ok way → WayRuns loads x room (suc used) u way) → way_by w x (λ xs. way_from w x room (met w xs)) rest s ≡ Ok way → WayRuns loads x (suc room) used t way
   way_at loads x room used t (Jmp l) rest way d q again h = way_jumps loads x room used t l way d (jump_steps l rest t (choice_at choices used) q (stack_is loads x t d)) (names (Jmp l) rest t.ip l refl q) again h

@@ -1,6 +1,7 @@
 -- The walk before a conditional jump.
 use Rattle.std.proofs.Common.{◌≡◌, ◌≢◌, ℕ, zero, suc, ◌+◌, ◌*◌, ◌/◌, ◌%◌, ◌<◌, ◌≤◌, Bool, true, false, cond, not, List, ◌∷◌, length, Some, Result, Ok, refl, sym, ap, subst, ◌∙◌, arith, ⊎_elim}
 use Rattle.std.specs.Prelude.{◌||◌, ◌==◌}
+use Rattle.std.proofs.lemmas.Option.{same_Some}
 use Rattle.cells.specs.declared.Place.{Place}
 use Rattle.cells.specs.declared.Place.TheVariants.{At as AtPlace, Exit as EndPlace}
 use Rattle.i86.specs.declared.Reg8.TheVariants.{Cl}
@@ -188,12 +189,9 @@ module _ (walk : Walk) where
       (λ f. one_step loads x room used t (record t { ip = n }) f.0 o d h (label_leads walk (with_loads e loads) l f.0 t n f.1 there) f.2)
       (λ f.
       let b = behind_is (statements lines) f.0 l (ap (λ s. after_label s l) (sym same_text) ∙ f.1) in
-      let same : b.0 ≡ n = some_is b.0 n (sym b.1 ∙ there) in
+      let same : b.0 ≡ n = same_Some b.0 n (sym b.1 ∙ there) in
       later room used t (record t { ip = n }) o h (again loads x (record t { ip = n }) f.0 (stands e s0 loads x t n d) so (subst (Position (statements lines) f.0) same b.2) f.2))
       (jump_is w (one_way x) (λ xs. walk_through w room (met w xs) x) l o j)
-    where
-      some_is : (x y : ℕ) → Some x ≡ Some y → x ≡ y
-      some_is x y h = cc
 
   -- an offset that is loaded
   code_value : (d : Env86) (q : Place) (n : ℕ) → n < 0x10000 → d.offset q ≡ Some n → Val86 d (code_word q) (Number n)
@@ -336,11 +334,8 @@ module _ (walk : Walk) where
       behind_way : (f : (xs : List Stmt86) × (after_label w.text l ≡ Some xs) × (way_from w x room (met w xs) ≡ Ok jumped.0)) → WayRuns walk loads x room (suc used) (record t { ip = n }) jumped.0
       behind_way f =
           let b = behind_is (statements lines) f.0 l (ap (λ s. after_label s l) (sym same_text) ∙ f.1) in
-          let same : b.0 ≡ n = some_is b.0 n (sym b.1 ∙ there) in
+          let same : b.0 ≡ n = same_Some b.0 n (sym b.1 ∙ there) in
           way_runs walk loads x room (suc used) (met w f.0) (record t { ip = n }) jumped.0 (stands e s0 loads x t n d) (met_at w (statements lines) f.0 n a.once (subst (Position (statements lines) f.0) same b.2)) f.2
-        where
-          some_is : (x y : ℕ) → Some x ≡ Some y → x ≡ y
-          some_is x y h = cc
 
       by_flag : (b : Bool) → jumps j t.flags ≡ b → WalkRuns 1 (suc room) used t o
       by_flag true f = by_way (record t { ip = n }) jumped.0 (step ∙ ap (λ c. Ran (cond c (record t { ip = n }) (past t 2))) f) (takes true f jumped.0 refl) (⊎_elim label_way behind_way (jump_is w Ok (λ xs. way_from w x room (met w xs)) l jumped.0 jumped.1))

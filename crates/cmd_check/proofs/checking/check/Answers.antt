@@ -1,31 +1,20 @@
 use Rattle.cmd_arguments.specs.ReadCommands.{check_read}
 use Rattle.cmd_check.specs.Completes.{CheckCompletes}
-use Rattle.cmd_check.proofs.Completing.{Laws, completes}
+use Rattle.cmd_check.proofs.Completing.{completes}
 use Rattle.cmd_check.proofs.OwnTexts.{shows_own_text}
 use Rattle.cmd_check.proofs.checking.check.Given.{Over}
 use Rattle.cmd_check.proofs.checking.check.Goals as goal
 use Rattle.cmd_check.proofs.checking.check.Goals.{After-carry_out}
 
-laws : (g : Over) (c : After-carry_out g) → Laws
-laws g c = record {
-  files = record {
-    source = c.sources_have_one_outcome.ensures;
-    reading = c.text_has_one_reading.ensures;
-    refuses = c.images_exclude_refusals.ensures.one_refusal;
-    not_both = c.images_exclude_refusals.ensures.not_both;
-  };
-  finding = c.findings_are_one.ensures;
-}
-
 comes : (g : Over) (c : After-carry_out g) → CheckCompletes (check_read c.args.command.now) (g.H.Host.state c.args.host.now) (g.H.Host.state c.carry_out.new.host) c.carry_out.result
-comes g c = completes (laws g c) (check_read c.args.command.now) (g.H.Host.state c.args.host.now) (g.H.Host.state c.carry_out.new.host) c.carry_out.result c.carry_out.ensures.gives
+comes g c = completes c.checks_have_one_outcome.ensures (check_read c.args.command.now) (g.H.Host.state c.args.host.now) (g.H.Host.state c.carry_out.new.host) c.carry_out.result c.carry_out.ensures.gives
 
 pub returns-clause-completes : goal.returns-clause-completes
 returns-clause-completes g c = comes g c
 
 pub returns-clause-own : goal.returns-clause-own
 returns-clause-own g c =
-    shows_own_text (laws g c)
+    shows_own_text c.checks_have_one_outcome.ensures
     (record {
       reads = c.own_texts_are_same.ensures.reads_back;
       assembles = c.own_texts_are_same.ensures.assembles;

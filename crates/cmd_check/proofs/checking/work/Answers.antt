@@ -1,7 +1,6 @@
-use Rattle.std.proofs.Common.{◌≡◌, sym, subst}
 use Rattle.cmd_arguments.specs.ReadCommands.{check_read}
 use Rattle.cmd_common.specs.declared.stop.Stop.TheVariants.{OutOfMemory}
-use Rattle.cmd_common.proofs.Told.{judged}
+use Rattle.cmd_common.proofs.Told.{handed_on}
 use Rattle.cmd_check.specs.Checks.{Stops, unloaded, unlike, out_of_memory}
 use Rattle.cmd_check.proofs.checking.work.Goals as goal
 
@@ -11,8 +10,8 @@ returns-in_err-loaded-clause-stopped g c =
     let command = check_read c.args.command.now in
     let old = g.H.Host.state c.args.host.now in
     let new = g.H.Host.state c.load.new.host in
-    judged c.from_residual.result (λ s. s ≡ c.in_err-loaded.field-0.0) (Stops command old new) c.from_residual.ensures.1
-    (λ s is. subst (Stops command old new) (sym is) (unloaded c.in_err-loaded.ensures.stopped))
+    handed_on c.from_residual.result c.in_err-loaded.field-0.0 (Stops command old new) c.from_residual.ensures.1
+    (unloaded c.in_err-loaded.ensures.stopped)
 
 -- the text is not shown
 pub returns-in_err-count-clause-stopped : goal.returns-in_err-count-clause-stopped
@@ -21,16 +20,16 @@ returns-in_err-count-clause-stopped g c =
     let old = g.H.Host.state c.args.host.now in
     let new = g.H.Host.state c.load.new.host in
     let l = c.in_ok-loaded in
-    judged c.from_residual-in_err-count.result (λ s. s ≡ c.in_err-count.field-0.0) (Stops command old new) c.from_residual-in_err-count.ensures.1
-    (λ s is. subst (Stops command old new) (sym is) (unlike l.loaded.program l.loaded.text.lines.items l.ensures.loaded c.in_err-count.ensures.stopped))
+    handed_on c.from_residual-in_err-count.result c.in_err-count.field-0.0 (Stops command old new) c.from_residual-in_err-count.ensures.1
+    (unlike l.loaded.program l.loaded.text.lines.items l.ensures.loaded c.in_err-count.ensures.stopped)
 
 pub returns-in_err-shown_line-clause-stopped : goal.returns-in_err-shown_line-clause-stopped
 returns-in_err-shown_line-clause-stopped g c =
     let command = check_read c.args.command.now in
     let old = g.H.Host.state c.args.host.now in
     let new = g.H.Host.state c.load.new.host in
-    judged c.from_residual-in_err-shown_line.result (λ s. s ≡ OutOfMemory) (Stops command old new) c.from_residual-in_err-shown_line.ensures.1
-    (λ s is. subst (Stops command old new) (sym is) (unloaded (out_of_memory c.in_ok-loaded.ensures.loaded.reads.only)))
+    handed_on c.from_residual-in_err-shown_line.result OutOfMemory (Stops command old new) c.from_residual-in_err-shown_line.ensures.1
+    (unloaded (out_of_memory c.in_ok-loaded.ensures.loaded.reads.only))
 
 pub returns-clause-worked : goal.returns-clause-worked
 returns-clause-worked g c =

@@ -1,9 +1,9 @@
-use Rattle.std.proofs.Common.{◌≡◌, List, sym, subst}
+use Rattle.std.proofs.Common.{List, sym, subst}
 use Rattle.asm86_line_types.specs.declared.line.Line86.{Line86}
 use Rattle.asm86_line_types.specs.Image.{IsImage, image_of}
 use Rattle.xlt_core.specs.Names.{Same, Finding, IsFinding, IfShown}
 use Rattle.cmd_common.specs.declared.stop.Stop.TheVariants.{OutOfMemory, NotShown}
-use Rattle.cmd_common.proofs.Told.{judged}
+use Rattle.cmd_common.proofs.Told.{handed_on}
 use Rattle.cmd_check.specs.Checks.{IsShown, FindStops, not_shown, no_memory}
 use Rattle.cmd_check.proofs.finding.find.Goals as goal
 
@@ -13,8 +13,7 @@ validate_loaded-requires-clause-made c = subst (λ (l : List Line86). IsImage l 
 pub returns-in_err-finding-clause-stopped : goal.returns-in_err-finding-clause-stopped
 returns-in_err-finding-clause-stopped c =
     let stops = FindStops c.args.program.now c.args.text.now.lines.items in
-    judged c.from_residual.result (λ s. s ≡ OutOfMemory) stops c.from_residual.ensures.1
-    (λ s is. subst stops (sym is) no_memory)
+    handed_on c.from_residual.result OutOfMemory stops c.from_residual.ensures.1 no_memory
 
 pub returns-in-Shown-clause-shown : goal.returns-in-Shown-clause-shown
 returns-in-Shown-clause-shown c =

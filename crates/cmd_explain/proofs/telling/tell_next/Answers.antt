@@ -1,6 +1,6 @@
-use Rattle.std.proofs.Common.{◌≡◌, ◌∙◌, Some, List, sym, ap, subst}
+use Rattle.std.proofs.Common.{◌∙◌, Some, List, sym, ap, subst}
 use Rattle.asm86_line_types.specs.declared.line.Stmt86.{Stmt86}
-use Rattle.flow.specs.Blocks.{block_at, IsBlockOf}
+use Rattle.flow.specs.Blocks.{block_at}
 use Rattle.block_check_def.specs.BlockMatch.{block_reason}
 use Rattle.simulation_def.specs.Needed.{needed_by}
 use Rattle.simulation_def.proofs.Blocks.{may_run}
@@ -9,27 +9,19 @@ use Rattle.cmd_explain.specs.Explained.{BlockTold}
 use Rattle.cmd_explain.specs.Telling.{Tells}
 use Rattle.cmd_explain.proofs.Leaders.{block_found, first_starts, last_starts, same_count}
 use Rattle.cmd_explain.proofs.telling.tell_next.Goals as goal
-use Rattle.cmd_explain.proofs.telling.tell_next.Goals.{After-said-in-Some-1}
 
-found : (c : After-said-in-Some-1) → (block_at c.args.sides.now.program.now c.args.leader ≡ Some c.unwrap_or-count.result) × IsBlockOf c.args.sides.now.program.now c.args.leader c.unwrap_or-count.result
-found c =
+pub tell_block-requires : goal.tell_block-requires
+tell_block-requires c =
     let p = c.args.sides.now.program.now in
-    block_found p c.args.sides.now.graph.now.program (c.blocks_cut_the_program.ensures p c.top-top.ensures.program) c.requires.program c.args.leader c.requires.leader c.block.result c.unwrap_or-count.result c.block.ensures c.unwrap_or-count.ensures
-
-pub tell_block-requires-clause-block : goal.tell_block-requires-clause-block
-tell_block-requires-clause-block c =
-    let p = c.args.sides.now.program.now in
-    may_run p c.args.leader c.unwrap_or-count.result (c.blocks_cut_the_program.ensures p c.top-top.ensures.program) (found c).1
-
-pub tell_block-requires-clause-starts : goal.tell_block-requires-clause-starts
-tell_block-requires-clause-starts c =
-    let p = c.args.sides.now.program.now in
-    first_starts p c.args.leader c.unwrap_or-count.result (c.blocks_cut_the_program.ensures p c.top-top.ensures.program) (found c).1
-
-pub tell_block-requires-clause-ends : goal.tell_block-requires-clause-ends
-tell_block-requires-clause-ends c =
-    let p = c.args.sides.now.program.now in
-    last_starts p c.args.leader c.unwrap_or-count.result (c.blocks_cut_the_program.ensures p c.top-top.ensures.program) (found c).1
+    let count = c.unwrap_or-count.result in
+    let cut = c.blocks_cut_the_program.ensures p c.top-top.ensures.program in
+    let own = block_found p c.args.sides.now.graph.now.program cut c.requires.program c.args.leader c.requires.leader c.block.result count c.block.ensures c.unwrap_or-count.ensures in
+    record {
+      block = may_run p c.args.leader count cut own.1;
+      starts = first_starts p c.args.leader count cut own.1;
+      ends = last_starts p c.args.leader count cut own.1;
+      text = c.requires.text;
+    }
 
 pub returns-in-None-clause-reason : goal.returns-in-None-clause-reason
 returns-in-None-clause-reason c = λ n count needs e.

@@ -1,4 +1,4 @@
-use Rattle.std.proofs.Common.{◌≡◌, ℕ, List, refl, sym, subst}
+use Rattle.std.proofs.Common.{ℕ, List, refl, sym, subst}
 use Rattle.host.specs.Host.{HostState, OnlyReads, SameFaults}
 use Rattle.cmd_file.specs.declared.fault.CmdFault.{CmdFault}
 use Rattle.cmd_file.specs.declared.fault.CmdFault.TheVariants.{Bad, Memory}
@@ -7,7 +7,7 @@ use Rattle.cmd_arguments.specs.Words.{CmdShow}
 use Rattle.cmd_arguments.specs.ReadCommands.{cmd_show_read}
 use Rattle.cmd_common.specs.declared.stop.Stop.TheVariants.{OutOfMemory}
 use Rattle.cmd_common.specs.Files.{IsWholeFile, input_limit}
-use Rattle.cmd_common.proofs.Told.{judged}
+use Rattle.cmd_common.proofs.Told.{handed_on}
 use Rattle.cmd_common.specs.Makes.{MakeStops, unmade, no_file, is_refused, no_memory}
 use Rattle.cmd_makes.specs.Shows.{cmd_show_kind, stop_of_file}
 use Rattle.cmd_makes.proofs.showing.work.Goals as goal
@@ -22,8 +22,8 @@ returns-in_err-bytes-clause-stopped g c =
     let kind = cmd_show_kind (cmd_show_read c.args.command.now) in
     let old = g.H.Host.state c.args.host.now in
     let new = g.H.Host.state c.read_named.new.host in
-    judged c.from_residual.result (λ s. s ≡ c.in_err-bytes.field-0.0) (MakeStops kind old new) c.from_residual.ensures.1
-    (λ s is. subst (MakeStops kind old new) (sym is) (unmade c.in_err-bytes.ensures.only (no_file c.in_err-bytes.ensures.stopped)))
+    handed_on c.from_residual.result c.in_err-bytes.field-0.0 (MakeStops kind old new) c.from_residual.ensures.1
+    (unmade c.in_err-bytes.ensures.only (no_file c.in_err-bytes.ensures.stopped))
 
 pub returns-in-Err-clause-stopped : goal.returns-in-Err-clause-stopped
 returns-in-Err-clause-stopped g c =
@@ -40,5 +40,5 @@ returns-in_err-groups_line-clause-stopped g c =
     let kind = cmd_show_kind (cmd_show_read c.args.command.now) in
     let old = g.H.Host.state c.args.host.now in
     let new = g.H.Host.state c.read_named.new.host in
-    judged c.from_residual-in_err-groups_line.result (λ s. s ≡ OutOfMemory) (MakeStops kind old new) c.from_residual-in_err-groups_line.ensures.1
-    (λ s is. subst (MakeStops kind old new) (sym is) (unmade c.in_ok-bytes.ensures.only no_memory))
+    handed_on c.from_residual-in_err-groups_line.result OutOfMemory (MakeStops kind old new) c.from_residual-in_err-groups_line.ensures.1
+    (unmade c.in_ok-bytes.ensures.only no_memory)

@@ -1,7 +1,7 @@
-use Rattle.std.proofs.Common.{◌≡◌, refl, sym, subst}
+use Rattle.std.proofs.Common.{refl}
 use Rattle.std.specs.Prelude.{option_copied}
 use Rattle.cmd_common.specs.declared.stop.Stop.TheVariants.{OutOfMemory}
-use Rattle.cmd_common.proofs.Told.{judged}
+use Rattle.cmd_common.proofs.Told.{handed_on}
 use Rattle.cmd_runs.specs.declared.halt.Halt.TheVariants.{By}
 use Rattle.cmd_runs.specs.Ends.{Halts}
 use Rattle.cmd_runs.specs.Finishing.{LeaveStops, no_line, unkept}
@@ -13,8 +13,8 @@ returns-in_err-last-clause-halted g c =
     let old = g.H.Host.state c.args.host.now in
     let name = option_copied c.args.name in
     let disk = c.args.disk.now in
-    judged c.from_residual.result (λ h. h ≡ By OutOfMemory) (Halts (LeaveStops name disk old old)) c.from_residual.ensures.1
-    (λ h is. subst (Halts (LeaveStops name disk old old)) (sym is) (no_line refl))
+    handed_on c.from_residual.result (By OutOfMemory) (Halts (LeaveStops name disk old old)) c.from_residual.ensures.1
+    (no_line refl)
 
 -- the disk was not written
 pub returns-in_err-keep_disk-clause-halted : goal.returns-in_err-keep_disk-clause-halted
@@ -23,5 +23,5 @@ returns-in_err-keep_disk-clause-halted g c =
     let new = g.H.Host.state c.keep_disk.new.host in
     let name = option_copied c.args.name in
     let disk = c.args.disk.now in
-    judged c.from_residual-in_err-keep_disk.result (λ h. h ≡ By c.in_err-keep_disk.field-0.0) (Halts (LeaveStops name disk old new)) c.from_residual-in_err-keep_disk.ensures.1
-    (λ h is. subst (Halts (LeaveStops name disk old new)) (sym is) (unkept c.in_err-keep_disk.ensures.stopped))
+    handed_on c.from_residual-in_err-keep_disk.result (By c.in_err-keep_disk.field-0.0) (Halts (LeaveStops name disk old new)) c.from_residual-in_err-keep_disk.ensures.1
+    (unkept c.in_err-keep_disk.ensures.stopped)

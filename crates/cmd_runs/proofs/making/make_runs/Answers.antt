@@ -1,11 +1,11 @@
-use Rattle.std.proofs.Common.{◌≡◌, [], ◌∷◌, sym, subst}
+use Rattle.std.proofs.Common.{[], ◌∷◌, subst}
 use Rattle.emulators.specs.Starts.{start_by}
 use Rattle.cmd_arguments.specs.ReadCommands.{both_read}
-use Rattle.cmd_common.proofs.Told.{judged}
+use Rattle.cmd_common.proofs.Told.{handed_on}
 use Rattle.cmd_runs.specs.Ends.{halt_of_talk}
 use Rattle.cmd_runs.specs.Supplies.{fill_by}
 use Rattle.cmd_runs.specs.Settings.{setting80, RunComesTo, IsRunCutOff}
-use Rattle.cmd_runs.specs.Works.{WorkHalts, HaltsFrom}
+use Rattle.cmd_runs.specs.Works.{HaltsFrom}
 use Rattle.cmd_runs.specs.BothLoads.{AreToRun}
 use Rattle.cmd_runs.specs.BothRuns.{prefix80, first_setting, work_both}
 use Rattle.cmd_runs.proofs.BothMade.{filled, first_halts, second_halts, both_made}
@@ -21,8 +21,8 @@ returns-in_err-first-clause-halted g c =
     let fault = c.in_err-first.field-0.0 in
     let cut : IsRunCutOff (first_setting command l.program) l.devices fault start new =
     subst (λ n. IsRunCutOff (setting80 command.run.page l.program n prefix80) l.devices fault start new) c.from-steps.ensures c.in_err-first.ensures.cut in
-    judged c.from_residual.result (λ h. h ≡ halt_of_talk fault) (HaltsFrom (work_both command) (λ begin. AreToRun command begin l.program l.image l.devices) start new) c.from_residual.ensures.1
-    (λ h is begin read. subst (WorkHalts (work_both command) begin new) (sym is) (first_halts command begin start l.program l.image l.devices read new fault cut))
+    handed_on c.from_residual.result (halt_of_talk fault) (HaltsFrom (work_both command) (λ begin. AreToRun command begin l.program l.image l.devices) start new) c.from_residual.ensures.1
+    (λ begin read. first_halts command begin start l.program l.image l.devices read new fault cut)
 
 -- a fault cut the 8086's run off
 pub returns-in_err-second-clause-halted : goal.returns-in_err-second-clause-halted
@@ -37,9 +37,8 @@ returns-in_err-second-clause-halted g c =
     let first : RunComesTo (first_setting command l.program) l.devices o left start mid =
     subst (λ n. RunComesTo (setting80 command.run.page l.program n prefix80) l.devices o left start mid) c.from-steps.ensures c.in_ok-first.ensures.run in
     let fault = c.in_err-second.field-0.0 in
-    judged c.from_residual-in_err-second.result (λ h. h ≡ halt_of_talk fault) (HaltsFrom (work_both command) (λ begin. AreToRun command begin l.program l.image l.devices) start new) c.from_residual-in_err-second.ensures.1
-    (λ h is begin read. subst (WorkHalts (work_both command) begin new) (sym is)
-    (second_halts command begin start l.program l.image l.devices read mid new o left l.second c.limit86-limit.result first c.requires.second c.limit86-limit.ensures fault c.in_err-second.ensures.cut))
+    handed_on c.from_residual-in_err-second.result (halt_of_talk fault) (HaltsFrom (work_both command) (λ begin. AreToRun command begin l.program l.image l.devices) start new) c.from_residual-in_err-second.ensures.1
+    (λ begin read. second_halts command begin start l.program l.image l.devices read mid new o left l.second c.limit86-limit.result first c.requires.second c.limit86-limit.ensures fault c.in_err-second.ensures.cut)
 
 pub returns-clause-made : goal.returns-clause-made
 returns-clause-made g c = λ begin read.

@@ -1,8 +1,7 @@
-use Rattle.std.proofs.Common.{◌≡◌, sym, subst}
 use Rattle.std.specs.Prelude.{option_copied}
 use Rattle.cmd_arguments.specs.ReadCommands.{both_read}
-use Rattle.cmd_common.proofs.Told.{judged}
-use Rattle.cmd_runs.specs.Works.{WorkHalts, HaltsFrom}
+use Rattle.cmd_common.proofs.Told.{handed_on}
+use Rattle.cmd_runs.specs.Works.{HaltsFrom}
 use Rattle.cmd_runs.proofs.Working.{left_has, left_halts}
 use Rattle.cmd_runs.specs.BothLoads.{AreToRun}
 use Rattle.cmd_runs.specs.BothRuns.{work_both}
@@ -16,8 +15,7 @@ returns-in_err-made-clause-halted g c =
     let start = g.H.Host.state c.args.host.now in
     let l = c.args.loaded.now in
     let new = g.H.Host.state c.make_runs.new.host in
-    judged c.from_residual.result (λ h. h ≡ c.in_err-made.field-0.0) (HaltsFrom (work_both command) (λ begin. AreToRun command begin l.program l.image l.devices) start new) c.from_residual.ensures.1
-    (λ h is begin read. subst (WorkHalts (work_both command) begin new) (sym is) (c.in_err-made.ensures.halted begin read))
+    handed_on c.from_residual.result c.in_err-made.field-0.0 (HaltsFrom (work_both command) (λ begin. AreToRun command begin l.program l.image l.devices) start new) c.from_residual.ensures.1 c.in_err-made.ensures.halted
 
 pub returns : goal.returns
 returns g c =

@@ -1,4 +1,4 @@
-use Rattle.std.proofs.Common.{◌≡◌, sym, subst}
+use Rattle.std.proofs.Common.{subst}
 use Rattle.host.proofs.HostLemmas.{SameFaults-trans}
 use Rattle.cmd_arguments.specs.ReadCommands.{run_options_read}
 use Rattle.cmd_arguments.specs.Words.{Run80}
@@ -8,7 +8,7 @@ use Rattle.cmd_runs.specs.Supplies.{given_of}
 use Rattle.cmd_common.specs.Sources.{SourceGives, reading_of}
 use Rattle.cmd_runs.specs.Kinds.{NothingToRun, no_file, no_supply, is_refused}
 use Rattle.cmd_runs.specs.Runs80.{words_of, kind80}
-use Rattle.cmd_common.proofs.Told.{judged}
+use Rattle.cmd_common.proofs.Told.{handed_on}
 use Rattle.cmd_runs.proofs.Loading.{supply_before, supply_stops_before}
 use Rattle.cmd_runs.proofs.run_source.read_program.Goals as goal
 
@@ -17,8 +17,8 @@ returns-in_err-source-clause-stopped g c =
     let command : Run80 = words_of c.args.name.now c.args.zilog c.args.top (run_options_read c.args.run.now) in
     let old = g.H.Host.state c.args.host.now in
     let new = g.H.Host.state c.read_source.new.host in
-    judged c.from_residual.result (λ h. h ≡ By c.in_err-source.field-0.0) (Halts (NothingToRun (kind80 command) old new)) c.from_residual.ensures.1
-    (λ h is. subst (Halts (NothingToRun (kind80 command) old new)) (sym is) (no_file c.in_err-source.ensures.stopped))
+    handed_on c.from_residual.result (By c.in_err-source.field-0.0) (Halts (NothingToRun (kind80 command) old new)) c.from_residual.ensures.1
+    (no_file c.in_err-source.ensures.stopped)
 
 pub returns-in_err-supplies-clause-stopped : goal.returns-in_err-supplies-clause-stopped
 returns-in_err-supplies-clause-stopped g c =
@@ -27,9 +27,8 @@ returns-in_err-supplies-clause-stopped g c =
     let mid = g.H.Host.state c.read_source.new.host in
     let new = g.H.Host.state c.read_supplies.new.host in
     let first = c.in_ok-source.ensures in
-    judged c.from_residual-in_err-supplies.result (λ h. h ≡ By c.in_err-supplies.field-0.0) (Halts (NothingToRun (kind80 command) old new)) c.from_residual-in_err-supplies.ensures.1
-    (λ h is. subst (Halts (NothingToRun (kind80 command) old new)) (sym is)
-    (no_supply first.read.bytes first.read.file (supply_stops_before old mid new first.only first.counted command.run c.in_err-supplies.field-0.0 c.in_err-supplies.ensures.stopped)))
+    handed_on c.from_residual-in_err-supplies.result (By c.in_err-supplies.field-0.0) (Halts (NothingToRun (kind80 command) old new)) c.from_residual-in_err-supplies.ensures.1
+    (no_supply first.read.bytes first.read.file (supply_stops_before old mid new first.only first.counted command.run c.in_err-supplies.field-0.0 c.in_err-supplies.ensures.stopped))
 
 -- the source is refused, and the other files were read
 pub returns-in_err-program-clause-stopped : goal.returns-in_err-program-clause-stopped
@@ -42,11 +41,10 @@ returns-in_err-program-clause-stopped g c =
     let second = c.in_ok-supplies.ensures in
     let s = c.in_ok-supplies.supplies in
     let given = given_of s.input.items s.disk.items s.ports.items in
-    judged c.from_residual-in_err-program.result (λ h. h ≡ By c.in_err-program.field-0.0) (Halts (NothingToRun (kind80 command) old new)) c.from_residual-in_err-program.ensures.1
-    (λ h is. subst (Halts (NothingToRun (kind80 command) old new)) (sym is)
+    handed_on c.from_residual-in_err-program.result (By c.in_err-program.field-0.0) (Halts (NothingToRun (kind80 command) old new)) c.from_residual-in_err-program.ensures.1
     (is_refused first.read.bytes given first.read.file (supply_before old mid new first.only first.counted command.run given second.read)
     (SameFaults-trans first.counted second.counted)
-    (subst (SourceGives (reading_of command.zilog) first.read.bytes command.top) c.in_err-program.was first.read.gives)))
+    (subst (SourceGives (reading_of command.zilog) first.read.bytes command.top) c.in_err-program.was first.read.gives))
 
 pub returns-clause-named : goal.returns-clause-named
 returns-clause-named g c =

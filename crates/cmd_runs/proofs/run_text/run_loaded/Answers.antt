@@ -1,12 +1,12 @@
-use Rattle.std.proofs.Common.{◌≡◌, [], refl, sym, subst}
+use Rattle.std.proofs.Common.{[], refl, subst}
 use Rattle.std.specs.Prelude.{option_copied}
 use Rattle.host.specs.Host.{HostState}
 use Rattle.cmd_arguments.specs.ReadCommands.{run86_read}
-use Rattle.cmd_common.proofs.Told.{judged}
+use Rattle.cmd_common.proofs.Told.{handed_on}
 use Rattle.cmd_runs.specs.Ends.{halt_of_talk}
 use Rattle.cmd_runs.specs.Settings.{setting86, RunComesTo, IsRunCutOff}
 use Rattle.cmd_runs.specs.Kinds.{HasRead, IsToRun, run_setting}
-use Rattle.cmd_runs.specs.Works.{WorkHalts, HaltsFrom}
+use Rattle.cmd_runs.specs.Works.{HaltsFrom}
 use Rattle.cmd_runs.proofs.Working.{left_has, left_halts}
 use Rattle.cmd_runs.proofs.OneRun.{one_made, run_is_made, run_cut_halts}
 use Rattle.cmd_runs.specs.Runs86.{kind86, work86}
@@ -21,8 +21,8 @@ returns-in_err-ran-clause-halted g c =
     let fault = c.in_err-ran.field-0.0 in
     let cut : IsRunCutOff (run_setting (kind86 command) [] l.image) l.devices fault start new =
     subst (λ n. IsRunCutOff (setting86 command.run.page command.choice l.image n []) l.devices fault start new) c.from-limit.ensures c.in_err-ran.ensures.cut in
-    judged c.from_residual.result (λ h. h ≡ halt_of_talk fault) (HaltsFrom (work86 command) (λ begin. IsToRun (kind86 command) begin l.image l.devices) start new) c.from_residual.ensures.1
-    (λ h is begin read. subst (WorkHalts (work86 command) begin new) (sym is) (run_cut_halts (kind86 command) begin start new l.image l.devices read fault cut))
+    handed_on c.from_residual.result (halt_of_talk fault) (HaltsFrom (work86 command) (λ begin. IsToRun (kind86 command) begin l.image l.devices) start new) c.from_residual.ensures.1
+    (λ begin read. run_cut_halts (kind86 command) begin start new l.image l.devices read fault cut)
 
 pub returns : goal.returns
 returns g c =

@@ -1,6 +1,5 @@
-use Rattle.std.proofs.Common.{◌≡◌, sym, subst}
 use Rattle.cmd_arguments.specs.ReadCommands.{run86_read}
-use Rattle.cmd_common.proofs.Told.{judged}
+use Rattle.cmd_common.proofs.Told.{handed_on}
 use Rattle.cmd_runs.specs.Kinds.{IsToRun}
 use Rattle.cmd_runs.specs.Works.{WorkHalts}
 use Rattle.cmd_runs.proofs.Working.{unloaded_halts, begun_has, begun_halts}
@@ -13,8 +12,8 @@ returns-in_err-loaded-clause-halted g c =
     let old = g.H.Host.state c.args.host.now in
     let new = g.H.Host.state c.load.new.host in
     let halt = c.in_err-loaded.field-0.0 in
-    judged c.from_residual.result (λ h. h ≡ halt) (WorkHalts w old new) c.from_residual.ensures.1
-    (λ h is. subst (WorkHalts w old new) (sym is) (unloaded_halts w old new halt c.in_err-loaded.ensures.only c.in_err-loaded.ensures.stopped))
+    handed_on c.from_residual.result halt (WorkHalts w old new) c.from_residual.ensures.1
+    (unloaded_halts w old new halt c.in_err-loaded.ensures.only c.in_err-loaded.ensures.stopped)
 
 pub returns : goal.returns
 returns g c =

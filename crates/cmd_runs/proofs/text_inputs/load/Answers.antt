@@ -1,4 +1,4 @@
-use Rattle.std.proofs.Common.{◌≡◌, ⊎_elim, sym, subst}
+use Rattle.std.proofs.Common.{⊎_elim, sym, subst}
 use Rattle.host.proofs.HostLemmas.{SameFaults-trans}
 use Rattle.cmd_arguments.specs.ReadCommands.{run86_read}
 use Rattle.cmd_runs.specs.declared.halt.Halt.TheVariants.{By}
@@ -7,7 +7,7 @@ use Rattle.cmd_common.specs.Texts.{BytesGiveLines}
 use Rattle.cmd_runs.specs.Supplies.{given_of}
 use Rattle.cmd_runs.specs.Kinds.{NothingToRun, no_file, no_supply, no_disk, no_memory}
 use Rattle.cmd_runs.specs.Runs86.{kind86}
-use Rattle.cmd_common.proofs.Told.{judged}
+use Rattle.cmd_common.proofs.Told.{handed_on}
 use Rattle.cmd_runs.proofs.Loading.{supply_before, supply_stops_before}
 use Rattle.cmd_runs.proofs.TextLoading.{lines_stop, image_stops}
 use Rattle.cmd_runs.proofs.text_inputs.load.Goals as goal
@@ -16,8 +16,8 @@ pub returns-in_err-text-clause-stopped : goal.returns-in_err-text-clause-stopped
 returns-in_err-text-clause-stopped g c =
     let old = g.H.Host.state c.args.host.now in
     let new = g.H.Host.state c.read_text.new.host in
-    judged c.from_residual.result (λ h. h ≡ By c.in_err-text.field-0.0) (Halts (NothingToRun (kind86 (run86_read c.args.command.now)) old new)) c.from_residual.ensures.1
-    (λ h is. subst (Halts (NothingToRun (kind86 (run86_read c.args.command.now)) old new)) (sym is) (no_file c.in_err-text.ensures.stopped))
+    handed_on c.from_residual.result (By c.in_err-text.field-0.0) (Halts (NothingToRun (kind86 (run86_read c.args.command.now)) old new)) c.from_residual.ensures.1
+    (no_file c.in_err-text.ensures.stopped)
 
 pub returns-in_err-supplies-clause-stopped : goal.returns-in_err-supplies-clause-stopped
 returns-in_err-supplies-clause-stopped g c =
@@ -25,9 +25,8 @@ returns-in_err-supplies-clause-stopped g c =
     let mid = g.H.Host.state c.read_text.new.host in
     let new = g.H.Host.state c.read_supplies.new.host in
     let first = c.in_ok-text.ensures in
-    judged c.from_residual-in_err-supplies.result (λ h. h ≡ By c.in_err-supplies.field-0.0) (Halts (NothingToRun (kind86 (run86_read c.args.command.now)) old new)) c.from_residual-in_err-supplies.ensures.1
-    (λ h is. subst (Halts (NothingToRun (kind86 (run86_read c.args.command.now)) old new)) (sym is)
-    (no_supply first.read.bytes first.read.file (supply_stops_before old mid new first.only first.counted (run86_read c.args.command.now).run c.in_err-supplies.field-0.0 c.in_err-supplies.ensures.stopped)))
+    handed_on c.from_residual-in_err-supplies.result (By c.in_err-supplies.field-0.0) (Halts (NothingToRun (kind86 (run86_read c.args.command.now)) old new)) c.from_residual-in_err-supplies.ensures.1
+    (no_supply first.read.bytes first.read.file (supply_stops_before old mid new first.only first.counted (run86_read c.args.command.now).run c.in_err-supplies.field-0.0 c.in_err-supplies.ensures.stopped))
 
 -- a line is refused, and the other files were read
 pub returns-in_err-lines-clause-stopped : goal.returns-in_err-lines-clause-stopped
@@ -40,11 +39,10 @@ returns-in_err-lines-clause-stopped g c =
     let second = c.in_ok-supplies.ensures in
     let s = c.in_ok-supplies.supplies in
     let given = given_of s.input.items s.disk.items s.ports.items in
-    judged c.from_residual-in_err-lines.result (λ h. h ≡ By c.in_err-lines.field-0.0) (Halts (NothingToRun (kind86 command) old new)) c.from_residual-in_err-lines.ensures.1
-    (λ h is. subst (Halts (NothingToRun (kind86 command) old new)) (sym is)
+    handed_on c.from_residual-in_err-lines.result (By c.in_err-lines.field-0.0) (Halts (NothingToRun (kind86 command) old new)) c.from_residual-in_err-lines.ensures.1
     (lines_stop command old new first.read.bytes given first.read.file (supply_before old mid new first.only first.counted command.run given second.read)
     (SameFaults-trans first.counted second.counted) c.in_err-lines.field-0.0
-    (subst (BytesGiveLines first.read.bytes) c.in_err-lines.was first.read.gives)))
+    (subst (BytesGiveLines first.read.bytes) c.in_err-lines.was first.read.gives))
 
 -- the lines have no image
 pub returns-in_err-image-clause-stopped : goal.returns-in_err-image-clause-stopped
@@ -57,11 +55,10 @@ returns-in_err-image-clause-stopped g c =
     let second = c.in_ok-supplies.ensures in
     let s = c.in_ok-supplies.supplies in
     let given = given_of s.input.items s.disk.items s.ports.items in
-    judged c.from_residual-in_err-image.result (λ h. h ≡ By c.in_err-image.field-0.0) (Halts (NothingToRun (kind86 command) old new)) c.from_residual-in_err-image.ensures.1
-    (λ h is. subst (Halts (NothingToRun (kind86 command) old new)) (sym is)
+    handed_on c.from_residual-in_err-image.result (By c.in_err-image.field-0.0) (Halts (NothingToRun (kind86 command) old new)) c.from_residual-in_err-image.ensures.1
     (image_stops command old new first.read.bytes given first.read.file (supply_before old mid new first.only first.counted command.run given second.read)
     (SameFaults-trans first.counted second.counted)
-    c.in_ok-lines.lines.items (subst (BytesGiveLines first.read.bytes) c.in_ok-lines.was first.read.gives) c.in_err-image.field-0.0 c.in_err-image.ensures.stopped))
+    c.in_ok-lines.lines.items (subst (BytesGiveLines first.read.bytes) c.in_ok-lines.was first.read.gives) c.in_err-image.field-0.0 c.in_err-image.ensures.stopped)
 
 -- the disk's file is none, or memory ran out
 pub returns-in_err-equipment-clause-stopped : goal.returns-in_err-equipment-clause-stopped
@@ -75,8 +72,7 @@ returns-in_err-equipment-clause-stopped g c =
     let s = c.in_ok-supplies.supplies in
     let given = given_of s.input.items s.disk.items s.ports.items in
     let image = c.in_ok-image.image in
-    judged c.from_residual-in_err-equipment.result (λ h. h ≡ By c.in_err-equipment.field-0.0) (Halts (NothingToRun (kind86 command) old new)) c.from_residual-in_err-equipment.ensures.1
-    (λ h is. subst (Halts (NothingToRun (kind86 command) old new)) (sym is)
+    handed_on c.from_residual-in_err-equipment.result (By c.in_err-equipment.field-0.0) (Halts (NothingToRun (kind86 command) old new)) c.from_residual-in_err-equipment.ensures.1
     (⊎_elim
     (no_disk image given
     (record {
@@ -91,7 +87,7 @@ returns-in_err-equipment-clause-stopped g c =
     })
     (SameFaults-trans first.counted second.counted))
     (λ m. subst (NothingToRun (kind86 command) old new) (sym m) no_memory)
-    c.in_err-equipment.ensures.stopped))
+    c.in_err-equipment.ensures.stopped)
 
 pub returns-clause-loaded : goal.returns-clause-loaded
 returns-clause-loaded g c =

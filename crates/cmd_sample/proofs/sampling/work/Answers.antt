@@ -1,7 +1,7 @@
-use Rattle.std.proofs.Common.{◌≡◌, ◌∙◌, refl, sym, subst}
+use Rattle.std.proofs.Common.{◌∙◌, refl, subst}
 use Rattle.cmd_arguments.specs.ReadCommands.{sample_read}
 use Rattle.cmd_common.specs.declared.stop.Stop.TheVariants.{OutOfMemory}
-use Rattle.cmd_common.proofs.Told.{judged}
+use Rattle.cmd_common.proofs.Told.{handed_on}
 use Rattle.cmd_common.specs.Writing.{FailsToWrite}
 use Rattle.cmd_sample.specs.SampleWork.{StopsBy, no_memory, unwritten}
 use Rattle.cmd_common.proofs.WriteEnds.{failed_to_write}
@@ -11,8 +11,8 @@ pub returns-in_err-made-clause-stopped : goal.returns-in_err-made-clause-stopped
 returns-in_err-made-clause-stopped g c =
     let command = sample_read c.args.command.now in
     let old = g.H.Host.state c.args.host.now in
-    judged c.from_residual.result (λ s. s ≡ OutOfMemory) (StopsBy command old old) c.from_residual.ensures.1
-    (λ s is. subst (StopsBy command old old) (sym is) (no_memory refl))
+    handed_on c.from_residual.result OutOfMemory (StopsBy command old old) c.from_residual.ensures.1
+    (no_memory refl)
 
 pub returns-clause-stopped : goal.returns-clause-stopped
 returns-clause-stopped g c =

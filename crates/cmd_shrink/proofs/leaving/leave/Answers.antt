@@ -1,7 +1,7 @@
-use Rattle.std.proofs.Common.{◌≡◌, ℕ, ◌≤◌, length, ap, sym, subst, arith}
-use Rattle.cmd_common.specs.declared.stop.Stop.TheVariants.{OutOfMemory, TooManyStatements}
-use Rattle.cmd_common.proofs.Told.{judged}
-use Rattle.cmd_shrink.specs.Shrinks.{line_of_left, LeftStops, too_many, unlike, no_memory}
+use Rattle.std.proofs.Common.{ℕ, ◌≤◌, length, ap, sym, subst, arith}
+use Rattle.cmd_common.specs.declared.stop.Stop.TheVariants.{TooManyStatements}
+use Rattle.cmd_common.proofs.Told.{handed_on}
+use Rattle.cmd_shrink.specs.Shrinks.{LeftStops, too_many, unlike}
 use Rattle.cmd_shrink.proofs.leaving.leave.Goals as goal
 
 pub returns-then-count-gt-MOST_STATEMENTS-clause-stopped : goal.returns-then-count-gt-MOST_STATEMENTS-clause-stopped
@@ -19,5 +19,5 @@ returns-in_err-find-clause-stopped c =
     let count = sym (ap length c.as_slice-lines.ensures.value) in
     let most = c.if-count-gt-MOST_STATEMENTS.false in
     let few : length lines ≤ 2048 = omega (arith, count, most) in
-    judged c.from_residual.result (λ s. s ≡ c.in_err-find.field-0.0) stops c.from_residual.ensures.1
-    (λ s is. subst stops (sym is) (unlike few c.in_err-find.ensures.stopped))
+    handed_on c.from_residual.result c.in_err-find.field-0.0 stops c.from_residual.ensures.1
+    (unlike few c.in_err-find.ensures.stopped)

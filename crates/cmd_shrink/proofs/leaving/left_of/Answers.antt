@@ -1,11 +1,11 @@
-use Rattle.std.proofs.Common.{◌≡◌, List, sym, subst, arith}
+use Rattle.std.proofs.Common.{List, sym, subst, arith}
 use Rattle.i86.specs.Decode.{HasReader}
 use Rattle.asm86_line_types.specs.declared.line.Line86.{Line86}
 use Rattle.asm86_line_types.specs.Image.{Image, statements}
 use Rattle.sym_block_def.specs.Sorts.{StatementsAreCoded}
 use Rattle.simulation_def.specs.Matches.{DataAreCoded}
 use Rattle.cmd_common.specs.declared.stop.Stop.TheVariants.{OutOfMemory}
-use Rattle.cmd_common.proofs.Told.{judged}
+use Rattle.cmd_common.proofs.Told.{handed_on}
 use Rattle.cmd_shrink.specs.Shrinks.{LeftStops, IsLeft, no_memory}
 use Rattle.cmd_shrink.proofs.Left.{left_stops}
 use Rattle.cmd_shrink.proofs.leaving.left_of.Goals as goal
@@ -13,14 +13,12 @@ use Rattle.cmd_shrink.proofs.leaving.left_of.Goals as goal
 pub returns-in_err-left-clause-stopped : goal.returns-in_err-left-clause-stopped
 returns-in_err-left-clause-stopped c =
     let stops = LeftStops c.args.program.now c.args.lines.now in
-    judged c.from_residual.result (λ s. s ≡ OutOfMemory) stops c.from_residual.ensures.1
-    (λ s is. subst stops (sym is) no_memory)
+    handed_on c.from_residual.result OutOfMemory stops c.from_residual.ensures.1 no_memory
 
 pub returns-in_err-line-clause-stopped : goal.returns-in_err-line-clause-stopped
 returns-in_err-line-clause-stopped c =
     let stops = LeftStops c.args.program.now c.args.lines.now in
-    judged c.from_residual-in_err-line.result (λ s. s ≡ OutOfMemory) stops c.from_residual-in_err-line.ensures.1
-    (λ s is. subst stops (sym is) no_memory)
+    handed_on c.from_residual-in_err-line.result OutOfMemory stops c.from_residual-in_err-line.ensures.1 no_memory
 
 pub of-requires-clause-order : goal.of-requires-clause-order
 of-requires-clause-order c = ((c.shrunk_is_left.ensures.left c.args.program.now c.args.lines.now c.in_ok-left.left.items c.in_ok-left.ensures).assembles c.requires.assembles).order
@@ -38,8 +36,8 @@ returns-in_err-text-clause-stopped c =
     let left = c.in_ok-left.left.items in
     let stops = LeftStops p lines in
     let a = (c.shrunk_is_left.ensures.left p lines left c.in_ok-left.ensures).assembles c.requires.assembles in
-    judged c.from_residual-in_err-text.result (λ s. s ≡ c.in_err-text.field-0.0) stops c.from_residual-in_err-text.ensures.1
-    (λ s is. subst stops (sym is) (left_stops c.images_exclude_refusals.ensures.not_both p lines left a c.in_err-text.field-0.0 c.in_err-text.ensures.stopped))
+    handed_on c.from_residual-in_err-text.result c.in_err-text.field-0.0 stops c.from_residual-in_err-text.ensures.1
+    (left_stops c.images_exclude_refusals.ensures.not_both p lines left a c.in_err-text.field-0.0 c.in_err-text.ensures.stopped)
 
 pub returns-clause-left : goal.returns-clause-left
 returns-clause-left c =

@@ -1,12 +1,11 @@
 use Rattle.std.proofs.Common.{◌≡◌, true, ap, sym, subst}
-use Rattle.host.specs.Host.{HostState}
 use Rattle.asm86_line_types.specs.Written.{written_text}
 use Rattle.asm80_program_types.specs.Program.{is_top}
 use Rattle.cmd_arguments.specs.Words.{Check}
 use Rattle.cmd_arguments.specs.ReadCommands.{shrink_read}
-use Rattle.cmd_common.proofs.Told.{judged}
+use Rattle.cmd_common.proofs.Told.{handed_on}
 use Rattle.cmd_check.specs.Checks.{Loads, LoadStops}
-use Rattle.cmd_shrink.specs.Shrinks.{check_of, Stops, unloaded, unshrunk}
+use Rattle.cmd_shrink.specs.Shrinks.{Stops, unloaded, unshrunk}
 use Rattle.cmd_shrink.proofs.Working.{write_stop, has_shrunk}
 use Rattle.cmd_shrink.proofs.shrinking.work.Goals as goal
 
@@ -20,8 +19,8 @@ returns-in_err-loaded-clause-stopped g c =
     let old = g.H.Host.state c.args.host.now in
     let new = g.H.Host.state c.load.new.host in
     let stop = c.in_err-loaded.field-0.0 in
-    judged c.from_residual.result (λ s. s ≡ stop) (Stops command old new) c.from_residual.ensures.1
-    (λ s is. subst (Stops command old new) (sym is) (unloaded (subst (λ (k : Check). LoadStops k old new stop) c.check_of-check.ensures c.in_err-loaded.ensures.stopped)))
+    handed_on c.from_residual.result stop (Stops command old new) c.from_residual.ensures.1
+    (unloaded (subst (λ (k : Check). LoadStops k old new stop) c.check_of-check.ensures c.in_err-loaded.ensures.stopped))
 
 -- nothing is left
 pub returns-in_err-left-clause-stopped : goal.returns-in_err-left-clause-stopped
@@ -31,10 +30,9 @@ returns-in_err-left-clause-stopped g c =
     let new = g.H.Host.state c.load.new.host in
     let l = c.in_ok-loaded in
     let stop = c.in_err-left.field-0.0 in
-    judged c.from_residual-in_err-left.result (λ s. s ≡ stop) (Stops command old new) c.from_residual-in_err-left.ensures.1
-    (λ s is. subst (Stops command old new) (sym is)
+    handed_on c.from_residual-in_err-left.result stop (Stops command old new) c.from_residual-in_err-left.ensures.1
     (unshrunk l.loaded.program l.loaded.text.lines.items
-    (subst (λ (k : Check). Loads k old new l.loaded.program l.loaded.text.lines.items) c.check_of-check.ensures l.ensures.loaded) c.in_err-left.ensures.stopped))
+    (subst (λ (k : Check). Loads k old new l.loaded.program l.loaded.text.lines.items) c.check_of-check.ensures l.ensures.loaded) c.in_err-left.ensures.stopped)
 
 -- the write failed
 pub returns-in_err-write_text-clause-stopped : goal.returns-in_err-write_text-clause-stopped
@@ -47,10 +45,9 @@ returns-in_err-write_text-clause-stopped g c =
     let left = c.in_ok-left in
     let write = c.in_err-write_text in
     let loads = subst (λ (k : Check). Loads k old mid l.loaded.program l.loaded.text.lines.items) c.check_of-check.ensures l.ensures.loaded in
-    judged c.from_residual-in_err-write_text.result (λ s. s ≡ write.field-0.0) (Stops command old new) c.from_residual-in_err-write_text.ensures.1
-    (λ s is. subst (Stops command old new) (sym is)
+    handed_on c.from_residual-in_err-write_text.result write.field-0.0 (Stops command old new) c.from_residual-in_err-write_text.ensures.1
     (write_stop command old mid new l.loaded.program l.loaded.text.lines.items left.left.text.lines.items loads left.ensures.left
-    (written_text c.as_slice.result.now) (ap written_text c.as_slice.ensures.value) write.field-0.0 write.ensures.stopped))
+    (written_text c.as_slice.result.now) (ap written_text c.as_slice.ensures.value) write.field-0.0 write.ensures.stopped)
 
 pub returns-clause-worked : goal.returns-clause-worked
 returns-clause-worked g c =

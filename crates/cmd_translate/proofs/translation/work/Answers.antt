@@ -1,4 +1,4 @@
-use Rattle.std.proofs.Common.{◌≡◌, ℕ, List, Bor, ◌∙◌, option_map, sym, subst}
+use Rattle.std.proofs.Common.{ℕ, List, Bor, ◌∙◌, option_map, subst}
 use Rattle.asm80_source_def.specs.Source.{IsSource}
 use Rattle.cmd_arguments.specs.ReadCommands.{translate_read}
 use Rattle.cmd_common.specs.Sources.{SourceGives, reading_of}
@@ -6,7 +6,7 @@ use Rattle.templates.specs.Translation.{IsText}
 use Rattle.commented_text_def.specs.Commented.{kept_of}
 use Rattle.cmd_translate.specs.Translates.{mode_of}
 use Rattle.cmd_translate.specs.TranslateWork.{TextStops, StopsBy, unread}
-use Rattle.cmd_common.proofs.Told.{judged}
+use Rattle.cmd_common.proofs.Told.{handed_on}
 use Rattle.cmd_translate.proofs.TranslateWorking.{written_out, source_stop, text_stop, write_stop, works}
 use Rattle.cmd_translate.proofs.translation.work.Goals as goal
 
@@ -15,8 +15,8 @@ returns-in_err-source-clause-stopped g c =
     let command = translate_read c.args.command.now in
     let old = g.H.Host.state c.args.host.now in
     let new = g.H.Host.state c.read_kept.new.host in
-    judged c.from_residual.result (λ s. s ≡ c.in_err-source.field-0.0) (StopsBy command old new) c.from_residual.ensures.1
-    (λ s is. subst (StopsBy command old new) (sym is) (unread c.in_err-source.ensures.stopped c.in_err-source.ensures.only))
+    handed_on c.from_residual.result c.in_err-source.field-0.0 (StopsBy command old new) c.from_residual.ensures.1
+    (unread c.in_err-source.ensures.stopped c.in_err-source.ensures.only)
 
 -- the bytes are no source
 pub returns-in_err-program-clause-stopped : goal.returns-in_err-program-clause-stopped
@@ -26,9 +26,8 @@ returns-in_err-program-clause-stopped g c =
     let new = g.H.Host.state c.read_kept.new.host in
     let file = c.in_ok-source.ensures in
     let bytes = file.read.bytes in
-    judged c.from_residual-in_err-program.result (λ s. s ≡ c.in_err-program.field-0.0) (StopsBy command old new) c.from_residual-in_err-program.ensures.1
-    (λ s is. subst (StopsBy command old new) (sym is)
-    (source_stop command old new new bytes file.read.file file.only file.counted c.in_err-program.field-0.0 (subst (SourceGives (reading_of command.zilog) bytes command.top) c.in_err-program.was file.read.gives)))
+    handed_on c.from_residual-in_err-program.result c.in_err-program.field-0.0 (StopsBy command old new) c.from_residual-in_err-program.ensures.1
+    (source_stop command old new new bytes file.read.file file.only file.counted c.in_err-program.field-0.0 (subst (SourceGives (reading_of command.zilog) bytes command.top) c.in_err-program.was file.read.gives))
 
 -- their program has no text
 pub returns-in_err-text-clause-stopped : goal.returns-in_err-text-clause-stopped
@@ -38,10 +37,9 @@ returns-in_err-text-clause-stopped g c =
     let new = g.H.Host.state c.read_kept.new.host in
     let file = c.in_ok-source.ensures in
     let bytes = file.read.bytes in
-    judged c.from_residual-in_err-text.result (λ s. s ≡ c.in_err-text.field-0.0) (StopsBy command old new) c.from_residual-in_err-text.ensures.1
-    (λ s is. subst (StopsBy command old new) (sym is)
+    handed_on c.from_residual-in_err-text.result c.in_err-text.field-0.0 (StopsBy command old new) c.from_residual-in_err-text.ensures.1
     (text_stop command old new new bytes file.read.file file.only file.counted c.in_ok-program.program (subst (SourceGives (reading_of command.zilog) bytes command.top) c.in_ok-program.was file.read.gives)
-    c.in_err-text.field-0.0 (subst (λ m. TextStops m c.in_ok-program.program c.in_err-text.field-0.0) c.mode_of.ensures c.in_err-text.ensures.stopped)))
+    c.in_err-text.field-0.0 (subst (λ m. TextStops m c.in_ok-program.program c.in_err-text.field-0.0) c.mode_of.ensures c.in_err-text.ensures.stopped))
 
 pub returns-in_err-write_kept-clause-stopped : goal.returns-in_err-write_kept-clause-stopped
 returns-in_err-write_kept-clause-stopped g c =
@@ -59,9 +57,8 @@ returns-in_err-write_kept-clause-stopped g c =
     let w =
     written_out c.plain_is_a_style.ensures.is (mode_of command.plain) p lines c.deref.result.now text c.deref.ensures.value (option_map (λ (b : Bor (List ℕ)). b.now) c.as_deref.result)
     (kept_of command.comments bytes) (c.as_deref.ensures.value ∙ file.read.keeps) command.output mid new write.ensures.wrote in
-    judged c.from_residual-in_err-write_kept.result (λ s. s ≡ write.field-0.0) (StopsBy command old new) c.from_residual-in_err-write_kept.ensures.1
-    (λ s is. subst (StopsBy command old new) (sym is)
-    (write_stop command old mid new bytes file.read.file file.only file.counted p lines source text c.in_ok-text.ensures.fits w.out w.is write.field-0.0 w.stopped))
+    handed_on c.from_residual-in_err-write_kept.result write.field-0.0 (StopsBy command old new) c.from_residual-in_err-write_kept.ensures.1
+    (write_stop command old mid new bytes file.read.file file.only file.counted p lines source text c.in_ok-text.ensures.fits w.out w.is write.field-0.0 w.stopped)
 
 pub returns-clause-worked : goal.returns-clause-worked
 returns-clause-worked g c =

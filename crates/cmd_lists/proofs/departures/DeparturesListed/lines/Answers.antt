@@ -10,7 +10,6 @@ use Rattle.cmd_common.specs.Lines.{leaves_line}
 use Rattle.cmd_lists.specs.Departures.{AreLinesOf, AreDepartureLines}
 use Rattle.cmd_lists.proofs.Departing.{all_start, lines_some}
 use Rattle.cmd_lists.proofs.departures.DeparturesListed.lines.Goals as goal
-use Rattle.cmd_lists.proofs.departures.DeparturesListed.lines.Goals.{After-drop-found-2}
 
 pub lines_of-requires : goal.lines_of-requires
 lines_of-requires c =
@@ -20,11 +19,12 @@ lines_of-requires c =
     subst (λ xs. All (λ (x : Departure). is_start p x.at ≡ true) xs) (sym places)
     (all_start p (c.blocks_cut_the_program.ensures p is) (leaving p) (c.places_are_left.ensures p is))
 
-are_lines : (c : After-drop-found-2) → AreDepartureLines c.args.program.now (map string_bytes c.push.new.self.items)
-are_lines c =
+pub returns : goal.returns
+returns c =
     let p = c.args.program.now in
+    let lines = map string_bytes c.push.new.self.items in
     let places = c.as_slice-places.ensures.value ∙ c.in_ok-found.ensures in
-    record {
+    let are : AreDepartureLines p lines = record {
       places = map string_bytes c.in_ok-lines.lines.items;
       are = subst (λ xs. AreLinesOf p xs (map string_bytes c.in_ok-lines.lines.items)) places c.in_ok-lines.ensures;
       is = ap (map string_bytes) c.in_ok-push.ensures.items
@@ -33,10 +33,5 @@ are_lines c =
           (c.in_ok-leaves_line.ensures
           ∙ ap (λ (xs : List Departure). leaves_line (length xs) (length c.instrs.result.now)) places
           ∙ ap (λ (xs : List Placed). leaves_line (length (leaving p)) (length xs)) c.instrs.ensures.value);
-    }
-
-pub returns-clause-are : goal.returns-clause-are
-returns-clause-are c = are_lines c
-
-pub returns-clause-some : goal.returns-clause-some
-returns-clause-some c = lines_some c.args.program.now (map string_bytes c.push.new.self.items) (are_lines c)
+    } in
+    record { are = are; some = lines_some p lines are }

@@ -6,7 +6,7 @@ use Rattle.dialogue.specs.Calls.{Standing}
 use Rattle.cpu80_untagged_def.specs.State.{UntaggedState}
 use Rattle.cpu80_untagged_def.specs.Call.{NoInstruction, OddCall}
 use Rattle.cpu80_untagged_def.specs.Start.{address_of}
-use Rattle.cpu80_untagged_def.specs.Step.{step_untagged, replied_untagged}
+use Rattle.cpu80_untagged_def.specs.Step.{step_untagged}
 use Rattle.i80_bytes.specs.Fetch.{fetch_of_bytes}
 use Rattle.i80_bytes.specs.Standing.{byte_standing}
 use Rattle.emulator_loop.specs.declared.emulator.Why.TheVariants.{OddCall as HasOdd}
