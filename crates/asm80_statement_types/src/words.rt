@@ -9,7 +9,7 @@ ghost use Rattle.asm80_statement_types.specs.Words.{are_by_letter, is_operation,
 pub type WordsByLetter<'a> = [&'a [&'a [u8]]; 26];
 
 /// The 8080's operations and the directives.
-const OPERATIONS: WordsByLetter<'static> = [
+static OPERATIONS: WordsByLetter<'static> = [
     &[b"ADD", b"ADC", b"ANA", b"ADI", b"ACI", b"ANI"],
     &[],
     &[
@@ -49,7 +49,7 @@ const OPERATIONS: WordsByLetter<'static> = [
 ];
 
 /// The names of registers and register pairs, and of the memory operand.
-const REGISTERS: WordsByLetter<'static> = [
+static REGISTERS: WordsByLetter<'static> = [
     &[b"A"],
     &[b"B"],
     &[b"C"],

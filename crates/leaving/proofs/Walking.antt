@@ -9,12 +9,8 @@ use Rattle.i80.specs.declared.Instr80.{Instr80}
 use Rattle.i80.specs.declared.Instr80.TheVariants.{Jmp, Jif, Call, Cif}
 use Rattle.i80.specs.Columns.{length80, ends80}
 use Rattle.asm80_program_types.specs.Program.{Program, instr_at, is_start}
-<<<<<<< HEAD
 use Rattle.asm80_program_types.proofs.Lookup.{start_is}
-use Rattle.flow.specs.Blocks.{blocks, leaders, block_at, address_after_instruction, place_after, IsStraight, BlocksCut}
-=======
 use Rattle.flow.specs.Blocks.{blocks, leaders, block_at, place_after, IsStraight, BlocksCut}
->>>>>>> 2a39df93fb3b9e88b94f8e5a204bddfa9338e365
 use Rattle.flow.proofs.Indexed.{block_at_index}
 use Rattle.sym_terms.specs.Term.{Term, Num}
 use Rattle.leaving_def.specs.declared.Departure.{Departure}
