@@ -3,7 +3,7 @@ use Rattle.std.proofs.Common.{◌≡◌, ℕ, List, [], ◌∷◌, ◌++◌, Boo
 use Rattle.std.specs.Prelude.{find, option_map}
 use Rattle.std.specs.List.{list_all}
 use Rattle.std.specs.Str.{bytes_eq}
-use Rattle.std.proofs.lemmas.Bool.{not-true}
+use Rattle.std.proofs.lemmas.Bool.{not-true, and_parts}
 use Rattle.std.specs.Option.{option_or}
 use Rattle.std.proofs.lemmas.List.Folds.{find-append}
 use Rattle.std.proofs.lemmas.List.Sums.{fold_push}
@@ -12,7 +12,7 @@ use mathlib.Core.Bool.{or-false}
 use Rattle.clap.specs.Words.{Rule, Text, App, with_rule}
 use Rattle.clap.specs.Walk.{arg_by_id, arg_by_index, arg_by_long}
 use Rattle.clap.specs.Simple.{Shape, built, new_shape, is_simple}
-use Rattle.clap.specs.Faults.{is_simple_and_free}
+use Rattle.clap.specs.Faults.{is_free_app, is_simple_and_free}
 use Rattle.clap.proofs.WalkLemmas.{find-map}
 use Rattle.clap.specs.declared.builder.value_parser.ValueParser.TheVariants as vp
 use Rattle.cmd_arguments.specs.declared.table.CommandName.{CommandName}
@@ -58,22 +58,6 @@ built_is Shrink = refl
 built_is Leaves = refl
 built_is Explain = refl
 
-pub asked_simple : (c : CommandName) → is_simple (clap_command c) ≡ true
-asked_simple Translate = refl
-asked_simple Check = refl
-asked_simple Flags = refl
-asked_simple Run80 = refl
-asked_simple Run86 = refl
-asked_simple Both = refl
-asked_simple Sample = refl
-asked_simple Cmd = refl
-asked_simple CmdShow = refl
-asked_simple Hex80 = refl
-asked_simple RunHex = refl
-asked_simple Shrink = refl
-asked_simple Leaves = refl
-asked_simple Explain = refl
-
 pub asked_free : (c : CommandName) → is_simple_and_free (clap_command c) ≡ true
 asked_free Translate = refl
 asked_free Check = refl
@@ -89,6 +73,9 @@ asked_free RunHex = refl
 asked_free Shrink = refl
 asked_free Leaves = refl
 asked_free Explain = refl
+
+pub asked_simple : (c : CommandName) → is_simple (clap_command c) ≡ true
+asked_simple c = (and_parts (is_simple (clap_command c)) (is_free_app (built (clap_command c))) (asked_free c)).0
 
 -- an option's word is two hyphens and its name
 pub word_is : (o : OptionName) → option_word o ≡ 0x2D ∷ (0x2D ∷ long_name o)

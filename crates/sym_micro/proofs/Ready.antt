@@ -192,47 +192,28 @@ byte_machine pool r (Byte86 Bh) t = refl
 byte_machine pool r T t = refl
 byte_machine pool r U t = refl
 
-byte_actions : (r : Run) (slot : ByteSlot) (t : TermId) → (run_with_byte r slot t).actions ≡ r.actions
-byte_actions r (Byte80 RegA) t = refl
-byte_actions r (Byte80 RegB) t = refl
-byte_actions r (Byte80 RegC) t = refl
-byte_actions r (Byte80 RegD) t = refl
-byte_actions r (Byte80 RegE) t = refl
-byte_actions r (Byte80 RegH) t = refl
-byte_actions r (Byte80 RegL) t = refl
-byte_actions r (Byte86 Al) t = refl
-byte_actions r (Byte86 Cl) t = refl
-byte_actions r (Byte86 Dl) t = refl
-byte_actions r (Byte86 Bl) t = refl
-byte_actions r (Byte86 Ah) t = refl
-byte_actions r (Byte86 Ch) t = refl
-byte_actions r (Byte86 Dh) t = refl
-byte_actions r (Byte86 Bh) t = refl
-byte_actions r T t = refl
-byte_actions r U t = refl
-
-byte_loads : (r : Run) (slot : ByteSlot) (t : TermId) → (run_with_byte r slot t).loads ≡ r.loads
-byte_loads r (Byte80 RegA) t = refl
-byte_loads r (Byte80 RegB) t = refl
-byte_loads r (Byte80 RegC) t = refl
-byte_loads r (Byte80 RegD) t = refl
-byte_loads r (Byte80 RegE) t = refl
-byte_loads r (Byte80 RegH) t = refl
-byte_loads r (Byte80 RegL) t = refl
-byte_loads r (Byte86 Al) t = refl
-byte_loads r (Byte86 Cl) t = refl
-byte_loads r (Byte86 Dl) t = refl
-byte_loads r (Byte86 Bl) t = refl
-byte_loads r (Byte86 Ah) t = refl
-byte_loads r (Byte86 Ch) t = refl
-byte_loads r (Byte86 Dh) t = refl
-byte_loads r (Byte86 Bh) t = refl
-byte_loads r T t = refl
-byte_loads r U t = refl
+byte_trace : (r : Run) (slot : ByteSlot) (t : TermId) → ((run_with_byte r slot t).actions ≡ r.actions) × ((run_with_byte r slot t).loads ≡ r.loads)
+byte_trace r (Byte80 RegA) t = (refl, refl)
+byte_trace r (Byte80 RegB) t = (refl, refl)
+byte_trace r (Byte80 RegC) t = (refl, refl)
+byte_trace r (Byte80 RegD) t = (refl, refl)
+byte_trace r (Byte80 RegE) t = (refl, refl)
+byte_trace r (Byte80 RegH) t = (refl, refl)
+byte_trace r (Byte80 RegL) t = (refl, refl)
+byte_trace r (Byte86 Al) t = (refl, refl)
+byte_trace r (Byte86 Cl) t = (refl, refl)
+byte_trace r (Byte86 Dl) t = (refl, refl)
+byte_trace r (Byte86 Bl) t = (refl, refl)
+byte_trace r (Byte86 Ah) t = (refl, refl)
+byte_trace r (Byte86 Ch) t = (refl, refl)
+byte_trace r (Byte86 Dh) t = (refl, refl)
+byte_trace r (Byte86 Bh) t = (refl, refl)
+byte_trace r T t = (refl, refl)
+byte_trace r U t = (refl, refl)
 
 pub gave_byte : (old new : Contents) (r : Run) (slot : ByteSlot) (n : ℕ) (tree : Term) (t : TermId) → IsReady old r → Gives old new n tree (Some t) → IsMadeAs is_byte tree → GoesOn old new r (run_with_byte r slot t) n 0 (λ m. m ≡ with_byte (machine_of old r) slot tree) (Some tt)
 gave_byte old new r slot n tree t h g s =
-    gave_to old new r (run_with_byte r slot t) n tree t (λ m q. with_byte m slot q) (byte_actions r slot t) (byte_loads r slot t) (byte_machine new r slot t)
+    gave_to old new r (run_with_byte r slot t) n tree t (λ m q. with_byte m slot q) (byte_trace r slot t).0 (byte_trace r slot t).1 (byte_machine new r slot t)
     (byte_given new r slot t) (λ k. with_byte_sorted (machine_of new r) slot (tree_in new t) k (subst (IsMadeAs is_byte) (sym g.gives.1) s)) h g
 
 -- Word registers
@@ -247,19 +228,14 @@ word_machine pool r V t = refl
 word_machine pool r W t = refl
 word_machine pool r X t = refl
 
-word_actions : (r : Run) (slot : WordSlot) (t : TermId) → (run_with_word r slot t).actions ≡ r.actions
-word_actions r V t = refl
-word_actions r W t = refl
-word_actions r X t = refl
-
-word_loads : (r : Run) (slot : WordSlot) (t : TermId) → (run_with_word r slot t).loads ≡ r.loads
-word_loads r V t = refl
-word_loads r W t = refl
-word_loads r X t = refl
+word_trace : (r : Run) (slot : WordSlot) (t : TermId) → ((run_with_word r slot t).actions ≡ r.actions) × ((run_with_word r slot t).loads ≡ r.loads)
+word_trace r V t = (refl, refl)
+word_trace r W t = (refl, refl)
+word_trace r X t = (refl, refl)
 
 pub gave_word : (old new : Contents) (r : Run) (slot : WordSlot) (n : ℕ) (tree : Term) (t : TermId) → IsReady old r → Gives old new n tree (Some t) → IsMadeAs is_word tree → GoesOn old new r (run_with_word r slot t) n 0 (λ m. m ≡ with_word (machine_of old r) slot tree) (Some tt)
 gave_word old new r slot n tree t h g s =
-    gave_to old new r (run_with_word r slot t) n tree t (λ m q. with_word m slot q) (word_actions r slot t) (word_loads r slot t) (word_machine new r slot t)
+    gave_to old new r (run_with_word r slot t) n tree t (λ m q. with_word m slot q) (word_trace r slot t).0 (word_trace r slot t).1 (word_machine new r slot t)
     (word_given new r slot t) (λ k. with_word_sorted (machine_of new r) slot (tree_in new t) k (subst (IsMadeAs is_word) (sym g.gives.1) s)) h g
 
 -- Flag registers
@@ -278,23 +254,16 @@ flag_machine pool r Ac t = refl
 flag_machine pool r P t = refl
 flag_machine pool r Cy t = refl
 
-flag_actions : (r : Run) (slot : FlagSlot) (t : TermId) → (run_with_flag r slot t).actions ≡ r.actions
-flag_actions r S t = refl
-flag_actions r Z t = refl
-flag_actions r Ac t = refl
-flag_actions r P t = refl
-flag_actions r Cy t = refl
-
-flag_loads : (r : Run) (slot : FlagSlot) (t : TermId) → (run_with_flag r slot t).loads ≡ r.loads
-flag_loads r S t = refl
-flag_loads r Z t = refl
-flag_loads r Ac t = refl
-flag_loads r P t = refl
-flag_loads r Cy t = refl
+flag_trace : (r : Run) (slot : FlagSlot) (t : TermId) → ((run_with_flag r slot t).actions ≡ r.actions) × ((run_with_flag r slot t).loads ≡ r.loads)
+flag_trace r S t = (refl, refl)
+flag_trace r Z t = (refl, refl)
+flag_trace r Ac t = (refl, refl)
+flag_trace r P t = (refl, refl)
+flag_trace r Cy t = (refl, refl)
 
 pub gave_flag : (old new : Contents) (r : Run) (slot : FlagSlot) (n : ℕ) (tree : Term) (t : TermId) → IsReady old r → Gives old new n tree (Some t) → IsMadeAs is_bit tree → GoesOn old new r (run_with_flag r slot t) n 0 (λ m. m ≡ with_flag (machine_of old r) slot tree) (Some tt)
 gave_flag old new r slot n tree t h g s =
-    gave_to old new r (run_with_flag r slot t) n tree t (λ m q. with_flag m slot q) (flag_actions r slot t) (flag_loads r slot t) (flag_machine new r slot t)
+    gave_to old new r (run_with_flag r slot t) n tree t (λ m q. with_flag m slot q) (flag_trace r slot t).0 (flag_trace r slot t).1 (flag_machine new r slot t)
     (flag_given new r slot t) (λ k. with_flag_sorted (machine_of new r) slot (tree_in new t) k (subst (IsMadeAs is_bit) (sym g.gives.1) s)) h g
 
 pub gave_result : (old new : Contents) (r : Run) (n : ℕ) (tree : Term) (t : TermId) → IsReady old r → Gives old new n tree (Some t) → IsResult tree → GoesOn old new r (record r { result = t }) n 0 (λ m. m ≡ record (machine_of old r) { result = tree }) (Some tt)
