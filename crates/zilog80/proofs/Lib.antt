@@ -1,5 +1,6 @@
 pub mod Among
 pub mod Listed
+pub mod ByLetter
 pub mod Spelling
 pub mod Giving
 pub mod Apart

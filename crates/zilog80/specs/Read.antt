@@ -1,5 +1,5 @@
 -- What the code's operands and classes stand for, and what its functions return.
-use Rattle.std.specs.Prelude.{◌≡◌, ℕ, List, [], ◌∷◌, Bool, Option, Some, None, true, is_some, Result, Ok, Err, Contains, map, nat_lt, nat_le, ◌&&◌, not, length}
+use Rattle.std.specs.Prelude.{◌≡◌, ℕ, ◌-◌, List, [], ◌∷◌, Bool, Option, Some, None, option_copied, slice_get, true, is_some, Result, Ok, Err, Contains, map, nat_lt, nat_le, ◌&&◌, not, length}
 use Rattle.std.specs.Borrow.{Bor}
 use Rattle.std.specs.declared.alloc.AllocError.{AllocError}
 use Rattle.std.specs.List.{list_all, prefix_len, slice_split}
@@ -102,6 +102,11 @@ GivesInstruction word parts (Err parse.Memory) = Unit {0}
 GivesInstruction word parts (Err parse.Malformed) = (op : List ℕ) (args : List Operand) → IsInstruction word parts op args → ⊥
 
 -- ---- rows
+
+-- the rows of a word's first letter, among those with A, those with B, and so on; a digit has those of A
+unfoldable pub of_letter : {X : Type 0} → List (Bor (List X)) → List ℕ → Option (List X)
+of_letter lists [] = None
+of_letter lists (letter ∷ rest) = option_copied (slice_get lists (letter - 65))
 
 -- rows as they lie in the code
 abbrev pub BareEntry : Type 0
