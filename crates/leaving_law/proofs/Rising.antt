@@ -5,7 +5,7 @@ use Rattle.i80.specs.declared.Instr80.{Instr80}
 use Rattle.asm80_program_types.specs.declared.program.Placed.{Placed}
 use Rattle.asm80_program_types.specs.Program.{Program, IsProgram, AreLaid, instr_at}
 use Rattle.flow.specs.Blocks.{cut_from, extent, leader_of, place_after}
-use Rattle.flow.proofs.Laid.{length80-positive}
+use Rattle.asm80_program_types.proofs.Lookup.{length80-positive}
 use Rattle.flow.proofs.Cuts.{flat, flat-cut, offset, block, within_flat, at_flat, Joined, joined_block}
 use Rattle.flow.proofs.Straight.{AreKnown, after_some}
 use Rattle.flow.proofs.Wires.{placed_at}
