@@ -14,11 +14,11 @@ use Rattle.asm86_line_types.specs.declared.line.Stmt86.TheVariants.{Mark, Run, J
 use Rattle.asm86_line_types.specs.Layout.{same_label, marks}
 use Rattle.asm80_program_types.specs.declared.program.Placed.{Placed}
 use Rattle.asm80_program_types.specs.Program.{AreLaid}
+use Rattle.asm80_program_types.proofs.Lookup.{length80-positive}
 use Rattle.templates.specs.Template.{template, label_of_goal}
 use Rattle.flow.specs.Blocks.{end_of}
 use Rattle.flow.proofs.Cuts.{flat}
 use Rattle.templates.specs.Style.{Style, is_pair, knows_function, jump_if, without_first_if, without_last_if, written_as, label_within, block_from, block_in_style, blocks_of}
-use Rattle.templates_match_law.proofs.PlainLaid.{length80-some}
 use Rattle.templates_match_law.proofs.PlainStanding.{other_number, template_marks}
 use Rattle.templates_match_law.proofs.Runs.{end_from, laid_up}
 use Rattle.templates_match_law.proofs.Leaving.{left_so}
@@ -92,7 +92,7 @@ skip_only_of a b ne = (refl, other_number b a ne)
 pub free_behind : (a : ℕ) (l : Label) (xs : List Placed) (from limit : ℕ) → IsOnlyOf a l → AreLaid from limit xs → end_from from xs ≤ a → Free l xs
 free_behind a l [] from limit only laid le = tt
 free_behind a l (x ∷ xs) from limit only laid le =
-    let some = length80-some x.instr in
+    let some = length80-positive x.instr in
     let up = laid_up xs (end_of x) limit laid.3 in
     let ne : x.at ≢ a = omega (arith, some, up, le) in
     let no = only x.at ne in

@@ -9,6 +9,7 @@ use Rattle.i80.specs.Columns.{length80, ends80, is_well_formed}
 use Rattle.asm86_line_types.specs.declared.line.Label.TheVariants.{At}
 use Rattle.asm80_program_types.specs.declared.program.Placed.{Placed}
 use Rattle.asm80_program_types.specs.Program.{Program, IsProgram, IsCoded, AreCoded, AreLaid, placed_in, instr_at, instr_of_placed}
+use Rattle.asm80_program_types.proofs.Lookup.{length80-positive}
 use Rattle.flow.specs.Blocks.{cut_from, leader_of, end_of, IsBlockOf}
 use Rattle.flow.proofs.Cuts.{flat, flat-cut, block, Joined, joined_block, sized_block}
 use Rattle.flow.proofs.Straight.{uncut}
@@ -16,7 +17,6 @@ use Rattle.flow.proofs.Extents.{numbered}
 use Rattle.sym_block_def.specs.Block80.{instrs_from, before_more, address_after_all, addresses_from}
 use Rattle.sym_block_def.specs.Walk86.{Surroundings, is_passed}
 use Rattle.templates_match_law.proofs.Terms.{or_first}
-use Rattle.templates_match_law.proofs.PlainLaid.{length80-some}
 use Rattle.templates_match_law.proofs.PlainStanding.{same_number, other_number, not_here}
 
 -- an instruction of a program
@@ -39,7 +39,7 @@ these_are p (y ∷ ys) from limit same laid coded = (record { found = same y.at 
   where
     past : (a : ℕ) → end_of y ≤ a → placed_in p.instrs a ≡ placed_in ys a
     past a le =
-        let some = length80-some y.instr in
+        let some = length80-positive y.instr in
         let up = laid.0 in
         let ne : y.at ≢ a = omega (arith, some, le) in
         same a (omega (arith, some, up, le)) ∙ not_here y ys a ne
@@ -79,7 +79,7 @@ laid_up (x ∷ xs) from limit laid =
 pub placed_past : (xs ys : List Placed) (from limit a : ℕ) → AreLaid from limit (xs ++ ys) → end_from from xs ≤ a → placed_in (xs ++ ys) a ≡ placed_in ys a
 placed_past [] ys from limit a laid le = refl
 placed_past (x ∷ xs) ys from limit a laid le =
-    let some = length80-some x.instr in
+    let some = length80-positive x.instr in
     let up = laid_up xs (end_of x) limit (laid_front xs ys (end_of x) limit laid.3) in
     let ne : x.at ≢ a = omega (arith, some, up, le) in
     not_here x (xs ++ ys) a ne ∙ placed_past xs ys (end_of x) limit a laid.3 le
@@ -133,7 +133,7 @@ all_passed_by w (x ∷ xs) f = (
 pub none_behind : (xs : List Placed) (from limit a : ℕ) → AreLaid from limit xs → end_from from xs ≤ a → list_any (λ b. b == a) (places_of xs) ≡ false
 none_behind [] from limit a laid le = refl
 none_behind (x ∷ xs) from limit a laid le =
-    let some = length80-some x.instr in
+    let some = length80-positive x.instr in
     let up = laid_up xs (end_of x) limit laid.3 in
     let ne : x.at ≢ a = omega (arith, some, up, le) in
     or_from (x.at == a) (list_any (λ b. b == a) (places_of xs)) (other_number x.at a ne) (none_behind xs (end_of x) limit a laid.3 le)
