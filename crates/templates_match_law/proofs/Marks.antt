@@ -14,11 +14,11 @@ use Rattle.asm86_line_types.specs.declared.line.Stmt86.TheVariants.{Mark, Run, J
 use Rattle.asm86_line_types.specs.Layout.{same_label, marks}
 use Rattle.asm80_program_types.specs.declared.program.Placed.{Placed}
 use Rattle.asm80_program_types.specs.Program.{AreLaid}
+use Rattle.asm80_program_types.proofs.Lookup.{length80-positive}
 use Rattle.templates.specs.Template.{template, label_of_goal}
 use Rattle.flow.specs.Blocks.{end_of}
 use Rattle.flow.proofs.Cuts.{flat}
 use Rattle.templates.specs.Style.{Style, is_pair, knows_function, jump_if, without_first_if, without_last_if, written_as, label_within, block_from, block_in_style, blocks_of}
-use Rattle.asm80_program_types.proofs.Lookup.{length80-positive}
 use Rattle.templates_match_law.proofs.PlainStanding.{other_number, template_marks}
 use Rattle.templates_match_law.proofs.Runs.{end_from, laid_up}
 use Rattle.templates_match_law.proofs.Leaving.{left_so}

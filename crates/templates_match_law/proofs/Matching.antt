@@ -9,6 +9,7 @@ use Rattle.asm86_line_types.specs.declared.line.Stmt86.{Stmt86}
 use Rattle.asm86_line_types.specs.declared.line.Stmt86.TheVariants.{Mark}
 use Rattle.asm80_program_types.specs.declared.program.Placed.{Placed}
 use Rattle.asm80_program_types.specs.Program.{Program, IsProgram, AreLaid, placed_in, is_start}
+use Rattle.asm80_program_types.proofs.Lookup.{length80-positive}
 use Rattle.flow.specs.Blocks.{block_at, end_of, BlocksCut}
 use Rattle.flow.specs.Need.{NeedsAreClosed}
 use Rattle.flow.specs.Solving.{Needs, AreAllNeeds}
@@ -22,7 +23,6 @@ use Rattle.block_check_def.specs.BlockMatch.{walked_reason, block_reason}
 use Rattle.simulation_def.specs.Needed.{needed_by}
 use Rattle.templates_match_law.specs.Rows.{RowsAgree, RowsKeepSorts, PairsMayGo}
 use Rattle.templates_match_law.specs.Exits.{StatementsArePassed, TemplatesAreWalked, EndsBehind, ExitsAgree}
-use Rattle.asm80_program_types.proofs.Lookup.{length80-positive}
 use Rattle.templates_match_law.proofs.PlainStanding.{first_label, first_way, first_is}
 use Rattle.templates_match_law.proofs.PlainMatching.{tail_of}
 use Rattle.templates_match_law.proofs.PlainReasons.{starts_agree}

@@ -9,6 +9,7 @@ use Rattle.i80.specs.Columns.{length80, ends80, is_well_formed}
 use Rattle.asm86_line_types.specs.declared.line.Label.TheVariants.{At}
 use Rattle.asm80_program_types.specs.declared.program.Placed.{Placed}
 use Rattle.asm80_program_types.specs.Program.{Program, IsProgram, IsCoded, AreCoded, AreLaid, placed_in, instr_at, instr_of_placed}
+use Rattle.asm80_program_types.proofs.Lookup.{length80-positive}
 use Rattle.flow.specs.Blocks.{cut_from, leader_of, end_of, IsBlockOf}
 use Rattle.flow.proofs.Cuts.{flat, flat-cut, block, Joined, joined_block, sized_block}
 use Rattle.flow.proofs.Straight.{uncut}
@@ -16,7 +17,6 @@ use Rattle.flow.proofs.Extents.{numbered}
 use Rattle.sym_block_def.specs.Block80.{instrs_from, before_more, address_after_all, addresses_from}
 use Rattle.sym_block_def.specs.Walk86.{Surroundings, is_passed}
 use Rattle.templates_match_law.proofs.Terms.{or_first}
-use Rattle.asm80_program_types.proofs.Lookup.{length80-positive}
 use Rattle.templates_match_law.proofs.PlainStanding.{same_number, other_number, not_here}
 
 -- an instruction of a program

@@ -13,12 +13,12 @@ use Rattle.asm86_line_types.specs.declared.line.Stmt86.TheVariants.{Mark, Jcc}
 use Rattle.asm86_line_types.specs.Layout.{marks}
 use Rattle.asm80_program_types.specs.declared.program.Placed.{Placed}
 use Rattle.asm80_program_types.specs.Program.{AreLaid}
+use Rattle.asm80_program_types.proofs.Lookup.{length80-positive}
 use Rattle.templates.specs.Template.{template, label_of_goal}
 use Rattle.flow.specs.Blocks.{end_of}
 use Rattle.flow.proofs.Cuts.{flat}
 use Rattle.templates.specs.Style.{Style, is_pair, knows_function, jump_if, written_as, label_within, block_from, block_in_style, blocks_of}
 use Rattle.sym_block_def.specs.Walk86.{after_label}
-use Rattle.asm80_program_types.proofs.Lookup.{length80-positive}
 use Rattle.templates_match_law.proofs.PlainStanding.{same_number, other_number, behind_past, first_label}
 use Rattle.templates_match_law.proofs.Runs.{end_from, laid_rest, laid_front}
 use Rattle.templates_match_law.proofs.Marks.{written_lacks, free_behind, blocks_lack, at_only, skip_only_of}

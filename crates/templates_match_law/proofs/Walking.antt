@@ -29,6 +29,7 @@ use Rattle.sym_block_def.specs.Block80.{Symbolic80, effect80, exit80, outcome80,
 use Rattle.sym_block_def.specs.Symbolic86.{Symbolic86}
 use Rattle.sym_block_def.specs.Walk86.{Surroundings, after_label, met, met_label, is_call, outcome86, walk_through}
 use Rattle.sym_block_def.specs.Sorts.{AreSorted80, AreSorted86, StepsKeepSorts}
+use Rattle.sym_block_def.proofs.Exits.{exit_falls}
 use Rattle.block_check_def.specs.BlockMatch.{kept_by_exit, lost_by, walked_reason}
 use Rattle.simulation_def.specs.Needed.{needed_by}
 use Rattle.templates_match_law.specs.Meeting.{Among, Agree}
