@@ -7,6 +7,7 @@ use Rattle.cells.specs.declared.Cell.{Cell}
 use Rattle.i80.specs.Columns.{length80}
 use Rattle.asm80_program_types.specs.declared.program.Placed.{Placed}
 use Rattle.asm80_program_types.specs.Program.{Program, program_of, AreLaid, CellsAreLaid}
+use Rattle.asm80_program_types.proofs.Lookup.{length80-positive}
 use Rattle.asm80_statement_types.specs.Reading.{Reading, HasOneOutcome}
 use Rattle.asm80_statement_types.specs.Tree.{Statement}
 use Rattle.asm80_statement_types.specs.declared.fault.LineRule.{LineRule}
@@ -17,7 +18,6 @@ use Rattle.asm80_source_def.specs.FirstFaults.{Refusal}
 use Rattle.asm80_source_def.specs.Walk.{Walk, WalkRow, rows, walked}
 use Rattle.asm80_source_def.specs.Assembly.{HoldsProgram, IsRefused, refusal}
 use Rattle.asm80_source_def.specs.Source.{IsSource, IsNoSource, SourceRule, OfLine, OfProgram, faulty, refused}
-use Rattle.asm80_values.proofs.Placing.{length80-positive}
 
 -- ---- ascending lists with the same members
 
