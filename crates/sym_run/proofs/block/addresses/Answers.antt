@@ -1,8 +1,13 @@
-use Rattle.std.proofs.Common.{◌≡◌, ◌∙◌, ◌+◌, ◌-◌, ◌≤◌, length, take, subst, sym, ap, arith}
+use Rattle.std.proofs.Common.{◌≡◌, ◌∙◌, ℕ, ◌+◌, ◌-◌, ◌≤◌, length, take, subst, sym, ap, arith}
+use Rattle.std.specs.Prelude.{option_map}
+use Rattle.i80.specs.declared.Instr80.{Instr80}
 use Rattle.asm80_program_types.specs.Program.{instr_at}
 use Rattle.std.proofs.lemmas.List.{length-set}
 use Rattle.sym_run.proofs.Addresses.{Filled, not_none, is_there, fills, all_later, all_after}
 use Rattle.sym_run.proofs.block.addresses.Goals as goal
+
+found_instr : ℕ × Instr80 → Instr80
+found_instr found = found.1
 
 pub unreachable-requires : goal.unreachable-requires
 unreachable-requires c =
@@ -10,7 +15,7 @@ unreachable-requires c =
     let at = c.loop-done.at in
     not_none (instr_at p at)
     (is_there p c.args.first c.args.count at (c.args.count - c.loop-done.done) (take c.loop-done.done c.loop-done.addresses) c.loop-done.invariant.1 (omega arith))
-    (sym c.instr_at.ensures.value ∙ c.in_default.is)
+    (sym c.instr_near.ensures.value ∙ ap (option_map found_instr) c.in_default.is)
 
 pub loop-done-preserved : goal.loop-done-preserved
 loop-done-preserved c =
@@ -21,7 +26,7 @@ loop-done-preserved c =
     let size : length xs ≡ 16 = c.loop-done.invariant.0 in
     let few : c.args.count ≤ 16 = c.requires.few in (
       length-set xs done at ∙ size,
-      fills p c.args.first c.args.count at (at + c.length-at.result) done xs c.in-Some.instr c.loop-done.invariant.1 (sym c.instr_at.ensures.value ∙ c.in-Some.is) (ap (λ n. at + n) c.length-at.ensures) (omega arith) (omega arith),
+      fills p c.args.first c.args.count at (at + c.length-at.result) done xs c.in-Some.instr c.loop-done.invariant.1 (sym c.instr_near.ensures.value ∙ ap (option_map found_instr) c.in-Some.is) (ap (λ n. at + n) c.length-at.ensures) (omega arith) (omega arith),
     )
 
 pub returns : goal.returns

@@ -22,8 +22,8 @@ loop-done-init c =
     (Some tt) (le_refl 16) (le_refl 0) c.in_ok-begin.ensures
     (λ m e. subst (λ n. Left p first count first n (as80 m)) all (all_left p first count (as80 m) c.requires.block (begun m c.all.result c.all.ensures e)))
 
-pub instr_at-instr-requires : goal.instr_at-instr-requires
-instr_at-instr-requires c =
+pub instr_near-place-requires : goal.instr_near-place-requires
+instr_near-place-requires c =
     let left = c.args.count - (c.loop-done._done - 1) in
     let some : 1 ≤ left = omega arith in
     is_there c.args.program.now c.args.first c.args.count c.loop-done.at left (as80 (machine_of c.loop-done.terms c.loop-done.run)) c.loop-done.invariant.gives.is some
@@ -39,7 +39,7 @@ returns-in_err-step80 c =
     let a = 2 * (c.loop-done._done - 1) in
     let x = block80 c.args.program.now c.args.first c.args.count in
     let left = c.args.count - (c.loop-done._done - 1) in
-    let after = effect80 (as80 (machine_of mid r)) c.instr_at-instr.result in
+    let after = effect80 (as80 (machine_of mid r)) c.instr_near-place.result.1 in
     let few : j + 24 ≤ 24 * c.args.count + 32 = omega arith in
     subst (λ e. RunsTo old new s (24 * c.args.count + 32) false x e) (sym c.from_residual-in_err-step80.ensures)
     (never_ends old new s (j + 24) (24 * c.args.count + 32) (a + 2) (λ m. as80 m ≡ after) false x few
@@ -59,7 +59,7 @@ loop-done-preserved c =
     let count = c.args.count in
     let at = c.loop-done.at in
     let done = c.loop-done._done in
-    let i = c.instr_at-instr.result in
+    let i = c.instr_near-place.result.1 in
     let j = 16 + 24 * (done - 1) in
     let a = 2 * (done - 1) in
     let left = count - (done - 1) in
@@ -77,13 +77,13 @@ loop-done-preserved c =
     (λ m. as80 m ≡ effect80 before i)
     (λ m. Left p first count (at + length80 i) (left - 1) (as80 m))
     (Some tt) c.loop-done.invariant c.in_ok-step80.ensures
-    (λ m e. subst (λ (q : Symbolic80). Left p first count (at + length80 i) (left - 1) q) (sym e) (goes_on p first count at left before i c.loop-done.invariant.gives.is two c.instr_at-instr.ensures.found)))
+    (λ m e. subst (λ (q : Symbolic80). Left p first count (at + length80 i) (left - 1) q) (sym e) (goes_on p first count at left before i c.loop-done.invariant.gives.is two c.instr_near-place.ensures.found)))
     (λ m d.
     subst (λ k. Left p first count (at + k) (count - (done + 1 - 1)) (as80 m)) (sym c.length-at.ensures)
     (subst (λ n. Left p first count (at + length80 i) n (as80 m)) fewer d))
 
-pub instr_at-last-requires : goal.instr_at-last-requires
-instr_at-last-requires c =
+pub instr_near-last-requires : goal.instr_near-last-requires
+instr_near-last-requires c =
     let left = c.args.count - (c.loop-done._done - 1) in
     let some : 1 ≤ left = let positive = c.requires.block.some in omega arith in
     is_there c.args.program.now c.args.first c.args.count c.loop-done.at left (as80 (machine_of c.loop-done.terms c.loop-done.run)) c.loop-done.invariant.gives.is some
@@ -99,7 +99,7 @@ returns-in_err-step80-2 c =
     let a = 2 * (c.loop-done._done - 1) in
     let x = block80 c.args.program.now c.args.first c.args.count in
     let left = c.args.count - (c.loop-done._done - 1) in
-    let after = effect80 (as80 (machine_of mid r)) c.instr_at-last.result in
+    let after = effect80 (as80 (machine_of mid r)) c.instr_near-last.result.1 in
     let few : j + 24 ≤ 24 * c.args.count + 32 = let positive = c.requires.block.some in omega arith in
     subst (λ e. RunsTo old new s (24 * c.args.count + 32) false x e) (sym c.from_residual-in_err-step80-2.ensures)
     (never_ends old new s (j + 24) (24 * c.args.count + 32) (a + 2) (λ m. as80 m ≡ after) false x few
@@ -120,7 +120,7 @@ returns c =
     let count = c.args.count in
     let at = c.loop-done.at in
     let done = c.loop-done._done in
-    let i = c.instr_at-last.result in
+    let i = c.instr_near-last.result.1 in
     let j = 16 + 24 * (done - 1) in
     let a = 2 * (done - 1) in
     let left = count - (done - 1) in
@@ -130,7 +130,7 @@ returns c =
     ends_as old new s (j + 24 + 3) (24 * count + 32) false (block80 p first count) c.exit.result few
     (ended p first count at (at + c.length.result) before i old last new s (j + 24) (a + 2) c.exit.result
     (subst (λ n. Left p first count at n before) one c.loop-done.invariant.gives.is)
-    c.instr_at-last.ensures.found
+    c.instr_near-last.ensures.found
     (ap (λ k. at + k) c.length.ensures)
     (then_runs old mid last r s j 24 a 2
     (λ m. Left p first count at left (as80 m))
