@@ -137,6 +137,10 @@ past-laid [] from limit k laid lt = absurd (omega arith)
 past-laid (x ∷ xs) from limit zero laid lt = omega (arith, length80-positive x.instr, above-laid xs (x.at + length80 x.instr) limit 0 laid.3 (omega arith))
 past-laid (x ∷ xs) from limit (suc k) laid lt = past-laid xs (x.at + length80 x.instr) limit k laid.3 (omega arith)
 
+-- one that starts at the very address is the last that starts there or before it
+pub last_here : (xs : List Placed) (from limit a k : ℕ) → AreLaid from limit xs → k < length xs → get_or (starts_of xs) k 0 ≡ a → IsLast xs a k
+last_here xs from limit a k laid within same = record { within = within; upto = omega (arith, same); past = λ lt. omega (arith, same, past-laid xs from limit k laid lt) }
+
 -- what a search by halves finds: the place of the address, or the gap that it falls into
 module _ (xs : List Placed) (from limit a : ℕ) (laid : AreLaid from limit xs) where
   pub searched_starts :
@@ -151,9 +155,7 @@ module _ (xs : List Placed) (from limit a : ℕ) (laid : AreLaid from limit xs) 
           (r : Result ℕ ℕ)
           → MatchResult r (λ i. (i < length (starts_of xs)) × (get_or (starts_of xs) i 0 ≡ a)) (λ i. (i ≤ length (starts_of xs)) × ((k : ℕ) → k < i → get_or (starts_of xs) k 0 < a) × ((k : ℕ) → i ≤ k → k < length (starts_of xs) → a < get_or (starts_of xs) k 0))
           → MatchResult r (λ k. IsLast xs a k) (λ n. (n ≡ 0 → last_from xs a ≡ None) × (0 < n → IsLast xs a (n - 1)))
-      by_result (Ok k) (within, same) =
-          let inside : k < length xs = omega (arith, length-starts xs) in
-          record { within = inside; upto = omega arith; past = λ lt. omega (arith, past-laid xs from limit k laid lt) }
+      by_result (Ok k) (within, same) = last_here xs from limit a k laid (omega (arith, within, length-starts xs)) same
       by_result (Err n) (within, below, above) = (
         λ none. last_from-none xs a (λ some. let h = above 0 (omega arith) (omega (arith, length-starts xs)) in grind (arith, nat_tests)),
         λ some. record { within = omega (arith, length-starts xs); upto = omega (arith, below (n - 1) (omega arith)); past = λ lt. above (suc (n - 1)) (omega arith) (omega (arith, length-starts xs)) },

@@ -132,22 +132,32 @@ impl Program80 {
         }
     }
 
+    // The last instruction that starts at an address or before it, looked for in this way, with its place.
+    fn last_near(&self, near: usize, at: u16) -> Option<(usize, Placed)>
+        ensures value { option_map (λ found. found.1) result ≡ last_from self.now.instrs at }
+        ensures place { IfSome result (λ found. (found.0 < length self.now.instrs) × (slice_index (starts self.now) found.0 ≡ found.1.at)) }
+        ensures laid { IfSome result (λ found. IsInstructionLaid 0x100 (self.now.top - 2) found.1) }
+        ensures program { IsProgram self.now }
+    {
+        match self.last_place_near(near, at) {
+            Some(place) => Some((place, self.instrs[place])),
+            None => None,
+        }
+    }
+
     /// The instruction that starts at an address, with its place among the instructions: none exactly where none starts there. It is
     /// looked for first at a place that it may well have, as the next place where control goes on, and by a search where it has another.
     pub fn instr_near(&self, near: usize, at: u16) -> Option<(usize, Instr80)>
         ensures value { option_map (λ found. found.1) result ≡ instr_at self.now at }
-        ensures place { IfSome result (λ found. found.0 < length self.now.instrs × (slice_index (starts self.now) found.0 ≡ at)) }
+        ensures place { IfSome result (λ found. slice_index (starts self.now) found.0 ≡ at) }
         ensures few { IfSome result (λ found. found.0 < 65022) }
         ensures within { IfSome result (λ found. at + length80 found.1 + 2 ≤ self.now.top) }
         ensures well_formed { IfSome result (λ found. IsTrue (is_well_formed found.1)) }
-        ensures small { self.now.top ≤ 0xFF00 }
+        ensures program { IsProgram self.now }
     {
-        let place = self.last_place_near(near, at)?;
-        let placed = self.instrs[place];
-        if placed.at == at {
-            Some((place, placed.instr))
-        } else {
-            None
+        match self.last_near(near, at) {
+            Some((place, placed)) if placed.at == at => Some((place, placed.instr)),
+            _ => None,
         }
     }
 
