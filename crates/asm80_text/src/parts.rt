@@ -11,8 +11,8 @@ ghost use Rattle.asm80_statement_types.specs.declared.stmt.Stmt80.{Stmt80};
 ghost use Rattle.asm80_text.specs.Results.{AddsStatement, GivesStatements};
 ghost use Rattle.asm80_tokens.specs.Words.{as_operation};
 
-use crate::parse::statement;
 use crate::first;
+use crate::parse::statement;
 use asm80_statement_types::{Stmt80, Two};
 use asm80_tokens::{Notation, ParseFault, Token, as_operation};
 use std::alloc::{AllocError, Global};
