@@ -18,7 +18,8 @@ impl Notation for Zilog {
     ghost spelling = { zilog_spelling };
 
     fn is_operation(word: &[u8]) -> bool {
-        crate::table::is_operation(word)
+        // (most registers are one letter, and no operation is)
+        word.len() > 1 && crate::table::is_operation(word)
     }
 
     fn is_register(word: &[u8]) -> bool {
