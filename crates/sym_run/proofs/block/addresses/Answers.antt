@@ -6,7 +6,7 @@ use Rattle.std.proofs.lemmas.List.{length-set}
 use Rattle.sym_run.proofs.Addresses.{Filled, not_none, is_there, fills, all_later, all_after}
 use Rattle.sym_run.proofs.block.addresses.Goals as goal
 
-found_instr : ℕ × Instr80 → Instr80
+abbrev found_instr : ℕ × Instr80 → Instr80
 found_instr found = found.1
 
 pub unreachable-requires : goal.unreachable-requires
