@@ -157,7 +157,11 @@ fn broken_by_all(scope: &Scope<'_>, kinds: &[Kind], args: &[Arg]) -> Option<Brea
     ensures unfit { IfSome result (λ broken. broken.is_unfit ≡ list_any (is_unfit (scope_of scope.now)) (zip kinds.now (map operand_of args.now))) }
 {
     let Some((kind, kinds)) = kinds.split_first() else {
-        return if args.is_empty() { Some(NO_BREACHES) } else { None };
+        return if args.is_empty() {
+            Some(NO_BREACHES)
+        } else {
+            None
+        };
     };
     let (arg, args) = args.split_first()?;
     if !is_of_kind(*kind, arg) {
