@@ -13,14 +13,39 @@ use sym_run::Work;
 pub fn leaving(alloc: Global, program: &Program80) -> Result<Vec<Departure>, AllocError>
     ensures { IfOk result (λ places. places.items ≡ leaving program.now) }
 {
+    let graph = Graph::of(alloc, program)?;
+    leaving_by(alloc, program, &graph)
+}
+
+// The same, by the blocks of the program.
+fn leaving_by(
+    alloc: Global,
+    program: &Program80,
+    graph: &Graph,
+) -> Result<Vec<Departure>, AllocError>
+    requires { graph.now.program ≡ program.now }
+    ensures { IfOk result (λ places. places.items ≡ leaving program.now) }
+{
+    let mut work = Work::new(alloc)?;
+    leaving_of_blocks(alloc, &mut work, program, graph)
+}
+
+// The same, block by block.
+fn leaving_of_blocks(
+    alloc: Global,
+    work: &mut Work,
+    program: &Program80,
+    graph: &Graph,
+) -> Result<Vec<Departure>, AllocError>
+    requires { graph.now.program ≡ program.now }
+    ensures { IfOk result (λ places. places.items ≡ leaving program.now) }
+{
     blocks_cut_the_program();
     let _top = program.top();
-    let graph = Graph::of(alloc, program)?;
-    let mut work = Work::new(alloc)?;
     let mut places = Vec::new(alloc);
     for leader in graph.leaders() {
         let count = graph.block(*leader).unwrap_or(0);
-        if let Some(place) = place_of(&mut work, program, *leader, count) {
+        if let Some(place) = place_of(work, program, *leader, count) {
             places.push(place)?;
         }
     }

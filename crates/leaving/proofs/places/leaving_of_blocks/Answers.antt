@@ -1,0 +1,33 @@
+use Rattle.std.proofs.Common.{◌∙◌, [], get_or, ap}
+use Rattle.std.specs.List.{cons_option}
+use Rattle.leaving.proofs.Walking.{next_block, found_more, none_found}
+use Rattle.leaving.proofs.places.leaving_of_blocks.Goals as goal
+use Rattle.leaving.proofs.places.leaving_of_blocks.Goals.{in-Some+in_ok-push, in_default}
+
+pub place_of-requires-clause-straight : goal.place_of-requires-clause-straight
+place_of-requires-clause-straight c =
+    let n = next_block c.args.program.now c.args.graph.now.program (c.blocks_cut_the_program.ensures c.args.program.now c.top-top.ensures.program) c.leaders-leader-items.result.now c.loop-leader.leader-index c.block.result c.unwrap_or-count.result c.requires c.leaders-leader-items.ensures c.loop-leader-test.true c.block.ensures c.unwrap_or-count.ensures in
+    n.straight
+
+pub place_of-requires-clause-some : goal.place_of-requires-clause-some
+place_of-requires-clause-some c =
+    let n = next_block c.args.program.now c.args.graph.now.program (c.blocks_cut_the_program.ensures c.args.program.now c.top-top.ensures.program) c.leaders-leader-items.result.now c.loop-leader.leader-index c.block.result c.unwrap_or-count.result c.requires c.leaders-leader-items.ensures c.loop-leader-test.true c.block.ensures c.unwrap_or-count.ensures in
+    n.some
+
+pub place_of-requires-clause-few : goal.place_of-requires-clause-few
+place_of-requires-clause-few c =
+    let n = next_block c.args.program.now c.args.graph.now.program (c.blocks_cut_the_program.ensures c.args.program.now c.top-top.ensures.program) c.leaders-leader-items.result.now c.loop-leader.leader-index c.block.result c.unwrap_or-count.result c.requires c.leaders-leader-items.ensures c.loop-leader-test.true c.block.ensures c.unwrap_or-count.ensures in
+    n.few
+
+pub loop-leader-preserved : goal.loop-leader-preserved
+loop-leader-preserved c =
+    let p = c.args.program.now in
+    let i = c.loop-leader.leader-index in
+    let ls = c.leaders-leader-items.result.now in
+    let before = c.loop-leader.places.items in
+    let count = c.unwrap_or-count.result in
+    let next = next_block p c.args.graph.now.program (c.blocks_cut_the_program.ensures p c.top-top.ensures.program) ls i c.block.result count c.requires c.leaders-leader-items.ensures c.loop-leader-test.true c.block.ensures c.unwrap_or-count.ensures in
+    elim c.match-place_of.branch [
+      | in-Some+in_ok-push w ↦ rw (w.places-is, w.in_ok-push.ensures.items) (found_more p i (get_or ls i 0) count before _ next (c.place_of.ensures ∙ ap (λ o. cons_option o []) w.in-Some.is) c.loop-leader.invariant)
+      | in_default w ↦ rw w.places-is (none_found p i (get_or ls i 0) count before next (c.place_of.ensures ∙ ap (λ o. cons_option o []) w.in_default.is) c.loop-leader.invariant)
+    ]
