@@ -59,16 +59,8 @@ fn way_words(alloc: Global, terms: &Terms, way: Way) -> Result<String, AllocErro
 {
     match way {
         Way::Goto(place) => before_label(alloc, "to ", place),
-        Way::ByTerms(high, low) => {
-            let high = term_words(alloc, terms, high)?;
-            let low = term_words(alloc, terms, low)?;
-            format!(in alloc; "to {high}:{low}")
-        }
-        Way::Call(place, back) => {
-            let place = label_words(alloc, place)?;
-            let back = before_label(alloc, ", back to ", back)?;
-            format!(in alloc; "call {place}{back}")
-        }
+        Way::ByTerms(high, low) => halves_words(alloc, terms, high, low),
+        Way::Call(place, back) => call_words(alloc, place, back),
         Way::Sys(back) => before_label(alloc, "system, back to ", back),
         Way::SysReturn => String::from_str(alloc, "system and return"),
         Way::Boot => String::from_str(alloc, "end"),
@@ -76,6 +68,24 @@ fn way_words(alloc: Global, terms: &Terms, way: Way) -> Result<String, AllocErro
         Way::In(port, next) => port_words(alloc, "in ", port, next),
         Way::Out(port, next) => port_words(alloc, "out ", port, next),
     }
+}
+
+fn halves_words(alloc: Global, terms: &Terms, high: Term, low: Term) -> Result<String, AllocError>
+    requires high { IsGiven terms.now high }
+    requires low { IsGiven terms.now low }
+    ensures { IfOk result (λ text. string_bytes text ≡ codes "to " ++ (words (tree_in terms.now high) ++ (codes ":" ++ words (tree_in terms.now low)))) }
+{
+    let high = term_words(alloc, terms, high)?;
+    let low = term_words(alloc, terms, low)?;
+    format!(in alloc; "to {high}:{low}")
+}
+
+fn call_words(alloc: Global, place: Place, back: Place) -> Result<String, AllocError>
+    ensures { IfOk result (λ text. string_bytes text ≡ codes "call " ++ (label_words place ++ (codes ", back to " ++ label_words back))) }
+{
+    let place = label_words(alloc, place)?;
+    let back = label_words(alloc, back)?;
+    format!(in alloc; "call {place}, back to {back}")
 }
 
 fn before_label(alloc: Global, before: &str, place: Place) -> Result<String, AllocError>
@@ -102,10 +112,25 @@ pub fn exit_words(alloc: Global, terms: &Terms, exit: Exit) -> Result<String, Al
         Exit::One(way) => way_words(alloc, terms, way),
         Exit::Two(flag, value, where_so, otherwise) => {
             let condition = if value { "if " } else { "if not " };
-            let flag = term_words(alloc, terms, flag)?;
-            let where_so = way_words(alloc, terms, where_so)?;
-            let otherwise = way_words(alloc, terms, otherwise)?;
-            format!(in alloc; "{condition}{flag} then {where_so} else {otherwise}")
+            let condition = before_term(alloc, terms, condition, flag)?;
+            ways_words(alloc, terms, condition.as_str(), where_so, otherwise)
         }
     }
+}
+
+// Two ways under a condition.
+fn ways_words(
+    alloc: Global,
+    terms: &Terms,
+    condition: &str,
+    where_so: Way,
+    otherwise: Way,
+) -> Result<String, AllocError>
+    requires where_so { WayIsGiven terms.now where_so }
+    requires otherwise { WayIsGiven terms.now otherwise }
+    ensures { IfOk result (λ text. string_bytes text ≡ condition.now ++ (codes " then " ++ (way_words (tree_of_way terms.now where_so) ++ (codes " else " ++ way_words (tree_of_way terms.now otherwise))))) }
+{
+    let where_so = way_words(alloc, terms, where_so)?;
+    let otherwise = way_words(alloc, terms, otherwise)?;
+    format!(in alloc; "{condition} then {where_so} else {otherwise}")
 }

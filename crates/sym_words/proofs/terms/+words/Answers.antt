@@ -1,4 +1,5 @@
-use Rattle.std.proofs.Common.{◌≡◌, ◌∙◌, ◌-◌, suc, IfOk, subst, sym, ap, arith}
+use Rattle.std.proofs.Common.{◌≡◌, ◌∙◌, ◌-◌, ◌++◌, suc, IfOk, subst, sym, ap, arith}
+use Rattle.std.proofs.lemmas.Result.{IfOk-weaker}
 use Rattle.std.specs.String.{string_bytes}
 use Rattle.sym_terms.specs.Trees.{tree_in, tree_of_head, entries_of}
 use Rattle.sym_words.specs.Words.{words_to}
@@ -23,3 +24,16 @@ words_to-returns-else-depth-eq0 t c =
     let depth : suc (c.args.depth - 1) ≡ c.args.depth = omega (arith, none) in
     let same : words_to (suc (c.args.depth - 1)) (tree_of_head es c.head-head.result) ≡ words_to c.args.depth (tree_in c.args.terms.now c.args.term) = ap (λ n. words_to n (tree_of_head es c.head-head.result)) depth ∙ ap (words_to c.args.depth) (sym c.head-head.ensures.tree) in
     subst (λ x. IfOk c.deep_words.result (λ text. string_bytes text ≡ x)) same c.deep_words.ensures
+
+pub one_words-returns : goal.one_words-returns
+one_words-returns t c = IfOk-weaker c.format.result _ _ (λ text e. e ∙ ap (λ t. c.args.what.now ++ (c.args.between.now ++ t)) c.in_ok-operand.ensures) c.format.ensures.ok
+
+pub three_words-returns : goal.three_words-returns
+three_words-returns t c =
+    let first = words_to c.args.depth (tree_in c.args.terms.now c.args.a) in
+    IfOk-weaker c.format.result _ _ (λ text e. e ∙ ap (λ t. t ++ (c.args.between.now ++ string_bytes c.in_ok-others.others)) c.in_ok-first.ensures ∙ ap (λ t. first ++ (c.args.between.now ++ t)) c.in_ok-others.ensures) c.format.ensures.ok
+
+pub two_words-returns : goal.two_words-returns
+two_words-returns t c =
+    let others = words_to c.args.depth (tree_in c.args.terms.now c.args.b) in
+    IfOk-weaker c.one_words.result _ _ (λ text e. e ∙ ap (λ t. t ++ (c.args.between.now ++ others)) (c.as_str.ensures.value ∙ c.in_ok-first.ensures)) c.one_words.ensures
