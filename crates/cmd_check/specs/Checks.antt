@@ -24,6 +24,12 @@ pub record IsShown (p : Program) (lines : List Line86) (blocks : ℕ) : Type 0 w
   pub finding : IsFinding p lines (IsFoundShown blocks)
   pub same : Same p (image_of lines)
 
+-- the line says how many are
+pub record SaysShown (p : Program) (lines : List Line86) (line : List ℕ) : Type 0 where
+  pub count : ℕ
+  pub shown : IsShown p lines count
+  pub is : line ≡ shown_line count
+
 -- why the lines are not shown, or memory ran out
 pub data FindStops (p : Program) (lines : List Line86) : Stop → Type 0 where
   not_shown : {at : ℕ} {reason : Reason} → IsFinding p lines (IsFoundNot at reason) → FindStops p lines (NotShown at reason)

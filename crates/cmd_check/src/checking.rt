@@ -1,18 +1,20 @@
 // The work of `check`: a source and a text in, and what is found of them said.
-ghost use Rattle.std.specs.Prelude.{◌≡◌, true, IfOk, IfErr};
+ghost use Rattle.std.specs.Prelude.{◌≡◌, ◌<◌, ◌^◌, true, length, IfOk, IfErr};
 ghost use Rattle.std.specs.String.{string_bytes};
 ghost use Rattle.host.specs.Host.{SameFiles};
 ghost use Rattle.asm80_program_types.specs.Program.{is_top};
+ghost use Rattle.asm86_line_types.specs.Image.{IsImage};
 ghost use Rattle.cmd_arguments.specs.ReadCommands.{check_read};
-ghost use Rattle.cmd_check.specs.Checks.{Shows, Stops, CheckGives};
+ghost use Rattle.cmd_check.specs.Checks.{SaysShown, FindStops, Shows, Stops, CheckGives};
 ghost use Rattle.cmd_check.specs.Completes.{CheckCompletes};
 ghost use Rattle.cmd_check.specs.OwnTexts.{ShowsOwnText};
 
 use crate::finding::find;
 use crate::inputs::load;
 use crate::laws::checks_have_one_outcome;
+use asm80_program_types::Program80;
 use cmd_arguments::Check;
-use cmd_common::{Stop, say_done, say_stop, shown_line};
+use cmd_common::{LoadedText, Stop, say_done, say_stop, shown_line};
 use commented_text_def::commented_texts_read_back;
 use host::Host;
 use std::alloc::Global;
@@ -53,6 +55,16 @@ fn work<'a, H: Host>(alloc: Global, host: &mut H, command: &Check<'a>) -> Result
     ensures stopped { IfErr result (Stops (check_read command.now) (H.state host.old) (H.state host.new)) }
 {
     let loaded = load(alloc, host, command)?;
-    let count = find(alloc, &loaded.program, &loaded.text)?;
+    line_of(alloc, &loaded.program, &loaded.text)
+}
+
+// The same of what was loaded.
+fn line_of<'a>(alloc: Global, program: &Program80, text: &LoadedText) -> Result<String, Stop<'a>>
+    requires image { IsImage text.now.lines.items text.now.image }
+    requires few { length text.now.lines.items < 2 ^ 28 }
+    ensures shown { IfOk result (λ line. SaysShown program.now text.now.lines.items (string_bytes line)) }
+    ensures stopped { IfErr result (FindStops program.now text.now.lines.items) }
+{
+    let count = find(alloc, program, text)?;
     Ok(shown_line(alloc, count)?)
 }
