@@ -35,19 +35,41 @@ pub fn match_without(
     requires matched { (x : Line86) × (is_candidate x.stmt ≡ true) × ((n : Needs) → AreAllNeeds program.now n → MatchesBlocks program.now n (take place lines.now ++ x ∷ drop place lines.now)) }
     ensures { IfOk result (λ b. (n : Needs) → AreAllNeeds program.now n → IsTrue b ↔ MatchesBlocks program.now n lines.now) }
 {
+    let text = Index86::of(alloc, lines)?;
+    match_text_without(alloc, work, program, graph, lines, &text, place)
+}
+
+// The same by the statements of the lines.
+fn match_text_without(
+    alloc: Global,
+    work: &mut Work,
+    program: &Program80,
+    graph: &Graph,
+    lines: &[Line86],
+    text: &Index86,
+    place: usize,
+) -> Result<bool, AllocError>
+    requires solved { IsTrue graph.now.is_solved }
+    requires program { graph.now.program ≡ program.now }
+    requires assembles { Assembles lines.now }
+    requires few { length lines.now < 2 ^ 28 }
+    requires text { text.now ≡ statements lines.now }
+    requires place { place ≤ length lines.now }
+    requires matched { (x : Line86) × (is_candidate x.stmt ≡ true) × ((n : Needs) → AreAllNeeds program.now n → MatchesBlocks program.now n (take place lines.now ++ x ∷ drop place lines.now)) }
+    ensures { IfOk result (λ b. (n : Needs) → AreAllNeeds program.now n → IsTrue b ↔ MatchesBlocks program.now n lines.now) }
+{
     blocks_cut_the_program();
     let _top = program.top();
-    let text = Index86::of(alloc, lines)?;
     let Some((at, leader)) = label_before(graph, lines, place) else {
-        return match_all(alloc, work, program, graph, lines, &text);
+        return match_all(alloc, work, program, graph, lines, text);
     };
-    if let Verdict::NotShown(_) = check(work, program, graph, &text, leader) {
+    if let Verdict::NotShown(_) = check(work, program, graph, text, leader) {
         return Ok(false);
     }
     if is_apart(graph, &lines[at + 1..place], &lines[place..]) {
-        return has_frame(alloc, program, lines, &text);
+        return has_frame(alloc, program, lines, text);
     }
-    match_all(alloc, work, program, graph, lines, &text)
+    match_all(alloc, work, program, graph, lines, text)
 }
 
 // The same of any lines: all blocks are looked at.

@@ -32,12 +32,29 @@ pub fn shrink(
     ensures { IfOk result (λ left. IsShrunk program.now lines.now left.items) }
 {
     let graph = Graph::solved(alloc, program)?;
-    let mut work = Work::new(alloc)?;
-    shrink_by(alloc, &mut work, program, &graph, lines)
+    shrink_by(alloc, program, &graph, lines)
 }
 
 // The same by the program's solved graph.
 fn shrink_by(
+    alloc: Global,
+    program: &Program80,
+    graph: &Graph,
+    lines: &[Line86],
+) -> Result<Vec<Line86>, AllocError>
+    requires solved { IsTrue graph.now.is_solved }
+    requires program { graph.now.program ≡ program.now }
+    requires assembles { Assembles lines.now }
+    requires few { length lines.now ≤ 2048 }
+    requires matches { (n : Needs) → AreAllNeeds program.now n → MatchesBlocks program.now n lines.now }
+    ensures { IfOk result (λ left. IsShrunk program.now lines.now left.items) }
+{
+    let mut work = Work::new(alloc)?;
+    shrink_backwards(alloc, &mut work, program, graph, lines)
+}
+
+// The same, from the last line to the first.
+fn shrink_backwards(
     alloc: Global,
     work: &mut Work,
     program: &Program80,

@@ -3,7 +3,7 @@ use Rattle.asm86_line_types.specs.declared.line.Line86.{Line86}
 use Rattle.asm86_line_types.specs.Image.{Assembles}
 use Rattle.flow.specs.Solving.{Needs, AreAllNeeds}
 use Rattle.shrink.specs.Shrunk.{MatchesBlocks, Shrinks}
-use Rattle.shrink.proofs.shrinking.shrink_by.Given as goal
+use Rattle.shrink.proofs.shrinking.shrink_backwards.Given as goal
 
 abbrev pub invariant-loop-at : goal.invariant-loop-at
 invariant-loop-at l = record {

@@ -7,7 +7,7 @@ use Rattle.flow.specs.Solving.{HasNeeds}
 use Rattle.shrink.specs.Shrunk.{MatchesBlocks, Shrinks}
 use Rattle.shrink.proofs.Left.{assembles_less}
 use Rattle.shrink.proofs.Steps.{not_true, removed, begins, ends, whole, count, shape, goes, stays}
-use Rattle.shrink.proofs.shrinking.shrink_by.Goals as goal
+use Rattle.shrink.proofs.shrinking.shrink_backwards.Goals as goal
 
 abbrev cseg : Line86
 cseg = record { line = 0; stmt = Cseg }

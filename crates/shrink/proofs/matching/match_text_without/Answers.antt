@@ -9,7 +9,7 @@ use Rattle.block_check_def.specs.BlockMatch.{block_reason}
 use Rattle.shrink.proofs.Steps.{not_true}
 use Rattle.shrink.proofs.Matched.{is_leader, reason_is, not_block}
 use Rattle.shrink.proofs.Alone.{shown_none, to_end, framed_if}
-use Rattle.shrink.proofs.matching.match_without.Goals as goal
+use Rattle.shrink.proofs.matching.match_text_without.Goals as goal
 
 pub check-requires-clause-leader : goal.check-requires-clause-leader
 check-requires-clause-leader c =
@@ -25,9 +25,9 @@ returns-in-NotShown c = λ n needs.
     let stands = c.in-Some.ensures.1 in
     let count = stands.is.count in
     let block = subst (λ (q : Program). block_at q leader ≡ Some count) c.requires.program stands.is.block in
-    let found = reason_is (block_reason p c.in_ok-text.text (needed_by p n) leader count) c.in-NotShown.field-0 (c.in-NotShown.ensures.verdict n count needs block) in (
+    let found = reason_is (block_reason p c.args.text.now (needed_by p n) leader count) c.in-NotShown.field-0 (c.in-NotShown.ensures.verdict n count needs block) in (
       λ t. absurd (not_true false refl t),
-      λ m. absurd (not_block p n c.args.lines.now c.in_ok-text.text leader count c.in-NotShown.field-0 c.in_ok-text.ensures block found m),
+      λ m. absurd (not_block p n c.args.lines.now c.args.text.now leader count c.in-NotShown.field-0 c.requires.text block found m),
     )
 
 -- it is shown, and no other comes there
@@ -45,5 +45,5 @@ returns-then-is_apart c =
     (subst (λ (q : Program). IsApart q inner (take (length lines - c.args.place) (drop c.args.place lines))) c.requires.program (c.is_apart.ensures.0 c.if-is_apart.true)))
     (λ n needs. shown_none (block_reason p (statements lines) (needed_by p n) leader stands.is.count)
     (sym c.in_default-check.is ∙ c.check.ensures.verdict n stands.is.count needs stands.is.block
-    ∙ ap (λ t. verdict_of (block_reason p t (needed_by p n) leader stands.is.count)) c.in_ok-text.ensures))
+    ∙ ap (λ t. verdict_of (block_reason p t (needed_by p n) leader stands.is.count)) c.requires.text))
     x.2
