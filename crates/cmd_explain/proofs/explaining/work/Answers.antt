@@ -6,21 +6,15 @@ use Rattle.cmd_check.specs.Checks.{LoadStops, out_of_memory}
 use Rattle.cmd_explain.proofs.Working.{comes_to}
 use Rattle.cmd_explain.proofs.explaining.work.Goals as goal
 
-pub returns-in_err-explanation-clause-stopped : goal.returns-in_err-explanation-clause-stopped
-returns-in_err-explanation-clause-stopped g c =
+pub returns-in_err-work_on-clause-stopped : goal.returns-in_err-work_on-clause-stopped
+returns-in_err-work_on-clause-stopped g c =
     let stops = LoadStops (check_read c.args.command.now) (g.H.Host.state c.args.host.now) (g.H.Host.state c.load.new.host) in
-    handed_on c.from_residual-in_err-explanation.result OutOfMemory stops c.from_residual-in_err-explanation.ensures.1
-    (out_of_memory c.in_ok-loaded.ensures.loaded.reads.only)
-
-pub returns-in_err-last_line-clause-stopped : goal.returns-in_err-last_line-clause-stopped
-returns-in_err-last_line-clause-stopped g c =
-    let stops = LoadStops (check_read c.args.command.now) (g.H.Host.state c.args.host.now) (g.H.Host.state c.load.new.host) in
-    handed_on c.from_residual-in_err-last_line.result OutOfMemory stops c.from_residual-in_err-last_line.ensures.1
+    handed_on c.from_residual-in_err-work_on.result OutOfMemory stops c.from_residual-in_err-work_on.ensures.1
     (out_of_memory c.in_ok-loaded.ensures.loaded.reads.only)
 
 pub returns-clause-worked : goal.returns-clause-worked
 returns-clause-worked g c =
     let l = c.in_ok-loaded in
-    let e = c.in_ok-explanation in
+    let w = c.in_ok-work_on in
     comes_to (check_read c.args.command.now) (g.H.Host.state c.args.host.now) (g.H.Host.state c.load.new.host) l.loaded.program l.loaded.text.lines.items l.ensures.loaded
-    e.explanation.finding e.explanation.text.items (string_bytes c.in_ok-last_line.last_line) e.ensures.finding e.ensures.same e.ensures.explained c.in_ok-last_line.ensures
+    w.field-0.explanation.finding w.field-0.explanation.text.items (string_bytes w.field-0.last_line) w.ensures.finding w.ensures.same w.ensures.explained w.ensures.line
