@@ -72,18 +72,43 @@ fn at_address(alloc: Global, kind: &str, at: u16, source: &str) -> anyhow::Resul
 fn why(alloc: Global, reason: &str, case: &str) -> anyhow::Result<String> {
     let (count, case) = case.split_once(' ').unwrap_or((case, ""));
     let (source, text) = case.split_once(" | ").unwrap_or((case, ""));
+    let count = count.parse::<u32>()?;
     let program = program_of(alloc, source)?;
+    why_of(alloc, reason, &program, count, text)
+}
+
+fn why_of(
+    alloc: Global,
+    reason: &str,
+    program: &Program80,
+    count: u32,
+    text: &str,
+) -> anyhow::Result<String> {
     let index = text_index(alloc, text)?;
+    why_by(alloc, reason, program, count, &index)
+}
+
+fn why_by(
+    alloc: Global,
+    reason: &str,
+    program: &Program80,
+    count: u32,
+    index: &Index86,
+) -> anyhow::Result<String> {
     let mut work = Work::new(alloc)?;
-    match run_both(
-        &mut work,
-        &program,
-        &index,
-        0x100,
-        count.parse::<u32>()?,
-        Keep::all(),
-    ) {
-        Some(Ok(())) => Ok(explained(alloc, &work, reason_of(reason))?),
+    why_in(alloc, &mut work, reason, program, count, index)
+}
+
+fn why_in(
+    alloc: Global,
+    work: &mut Work,
+    reason: &str,
+    program: &Program80,
+    count: u32,
+    index: &Index86,
+) -> anyhow::Result<String> {
+    match run_both(work, program, index, 0x100, count, Keep::all()) {
+        Some(Ok(())) => Ok(explained(alloc, work, reason_of(reason))?),
         Some(Err(reason)) => Ok(String::from_str(alloc, reason_text(reason))?),
         None => bail!("no block, or no room"),
     }
@@ -98,8 +123,17 @@ fn walk(alloc: Global, count: u32, case: &str) -> anyhow::Result<String> {
 
 fn walk_of(alloc: Global, program: &Program80, count: u32, text: &str) -> anyhow::Result<String> {
     let index = text_index(alloc, text)?;
+    walk_by(alloc, program, &index, count)
+}
+
+fn walk_by(
+    alloc: Global,
+    program: &Program80,
+    index: &Index86,
+    count: u32,
+) -> anyhow::Result<String> {
     let mut work = Work::new(alloc)?;
-    walked(alloc, &mut work, program, &index, count)
+    walked(alloc, &mut work, program, index, count)
 }
 
 fn walked(
@@ -148,8 +182,17 @@ fn plain(alloc: Global, count: u32, source: &str) -> anyhow::Result<String> {
 
 fn plain_of(alloc: Global, program: &Program80, count: u32) -> anyhow::Result<String> {
     let index = plain_index(alloc, program)?;
+    plain_by(alloc, program, &index, count)
+}
+
+fn plain_by(
+    alloc: Global,
+    program: &Program80,
+    index: &Index86,
+    count: u32,
+) -> anyhow::Result<String> {
     let mut work = Work::new(alloc)?;
-    plainly_run(alloc, &mut work, program, &index, count)
+    plainly_run(alloc, &mut work, program, index, count)
 }
 
 fn plainly_run(
@@ -209,8 +252,12 @@ fn alone(alloc: Global, source: &str) -> anyhow::Result<String> {
 
 fn alone_of(alloc: Global, program: &Program80) -> anyhow::Result<String> {
     let index = plain_index(alloc, program)?;
+    alone_by(alloc, program, &index)
+}
+
+fn alone_by(alloc: Global, program: &Program80, index: &Index86) -> anyhow::Result<String> {
     let mut work = Work::new(alloc)?;
-    count_text(alloc, agreeing(&mut work, program, &index))
+    count_text(alloc, agreeing(&mut work, program, index))
 }
 
 fn count_text(alloc: Global, count: Option<u32>) -> anyhow::Result<String> {

@@ -15,8 +15,12 @@ use templates::{plain_text, template};
 /// the next one's.
 pub fn code_text(alloc: Global, instruction: &str) -> anyhow::Result<String> {
     let program = program_with(alloc, instruction)?;
-    let image = image_of(alloc, &program)?;
-    match first_code(&program, &image) {
+    code_of(alloc, &program)
+}
+
+fn code_of(alloc: Global, program: &Program80) -> anyhow::Result<String> {
+    let image = image_of(alloc, program)?;
+    match first_code(program, &image) {
         Some(code) => Ok(hex::encode_upper(alloc, code)?),
         None => bail!("a case is one instruction"),
     }

@@ -67,12 +67,15 @@ pub fn exit_text(alloc: Global, outcome: &Outcome) -> Result<String, AllocError>
         Exit::One(way) => way_text(alloc, way),
         Exit::Two(flag, value, there, here) => {
             let (set, clear) = if value { (there, here) } else { (here, there) };
-            let set = way_text(alloc, set)?;
-            let clear = way_text(alloc, clear)?;
-            let flag = flag_text(outcome, flag);
-            format!(in alloc; "{flag} 1 {set}, 0 {clear}")
+            ways_text(alloc, flag_text(outcome, flag), set, clear)
         }
     }
+}
+
+fn ways_text(alloc: Global, flag: &str, set: Way, clear: Way) -> Result<String, AllocError> {
+    let set = way_text(alloc, set)?;
+    let clear = way_text(alloc, clear)?;
+    format!(in alloc; "{flag} 1 {set}, 0 {clear}")
 }
 
 /// The reason why a walk has no outcome.
