@@ -2,6 +2,7 @@ pub mod Cells
 pub mod Overlaps
 pub mod Breaches
 pub mod Laying
+pub mod Few
 pub mod Times
 pub mod Halves
 pub mod Placing
