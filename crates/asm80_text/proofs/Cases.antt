@@ -1,5 +1,5 @@
 -- What an expression begins with, and what each way to begin leaves.
-use Rattle.std.proofs.Common.{◌≡◌, ◌≢◌, ℕ, zero, suc, ◌<◌, ◌-◌, List, ◌∷◌, refl, sym, ap, ◌∙◌, arith, Option, Some, None, Result, Ok, Err}
+use Rattle.std.proofs.Common.{◌≡◌, ◌≢◌, ℕ, zero, suc, ◌<◌, ◌-◌, List, [], ◌∷◌, refl, sym, ap, subst, ◌∙◌, arith, Option, Some, None, Result, Ok, Err}
 use Rattle.asm80_statement_types.specs.declared.expr.Two.{Two}
 use Rattle.asm80_statement_types.specs.declared.expr.Two.TheVariants.{Mul, Div, Mod, Shl, Shr, Add, Sub, And, Or, Xor}
 use Rattle.std.specs.Borrow.{Bor}
@@ -97,6 +97,34 @@ parens_read ts after rest e p s = record {
   ended = tt;
   only = λ o r b h. let f = s.only o (Close ∷ r) (parens_is b) tt in (f.0, cc (p, f.1));
 }
+
+empty_is : {ts r : List Token} {e : Tree} → ts ≡ [] → Begins 0 ts e r → ⊥
+empty_is none (digits) = absurd cc
+empty_is none (number) = absurd cc
+empty_is none (here) = absurd cc
+empty_is none (name) = absurd cc
+empty_is none (register) = absurd cc
+empty_is none (parens s) = absurd cc
+
+pub nothing_never : (ts : List Token) → ts ≡ [] → Never (Begins 0 ts) (EndsInside 0)
+nothing_never ts none e r b ends = empty_is none b
+
+stray_is : {t : Token} {ts r : List Token} {e : Tree} → term_of t ≡ None → (t ≡ Open → ⊥) → Begins 0 (t ∷ ts) e r → ⊥
+stray_is none shut digits = absurd cc
+stray_is none shut number = absurd cc
+stray_is none shut here = absurd cc
+stray_is none shut name = absurd cc
+stray_is none shut register = absurd cc
+stray_is none shut (parens s) = shut refl
+
+pub stray_never : (ts rest : List Token) (t : Token) → ts ≡ t ∷ rest → term_of t ≡ None → (t ≡ Open → ⊥) → Never (Begins 0 ts) (EndsInside 0)
+stray_never ts rest t is none shut e r b ends = let Begun : List Token → Type 0 = λ us. Begins 0 us e r in stray_is none shut (subst Begun is b)
+
+pub parens_never : (ts : List Token) → Never (Spells 5 ts) (Ends 5) → Never (Begins 0 (Open ∷ ts)) (EndsInside 0)
+parens_never ts never e r b ends = never e (Close ∷ r) (parens_is b) tt
+
+pub unclosed_never : (ts after : List Token) (e : Tree) → Sure (Spells 5 ts) (Ends 5) e after → ((rest : List Token) → after ≢ Close ∷ rest) → Never (Begins 0 (Open ∷ ts)) (EndsInside 0)
+unclosed_never ts after e sure unclosed other r b ends = unclosed r (sure.only other (Close ∷ r) (parens_is b) tt).1
 
 -- ---- signs and NOT
 

@@ -1,5 +1,5 @@
 -- A stream has one outcome.
-use Rattle.std.proofs.Common.{◌≡◌, ◌≢◌, ℕ, List, [], ◌∷◌, ◌++◌, map, Bool, Option, Some, None, Result, Ok, Err, refl, sym, ap, ◌∙◌, arith, inl, inr, ◌⊎◌}
+use Rattle.std.proofs.Common.{◌≡◌, ◌≢◌, ℕ, List, [], ◌∷◌, ◌++◌, map, Bool, Option, Some, None, Result, Ok, Err, refl, sym, ap, subst, ◌∙◌, arith, inl, inr, ◌⊎◌}
 use Rattle.std.specs.Global.{Vec}
 use Rattle.std.specs.List.{flat_map, AllByRecursion}
 use Rattle.asm80_statement_types.specs.declared.fault.LineRule.{LineRule}
@@ -99,3 +99,17 @@ module _ (spelling : Spelling) (coherent : IsCoherent spelling) where
   agrees stream (Ok v) entries fault h g = let s = one_gift stream (map statement_of v.items) entries None fault h g in (s.0, sym s.1)
   agrees stream (Err Memory) entries fault h g = tt
   agrees stream (Err (Syntax n r)) entries fault h g = sym (one_gift stream h.0 entries (Some (Syntax n r)) fault h.1 g).1
+
+answered : (f : Option ReadFault) (x : ReadFault) → answer_of f ≡ Err x → f ≡ Some x
+answered None x e = absurd cc
+answered (Some y) x e = cc
+
+-- a fault that was answered stands in the stream
+pub holds_fault :
+    (spelling : Spelling) (stream : List ℕ) (s : Reader) (n : ℕ) (rule : LineRule) (r : Result (Unit {0}) ReadFault) → r ≡ answer_of s.fault → (s.fault ≢ Some Memory → After spelling stream s)
+    → r ≡ Err (Syntax n rule) → HoldsFault spelling stream n rule
+holds_fault spelling stream s n rule r q a e =
+    let faulty : s.fault ≡ Some (Syntax n rule) = answered s.fault (Syntax n rule) (sym q ∙ e) in
+    let h : After spelling stream s = a (λ memory. not_memory n rule (sym faulty ∙ memory)) in
+    let Gives : Option ReadFault → Type 0 = λ f. LinesGive spelling 1 (complete h.raw h.rest h.is_closed) (map statement_of s.statements) f in
+    record { raw = h.raw; rest = h.rest; is_closed = h.is_closed; statements = map statement_of s.statements; cut = h.cut; lines = subst Gives faulty h.lines }

@@ -17,6 +17,17 @@ use Rattle.asm80_values.specs.Items.{AreItems}
 use Rattle.asm80_values.specs.Second.{seen_in, names_set, GivesItem, AreItemsOf, AreRefused}
 use Rattle.asm80_values.proofs.Along.{Along, along_step, along_fault}
 
+stands_within : (statements : List Stmt80) (t : Taken) (ts : List Taken) (left : List WalkRow) → Stand statements (t ∷ ts) left → t.statement < length statements
+stands_within statements t ts [] stand = absurd stand
+stands_within statements t ts (r ∷ left) stand = stand.0.within
+
+pub index_within :
+    (statements : List Stmt80) (ts : List Taken) (i : ℕ) (d : Taken) (names : List Name) (found : List Item)
+    → i < length ts → Along statements (drop i ts) names found → (get_or ts i d).statement < length statements
+index_within statements ts i d names found within along =
+    let Rest : List Taken → Type 0 = λ us. Stand statements us along.left in
+    stands_within statements (get_or ts i d) (drop (suc i) ts) along.left (subst Rest (drop-cons ts i d within) along.stand)
+
 -- the row at an index of the rows that are taken, and its statement
 module _
     (statements : List Stmt80) (ts : List Taken) (i : ℕ) (d : Taken) (s : Stmt80) (within : i < length ts) (is : s ≡ get_or statements (get_or ts i d).statement s)

@@ -2,6 +2,8 @@ pub mod Cells
 pub mod Overlaps
 pub mod Breaches
 pub mod Laying
+pub mod Few
+pub mod ByKind
 pub mod Times
 pub mod Halves
 pub mod Placing

@@ -3,3 +3,4 @@ pub mod Labels
 pub mod Same
 pub mod Sizes
 pub mod Statements
+pub mod WrittenLines

@@ -1,6 +1,9 @@
-use Rattle.std.proofs.Common.{◌∙◌, [], refl, ap, sym, rules, ◌∷◌}
+use Rattle.std.proofs.Common.{List, All, Bor, ◌∙◌, [], refl, ap, sym, subst, rules, ◌∷◌}
 use Rattle.std.specs.List.{list_any}
 use Rattle.std.proofs.lemmas.List.{append-nil}
+use Rattle.std.proofs.lemmas.List.Elements.{All-nil, All-push}
+use Rattle.asm80_tokens.specs.declared.token.Token.{Token}
+use Rattle.asm80_tokens.specs.Tokens.{IsLawful}
 use Rattle.asm80_text.specs.Line.{is_bang, parts_of, late, long, remark}
 use Rattle.asm80_text.proofs.Once.{line_from_text}
 use Rattle.asm80_text.proofs.Several.{one_part, targets}
@@ -26,3 +29,13 @@ returns-clause-value g c =
     line_from_text g.N.Notation.spelling c.args.number c.args.line.now c.tokens_of.new.tokens.items _ c.in_ok-fault.fault c.args.found.now.items c.read_text-2.new.found.items c.read_text-2.result
     c.if-number-gt-MOST_LINES.false c.if-line-gt-LONGEST_LINE.false (search rules) c.in_ok-fault.ensures.tokens
     (ap (λ ts. ts ∷ []) c.as_slice.ensures.value ∙ one_part c.tokens_of.new.tokens.items (ap (list_any is_bang) (sym c.deref.ensures.value) ∙ sym c.has_bang.ensures ∙ c.if-has_bang.false)) c.read_text-2.ensures.value
+
+pub read_text-requires-clause-lawful : goal.read_text-requires-clause-lawful
+read_text-requires-clause-lawful g c =
+    let Lawful : Bor (List Token) → Type 0 = λ part. All (IsLawful g.N.Notation.spelling) part.now in
+    subst (All Lawful) (sym c.deref-then-has_bang-2.ensures.value) c.in_ok-parts.ensures.lawful
+
+pub read_text-requires-2-clause-lawful : goal.read_text-requires-2-clause-lawful
+read_text-requires-2-clause-lawful g c =
+    let Lawful : Bor (List Token) → Type 0 = λ part. All (IsLawful g.N.Notation.spelling) part.now in
+    All-push Lawful [] c.as_slice.result (All-nil Lawful) (subst (All (IsLawful g.N.Notation.spelling)) (sym c.as_slice.ensures.value) c.in_ok-fault.ensures.lawful)

@@ -1,9 +1,12 @@
-use Rattle.std.proofs.Common.{◌≡◌, drop, length, true, false, ap, sym, ◌∙◌, arith, rules}
+use Rattle.std.proofs.Common.{◌≡◌, ℕ, List, ◌∷◌, drop, length, true, false, ap, sym, subst, ◌∙◌, arith, rules}
 use Rattle.std.proofs.lemmas.Result.{err_from_is_err_and}
 use Rattle.asm80_text.proofs.Chain.{spells_shorter, begins_shorter}
-use Rattle.asm80_text.proofs.Cases.{term_read, parens_read, signed_never, added, taken_off, tighter_read, tighter_never, unsigned_read, unsigned_never, chain_starts, chain_never, chain_goes_on, chain_breaks, chain_ends, gives_on, fails_on}
+use Rattle.asm80_text.proofs.Cases.{term_read, parens_read, nothing_never, stray_never, parens_never, unclosed_never, signed_never, added, taken_off, tighter_read, tighter_never, unsigned_read, unsigned_never, chain_starts, chain_never, chain_goes_on, chain_breaks, chain_ends, gives_on, fails_on}
 use Rattle.asm80_text.proofs.Unambiguous.{term_sure}
 use Rattle.asm80_statement_types.specs.Tree.{tree_of}
+use Rattle.asm80_tokens.specs.declared.token.Token.{Token}
+use Rattle.asm80_text.specs.Grammar.{Begins, EndsInside}
+use Rattle.asm80_text.specs.TreeResults.{Gives}
 use Rattle.asm80_text.proofs.Inverted.{row_read, row_fails}
 use Rattle.asm80_statement_types.specs.contracts.expr.Two.{the_type}
 use denote.Enum.Bare.{same_true}
@@ -72,3 +75,57 @@ signed_at-returns-then-eq t c = added _ _ _ _ _ (same_true the_type (search rule
 
 pub signed_at-returns : goal.signed_at-returns
 signed_at-returns t c = rw c.in_ok-new.ensures.ok (taken_off _ _ _ _ _ c.in-Some.ensures.1 (λ e. let h = c.if-eq.ensures in not_false (rw e at h)) c.in-Some.ensures.0 c.in_ok-term.ensures)
+
+pub begin_at-returns-in-0 : goal.begin_at-returns-in-0
+begin_at-returns-in-0 t c =
+    let Given : ℕ → Type 0 = λ level. Gives (Begins level c.args.tokens.now) (EndsInside level) c.operand_at.result in
+    subst Given (sym c.in-0.is) c.operand_at.ensures
+
+pub begin_at-returns-in-2 : goal.begin_at-returns-in-2
+begin_at-returns-in-2 t c =
+    let Given : ℕ → Type 0 = λ level. Gives (Begins level c.args.tokens.now) (EndsInside level) c.signed_at.result in
+    subst Given (sym c.in-2.is) c.signed_at.ensures
+
+pub begin_at-returns-in-3 : goal.begin_at-returns-in-3
+begin_at-returns-in-3 t c =
+    let Given : ℕ → Type 0 = λ level. Gives (Begins level c.args.tokens.now) (EndsInside level) c.inverted_at.result in
+    subst Given (sym c.in-3.is) c.inverted_at.ensures
+
+pub expression_at-returns-in_err-new : goal.expression_at-returns-in_err-new
+expression_at-returns-in_err-new t c =
+    let p = err_from_is_err_and c.from_residual-in_err-new.result c.from_residual-in_err-new.ensures.1 in
+    rw (p.1, p.2) tt
+
+pub expression_at-returns-in_err-new-2 : goal.expression_at-returns-in_err-new-2
+expression_at-returns-in_err-new-2 t c =
+    let p = err_from_is_err_and c.from_residual-in_err-new-2.result c.from_residual-in_err-new-2.ensures.1 in
+    rw (p.1, p.2) tt
+
+pub inverted_at-returns-in_err-inverted : goal.inverted_at-returns-in_err-inverted
+inverted_at-returns-in_err-inverted t c =
+    let p = err_from_is_err_and c.from_residual-in_err-inverted.result c.from_residual-in_err-inverted.ensures.1 in
+    rw (p.1, p.2) tt
+
+pub signed_at-returns-in_err-new : goal.signed_at-returns-in_err-new
+signed_at-returns-in_err-new t c =
+    let p = err_from_is_err_and c.from_residual-in_err-new.result c.from_residual-in_err-new.ensures.1 in
+    rw (p.1, p.2) tt
+
+pub operand_at-returns-in_default : goal.operand_at-returns-in_default
+operand_at-returns-in_default t c = nothing_never _ c.in_default.ensures
+
+pub operand_at-returns-in-Open : goal.operand_at-returns-in-Open
+operand_at-returns-in-Open t c =
+    let Given : List Token → Type 0 = λ ts. Gives (Begins 0 ts) (EndsInside 0) c.parenthesized.result in
+    subst Given (sym (c.in-Some.ensures ∙ ap (λ (t : Token). t ∷ c.in-Some.rest.now) c.in-Open.is)) c.parenthesized.ensures
+
+pub operand_at-returns-in_default-token : goal.operand_at-returns-in_default-token
+operand_at-returns-in_default-token t c = stray_never _ _ c.in-Some.token.now c.in-Some.ensures (sym c.in_default-term_of.ensures) c.in_default-token.not-Open
+
+pub parenthesized-returns-in_err-inside : goal.parenthesized-returns-in_err-inside
+parenthesized-returns-in_err-inside t c =
+    let p = err_from_is_err_and c.from_residual.result c.from_residual.ensures.1 in
+    rw (p.1, p.2) (fails_on _ _ _ _ c.in_err-inside.field-0.0 (parens_never _) c.in_err-inside.ensures)
+
+pub parenthesized-returns-in_default : goal.parenthesized-returns-in_default
+parenthesized-returns-in_default t c = unclosed_never _ _ _ c.in_ok-inside.ensures c.in_default.ensures

@@ -10,7 +10,7 @@ use Rattle.asm80_values.proofs.second_walk.items_of.Goals as goal
 use Rattle.asm80_values.proofs.second_walk.items_of.Goals.{in-Some+in_ok-push, in_default}
 use Rattle.asm80_values.proofs.SetAgain.{fixed}
 use Rattle.asm80_values.proofs.Along.{Along, along_start}
-use Rattle.asm80_values.proofs.AlongIndex.{index_step, index_fault, index_end}
+use Rattle.asm80_values.proofs.AlongIndex.{index_within, index_step, index_fault, index_end}
 
 pub loop-row-init : goal.loop-row-init
 loop-row-init c =
@@ -19,6 +19,9 @@ loop-row-init c =
     let Named : List Name → Type 0 = λ ns. Along c.args.statements.now c.deref-row-items.result.now ns [] in
     let Found : List Item → Type 0 = λ is. Along c.args.statements.now c.deref-row-items.result.now c.without_settable-names.result is in
     subst Found (sym c.new-items.ensures.items) (subst Named (sym (c.without_settable-names.ensures ∙ ap fixed c.requires.walked.names)) (subst Rows (sym c.deref-row-items.ensures.value) start))
+
+pub bounds-statements-row : goal.bounds-statements-row
+bounds-statements-row c = index_within c.args.statements.now _ c.loop-row.row-index _ c.loop-row.names c.loop-row.items.items c.loop-row-test.true c.loop-row.invariant
 
 pub returns-in_err-item : goal.returns-in_err-item
 returns-in_err-item c =
@@ -38,3 +41,13 @@ loop-row-preserved c =
 
 pub returns : goal.returns
 returns c = index_end c.args.statements.now _ c.loop-row.row-index _ _ (omega arith) c.loop-row.invariant
+
+pub returns-in_err-push : goal.returns-in_err-push
+returns-in_err-push c =
+    let p = err_from_is_err_and c.from_residual-in_err-push.result c.from_residual-in_err-push.ensures.1 in
+    rw (p.1, p.2) tt
+
+pub returns-in_err-set_again : goal.returns-in_err-set_again
+returns-in_err-set_again c =
+    let p = err_from_is_err_and c.from_residual-in_err-set_again.result c.from_residual-in_err-set_again.ensures.1 in
+    rw (p.1, p.2) tt

@@ -2,7 +2,7 @@ use Rattle.std.proofs.Common.{refl, sym, ap, ◌∙◌}
 use borrow.Author.Tests.{eqb-true}
 use Rattle.asm80_text.specs.Reader.{Reader}
 use Rattle.asm80_text.proofs.Steps.{advance_on, all_taken, nothing_taken}
-use Rattle.asm80_text.proofs.Unique.{found_in}
+use Rattle.asm80_text.proofs.Unique.{found_in, holds_fault}
 use Rattle.asm80_text.proofs.reader.LineReader.feed.Goals as goal
 
 pub loop-rest-init : goal.loop-rest-init
@@ -20,3 +20,15 @@ returns-clause-grows g c = all_taken g.N.Notation.spelling c.args.piece.now c.lo
 
 pub returns-clause-found : goal.returns-clause-found
 returns-clause-found g c = λ stream n rule h b. found_in g.N.Notation.spelling c.spelling_is_coherent.ensures _ c.loop-rest.self n rule _ c.answer.ensures (λ ne. returns-clause-grows g c ne stream h) b
+
+pub returns-clause-answer : goal.returns-clause-answer
+returns-clause-answer g c = c.answer.ensures
+
+pub returns-clause-faulty : goal.returns-clause-faulty
+returns-clause-faulty g c = λ stream n rule h e. holds_fault g.N.Notation.spelling _ c.loop-rest.self n rule _ c.answer.ensures (λ ne. returns-clause-grows g c ne stream h) e
+
+pub returns-clause-stands : goal.returns-clause-stands
+returns-clause-stands g c = c.loop-rest.invariant.stands
+
+pub returns-clause-closed : goal.returns-clause-closed
+returns-clause-closed g c = c.loop-rest.invariant.closed
