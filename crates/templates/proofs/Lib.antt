@@ -4,5 +4,6 @@ mod OneText
 mod Trims
 mod Laid
 mod Joined
+mod Growing
 mod Reaching
 pub mod Pairs
