@@ -1,8 +1,9 @@
 // Whether a text means the same as its program.
-ghost use Rattle.std.specs.Prelude.{◌<◌, ◌^◌, IfOk, length};
+ghost use Rattle.std.specs.Prelude.{◌≡◌, ◌<◌, ◌^◌, List, IfOk, IsTrue, length};
+ghost use Rattle.asm86_line_types.specs.declared.line.Line86.{Line86};
 ghost use Rattle.asm86_line_types.specs.Image.{Assembles, IsImage, image_of};
 ghost use Rattle.templates_same_law.specs.Names.{Same};
-ghost use Rattle.text_check.specs.Findings.{IsFinding, IfShown};
+ghost use Rattle.text_check.specs.Findings.{AreOfLines, IsFinding, IfShown};
 ghost use Rattle.xlt_core.specs.Validation.{ShownIsSame};
 
 use asm80_program_types::Program80;
@@ -51,7 +52,7 @@ pub fn validate_loaded(
     look(alloc, program, lines, image)
 }
 
-// The same of the parts that are made of them.
+// The same with the graph of the program.
 fn look(
     alloc: Global,
     program: &Program80,
@@ -63,9 +64,42 @@ fn look(
     ensures { IfOk result (IsFinding program.now lines.now) }
 {
     let graph = Graph::solved(alloc, program)?;
+    look_over(alloc, program, &graph, lines, image)
+}
+
+// The same over the graph, with the index of the lines.
+fn look_over(
+    alloc: Global,
+    program: &Program80,
+    graph: &Graph,
+    lines: &[Line86],
+    image: &Image86,
+) -> Result<Finding, AllocError>
+    requires solved { IsTrue graph.now.is_solved }
+    requires program { graph.now.program ≡ program.now }
+    requires made { IsImage lines.now image.now }
+    requires few { length lines.now < 2 ^ 28 }
+    ensures { IfOk result (IsFinding program.now lines.now) }
+{
     let text = Index86::of(alloc, lines)?;
+    look_through(alloc, program, graph, &text, image)
+}
+
+// The same over the graph and the index.
+fn look_through(
+    alloc: Global,
+    program: &Program80,
+    graph: &Graph,
+    text: &Index86,
+    image: &Image86,
+) -> Result<Finding, AllocError>
+    requires solved { IsTrue graph.now.is_solved }
+    requires program { graph.now.program ≡ program.now }
+    requires lines { (lines : List Line86) × AreOfLines text.now image.now lines }
+    ensures { IfOk result (λ finding. (lines : List Line86) → AreOfLines text.now image.now lines → IsFinding program.now lines finding) }
+{
     let mut work = Work::new(alloc)?;
-    Ok(validate_in(&mut work, program, &graph, &text, image))
+    Ok(validate_in(&mut work, program, graph, text, image))
 }
 
 // The image of lines that have one, so that memory alone can be wanting.
