@@ -1,6 +1,6 @@
 -- What is known of the labels of the statements that were looked at.
 use Rattle.std.proofs.Common.{◌≡◌, ℕ, ◌+◌, ◌<◌, List, [], ◌∷◌, ◌++◌, ◌≤◌, length, take, drop, get_or, None, Some, refl, sym, ap, subst, ◌∙◌, length-append, arith}
-use Rattle.std.proofs.lemmas.List.{take_more, take-append-drop, map-append}
+use Rattle.std.proofs.lemmas.List.{take_all, take_more, take-append-drop, map-append}
 use Rattle.asm86_line_types.specs.declared.line.Label.{Label}
 use Rattle.asm86_line_types.specs.declared.line.Stmt86.{Stmt86}
 use Rattle.asm86_line_types.specs.declared.line.Stmt86.TheVariants.{Cseg, Dseg, Org, Rb, Db, Dw, Mark, Run, MovOffset, Jmp, Jmps, Jcc, Call, EndText}
@@ -19,6 +19,10 @@ pub one_more : (lines : List Line86) (i : ℕ) (d : Line86) → i < length lines
 one_more lines i d lt =
     ap statements (take_more lines i d lt)
     ∙ map-append (λ (x : Line86). x.stmt) (take i lines) (get_or lines i d ∷ [])
+
+-- all of them
+pub up_to_all : (lines : List Line86) (i : ℕ) → length lines ≤ i → up_to lines i ≡ statements lines
+up_to_all lines i le = ap statements (take_all i lines le)
 
 front : (lines : List Line86) (i : ℕ) → statements lines ≡ up_to lines i ++ statements (drop i lines)
 front lines i =

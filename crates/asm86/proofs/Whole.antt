@@ -1,6 +1,7 @@
 -- A whole text, and what is answered.
 use Rattle.std.proofs.Common.{◌≡◌, ◌≢◌, ℕ, ◌+◌, ◌||◌, List, [], ◌∷◌, length, map, true, false, Option, Some, None, Result, Ok, Err, refl, sym, ap, subst, ◌∙◌, arith, inl, inr, ◌⊎◌}
-use Rattle.std.specs.Prelude.{is_some}
+use Rattle.std.specs.Prelude.{is_some, IfSome}
+use Rattle.std.proofs.lemmas.Option.{none-some}
 use Rattle.std.specs.Global.{Vec}
 use Rattle.std.proofs.lemmas.List.{length-map, append-nil}
 use Rattle.asm86_line_types.specs.declared.line.Line86.{Line86}
@@ -141,3 +142,10 @@ found_in stream s n rule r q a b = elim (memory_or_not s.fault) [
   | inl e ↦ inr (q ∙ ap answer_of_fault e)
   | inr ne ↦ inl (q ∙ ap answer_of_fault (one_fault stream s n rule (a ne) b))
 ]
+
+-- a fault that stands is answered
+pub fault_stands : {T : Type 0} (old new : TextReader) (r : Result T TextFault) (fault : Option TextFault) → old.fault ≡ fault → (old.fault ≢ None → new ≡ old) → IfSome new.fault (λ f. r ≡ Err f) → IfSome fault (λ f. r ≡ Err f)
+fault_stands old new r None is same h = tt
+fault_stands old new r (Some f) is same h =
+    let there : old.fault ≢ None = λ none. none-some f (sym none ∙ is) in
+    subst (λ x. IfSome x (λ g. r ≡ Err g)) (ap (λ (reader : TextReader). reader.fault) (same there) ∙ is) h

@@ -13,3 +13,4 @@ pub mod Numbers
 pub mod Forms
 pub mod BehindItem
 pub mod Commands
+pub mod Mapped

@@ -431,20 +431,20 @@ impl<'a> Given<'a> {
         ensures { option_map command_read result ≡ command_of name self.now }
     {
         match name {
-            CommandName::Translate => Some(Command::Translate(self.translate()?)),
-            CommandName::Check => Some(Command::Check(self.check()?)),
-            CommandName::Flags => Some(Command::Flags(self.listing()?)),
-            CommandName::Run80 => Some(Command::Run80(self.run80()?)),
-            CommandName::Run86 => Some(Command::Run86(self.run86()?)),
-            CommandName::Both => Some(Command::Both(self.both()?)),
-            CommandName::Sample => Some(Command::Sample(self.sample()?)),
-            CommandName::Cmd => Some(Command::Cmd(self.cmd()?)),
-            CommandName::CmdShow => Some(Command::CmdShow(self.cmd_show()?)),
-            CommandName::Hex80 => Some(Command::Hex80(self.hex80()?)),
-            CommandName::RunHex => Some(Command::RunHex(self.run_hex()?)),
-            CommandName::Shrink => Some(Command::Shrink(self.shrink()?)),
-            CommandName::Leaves => Some(Command::Leaves(self.listing()?)),
-            CommandName::Explain => Some(Command::Explain(self.check()?)),
+            CommandName::Translate => self.translate().map(Command::Translate),
+            CommandName::Check => self.check().map(Command::Check),
+            CommandName::Flags => self.listing().map(Command::Flags),
+            CommandName::Run80 => self.run80().map(Command::Run80),
+            CommandName::Run86 => self.run86().map(Command::Run86),
+            CommandName::Both => self.both().map(Command::Both),
+            CommandName::Sample => self.sample().map(Command::Sample),
+            CommandName::Cmd => self.cmd().map(Command::Cmd),
+            CommandName::CmdShow => self.cmd_show().map(Command::CmdShow),
+            CommandName::Hex80 => self.hex80().map(Command::Hex80),
+            CommandName::RunHex => self.run_hex().map(Command::RunHex),
+            CommandName::Shrink => self.shrink().map(Command::Shrink),
+            CommandName::Leaves => self.listing().map(Command::Leaves),
+            CommandName::Explain => self.check().map(Command::Explain),
         }
     }
 }

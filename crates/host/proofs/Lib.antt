@@ -1,1 +1,4 @@
 pub mod HostLemmas
+pub mod Untold
+pub mod Listed
+pub mod MemCalls

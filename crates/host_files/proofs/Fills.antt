@@ -1,7 +1,8 @@
 -- A piece that was filled with the first of more bytes.
-use Rattle.std.proofs.Common.{◌≡◌, ℕ, ◌+◌, ◌<◌, List, ◌++◌, length, length-append, take, drop, ap, ◌∙◌, sym, append_assoc, arith, Result, Ok, Err, OnErr}
+use Rattle.std.proofs.Common.{◌≡◌, ℕ, ◌+◌, ◌-◌, ◌<◌, ◌≢◌, min, List, ◌++◌, length, length-append, take, drop, ap, ◌∙◌, sym, append_assoc, arith, Result, Ok, Err, OnErr}
+use Rattle.std.specs.Prelude.{OnOk, IsErr}
 use Rattle.std.proofs.Math.Seq.{take-append_seam, drop-append_seam}
-use Rattle.std.proofs.lemmas.List.{take-append-drop, take-append-le}
+use Rattle.std.proofs.lemmas.List.{take-append-drop, take-append-le, take_all, length-take}
 use Rattle.host.specs.Host.{FileTold}
 use Rattle.host_files.specs.Transfer.{extended}
 
@@ -33,3 +34,14 @@ fills-part old more piece taken was now e added =
 pub on_err : {T E P : Type 0} (r : Result T E) → P → OnErr r P
 on_err (Ok x) p = tt
 on_err (Err e) p = p
+
+-- after a fault nothing is owed of an answer
+pub on_ok : {T E : Type 0} (P : Type 0) (r : Result T E) → IsErr r → OnOk r P
+on_ok P (Ok x) e = absurd cc
+on_ok P (Err f) e = tt
+
+-- all bytes went into a piece that is not full
+pub fills-all : (old more piece : List ℕ) (taken : ℕ) → length old < 4096 → taken ≡ min (length more) (4096 - length old) → piece ≡ old ++ take taken more → length piece ≢ 4096 → piece ≡ old ++ more
+fills-all old more piece taken room count e not_full =
+    let size : length piece ≡ length old + length (take taken more) = ap length e ∙ length-append old (take taken more) in
+    e ∙ ap (λ x. old ++ x) (take_all taken more (omega (arith, size, count, room, not_full, length-take taken more)))

@@ -1,8 +1,9 @@
 -- The bytes of a file that were given so far to what takes them.
-use Rattle.std.proofs.Common.{◌≡◌, ℕ, ◌+◌, ◌≤◌, List, [], ◌++◌, length, take, refl, ap, ◌∙◌, sym, subst, append_assoc, append-nil, length-append, arith}
+use Rattle.std.proofs.Common.{◌≡◌, ℕ, ◌+◌, ◌<◌, ◌≤◌, List, [], ◌++◌, length, take, refl, ap, ◌∙◌, sym, subst, append_assoc, append-nil, length-append, arith}
 use Rattle.std.proofs.Math.Seq.{take-add}
-use Rattle.std.proofs.lemmas.List.{length-take}
-use Rattle.host.specs.Host.{FileTold, Untold, Missing, Holds, ReadsFile}
+use Rattle.std.proofs.lemmas.List.{length-take, take_all}
+use Rattle.host.specs.Host.{FileTold, Untold, Missing, Holds, IsFile, ReadsFile}
+use Rattle.host_files.specs.Transfer.{IsLonger, GivesFile}
 
 -- these bytes begin the file, where the host tells it; a file that is not there counts as empty
 abbrev pub IsStartOfFile : FileTold → List ℕ → Type 0
@@ -49,3 +50,27 @@ gives_more has told at k into old mid new g le r step =
       start = start_more told g.bytes into k le g.start (subst (λ n. ReadsFile told n k into) (sym count) r);
       given = λ before h. subst (has new) (append_assoc before g.bytes (take k into)) (step (before ++ g.bytes) (g.given before h));
     }
+
+-- more bytes were given than the limit
+longer : (told : FileTold) (limit : ℕ) (bytes : List ℕ) → limit < length bytes → IsStartOfFile told bytes → IsLonger told limit
+longer Untold limit bytes over s = (bytes, tt, over)
+longer Missing limit bytes over s = absurd (omega (arith, ap length s, over))
+longer (Holds held) limit bytes over s =
+    (held, refl, omega (arith, over, ap length s, length-take (length bytes) held))
+
+pub gives_longer : {S : Type 0} {has : S → List ℕ → Type 0} {told : FileTold} {at : ℕ} {old new : S} (limit : ℕ) → Gives has told at old new → limit < at → IsLonger told limit
+gives_longer {told = told} limit g over = longer told limit g.bytes (subst (λ n. limit < n) (sym g.count) over) g.start
+
+-- all bytes were given: no more are read behind them
+whole : (told : FileTold) (bytes into : List ℕ) → IsStartOfFile told bytes → ReadsFile told (length bytes) 0 into → IsFile told bytes
+whole Untold bytes into s r = tt
+whole Missing bytes into s r = absurd r
+whole (Holds held) bytes into s r = sym (s ∙ take_all (length bytes) held (r.ends.0 refl))
+
+pub gives_whole : {S : Type 0} {has : S → List ℕ → Type 0} {told : FileTold} {at : ℕ} {old new : S} (limit : ℕ) (into : List ℕ) → Gives has told at old new → at ≤ limit → ReadsFile told at 0 into → GivesFile has told limit old new
+gives_whole {told = told} limit into g within r = record {
+  bytes = g.bytes;
+  whole = whole told g.bytes into g.start (subst (λ n. ReadsFile told n 0 into) (sym g.count) r);
+  within = subst (λ n. n ≤ limit) (sym g.count) within;
+  given = g.given;
+}

@@ -2,3 +2,4 @@ pub mod Extends
 pub mod Fills
 pub mod Waits
 pub mod Gives
+pub mod ReadFaults

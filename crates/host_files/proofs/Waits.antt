@@ -1,5 +1,5 @@
 -- A text of which some first bytes are written and the rest waits.
-use Rattle.std.proofs.Common.{◌≡◌, ℕ, suc, ◌+◌, ◌<◌, List, ◌++◌, length, get_or, take, drop, refl, ap, ◌∙◌, sym, subst, inr, append_assoc, add-one, length-append, arith}
+use Rattle.std.proofs.Common.{◌≡◌, ℕ, suc, ◌+◌, ◌<◌, List, [], ◌++◌, length, get_or, take, drop, refl, ap, ◌∙◌, sym, subst, inr, append_assoc, append-nil, add-one, length-append, arith}
 use Rattle.std.proofs.Math.Seq.{take-append_seam, drop-cons}
 use Rattle.std.proofs.lemmas.List.{take-append-drop, length-take}
 use Rattle.host.specs.Host.{HostState, rewritten, Rewrites}
@@ -40,3 +40,12 @@ Waits-line piece line lines i d within is w =
       written = w.written;
       whole = ap (λ x. w.done ++ x) (append_assoc piece line (written_text (drop (i + 1) lines)) ∙ ap (λ x. piece ++ x) next) ∙ w.whole;
     }
+
+-- the file was made empty
+pub Waits-none : {old new : HostState} {name text piece : List ℕ} → Rewrites old new name [] → piece ≡ [] → Waits old new name text (piece ++ text)
+Waits-none {text = text} written e = record { done = []; written = written; whole = ap (λ x. x ++ text) e }
+
+-- all that was left was added
+pub Waits-done : {old mid : HostState} (new : HostState) {name text : List ℕ} (bytes rest : List ℕ) → Waits old mid name text (bytes ++ rest) → rest ≡ [] → new.file name ≡ extended (mid.file name) bytes → Rewrites old new name text
+Waits-done {old = old} new {name = name} bytes rest w ended added =
+    added ∙ ap (λ t. extended t bytes) w.written ∙ extended-rewritten (old.file name) w.done bytes ∙ ap (rewritten (old.file name)) (ap (λ x. w.done ++ x) (sym (append-nil bytes) ∙ ap (λ x. bytes ++ x) (sym ended)) ∙ w.whole)

@@ -1,8 +1,9 @@
-use Rattle.std.proofs.Common.{◌≡◌, ◌++◌, length, take, drop, ap, ◌∙◌, sym, arith}
+use Rattle.std.proofs.Common.{◌≡◌, ◌++◌, length, take, drop, refl, ap, ◌∙◌, sym, arith}
 use Rattle.std.proofs.lemmas.Grind.{common_steps}
 use Rattle.std.proofs.lemmas.List.{take_all}
+use Rattle.std.proofs.lemmas.Bool.{eqb-false}
 use Rattle.host_files.specs.Transfer.{extended}
-use Rattle.host_files.proofs.Fills.{fills-take, fills-drop, fills-part, on_err}
+use Rattle.host_files.proofs.Fills.{fills-take, fills-drop, fills-part, fills-all, on_err}
 use Rattle.host_files.proofs.write.add.Goals as goal
 
 -- some first bytes of the full piece were appended
@@ -26,3 +27,8 @@ returns-in_ok-append_all-clause-ok g c =
     let e : full ≡ old ++ take taken more = c.as_slice.ensures ∙ c.fill-taken.ensures.bytes in
     let rest : c.fill.new.self ≡ drop taken more = grind (arith, common_steps, take_all) in
     (length full, c.in_ok-append_all.ensures.ok ∙ ap (extended ((g.H.Host.state c.args.host.now).file c.args.name.now)) (sym (fills-take old more full taken e)), rest ∙ sym (fills-drop old more full taken e))
+
+-- all bytes went in, and the piece waits
+pub returns-else-is_full-clause-ok : goal.returns-else-is_full-clause-ok
+returns-else-is_full-clause-ok g c =
+    (0, refl, fills-all c.args.piece.now c.args.more.now c.fill-taken.new.self c.fill-taken.result c.requires.room c.fill-taken.ensures.count c.fill-taken.ensures.bytes (eqb-false _ _ (sym c.if-is_full.ensures)))

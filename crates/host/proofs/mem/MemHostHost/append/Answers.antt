@@ -1,45 +1,15 @@
 -- What the calls change, put together. Searches find it too, but take long.
-use Rattle.std.proofs.Common.{◌≡◌, ℕ, ◌++◌, ◌↔◌, [], take, Some, unwrap_or, Result, Ok, Err, IsOk, OnOk, OnErr, refl, ap, sym, subst, ◌∙◌}
+use Rattle.std.proofs.Common.{◌≡◌, ℕ, ◌++◌, ◌↔◌, [], take, Some, unwrap_or, Result, Err, refl, ap, sym, subst, ◌∙◌}
 use Rattle.std.proofs.lemmas.Bool.{false≢true}
 use Rattle.std.proofs.lemmas.List.{length-take, take_min}
 use Rattle.std.proofs.lemmas.Result.{err_from_is_err_and, IfOk-from_err}
 use Rattle.host.specs.declared.HostFault.{HostFault}
-use Rattle.host.specs.declared.HostFault.TheVariants.{Failed, Memory}
+use Rattle.host.specs.declared.HostFault.TheVariants.{Memory}
 use Rattle.host.specs.declared.mem.MemHost.{MemHost}
 use Rattle.host.specs.Host.{failures_after, wants_by, wants_after}
 use Rattle.host.specs.MemHost.{file_in_mem_host, write_faults_of, memory_faults_of, NextFails, KeepsFiles}
+use Rattle.host.proofs.MemCalls.{Fault, at_ok, at_err, any_err, same_fault, other_fault, no_fault, no_want}
 use Rattle.host.proofs.mem.MemHostHost.append.Goals as goal
-
-at_ok : {T E P : Type 0} (r : Result T E) → IsOk r → OnOk r P → P
-at_ok (Ok x) ok p = p
-at_ok (Err d) ok p = absurd (false≢true ok)
-
-at_err : {T E P : Type 0} (r : Result T E) → (IsOk r → ⊥) → OnErr r P → P
-at_err (Ok x) other p = absurd (other refl)
-at_err (Err d) other p = p
-
-any_err : {T E P : Type 0} (r : Result T E) → P → OnErr r P
-any_err (Ok x) p = tt
-any_err (Err d) p = p
-
--- the result is that a call failed
-abbrev Fault : (T : Type 0) → Result T HostFault → Type 0
-Fault T r = r ≡ Err Failed
-
--- a fault that is handed on, one that the first call did not meet, and no fault
-same_fault : (d : HostFault) (P : Type 0) → Fault (Unit {0}) (Err d) ↔ P → Fault ℕ (Err d) ↔ P
-same_fault d P h = (λ q. h.0 cc, λ p. let q = h.1 p in cc)
-
-other_fault : (d : HostFault) (u : Unit {0}) (P : Type 0) → (Fault (Unit {0}) (Err d) → ⊥) → Fault (Unit {0}) (Ok u) ↔ P → Fault ℕ (Err d) ↔ P
-other_fault d u P unlike h = (λ q. absurd (unlike cc), λ p. let q = h.1 p in cc)
-
-no_fault : (n : ℕ) (u : Unit {0}) (P : Type 0) → Fault (Unit {0}) (Ok u) ↔ P → Fault ℕ (Ok n) ↔ P
-no_fault n u P h = (λ q. cc, λ p. let q = h.1 p in cc)
-
--- a failure is no want of memory
-no_want : (d : HostFault) (n : ℕ) → (d ≡ Memory → ⊥) → n ≡ wants_by d n
-no_want Failed n other = refl
-no_want Memory n other = absurd (other refl)
 
 pub returns-in_err-start_write-clause-failed : goal.returns-in_err-start_write-clause-failed
 returns-in_err-start_write-clause-failed c =

@@ -1,0 +1,69 @@
+-- What the calls of a host in memory answer, put together.
+use Rattle.std.proofs.Common.{◌≡◌, ℕ, ◌↔◌, Result, Ok, Err, IsOk, IfErr, OnOk, OnErr, refl, ap, sym, subst, ◌∙◌}
+use Rattle.std.specs.Prelude.{is_ok}
+use Rattle.std.proofs.lemmas.Bool.{false≢true}
+use Rattle.host.specs.declared.HostFault.{HostFault}
+use Rattle.host.specs.declared.HostFault.TheVariants.{Failed, Memory}
+use Rattle.host.specs.Host.{failures_after, wants_by}
+
+pub at_ok : {T E P : Type 0} (r : Result T E) → IsOk r → OnOk r P → P
+at_ok (Ok x) ok p = p
+at_ok (Err d) ok p = absurd (false≢true ok)
+
+pub at_err : {T E P : Type 0} (r : Result T E) → (IsOk r → ⊥) → OnErr r P → P
+at_err (Ok x) other p = absurd (other refl)
+at_err (Err d) other p = p
+
+pub any_err : {T E P : Type 0} (r : Result T E) → P → OnErr r P
+any_err (Ok x) p = tt
+any_err (Err d) p = p
+
+-- the result is that a call failed
+abbrev pub Fault : (T : Type 0) → Result T HostFault → Type 0
+Fault T r = r ≡ Err Failed
+
+-- no answer is a fault
+unlike : {T : Type 0} (x : T) (d : HostFault) → ◌≡◌ {A = Result T HostFault} (Ok x) (Err d) → ⊥
+unlike x d e = false≢true (sym (ap is_ok e))
+
+-- the fault of an error
+fault_is : {T : Type 0} (d e : HostFault) → ◌≡◌ {A = Result T HostFault} (Err d) (Err e) → d ≡ e
+fault_is d e q = subst (λ r. IfErr r (λ x. d ≡ x)) q refl
+
+failure_is_no_want : Failed ≡ Memory → ⊥
+failure_is_no_want e = cc
+
+-- a fault that is handed on, one that the first call did not meet, and no fault
+pub same_fault : {T U : Type 0} (d : HostFault) (P : Type 0) → Fault T (Err d) ↔ P → Fault U (Err d) ↔ P
+same_fault d P h = (λ q. h.0 (ap Err (fault_is d Failed q)), λ p. ap Err (fault_is d Failed (h.1 p)))
+
+pub other_fault : (d : HostFault) (u : Unit {0}) (P : Type 0) → (Fault (Unit {0}) (Err d) → ⊥) → Fault (Unit {0}) (Ok u) ↔ P → Fault ℕ (Err d) ↔ P
+other_fault d u P other h = (λ q. absurd (other (ap Err (fault_is d Failed q))), λ p. absurd (unlike u Failed (h.1 p)))
+
+pub no_fault : (n : ℕ) (u : Unit {0}) (P : Type 0) → Fault (Unit {0}) (Ok u) ↔ P → Fault ℕ (Ok n) ↔ P
+no_fault n u P h = (λ q. absurd (unlike n Failed q), λ p. absurd (unlike u Failed (h.1 p)))
+
+-- a failure is no want of memory
+pub no_want : (d : HostFault) (n : ℕ) → (d ≡ Memory → ⊥) → n ≡ wants_by d n
+no_want Failed n other = refl
+no_want Memory n other = absurd (other refl)
+
+-- what keeps its count after a call of a write that went through or wanted memory
+pub no_failure : {T : Type 0} (r : Result T HostFault) (n : ℕ) → IfErr r (λ d. d ≡ Memory) → n ≡ failures_after r n
+no_failure (Ok x) n want = refl
+no_failure (Err Failed) n want = absurd (failure_is_no_want want)
+no_failure (Err Memory) n want = refl
+
+-- no such call is one that fails, where the first did not
+pub not_failed : {T : Type 0} (r : Result T HostFault) (u : Unit {0}) (P : Type 0) → IfErr r (λ d. d ≡ Memory) → Fault (Unit {0}) (Ok u) ↔ P → Fault T r ↔ P
+not_failed (Ok x) u P want h = (λ q. absurd (unlike x Failed q), λ p. absurd (unlike u Failed (h.1 p)))
+not_failed (Err d) u P want h = (λ q. absurd (failure_is_no_want (sym (fault_is d Failed q) ∙ want)), λ p. absurd (unlike u Failed (h.1 p)))
+
+-- what an answer promises, by whether it is one
+pub on_ok_then : {T E P : Type 0} (r : Result T E) → (IsOk r → P) → OnOk r P
+on_ok_then (Ok x) f = f refl
+on_ok_then (Err d) f = tt
+
+pub on_err_then : {T E P : Type 0} (r : Result T E) → ((IsOk r → ⊥) → P) → OnErr r P
+on_err_then (Ok x) f = tt
+on_err_then (Err d) f = f (λ ok. false≢true ok)
