@@ -1,11 +1,10 @@
 // The lines of a source as comments in its text, of sources that no line of text can show: comments with every byte that one may have, a
 // last line without a line feed, and what stands after the byte 1AH.
-use crate::pieces::words_of;
+use crate::pieces::is_done;
 use host::MemHost;
 use std::alloc::{AllocError, Global};
 use std::process::Abort;
 use std::test::Fail;
-use xlt_app::xlt;
 
 // The text of the program whose one instruction is a RET at 100H, before its label and from the runtime on.
 const OPENING: &[u8] =
@@ -44,17 +43,20 @@ fn expect_text(
     for part in [before, RETURN, after, ENDING] {
         text.extend_from_slice(part)?;
     }
+    expect_whole_text(rt, alloc, source, &text)
+}
+
+fn expect_whole_text(
+    rt: &impl Abort,
+    alloc: Global,
+    source: &[u8],
+    text: &[u8],
+) -> Result<(), Fail> {
     let mut host = MemHost::new(alloc);
     host.put("P", source)?;
-    assert!(rt;
-        xlt(
-            alloc,
-            words_of(alloc, "translate P OUT --comments")?,
-            &mut host
-        ) == 0
-    );
-    assert!(rt; host.file("OUT") == Some(text.as_slice()));
-    assert!(rt; xlt(alloc, words_of(alloc, "check P OUT")?, &mut host) == 0);
+    assert!(rt; is_done(alloc, "translate P OUT --comments", &mut host)?);
+    assert!(rt; host.file("OUT") == Some(text));
+    assert!(rt; is_done(alloc, "check P OUT", &mut host)?);
     Ok(())
 }
 

@@ -63,6 +63,11 @@ pub fn words_of(alloc: Global, text: &str) -> Result<Vec<String>, AllocError> {
     Ok(words)
 }
 
+/// Whether the program with these words comes to status 0.
+pub fn is_done<H: Host>(alloc: Global, words: &str, host: &mut H) -> Result<bool, AllocError> {
+    Ok(xlt(alloc, words_of(alloc, words)?, host) == 0)
+}
+
 // The program with these words over a host with the file P, and over the same host that gives one byte at a time, says this.
 fn expect_said(
     rt: &impl Abort,
@@ -73,13 +78,23 @@ fn expect_said(
 ) -> Result<(), Fail> {
     let mut host = MemHost::new(alloc);
     host.put("P", file)?;
-    assert!(rt; xlt(alloc, words_of(alloc, words)?, &mut host) == 0);
+    assert!(rt; is_done(alloc, words, &mut host)?);
     assert!(rt; host.said() == said);
+    expect_said_by_bytes(rt, alloc, words, file, said)
+}
+
+fn expect_said_by_bytes(
+    rt: &impl Abort,
+    alloc: Global,
+    words: &str,
+    file: &[u8],
+    said: &[u8],
+) -> Result<(), Fail> {
     let mut host = Sparing {
         host: MemHost::new(alloc),
     };
     host.host.put("P", file)?;
-    assert!(rt; xlt(alloc, words_of(alloc, words)?, &mut host) == 0);
+    assert!(rt; is_done(alloc, words, &mut host)?);
     assert!(rt; host.host.said() == said);
     Ok(())
 }
@@ -116,11 +131,6 @@ fn texts_are_cut(rt: HostRuntime) -> Result<(), Fail> {
     Ok(())
 }
 
-// Whether the program writes the text of the source P.
-fn translates<H: Host>(alloc: Global, host: &mut H) -> Result<bool, AllocError> {
-    Ok(xlt(alloc, words_of(alloc, "translate P OUT --plain")?, host) == 0)
-}
-
 // A source of 253 instructions, each of which has 22 bytes of text.
 fn long_source(alloc: Global) -> Result<Vec<u8>, AllocError> {
     let mut file = Vec::from_slice(alloc, b"ORG 100H\n")?;
@@ -130,18 +140,35 @@ fn long_source(alloc: Global) -> Result<Vec<u8>, AllocError> {
     Ok(file)
 }
 
+const TRANSLATION: &str = "translate P OUT --plain";
+
 // The text that is written byte by byte is the one that is written in pieces.
 #[test]
 fn texts_are_written_by_bytes(rt: HostRuntime) -> Result<(), Fail> {
     let file = long_source(rt.alloc())?;
-    let mut whole = MemHost::new(rt.alloc());
-    whole.put("P", &file)?;
-    let mut sparing = Sparing {
-        host: MemHost::new(rt.alloc()),
+    expect_one_text(&rt, rt.alloc(), &file)
+}
+
+fn expect_one_text(rt: &impl Abort, alloc: Global, file: &[u8]) -> Result<(), Fail> {
+    let mut host = MemHost::new(alloc);
+    host.put("P", file)?;
+    assert!(rt; is_done(alloc, TRANSLATION, &mut host)?);
+    let text = host.file("OUT").ok_or("a text")?;
+    assert!(rt; text.len() == 5837);
+    expect_written_by_bytes(rt, alloc, file, text)
+}
+
+fn expect_written_by_bytes(
+    rt: &impl Abort,
+    alloc: Global,
+    file: &[u8],
+    text: &[u8],
+) -> Result<(), Fail> {
+    let mut host = Sparing {
+        host: MemHost::new(alloc),
     };
-    sparing.host.put("P", &file)?;
-    assert!(rt; translates(rt.alloc(), &mut whole)? && translates(rt.alloc(), &mut sparing)?);
-    let text = whole.file("OUT").ok_or("a text")?;
-    assert!(rt; text.len() == 5837 && sparing.host.file("OUT") == Some(text));
+    host.host.put("P", file)?;
+    assert!(rt; is_done(alloc, TRANSLATION, &mut host)?);
+    assert!(rt; host.host.file("OUT") == Some(text));
     Ok(())
 }
