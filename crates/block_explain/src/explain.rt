@@ -4,8 +4,8 @@ ghost use Rattle.std.specs.Prelude.{◌≡◌, ◌++◌, codes, IfOk};
 ghost use Rattle.std.specs.String.{string_bytes};
 ghost use Rattle.sym_terms.specs.Trees.{tree_in, IsGiven};
 ghost use Rattle.block_check.specs.Comparing.{AreReady, AreReadyFor, first_outcome, second_of};
-ghost use Rattle.block_explain.specs.Pairs.{IsOneGiven, tree_of_one, trees_if_any, GivenIfAny};
-ghost use Rattle.block_explain.specs.Explained.{Sides, action_or_none, terms_told, is_lost, AreLines, Explains};
+ghost use Rattle.block_explain.specs.Pairs.{IsOneGiven, tree_of_one, trees_if_any, GivenIfAny, trees_of, AreBothGiven};
+ghost use Rattle.block_explain.specs.Explained.{Sides, action_or_none, terms_told, is_lost, sides_lines, DiffersIn, SidesDiffer, AreLines, Explains};
 
 use crate::apart::{action_terms, exit_terms, first_apart};
 use crate::smallest::{TermPair, pair, smallest_pair};
@@ -134,14 +134,40 @@ fn lines(
     requires { GivenIfAny terms.now apart }
     ensures { IfOk result (λ text. AreLines (Sides ours.now theirs.now (trees_if_any terms.now apart)) (string_bytes text)) }
 {
-    let sides = format!(in alloc; "80 {ours}\n86 {theirs}\n")?;
     match apart {
-        Some(apart) => {
-            let smallest = smallest_pair(terms, apart);
-            let one = term_words(alloc, terms, smallest.ours)?;
-            let other = term_words(alloc, terms, smallest.theirs)?;
-            format!(in alloc; "{sides}80 differs: {one}\n86 differs: {other}\n")
-        }
-        None => Ok(sides),
+        Some(apart) => lines_with_difference(alloc, terms, ours, theirs, apart),
+        None => sides_lines(alloc, ours, theirs),
     }
+}
+
+fn sides_lines(alloc: Global, ours: &str, theirs: &str) -> Result<String, AllocError>
+    ensures { IfOk result (λ text. string_bytes text ≡ sides_lines ours.now theirs.now) }
+{
+    format!(in alloc; "80 {ours}\n86 {theirs}\n")
+}
+
+fn lines_with_difference(
+    alloc: Global,
+    terms: &Terms,
+    ours: &str,
+    theirs: &str,
+    apart: TermPair,
+) -> Result<String, AllocError>
+    requires { AreBothGiven terms.now apart }
+    ensures { IfOk result (λ text. SidesDiffer ours.now theirs.now (trees_of terms.now apart) (string_bytes text)) }
+{
+    let sides = sides_lines(alloc, ours, theirs)?;
+    let differing = differing_lines(alloc, terms, apart)?;
+    format!(in alloc; "{sides}{differing}")
+}
+
+// The smallest terms in which two differ.
+fn differing_lines(alloc: Global, terms: &Terms, apart: TermPair) -> Result<String, AllocError>
+    requires { AreBothGiven terms.now apart }
+    ensures { IfOk result (λ text. DiffersIn (trees_of terms.now apart) (string_bytes text)) }
+{
+    let smallest = smallest_pair(terms, apart);
+    let one = term_words(alloc, terms, smallest.ours)?;
+    let other = term_words(alloc, terms, smallest.theirs)?;
+    format!(in alloc; "80 differs: {one}\n86 differs: {other}\n")
 }
