@@ -63,47 +63,61 @@ fn file_of(alloc: Global, first: &str, text: &str) -> Result<String, AllocError>
     Ok(file)
 }
 
+// Puts a file of these lines.
+fn put_file(
+    alloc: Global,
+    host: &mut MemHost,
+    name: &str,
+    first: &str,
+    text: &str,
+) -> Result<(), AllocError> {
+    let file = file_of(alloc, first, text.trim())?;
+    host.put(name, file.as_bytes())
+}
+
 // A host with the files of a case.
 fn host_of(alloc: Global, first: &str, files: &str) -> Result<MemHost, AllocError> {
     let mut parts = files.split('|');
-    let program = file_of(alloc, first, parts.next().unwrap_or("").trim())?;
-    let input = file_of(alloc, "", parts.next().unwrap_or("").trim())?;
-    let fails = parts.next().unwrap_or("").trim().parse::<u64>();
     let mut host = MemHost::new(alloc);
-    host.put("P", program.as_bytes())?;
-    host.put("I", input.as_bytes())?;
+    put_file(alloc, &mut host, "P", first, parts.next().unwrap_or(""))?;
+    put_file(alloc, &mut host, "I", "", parts.next().unwrap_or(""))?;
     host.put("OUT", b"before")?;
+    let fails = parts.next().unwrap_or("").trim().parse::<u64>();
     host.fail_at(fails.unwrap_or(0))?;
     Ok(host)
 }
 
-// The statuses of the calls with these words, and what is said.
+// The statuses of the calls with these words, what is said, and what is written.
 fn told(alloc: Global, host: &mut MemHost, words: &str) -> Result<String, AllocError> {
     let mut answer = String::new(alloc);
     for call in words.split(';') {
         let status = xlt(alloc, words_of(alloc, call)?, host);
-        let text = format!(in alloc; "{status}:")?;
-        answer.push_str(text.as_str())?;
+        write!(answer, "{status}:")?;
     }
-    let said = String::from_utf8_lossy(alloc, host.said())?;
+    push_said(alloc, &mut answer, host.said())?;
+    push_written(alloc, &mut answer, host.file("OUT").unwrap_or(&[]))?;
+    Ok(answer)
+}
+
+fn push_said(alloc: Global, answer: &mut String, said: &[u8]) -> Result<(), AllocError> {
+    let said = String::from_utf8_lossy(alloc, said)?;
     for (number, line) in said.lines().enumerate() {
         answer.push_str(if number == 0 { " " } else { " / " })?;
         answer.push_str(line)?;
     }
-    Ok(answer)
+    Ok(())
 }
 
 // What OUT holds, where it has changed.
-fn written(alloc: Global, host: &MemHost) -> Result<String, AllocError> {
-    let bytes = host.file("OUT").unwrap_or(&[]);
+fn push_written(alloc: Global, answer: &mut String, bytes: &[u8]) -> Result<(), AllocError> {
     if bytes == b"before".as_slice() {
-        return Ok(String::new(alloc));
+        return Ok(());
     }
     if bytes.len() > 1000 {
-        return format!(in alloc; " -> {} bytes", bytes.len());
+        return write!(answer, " -> {} bytes", bytes.len());
     }
     let text = String::from_utf8_lossy(alloc, bytes)?;
-    format!(in alloc; " -> {text:?}")
+    write!(answer, " -> {text:?}")
 }
 
 fn answer(alloc: Global, case: &str) -> Result<String, AllocError> {
@@ -112,10 +126,7 @@ fn answer(alloc: Global, case: &str) -> Result<String, AllocError> {
         None => ("run80 P", "ORG 100H\n", case),
     };
     let mut host = host_of(alloc, first, files)?;
-    let mut answer = told(alloc, &mut host, words)?;
-    let text = written(alloc, &host)?;
-    answer.push_str(text.as_str())?;
-    Ok(answer)
+    told(alloc, &mut host, words)
 }
 
 fn main(rt: HostRuntime) -> io::Result<()> {
