@@ -1,5 +1,6 @@
 // Machines with the programs of cases.
 ghost use Rattle.std.specs.Prelude.{◌≡◌, length, IfOk};
+ghost use Rattle.cpu80_tagged.specs.Machine.{IsMachineOf};
 
 use crate::machines::{Both80, Bytes80, Bytes86, Running80};
 use crate::scripts::script;
@@ -84,14 +85,24 @@ fn tagged80(
     program: &Program80,
     page: &Page,
 ) -> Result<Option<String>, AllocError> {
+    let mut machine = running80(alloc, program, page)?;
+    Ok(Some(script(alloc, &mut machine, choice_of(case), case.words)?))
+}
+
+fn running80<'a>(
+    alloc: Global,
+    program: &'a Program80,
+    page: &Page,
+) -> Result<Running80<'a>, AllocError>
+    ensures { IfOk result (λ machine. IsMachineOf machine.program.now machine.cpu) }
+{
     let cpu = Cpu80::new(alloc, program, page)?;
     let before = Held::of(alloc, &cpu.held())?;
-    let mut machine = Running80 {
+    Ok(Running80 {
         cpu,
         program,
         before,
-    };
-    Ok(Some(script(alloc, &mut machine, choice_of(case), case.words)?))
+    })
 }
 
 fn bytes80(
@@ -111,13 +122,7 @@ fn both80(
     program: &Program80,
     page: &Page,
 ) -> Result<Option<String>, AllocError> {
-    let cpu = Cpu80::new(alloc, program, page)?;
-    let before = Held::of(alloc, &cpu.held())?;
-    let tagged = Running80 {
-        cpu,
-        program,
-        before,
-    };
+    let tagged = running80(alloc, program, page)?;
     let cpu = plain80(alloc, case, program, page)?;
     let bytes = Bytes80 { cpu, program };
     let mut machine = Both80 { tagged, bytes };
@@ -147,11 +152,20 @@ fn bytes86(
     image: &Image86,
     page: &Page,
 ) -> Result<Option<String>, AllocError> {
-    let fill = fill_of(alloc, case)?;
-    let cpu = Cpu86::new(alloc, image, START, page, fill.as_slice())?;
+    let cpu = plain86(alloc, case, image, page)?;
     let before = states::copy(alloc, cpu.processor())?;
     let mut machine = Bytes86 { cpu, before };
     Ok(Some(script(alloc, &mut machine, choice_of(case), case.words)?))
+}
+
+fn plain86(
+    alloc: Global,
+    case: &Case<'_>,
+    image: &Image86,
+    page: &Page,
+) -> Result<Cpu86, AllocError> {
+    let fill = fill_of(alloc, case)?;
+    Cpu86::new(alloc, image, START, page, fill.as_slice())
 }
 
 // A first line, the lines of a source, and a last line.
