@@ -4,3 +4,4 @@ pub mod Names
 pub mod Quotes
 pub mod Symbols
 pub mod Lexing
+pub mod FirstToken

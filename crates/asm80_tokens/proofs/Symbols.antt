@@ -7,7 +7,7 @@ use Rattle.asm80_tokens.specs.declared.fault.ScanFault.{ScanFault}
 use Rattle.asm80_tokens.specs.Spelling.{Spelling}
 use Rattle.asm80_tokens.specs.Tokens.{IsLawful, IsLawfulSymbol}
 
-symbol_lawful : (s : Spelling) (t : Token) → IsLawfulSymbol t → IsLawful s t
+pub symbol_lawful : (s : Spelling) (t : Token) → IsLawfulSymbol t → IsLawful s t
 symbol_lawful s (Digits n) h = tt
 symbol_lawful s (Num n) h = tt
 symbol_lawful s Here h = tt

@@ -35,6 +35,12 @@ module _ (kinds : List Kind) (args : List Arg) (k : Kind) (ks : List Kind) (a : 
   pub value_same : (test : Operand → Bool) (rest : Bool) → false ≡ is_value_kind k → rest ≡ values_break test (zip ks (map operand_of others)) → rest ≡ values_break test (zip kinds (map operand_of args))
   value_same test rest is later = any_same (λ (y : Kind × Operand). is_value_kind y.0 && test y.1) rest (ap (λ (b : Bool). b && test (operand_of a)) (sym is)) later
 
+pub item_more :
+    (args : List Arg) (a : Arg) (others : List Arg) → args ≡ a ∷ others
+    → (test : Operand → Bool) (x mine rest : Bool) → x ≡ (mine || rest) → mine ≡ test (operand_of a) → rest ≡ list_any test (map operand_of others) → x ≡ list_any test (map operand_of args)
+item_more args a others of_args test x mine rest joined own later =
+    joined ∙ ap (λ (b : Bool). b || rest) own ∙ ap (λ (b : Bool). test (operand_of a) || b) later ∙ ap (λ (xs : List Arg). list_any test (map operand_of xs)) (sym of_args)
+
 -- no operand that is no value breaks a rule of the layout
 pub no_stray : (t : Setting) (k : Kind) (a : Operand) → false ≡ is_value_kind k → (misses t (k, a) ≡ false) × (computes t (k, a) ≡ false) × (loads_code t (k, a) ≡ false)
 no_stray t Register a is = (refl, refl, refl)

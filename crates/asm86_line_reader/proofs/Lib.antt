@@ -12,3 +12,4 @@ mod Pieces
 pub mod ReadBack
 mod Tables
 mod WrittenWords
+pub mod Singles
