@@ -69,6 +69,23 @@ longer_queue vs work capacity k v q lt was is = record {
         (cases_lt j (length work)))
         (cases_lt i (length work))
 
+-- a vertex that waits changes and still waits
+pub same_queue : (vs : List Vertex) (work : List ℕ) (capacity k : ℕ) (v : Vertex) → IsQueue vs work capacity → k < length vs → (vertex vs k).waits ≡ true → v.waits ≡ true → IsQueue (set vs k v) work capacity
+same_queue vs work capacity k v q lt was is = record {
+  within = λ j h. rw length-set (q.within j h);
+  waits = λ j h. waits_at (get_or work j 0) (q.waits j h);
+  once = q.once;
+  count = omega (arith, counted vs k v lt, ap one_if was, ap one_if is, q.count);
+  room = rw length-set q.room;
+}
+  where
+    waits_at : (at : ℕ) → (vertex vs at).waits ≡ true → (vertex (set vs k v) at).waits ≡ true
+    waits_at at w =
+        ⊎_elim
+        (λ same. subst (λ n. (vertex (set vs k v) n).waits ≡ true) (sym same) (ap waiting (get_or-set_same vs k v no_vertex lt) ∙ is))
+        (λ other. ap waiting (get_or-set_other vs k at v no_vertex other) ∙ w)
+        (cases_eq at k)
+
 -- the last one is taken
 pub shorter_queue : (vs : List Vertex) (work : List ℕ) (capacity k : ℕ) (v : Vertex) → IsQueue vs (work ++ k ∷ []) capacity → v.waits ≡ false → (k < length vs) × ((vertex vs k).waits ≡ true) × IsQueue (set vs k v) work capacity
 shorter_queue vs work capacity k v q idle = (

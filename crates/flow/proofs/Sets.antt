@@ -5,7 +5,7 @@ use Rattle.std.proofs.lemmas.Bool.{false≢true, cases_lt}
 use mathlib.Core.Bool.{or-false}
 use Rattle.cells.specs.declared.Part.{Part}
 use Rattle.cells.specs.declared.Part.TheVariants.{A, B, C, D, E, H, L, S, Z, Ac, P, Cy}
-use Rattle.cells.specs.Parts.{Parts, nothing, only, has, these, weight, all_parts}
+use Rattle.cells.specs.Parts.{Parts, nothing, union, only, has, these, weight, all_parts}
 use Rattle.cells.proofs.Unions.{has_union}
 use Rattle.flow.specs.Search.{size, is_left}
 
@@ -121,6 +121,14 @@ without_left left k m q x is = sym (ap (λ b. has left x || b) (none (has (only 
     none : (b : Bool) → has (only q) x ≡ b → (b && is_left k m x) ≡ false
     none true one = ap (is_left k m) (sym (only-has q x one)) ∙ is
     none false one = refl
+
+-- a part that is left joins those that are
+pub with_part_left : (left new k m : Parts) (q x : Part) → is_left k m q ≡ true → new ≡ union left (only q) → has new x ≡ (has left x || (has (only q) x && is_left k m x))
+with_part_left left new k m q x is joined = ap (λ n. has n x) joined ∙ has_union left (only q) x ∙ ap (λ b. has left x || b) (kept (has (only q) x) refl)
+  where
+    kept : (b : Bool) → has (only q) x ≡ b → b ≡ (b && is_left k m x)
+    kept true one = sym (ap (is_left k m) (sym (only-has q x one)) ∙ is)
+    kept false one = refl
 
 -- the parts that are left, of some of the parts
 abbrev pub left_of : Part → Parts → Parts → Parts → List Part → Bool

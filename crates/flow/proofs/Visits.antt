@@ -1,5 +1,5 @@
 -- One visit of an edge.
-use Rattle.std.proofs.Common.{◌≡◌, ◌≢◌, ℕ, ◌<◌, ◌≤◌, true, ◌||◌, List, length, sym, ap, subst, ◌∙◌, inr, arith, length-set, get_or-set_same, get_or-set_other}
+use Rattle.std.proofs.Common.{◌≡◌, ◌≢◌, ℕ, ◌<◌, ◌≤◌, true, ◌||◌, List, length, refl, sym, ap, subst, ◌∙◌, inl, inr, arith, le_refl, length-set, get_or-set_same, get_or-set_other}
 use Rattle.std.proofs.Math.ListN.{set}
 use Rattle.std.proofs.lemmas.Bool.{or_left}
 use Rattle.cells.specs.declared.Part.{Part}
@@ -45,3 +45,18 @@ pub changed_to : (vs : List Vertex) (from : ℕ) (passed left need : Parts) (w :
 changed_to vs from passed left need w lt read is other left_is =
     subst (λ k. IsVisited vs from passed (set vs from (record { defines = w.defines; need = k; waits = true }))) (sym is)
     (subst (λ (u : Vertex). ((x : Part) → has left x ≡ is_left passed u.defines x) → union u.need left ≢ u.need → IsVisited vs from passed (set vs from (grown_vertex u left))) (sym read) (changed vs from passed left lt) left_is (λ same. other (is ∙ same)))
+
+-- one that needs no more than it did
+pub unchanged : (vs : List Vertex) (from : ℕ) (passed left need : Parts) (w : Vertex) → w ≡ vertex vs from → need ≡ union w.need left → need ≡ w.need → ((x : Part) → has left x ≡ is_left passed w.defines x) → IsVisited vs from passed vs
+unchanged vs from passed left need w read is same left_is = record {
+  same_length = refl;
+  others = λ k differs. refl;
+  defines = refl;
+  need = subst (λ (v : Vertex). (x : Part) → has v.need x ≡ (has v.need x || is_left passed v.defines x)) read needs;
+  woken = inl refl;
+  fewer = le_refl _;
+  cheaper = λ ss. le_refl _;
+}
+  where
+    needs : (x : Part) → has w.need x ≡ (has w.need x || is_left passed w.defines x)
+    needs x = ap (λ k. has k x) (sym same ∙ is) ∙ has_union w.need left x ∙ ap (λ b. has w.need x || b) (left_is x)

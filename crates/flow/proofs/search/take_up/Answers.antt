@@ -1,4 +1,4 @@
-use Rattle.std.proofs.Common.{◌≡◌, ℕ, List, length, refl, sym, ap, subst, arith, length-set, get_or}
+use Rattle.std.proofs.Common.{◌≡◌, ◌<◌, ℕ, List, length, refl, sym, ap, subst, arith, length-set, get_or}
 use Rattle.std.proofs.Math.ListN.{set}
 use Rattle.std.proofs.lemmas.List.{get_or_read}
 use Rattle.std.proofs.lemmas.List.Elements.{Contains-get_or}
@@ -9,6 +9,17 @@ use Rattle.flow.specs.Search.{vertex, no_vertex, row, IsQueue, IsSpread}
 use Rattle.flow.proofs.Queue.{shorter_queue}
 use Rattle.flow.proofs.Rounds.{woken, round, fewer_credits, fewer_visits}
 use Rattle.flow.proofs.search.take_up.Goals as goal
+
+pub bounds-vertices-at : goal.bounds-vertices-at
+bounds-vertices-at g c = (shorter_queue c.args.vertices.now c.args.work.now.items (vec_capacity c.args.work.now) c.args.at (woken (vertex c.args.vertices.now c.args.at)) c.requires.queue refl).0
+
+pub bounds-vertices-at-2 : goal.bounds-vertices-at-2
+bounds-vertices-at-2 g c = (shorter_queue c.args.vertices.now c.args.work.now.items (vec_capacity c.args.work.now) c.args.at (woken (vertex c.args.vertices.now c.args.at)) c.requires.queue refl).0
+
+pub of-requires : goal.of-requires
+of-requires g c =
+    subst (λ n. c.args.at < n) (sym c.requires.sized)
+    (shorter_queue c.args.vertices.now c.args.work.now.items (vec_capacity c.args.work.now) c.args.at (woken (vertex c.args.vertices.now c.args.at)) c.requires.queue refl).0
 
 pub spread-requires-clause-within : goal.spread-requires-clause-within
 spread-requires-clause-within g c = λ k d lt.

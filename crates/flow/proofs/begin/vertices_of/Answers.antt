@@ -1,0 +1,31 @@
+use Rattle.std.proofs.Common.{◌≡◌, ◌∙◌, ◌+◌, ◌<◌, ◌≤◌, ◌++◌, ◌∷◌, [], List, ℕ, length, get_or, ap, sym, subst, map, take, true}
+use Rattle.std.proofs.lemmas.List.{map_more, take_all}
+use Rattle.cells.specs.Parts.{Parts, nothing}
+use Rattle.asm80_program_types.specs.declared.program.Placed.{Placed}
+use Rattle.flow.specs.declared.search.Vertex.{Vertex}
+use Rattle.flow.specs.Begin.{vertex_placed, vertex_return}
+use Rattle.flow.proofs.begin.vertices_of.Goals as goal
+
+-- the nodes of the first instructions, and the next one
+more : (xs ys : List Placed) (vs new : List Vertex) (i : ℕ) (d : Placed) (v : Vertex) → xs ≡ ys → i < length xs → new ≡ vs ++ v ∷ [] → vs ≡ map vertex_placed (take i ys) → v ≡ vertex_placed (get_or xs i d) → new ≡ map vertex_placed (take (i + 1) ys)
+more xs ys vs new i d v same lt put so_far is =
+    put
+    ∙ ap (λ ws. ws ++ v ∷ []) so_far
+    ∙ ap (λ w. map vertex_placed (take i ys) ++ w ∷ []) (is ∙ ap (λ zs. vertex_placed (get_or zs i d)) same)
+    ∙ sym (map_more vertex_placed ys i d (subst (λ zs. i < length zs) same lt))
+
+-- the nodes of all instructions, and the return
+last : (xs ys : List Placed) (vs new : List Vertex) (i : ℕ) (a b : Parts) → xs ≡ ys → length xs ≤ i → new ≡ vs ++ (record { defines = a; need = b; waits = true }) ∷ [] → vs ≡ map vertex_placed (take i ys) → a ≡ nothing → b ≡ nothing → new ≡ map vertex_placed ys ++ vertex_return ∷ []
+last xs ys vs new i a b same ge put so_far none none_2 =
+    put
+    ∙ ap (λ ws. ws ++ (record { defines = a; need = b; waits = true }) ∷ []) (so_far ∙ ap (map vertex_placed) (take_all i ys (subst (λ zs. length zs ≤ i) same ge)))
+    ∙ ap (λ x. map vertex_placed ys ++ (record { defines = x; need = b; waits = true }) ∷ []) none
+    ∙ ap (λ x. map vertex_placed ys ++ (record { defines = nothing; need = x; waits = true }) ∷ []) none_2
+
+pub loop-placed-preserved : goal.loop-placed-preserved
+loop-placed-preserved c =
+    more c.instrs-placed-items.result.now c.args.program.now.instrs c.loop-placed.vertices.items _ c.loop-placed.placed-index _ c.vertex_of.result c.instrs-placed-items.ensures.value c.loop-placed-test.true c.in_ok-push.ensures.items c.loop-placed.invariant c.vertex_of.ensures
+
+pub returns : goal.returns
+returns c =
+    last c.instrs-placed-items.result.now c.args.program.now.instrs c.loop-placed.vertices.items _ c.loop-placed.placed-index c.none.result c.none-2.result c.instrs-placed-items.ensures.value c.loop-placed-test.false c.in_ok-push-2.ensures.items c.loop-placed.invariant c.none.ensures c.none-2.ensures
