@@ -6,3 +6,4 @@ pub mod Parts
 pub mod Languages
 pub mod Steps
 pub mod Whole
+pub mod Pieces

@@ -1,0 +1,30 @@
+-- What a call that changes the disk comes to.
+use Rattle.std.proofs.Common.{◌≡◌, ◌∙◌, ◌&&◌, ℕ, ◌+◌, ◌<◌, ◌≤◌, List, [], length, nat_le, nat_lt, Some, true, sym, ap}
+use Rattle.std.proofs.lemmas.Bool.{and_from, lt-ltb, le-leb, cond-true}
+use Rattle.dialogue.specs.declared.request.Request.{Request}
+use Rattle.dialogue.specs.declared.request.Reply.{Reply}
+use Rattle.bdos_disk.specs.Stored.{Stored}
+use Rattle.bdos_disk.specs.Names.{name_in_block}
+use Rattle.bdos_disk.specs.Disks.{file_named, with_file, with_records, written_at, growth, records_in}
+use Rattle.bdos_small.specs.Fcb.{drive_in, extent_in, fields_at, opened_fcb}
+use Rattle.bdos_small.specs.Calls.{fcb_of, reply_writing}
+use Rattle.bdos_small.specs.Files.{Changed, is_free, make_file, file_written, write_at}
+
+changed : (y z : Reply) (d e : List Stored) → y ≡ z → d ≡ e → ◌≡◌ {A = Changed} (record { reply = y; disk = d }) (record { reply = z; disk = e })
+changed y z d e p q = λ i. record { reply = p i; disk = q i }
+
+-- a file was made
+pub made : (d : List Stored) (q : Request) (y : Reply) (new : List Stored) → is_free (name_in_block (fcb_of q)) d ≡ true → length d < 64
+    → y ≡ reply_writing q 0 (opened_fcb (drive_in (fcb_of q)) (name_in_block (fcb_of q)) (extent_in (fcb_of q)) 0) → new ≡ with_file (record { name = name_in_block (fcb_of q); records = [] }) d
+    → ◌≡◌ {A = Changed} (record { reply = y; disk = new }) (make_file d q)
+made d q y new free room e f =
+    changed y _ new _ e f ∙ sym (cond-true (is_free (name_in_block (fcb_of q)) d && nat_lt (length d) 64) _ _ (and_from (is_free (name_in_block (fcb_of q)) d) (nat_lt (length d) 64) free (lt-ltb (length d) 64 room)))
+
+-- a record was written
+pub written : (d : List Stored) (q : Request) (position after : ℕ) (r : List ℕ) (f : Stored) (y : Reply) (new : List Stored) → Some f ≡ file_named (name_in_block (fcb_of q)) d → records_in d + growth position f.records ≤ 8000
+    → y ≡ reply_writing q 0 (fields_at after (length (written_at position r f.records))) → new ≡ with_records (name_in_block (fcb_of q)) (written_at position r f.records) d
+    → ◌≡◌ {A = Changed} (record { reply = y; disk = new }) (write_at d q position after r)
+written d q position after r f y new named room e g =
+    changed y _ new _ e g
+    ∙ (sym (cond-true (nat_le (records_in d + growth position f.records) 8000) _ _ (le-leb (records_in d + growth position f.records) 8000 room))
+    ∙ ap (file_written d q position after r) named)

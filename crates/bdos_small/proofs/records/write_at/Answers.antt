@@ -1,0 +1,32 @@
+use Rattle.std.proofs.Common.{◌≡◌, ◌∙◌, ℕ, ◌+◌, ◌-◌, ◌≤◌, length, max, ap, sym, subst, arith}
+use Rattle.std.specs.Option.{IfSome}
+use Rattle.bdos_disk.specs.Stored.{Stored}
+use Rattle.bdos_disk.specs.Names.{name_in_block}
+use Rattle.bdos_disk.specs.Disks.{file_named, with_records, written_at, records_in, growth}
+use Rattle.bdos_disk.proofs.Files.{length-written_at}
+use Rattle.bdos_small.specs.Fcb.{fields_at}
+use Rattle.bdos_small.specs.Calls.{fcb_of, reply_writing}
+use Rattle.bdos_small.proofs.Changes.{written}
+use Rattle.bdos_small.proofs.records.write_at.Goals as goal
+
+max_is : (m n : ℕ) → max m n ≡ m + (n - m)
+max_is m n = omega arith
+
+pub returns-clause-answer : goal.returns-clause-answer
+returns-clause-answer c =
+    let q = c.args.request.now in
+    let d = c.args.disk.now in
+    let f : Stored = c.in-Some.file.now in
+    let name : c.in_block-name.result ≡ name_in_block (fcb_of q) = c.in_block-name.ensures ∙ ap name_in_block c.block_at.ensures in
+    let count = ap length c.records-count.ensures in
+    let now_here = c.in_ok-write_record.ensures.ok in
+    let records = written_at c.args.position c.args.bytes.now f.records in
+    let new = subst (λ o. IfSome o (λ (g : Stored). c.write_record.new.self ≡ with_records c.in_block-name.result (written_at c.args.position c.args.bytes.now g.records) d)) (sym c.in-Some.ensures.value) now_here in
+    let room = subst (λ n. n + c.saturating_sub.result ≤ 8000) c.record_count.ensures.count c.if-record_count-saturating_sub-gt-MOST_RECORDS.false in
+    let grows : c.saturating_sub.result ≡ growth c.args.position f.records = c.saturating_sub.ensures ∙ ap (λ n. c.args.position + 1 - n) count in
+    let many : c.max.result ≡ length records = c.max.ensures ∙ (ap (λ n. max n (c.args.position + 1)) count ∙ (max_is (length f.records) (c.args.position + 1) ∙ sym (length-written_at c.args.position c.args.bytes.now f.records))) in
+    written d q c.args.position c.args.after c.args.bytes.now f c.in_ok-reply.reply c.write_record.new.self
+    (c.in-Some.ensures.value ∙ ap (λ n. file_named n d) name)
+    (subst (λ n. records_in d + n ≤ 8000) grows room)
+    (c.in_ok-reply.ensures ∙ ap (reply_writing q 0) (c.fields_at-fields.ensures ∙ ap (fields_at c.args.after) many))
+    (new ∙ ap (λ n. with_records n records d) name)
