@@ -1,15 +1,17 @@
 // The work of `check`: a source and a text in, and what is found of them said.
-ghost use Rattle.std.specs.Prelude.{◌≡◌, true, IfOk, IfErr};
+ghost use Rattle.std.specs.Prelude.{◌≡◌, ℕ, ◌<◌, ◌^◌, true, length, IfOk, IfErr};
 ghost use Rattle.std.specs.String.{string_bytes};
 ghost use Rattle.host.specs.Host.{SameFiles};
 ghost use Rattle.asm80_program_types.specs.Program.{is_top};
 ghost use Rattle.cmd_arguments.specs.ReadCommands.{check_read};
-ghost use Rattle.cmd_check.specs.Checks.{Shows, Stops, CheckGives};
+ghost use Rattle.asm86_line_types.specs.Image.{IsImage};
+ghost use Rattle.cmd_common.specs.Lines.{shown_line};
+ghost use Rattle.cmd_check.specs.Checks.{IsShown, FindStops, Shows, Stops, CheckGives};
 ghost use Rattle.cmd_check.specs.Completes.{CheckCompletes};
 ghost use Rattle.cmd_check.specs.OwnTexts.{ShowsOwnText};
 
 use crate::finding::find;
-use crate::inputs::load;
+use crate::inputs::{Loaded, load};
 use crate::laws::checks_have_one_outcome;
 use cmd_arguments::Check;
 use cmd_common::{Stop, say_done, say_stop, shown_line};
@@ -53,6 +55,18 @@ fn work<'a, H: Host>(alloc: Global, host: &mut H, command: &Check<'a>) -> Result
     ensures stopped { IfErr result (Stops (check_read command.now) (H.state host.old) (H.state host.new)) }
 {
     let loaded = load(alloc, host, command)?;
+    line_of(alloc, &loaded)
+}
+
+// The line of what was loaded, if it is shown.
+fn line_of<'a>(alloc: Global, loaded: &Loaded) -> Result<String, Stop<'a>>
+    requires image { IsImage loaded.now.text.lines.items loaded.now.text.image }
+    requires few { length loaded.now.text.lines.items < 2 ^ 28 }
+    ensures shown { IfOk result (λ line. (blocks : ℕ)
+        × IsShown loaded.now.program loaded.now.text.lines.items blocks
+        × (string_bytes line ≡ shown_line blocks)) }
+    ensures stopped { IfErr result (FindStops loaded.now.program loaded.now.text.lines.items) }
+{
     let count = find(alloc, &loaded.program, &loaded.text)?;
     Ok(shown_line(alloc, count)?)
 }
