@@ -1,5 +1,5 @@
 // The instructions that may have to save flags, with the flags that each of them has to save.
-ghost use Rattle.std.specs.Prelude.{◌≡◌, IfOk, count_by};
+ghost use Rattle.std.specs.Prelude.{◌≡◌, IfOk, IsTrue, count_by};
 ghost use Rattle.cmd_lists.specs.Saves.{sums, AreSavings, saves_any};
 
 use asm80_program_types::Program80;
@@ -20,13 +20,22 @@ pub fn savings_of(alloc: Global, program: &Program80) -> Result<Vec<Saving>, All
     ensures { IfOk result (λ savings. AreSavings program.now (sums program.now) savings.items) }
 {
     let graph = Graph::solved(alloc, program)?;
+    savings_by(alloc, program, &graph)
+}
+
+// Those that the graph of the program tells.
+fn savings_by(alloc: Global, program: &Program80, graph: &Graph) -> Result<Vec<Saving>, AllocError>
+    requires solved { IsTrue graph.now.is_solved }
+    requires program { graph.now.program ≡ program.now }
+    ensures { IfOk result (λ savings. AreSavings program.now (sums program.now) savings.items) }
+{
     let mut savings = Vec::new(alloc);
     for placed in program.instrs() {
         // Only for a sum of words is its address looked for.
         if !is_word_sum(placed.instr) {
             continue;
         }
-        if let Some(keep) = saves(program, &graph, placed.at) {
+        if let Some(keep) = saves(program, graph, placed.at) {
             savings.push(Saving {
                 at: placed.at,
                 line: placed.line,

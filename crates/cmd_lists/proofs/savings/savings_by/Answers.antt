@@ -6,8 +6,8 @@ use Rattle.asm80_program_types.specs.declared.program.Placed.{Placed}
 use Rattle.flow.specs.Saves.{is_word_sum, is_sum_at}
 use Rattle.cmd_lists.specs.Saves.{AreSavings}
 use Rattle.cmd_lists.proofs.Gathering.{sum_of_placed, kept, passed}
-use Rattle.cmd_lists.proofs.savings.savings_of.Goals as goal
-use Rattle.cmd_lists.proofs.savings.savings_of.Goals.{in-Some+in_ok-push, in_default}
+use Rattle.cmd_lists.proofs.savings.savings_by.Goals as goal
+use Rattle.cmd_lists.proofs.savings.savings_by.Goals.{in-Some+in_ok-push, in_default}
 
 -- what an index past the end would give
 abbrev any_placed : Placed
