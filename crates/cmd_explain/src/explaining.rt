@@ -1,21 +1,24 @@
 // The work of `explain`: a source and a text in, and what is found of them said, with why.
 
-ghost use Rattle.std.specs.Prelude.{◌≡◌, ◌<◌, ◌≤◌, true, length, IfOk, IfErr, OnOk, OnErr};
+ghost use Rattle.std.specs.Prelude.{◌≡◌, ◌<◌, ◌≤◌, ◌^◌, true, length, IfOk, IfErr, OnOk, OnErr};
 ghost use Rattle.std.specs.String.{string_bytes};
 ghost use Rattle.host.specs.Host.{SameFiles, SameFaults, OnlySays, Says, WriteFault};
 ghost use Rattle.host_files.specs.Transfer.{CutsLine};
 ghost use Rattle.asm80_program_types.specs.Program.{is_top};
+ghost use Rattle.asm86_line_types.specs.Image.{IsImage, image_of};
+ghost use Rattle.xlt_core.specs.Names.{Same, IsFinding, IfShown};
 ghost use Rattle.cmd_arguments.specs.ReadCommands.{check_read};
 ghost use Rattle.cmd_common.specs.declared.stop.Stop.TheVariants.{NotShown};
 ghost use Rattle.cmd_common.specs.Lines.{line_of_stop};
 ghost use Rattle.cmd_check.specs.Checks.{LoadStops};
 ghost use Rattle.cmd_check.specs.Completes.{CheckCompletes};
+ghost use Rattle.cmd_explain.specs.Explained.{Explained};
 ghost use Rattle.cmd_explain.specs.Explains.{SaysBefore, ExplainGives};
 ghost use Rattle.cmd_explain.specs.Worked.{last_line, SaysFound, ComesTo};
 
 use crate::telling::{Explanation, explain_text};
 use cmd_arguments::Check;
-use cmd_check::{checks_have_one_outcome, load};
+use cmd_check::{Loaded, checks_have_one_outcome, load};
 use cmd_common::{Stop, say_done, say_made, say_stop, shown_line};
 use host::{Host, HostFault};
 use host_files::say_line;
@@ -60,6 +63,19 @@ fn work<'a, H: Host>(alloc: Global, host: &mut H, command: &Check<'a>) -> Result
     ensures stopped { IfErr result (LoadStops (check_read command.now) (H.state host.old) (H.state host.new)) }
 {
     let loaded = load(alloc, host, command)?;
+    worked_of(alloc, &loaded)
+}
+
+// The same of what was loaded.
+fn worked_of<'a>(alloc: Global, loaded: &Loaded) -> Result<Worked, Stop<'a>>
+    requires image { IsImage loaded.now.text.lines.items loaded.now.text.image }
+    requires few { length loaded.now.text.lines.items < 2 ^ 28 }
+    ensures worked { IfOk result (λ w. IsFinding loaded.now.program loaded.now.text.lines.items w.explanation.finding
+        × IfShown w.explanation.finding (Same loaded.now.program (image_of loaded.now.text.lines.items))
+        × Explained loaded.now.program loaded.now.text.lines.items (image_of loaded.now.text.lines.items) w.explanation.text.items
+        × (string_bytes w.last_line ≡ last_line w.explanation.finding)) }
+    ensures memory { IfErr result (λ stop. stop ≡ Stop.OutOfMemory) }
+{
     let explanation = explain_text(alloc, &loaded.program, &loaded.text)?;
     let last_line = last_line(alloc, explanation.finding)?;
     Ok(Worked {
