@@ -64,25 +64,41 @@ fn explain_lines(
     ensures finding { IfOk result (λ e. IsFinding program.now lines.now e.finding) }
     ensures explained { IfOk result (λ e. Explained program.now lines.now image.now e.text.items) }
 {
-    cells_are_sorted();
     let graph = Graph::solved(alloc, program)?;
-    graph.needs_are_sets();
     let text = Index86::of(alloc, lines)?;
+    let sides = Sides {
+        program,
+        graph: &graph,
+        lines,
+        text: &text,
+    };
+    explain_sides(alloc, &sides, image)
+}
+
+// The same with the graph of the program and the index of the lines.
+fn explain_sides(
+    alloc: Global,
+    sides: &Sides<'_>,
+    image: &Image86,
+) -> Result<Explanation, AllocError>
+    requires solved { IsTrue sides.now.graph.now.is_solved }
+    requires program { sides.now.graph.now.program ≡ sides.now.program.now }
+    requires text { sides.now.text.now ≡ statements sides.now.lines.now }
+    requires made { IsImage sides.now.lines.now image.now }
+    ensures finding { IfOk result (λ e. IsFinding sides.now.program.now sides.now.lines.now e.finding) }
+    ensures explained { IfOk result (λ e. Explained sides.now.program.now sides.now.lines.now image.now e.text.items) }
+{
+    cells_are_sorted();
+    sides.graph.needs_are_sets();
     let mut told = Vec::new(alloc);
-    let finding = match lacks(program, text.statements(), image) {
+    let finding = match lacks(sides.program, sides.text.statements(), image) {
         Some(reason) => {
-            tell_frame(alloc, &mut told, program, lines, image, reason)?;
+            tell_frame(alloc, &mut told, sides.program, sides.lines, image, reason)?;
             Finding::NotShown(0, reason)
         }
         None => {
-            let sides = Sides {
-                program,
-                graph: &graph,
-                lines,
-                text: &text,
-            };
-            let first = tell_blocks(alloc, &mut told, &sides)?;
-            finding_of(program, &graph, first)
+            let first = tell_blocks(alloc, &mut told, sides)?;
+            finding_of(sides.program, sides.graph, first)
         }
     };
     Ok(Explanation {

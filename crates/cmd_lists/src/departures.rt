@@ -5,7 +5,8 @@ ghost use Rattle.host.specs.Host.{SameFiles};
 ghost use Rattle.asm80_program_types.specs.Program.{is_top, is_start};
 ghost use Rattle.cmd_arguments.specs.ReadCommands.{listing_read};
 ghost use Rattle.cmd_common.specs.Makes.{MakeGives, MakeCompletes};
-ghost use Rattle.cmd_lists.specs.Departures.{leaves_kind, HasDepartures, AreLinesOf, departure_line, certainty_text};
+ghost use Rattle.leaving_def.specs.Leaving.{leaving};
+ghost use Rattle.cmd_lists.specs.Departures.{leaves_kind, HasDepartures, AreLinesOf, AreDepartureLines, departure_line, certainty_text};
 
 use crate::list::{Listed, list};
 use asm80_program_types::Program80;
@@ -45,13 +46,25 @@ impl Listed for Departures {
         blocks_cut_the_program();
         let _top = program.top();
         let found = leaving(alloc, program)?;
-        let places = found.as_slice();
-        let mut lines = lines_of(alloc, program, places)?;
-        lines.push(leaves_line(alloc, places.len(), program.instrs().len())?)?;
-        Ok(lines)
+        lines_and_count(alloc, program, found.as_slice())
     }
 
     fn lines_are_one() {}
+}
+
+// The lines of a program's places, and the last line, which says how many there are.
+fn lines_and_count(
+    alloc: Global,
+    program: &Program80,
+    places: &[Departure],
+) -> Result<Vec<String>, AllocError>
+    requires places { places.now ≡ leaving program.now }
+    requires starts { All (λ x. is_start program.now x.at ≡ true) places.now }
+    ensures { IfOk result (λ lines. AreDepartureLines program.now (map string_bytes lines.items)) }
+{
+    let mut lines = lines_of(alloc, program, places)?;
+    lines.push(leaves_line(alloc, places.len(), program.instrs().len())?)?;
+    Ok(lines)
 }
 
 // The lines of places at which instructions start.

@@ -23,14 +23,10 @@ pub fn savings_of(alloc: Global, program: &Program80) -> Result<Vec<Saving>, All
     savings_by(alloc, program, &graph)
 }
 
-// The same, by the solved graph of the program.
-fn savings_by(
-    alloc: Global,
-    program: &Program80,
-    graph: &Graph,
-) -> Result<Vec<Saving>, AllocError>
-    requires program { graph.now.program ≡ program.now }
+// Those that the graph of the program tells.
+fn savings_by(alloc: Global, program: &Program80, graph: &Graph) -> Result<Vec<Saving>, AllocError>
     requires solved { IsTrue graph.now.is_solved }
+    requires program { graph.now.program ≡ program.now }
     ensures { IfOk result (λ savings. AreSavings program.now (sums program.now) savings.items) }
 {
     let mut savings = Vec::new(alloc);

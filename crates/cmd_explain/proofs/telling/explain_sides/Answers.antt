@@ -6,17 +6,17 @@ use Rattle.xlt_core.specs.Names.{IsFinding}
 use Rattle.text_check.specs.Findings.{HasFrame, Lacks, AreOfLines}
 use Rattle.text_check.proofs.Found.{is_lacking, is_found}
 use Rattle.cmd_explain.specs.Explained.{Explained, frame, of_blocks}
-use Rattle.cmd_explain.proofs.telling.explain_lines.Goals as goal
-use Rattle.cmd_explain.proofs.telling.explain_lines.Goals.{in-Some+in_ok-tell_frame-in-Some, in-None+in_ok-first-in-None}
+use Rattle.cmd_explain.proofs.telling.explain_sides.Goals as goal
+use Rattle.cmd_explain.proofs.telling.explain_sides.Goals.{in-Some+in_ok-tell_frame-in-Some, in-None+in_ok-first-in-None}
 
 pub returns-clause-finding : goal.returns-clause-finding
 returns-clause-finding c =
-    let p = c.args.program.now in
-    let lines = c.args.lines.now in
+    let p = c.args.sides.now.program.now in
+    let lines = c.args.sides.now.lines.now in
     let image = c.args.image.now in
     let same : AreOfLines (statements lines) image lines = record { stated = refl; made = c.requires.made } in
-    let has : HasNeeds p = subst HasNeeds c.in_ok-graph.ensures.program c.needs_are_sets.ensures in
-    let stated = c.statements.ensures ∙ c.in_ok-text.ensures in
+    let has : HasNeeds p = subst HasNeeds c.requires.program c.needs_are_sets.ensures in
+    let stated = c.statements.ensures ∙ c.requires.text in
     elim c.match-lacks.branch [
       | in-Some+in_ok-tell_frame-in-Some w ↦ subst (IsFinding p lines) (sym w.finding-is)
           (is_lacking p (statements lines) image lines same has w.in-Some.reason (subst (λ (xs : List Stmt86). Lacks p xs image w.in-Some.reason) stated w.in-Some.ensures))
@@ -27,11 +27,11 @@ returns-clause-finding c =
 
 pub returns-clause-explained : goal.returns-clause-explained
 returns-clause-explained c =
-    let p = c.args.program.now in
-    let lines = c.args.lines.now in
+    let p = c.args.sides.now.program.now in
+    let lines = c.args.sides.now.lines.now in
     let image = c.args.image.now in
-    let has : HasNeeds p = subst HasNeeds c.in_ok-graph.ensures.program c.needs_are_sets.ensures in
-    let stated = c.statements.ensures ∙ c.in_ok-text.ensures in
+    let has : HasNeeds p = subst HasNeeds c.requires.program c.needs_are_sets.ensures in
+    let stated = c.statements.ensures ∙ c.requires.text in
     elim c.match-lacks.branch [
       | in-Some+in_ok-tell_frame-in-Some w ↦
           let t = w.in_ok-tell_frame-in-Some.ensures in
