@@ -8,6 +8,7 @@ use Rattle.asm80_source_def.specs.Items.{Setting, goal as target, instruction}
 use Rattle.asm80_values.specs.Settings.{setting_of}
 use Rattle.asm80_values.proofs.instruction.with_one.Goals as goal
 
+-- the definition of an operation that is known
 of_operation : (t : Setting) (a : Operand) {o p : Operation} → o ≡ p → instruction t p (a ∷ []) ≡ instruction t o (a ∷ [])
 of_operation t a is = ap (λ (o : Operation). instruction t o (a ∷ [])) (sym is)
 
