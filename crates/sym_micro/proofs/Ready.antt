@@ -8,7 +8,7 @@ use Rattle.xlt_pool.specs.Contents.{Contents}
 use Rattle.sym_terms.specs.declared.head.Term.{Term as TermId}
 use Rattle.sym_terms.specs.Term.{Term, is_bit, is_byte, is_word}
 use Rattle.sym_terms.specs.Laws.{IsMadeAs}
-use Rattle.sym_terms.specs.Trees.{tree_in, IsGiven, AreTerms, PoolGrows, Makes}
+use Rattle.sym_terms.specs.Trees.{tree_in, IsGiven, IsA, AreTerms, PoolGrows, Makes}
 use Rattle.sym_terms.proofs.Interning.{still, more, then_grows}
 use Rattle.sym_block_def.specs.Outcome.{Action}
 use Rattle.sym_micro.specs.declared.outcome.Action.{Action as ActionId}
@@ -22,8 +22,8 @@ use Rattle.sym_micro.specs.declared.micro.FlagSlot.TheVariants.{S, Z, Ac, P, Cy}
 use Rattle.sym_micro.specs.declared.micro.WordSlot.{WordSlot}
 use Rattle.sym_micro.specs.declared.micro.WordSlot.TheVariants.{V, W, X}
 use Rattle.sym_micro.specs.Machine.{Machine, byte_in, with_byte, word_in, with_word, with_flag}
-use Rattle.sym_micro.specs.Stands.{id_of_byte, run_with_reg, run_with_byte, run_with_word, run_with_flag, trees_of_held, tree_of_action, trees_of_actions, machine_of, HeldIsGiven, ActionIsGiven, ActionsAreGiven, RunIsGiven, IsResult, IsTurned, IsSorted, IsReady, GoesOn, Gives, Runs}
-use Rattle.sym_micro.proofs.Sorted.{with_byte_sorted, with_word_sorted, with_flag_sorted, with_result_sorted, with_turned_sorted}
+use Rattle.sym_micro.specs.Stands.{id_of_reg, id_of_byte, run_with_reg, run_with_byte, run_with_word, run_with_flag, trees_of_held, tree_of_action, trees_of_actions, machine_of, HeldIsGiven, ActionIsGiven, ActionsAreGiven, RunIsGiven, IsResult, IsTurned, IsSorted, IsReady, GoesOn, Gives, Runs}
+use Rattle.sym_micro.proofs.Sorted.{byte_sorted, with_byte_sorted, with_word_sorted, with_flag_sorted, with_result_sorted, with_turned_sorted}
 
 module _ (old new : Contents) (n : ℕ) (g : PoolGrows old new n) where
   given_still : (t : TermId) → IsGiven old t → IsGiven new t
@@ -520,3 +520,48 @@ run_as old new r j k a b Here There (Some u) le le' g f = record {
   };
   enough = λ _. refl;
 }
+
+held_id_given : (pool : Contents) (x : HeldIds) (r : Register) → HeldIsGiven pool x → IsGiven pool (id_of_reg x r)
+held_id_given pool x RegA h = h.a
+held_id_given pool x RegB h = h.b
+held_id_given pool x RegC h = h.c
+held_id_given pool x RegD h = h.d
+held_id_given pool x RegE h = h.e
+held_id_given pool x RegH h = h.h
+held_id_given pool x RegL h = h.l
+
+byte_id_given : (pool : Contents) (r : Run) (slot : ByteSlot) → RunIsGiven pool r → IsGiven pool (id_of_byte r slot)
+byte_id_given pool r (Byte80 q) h = held_id_given pool r.held q h.held
+byte_id_given pool r (Byte86 Ah) h = h.ah
+byte_id_given pool r (Byte86 Al) h = h.held.a
+byte_id_given pool r (Byte86 Cl) h = h.held.c
+byte_id_given pool r (Byte86 Dl) h = h.held.e
+byte_id_given pool r (Byte86 Bl) h = h.held.l
+byte_id_given pool r (Byte86 Ch) h = h.held.b
+byte_id_given pool r (Byte86 Dh) h = h.held.d
+byte_id_given pool r (Byte86 Bh) h = h.held.h
+byte_id_given pool r T h = h.t
+byte_id_given pool r U h = h.u
+
+-- the id of a byte register stands for a byte, as it is and once more terms have joined
+pub byte_here : (pool : Contents) (r : Run) (slot : ByteSlot) (t : TermId) → IsReady pool r → t ≡ id_of_byte r slot → IsA is_byte pool t
+byte_here pool r slot t h e = record {
+  given = subst (IsGiven pool) (sym e) (byte_id_given pool r slot h.given);
+  of_sort = ap (λ x. is_byte (tree_in pool x)) e ∙ ap is_byte (byte_tree pool r slot) ∙ (byte_sorted (machine_of pool r) slot h.sorted).1;
+}
+
+pub byte_later : (old new : Contents) (n : ℕ) (r : Run) (slot : ByteSlot) (t : TermId) → PoolGrows old new n → IsReady old r → t ≡ id_of_byte r slot → IsA is_byte new t
+byte_later old new n r slot t g h e =
+    let here = byte_here old r slot t h e in
+    let kept = g.kept t here.given in
+    record {
+      given = kept.0;
+      of_sort = ap is_byte kept.1 ∙ here.of_sort;
+    }
+
+pub byte_tree_here : (pool : Contents) (r : Run) (slot : ByteSlot) (t : TermId) → t ≡ id_of_byte r slot → tree_in pool t ≡ byte_in (machine_of pool r) slot
+byte_tree_here pool r slot t e = ap (tree_in pool) e ∙ byte_tree pool r slot
+
+-- a maker of a term makes an equal one
+pub makes_same : (old new : Contents) (x y : Term) (made : Option TermId) → x ≡ y → Makes old new 1 x made → Makes old new 1 y made
+makes_same old new x y made same h = subst (λ t. Makes old new 1 t made) same h

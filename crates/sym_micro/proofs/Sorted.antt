@@ -16,7 +16,7 @@ use Rattle.i86.specs.declared.Ptr.TheVariants.{Bx as PtrBx, Si as PtrSi}
 use Rattle.i86.specs.declared.Rotate.{Rotate}
 use Rattle.i86.specs.declared.Rotate.TheVariants.{Rol, Ror, Rcl, Rcr}
 use Rattle.sym_terms.specs.Term.{Term, Num, Start, Alu, Turn, Turned, Adjust, Unknown, is_flag, is_bit, is_byte, is_word, is_open, leaves_flag}
-use Rattle.sym_terms.specs.Making.{alu, half_of, high, low, turn, turn_or_turned, adjust}
+use Rattle.sym_terms.specs.Making.{alu, half_of, turn, turn_or_turned, adjust}
 use Rattle.sym_terms.specs.Laws.{IsMadeAs, MadeTermsHaveSorts}
 use Rattle.sym_terms.proofs.Sorts.{byte_sorted as byte_number_sorted, leaves_open}
 use Rattle.sym_block_def.specs.Outcome.{Held}

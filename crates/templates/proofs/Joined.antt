@@ -54,6 +54,10 @@ put_label s text marked new x block rest b m e =
 pub all_behind : (P : Placed → Type 0) (x : Placed) (rest after : List Placed) → rest ≡ x ∷ after → All P rest → All P after
 all_behind P x rest after r h = subst (All P) (ap (drop 1) r) (All-drop P 1 rest h)
 
+-- of instructions, the first
+pub first_of : (P : Placed → Type 0) (x : Placed) (rest after : List Placed) → rest ≡ x ∷ after → All P rest → P x
+first_of P x rest after r h = subst (All P) r h 0 x (omega arith)
+
 extent_at : (p : Program) (k : ℕ) → k < length (cut_from p 0 p.instrs) → get_or (blocks p) k (0, 0) ≡ extent (get_or (cut_from p 0 p.instrs) k [])
 extent_at p k lt = get_or-map extent (cut_from p 0 p.instrs) k [] (0, 0) lt
 

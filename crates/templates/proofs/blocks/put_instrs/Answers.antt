@@ -1,6 +1,6 @@
 use Rattle.std.proofs.Common.{arith}
 use Rattle.flow.specs.Cut.{EndsInMemory}
-use Rattle.templates.proofs.Joined.{put_one, all_behind}
+use Rattle.templates.proofs.Joined.{put_one, all_behind, first_of}
 use Rattle.templates.proofs.blocks.put_instrs.Goals as goal
 
 pub loop-placed-preserved : goal.loop-placed-preserved
@@ -10,3 +10,15 @@ loop-placed-preserved c = record {
   whole = all_behind EndsInMemory c.in-Some.placed.now c.loop-placed.rest.now c.in-Some.after.now c.in-Some.ensures.cases.0 c.loop-placed.invariant.whole;
   most = let more = c.in_ok-put_written.ensures.most in let left = c.in-Some.ensures.cases.1 in let before = c.loop-placed.invariant.most in omega (arith, more, left, before);
 }
+
+pub is_pair-last-requires-clause-whole : goal.is_pair-last-requires-clause-whole
+is_pair-last-requires-clause-whole c = first_of EndsInMemory c.in-Some.placed.now c.loop-placed.rest.now c.in-Some.after.now c.in-Some.ensures.cases.0 c.loop-placed.invariant.whole
+
+pub is_pair-last-requires-clause-rest : goal.is_pair-last-requires-clause-rest
+is_pair-last-requires-clause-rest c = all_behind EndsInMemory c.in-Some.placed.now c.loop-placed.rest.now c.in-Some.after.now c.in-Some.ensures.cases.0 c.loop-placed.invariant.whole
+
+pub put_written-requires-clause-whole : goal.put_written-requires-clause-whole
+put_written-requires-clause-whole c = first_of EndsInMemory c.in-Some.placed.now c.loop-placed.rest.now c.in-Some.after.now c.in-Some.ensures.cases.0 c.loop-placed.invariant.whole
+
+pub knows_function-known-requires : goal.knows_function-known-requires
+knows_function-known-requires c = (first_of EndsInMemory c.in-Some.placed.now c.loop-placed.rest.now c.in-Some.after.now c.in-Some.ensures.cases.0 c.loop-placed.invariant.whole).0

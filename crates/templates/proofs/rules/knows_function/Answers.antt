@@ -1,4 +1,4 @@
-use Rattle.std.proofs.Common.{◌≡◌, true, false, not, ◌&&◌, ap, sym, ◌∙◌, rules}
+use Rattle.std.proofs.Common.{◌≡◌, not, ◌&&◌, ap, sym, ◌∙◌, rules}
 use Rattle.cells.specs.declared.Part.TheVariants.{C}
 use Rattle.cells.specs.Parts.{has}
 use Rattle.i80.specs.Columns.{defs80}
