@@ -1,5 +1,8 @@
 use Rattle.std.proofs.Common.{◌≡◌, sym, subst}
-use Rattle.host.proofs.HostLemmas.{SameFaults-refl}
+use Rattle.host.proofs.HostLemmas.{OnlySays-refl, SameFaults-refl}
+use Rattle.std.specs.Prelude.{IsErr}
+use Rattle.std.proofs.lemmas.Bool.{false≢true}
+use Rattle.std.proofs.lemmas.Result.{IfOk-from_err}
 use Rattle.emulator_loop.specs.declared.fault.TalkFault.TheVariants.{Memory}
 use Rattle.emulator_loop.specs.declared.emulator.Turn.TheVariants.{Ran, Asks, Ended}
 use Rattle.emulator_loop.specs.Turns.{IsTurn}
@@ -90,3 +93,37 @@ returns-in_err-answer-in-Asks-clause-cut g c =
     on_fault c.from_residual-in_err-answer-in-Asks.result (λ h. h ≡ Memory) (IsTurnCutOff c.args.prefix.now before old new) c.from_residual-in_err-answer-in-Asks.ensures.1
     (λ h is. subst (IsTurnCutOff c.args.prefix.now before old new) (sym is)
     (asked c.args.prefix.now before after answered c.args.devices.now old new (g.met.E.Emulator.begins c.args.machine.now) v turned (λ y. g.met.E.Emulator.takes c.turn.new.self v y) said.ok, said.counted))
+
+-- nothing was said
+pub returns-in-Ran-clause-only : goal.returns-in-Ran-clause-only
+returns-in-Ran-clause-only g c = OnlySays-refl (g.H.Host.state c.args.host.now)
+
+pub returns-in-Stopped-clause-only : goal.returns-in-Stopped-clause-only
+returns-in-Stopped-clause-only g c = OnlySays-refl (g.H.Host.state c.args.host.now)
+
+pub returns-in_err-turn-clause-only : goal.returns-in_err-turn-clause-only
+returns-in_err-turn-clause-only g c = OnlySays-refl (g.H.Host.state c.args.host.now)
+
+pub returns-in_err-turn-clause-done : goal.returns-in_err-turn-clause-done
+returns-in_err-turn-clause-done g c = IfOk-from_err c.from_residual.result _ c.from_residual.ensures.0
+
+pub returns-in_err-turn-clause-ready : goal.returns-in_err-turn-clause-ready
+returns-in_err-turn-clause-ready g c = λ is. absurd (false≢true (subst IsErr is c.from_residual.ensures.0))
+
+pub returns-in_err-say_event-in-Ended-clause-done : goal.returns-in_err-say_event-in-Ended-clause-done
+returns-in_err-say_event-in-Ended-clause-done g c = IfOk-from_err c.from_residual-in_err-say_event-in-Ended.result _ c.from_residual-in_err-say_event-in-Ended.ensures.0
+
+pub returns-in_err-say_event-in-Ended-clause-ready : goal.returns-in_err-say_event-in-Ended-clause-ready
+returns-in_err-say_event-in-Ended-clause-ready g c = λ is. absurd (false≢true (subst IsErr is c.from_residual-in_err-say_event-in-Ended.ensures.0))
+
+pub returns-in_err-say_event-in-Asks-clause-done : goal.returns-in_err-say_event-in-Asks-clause-done
+returns-in_err-say_event-in-Asks-clause-done g c = IfOk-from_err c.from_residual-in_err-say_event-in-Asks.result _ c.from_residual-in_err-say_event-in-Asks.ensures.0
+
+pub returns-in_err-say_event-in-Asks-clause-ready : goal.returns-in_err-say_event-in-Asks-clause-ready
+returns-in_err-say_event-in-Asks-clause-ready g c = λ is. absurd (false≢true (subst IsErr is c.from_residual-in_err-say_event-in-Asks.ensures.0))
+
+pub returns-in_err-answer-in-Asks-clause-done : goal.returns-in_err-answer-in-Asks-clause-done
+returns-in_err-answer-in-Asks-clause-done g c = IfOk-from_err c.from_residual-in_err-answer-in-Asks.result _ c.from_residual-in_err-answer-in-Asks.ensures.0
+
+pub returns-in_err-answer-in-Asks-clause-ready : goal.returns-in_err-answer-in-Asks-clause-ready
+returns-in_err-answer-in-Asks-clause-ready g c = λ is. absurd (false≢true (subst IsErr is c.from_residual-in_err-answer-in-Asks.ensures.0))
