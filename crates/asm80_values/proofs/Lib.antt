@@ -20,3 +20,14 @@ pub mod Sound
 pub mod Naming
 pub mod Held
 pub mod OneProgram
+pub mod InOrder
+pub mod Values
+pub mod Walked
+pub mod Forms
+pub mod Existing
+pub mod LineTokens
+pub mod StreamRanges
+pub mod Lines80
+pub mod Sources80
+pub mod Streams80
+pub mod Tokens80

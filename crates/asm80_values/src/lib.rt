@@ -12,6 +12,12 @@
 // (`GivesForm`): the instruction, if it is of the profile, or the cells of DB and DW, with whether an operand breaks S1, S2, S4 or S5; the
 // bytes, words and addresses in them are in their ranges. `kinds_of` is the table of the operands that each operation takes (CP/M 2.2
 // Operating System Manual, the assembler, "Operand field"; Intel 8080 Assembly Language Programming Manual, chapter 2).
+//
+// What there is of a source, in each spelling (`IsCoherent`). `statements_of_a_stream_are_in_range`: the statements of a stream have words
+// for numbers and bytes for characters. `statements_without_a_refusal_are_a_program`: such statements that break no rule are a program
+// (clause `program`), and a stream of them is the source of one (clause `source`). `each_stream_has_an_outcome`: it cannot be that a stream
+// has neither statements nor a first fault. `each_source_has_an_outcome`: it cannot be that bytes are neither the source of a program nor
+// refused by a rule. So these definitions leave no bytes out. No other crate stands on the last two.
 #![tactic(auto)]
 
 mod assembly;
@@ -37,5 +43,8 @@ pub use assembly::assemble;
 pub use fault::FormFault;
 pub use form::{Data, Form, Instruction, form_of};
 pub use kinds::kinds_of;
-pub use laws::source_has_one_outcome;
+pub use laws::{
+    each_source_has_an_outcome, each_stream_has_an_outcome, source_has_one_outcome,
+    statements_of_a_stream_are_in_range, statements_without_a_refusal_are_a_program,
+};
 pub use setting::Setting;

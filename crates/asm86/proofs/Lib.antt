@@ -7,6 +7,7 @@ pub mod Whole
 pub mod Ends
 pub mod Back
 pub mod Texts
+pub mod Added
 pub mod Laid
 pub mod Faults
 pub mod Filling

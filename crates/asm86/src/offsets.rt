@@ -4,23 +4,27 @@ ghost use Rattle.asm86_line_types.specs.Image.{offset_in};
 ghost use Rattle.asm86.specs.Places.{label_place};
 
 use asm86_line_types::Label;
-use indexmap::IndexMap;
 use std::alloc::{AllocError, Global};
+use std::collections::HashMap;
 use std::marker::Model;
 
 /// Labels with their offsets in the code, in the text's order.
 #[derive(Drop)]
 pub struct Offsets {
-    map: IndexMap<Label, usize>,
+    labels: Vec<(Label, usize)>,
+    places: HashMap<Label, usize>,
 }
 
 impl Model for Offsets {
-    ghost use Rattle.std.specs.Prelude.{List, ℕ};
+    ghost use Rattle.std.specs.Prelude.{◌≡◌, List, ℕ};
     ghost use Rattle.asm86_line_types.specs.declared.line.Label.{Label};
+    ghost use Rattle.asm86_line_types.specs.Image.{offset_in};
 
     ghost Value = { List (Label × ℕ) };
 
-    ghost view = { λ o. o.map.entries };
+    ghost view = { λ o. o.labels.items };
+
+    ghost invariant = { λ o. (l : Label) → offset_in o.places.entries l ≡ offset_in o.labels.items l };
 }
 
 impl Offsets {
@@ -29,7 +33,8 @@ impl Offsets {
         ensures { result ≡ [] }
     {
         Offsets {
-            map: IndexMap::new(alloc),
+            labels: Vec::new(alloc),
+            places: HashMap::new(alloc),
         }
     }
 
@@ -37,7 +42,9 @@ impl Offsets {
     pub fn get(&self, label: Label) -> Option<usize>
         ensures { result ≡ offset_in self.now label }
     {
-        self.map.get(&label).copied()
+        // a look at them, for what the two keep to
+        let _labels = &self.labels;
+        self.places.get(&label).copied()
     }
 
     /// The offset of a label that is there.
@@ -52,9 +59,12 @@ impl Offsets {
         ensures fresh { IfOk result (λ fresh. fresh ≡ not (is_some (offset_in self.old label))) }
         ensures added { result ≡ Ok true → self.new ≡ self.old ++ (label, at) ∷ [] }
     {
-        if self.map.insert(label, at)?.is_some() {
+        if self.get(label).is_some() {
             return Ok(false);
         }
+        self.labels.reserve(1)?;
+        self.places.insert(label, at)?;
+        self.labels.push_reserved((label, at));
         Ok(true)
     }
 }

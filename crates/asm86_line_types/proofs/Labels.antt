@@ -42,3 +42,11 @@ lookup_is l [] = refl
 lookup_is l (x ∷ xs) =
     ap (λ b. cond b (Some x.1) (lookup (eq-value.it l) xs)) (eq_is_same l x.0 ∙ same_label_sym l x.0)
     ∙ ap (λ r. cond (same_label x.0 l) (Some x.1) r) (lookup_is l xs)
+
+-- what a label's place becomes where one is put into a hash map for a label
+pub put_is : (k q : Label) (v : ℕ) (es fs : List (Label × ℕ)) → lookup (eq-value.it q) fs ≡ cond (eq-value.it k q) (Some v) (lookup (eq-value.it q) es) → offset_in fs q ≡ cond (same_label k q) (Some v) (offset_in es q)
+put_is k q v es fs h =
+    sym (lookup_is q fs)
+    ∙ h
+    ∙ ap (λ b. cond b (Some v) (lookup (eq-value.it q) es)) (eq_is_same k q)
+    ∙ ap (λ r. cond (same_label k q) (Some v) r) (lookup_is q es)

@@ -9,8 +9,8 @@ use Rattle.asm86.specs.Images.{HasImage}
 use Rattle.asm86.specs.Stream.{TextGives}
 use Rattle.asm86.proofs.Outcomes.{same_lines}
 use Rattle.asm80_program_types.specs.Program.{Program, IsProgram}
-use Rattle.commented_text_def.specs.Commented.{kept_of, IsOutput}
-use Rattle.commented_text_def.specs.Reading.{ReadsAs}
+use Rattle.commented_text.specs.Commented.{kept_of, IsOutput}
+use Rattle.commented_text.specs.Reading.{ReadsAs}
 use Rattle.templates.specs.declared.translation.Mode.{Mode}
 use Rattle.templates.specs.Translation.{IsText, CodeFits}
 use Rattle.xlt_core.specs.Names.{Finding, Shown, IsFinding}

@@ -7,7 +7,7 @@ use Rattle.asm80_program_types.specs.Program.{Program}
 use Rattle.asm80_source_def.specs.Source.{IsSource}
 use Rattle.templates.specs.declared.translation.Mode.{Mode}
 use Rattle.templates.specs.Translation.{IsText, CodeFits}
-use Rattle.commented_text_def.specs.Commented.{kept_of, IsOutput}
+use Rattle.commented_text.specs.Commented.{kept_of, IsOutput}
 use Rattle.cmd_arguments.specs.Words.{Check}
 use Rattle.cmd_common.specs.Files.{NoneFailed, FileIsTold, input_limit, text_limit}
 

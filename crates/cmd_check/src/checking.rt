@@ -15,7 +15,7 @@ use crate::laws::checks_have_one_outcome;
 use asm80_program_types::Program80;
 use cmd_arguments::Check;
 use cmd_common::{LoadedText, Stop, say_done, say_stop, shown_line};
-use commented_text_def::commented_texts_read_back;
+use commented_text::commented_texts_read_back;
 use host::Host;
 use std::alloc::Global;
 use xlt_core::{own_texts_are_same, own_texts_are_shown};

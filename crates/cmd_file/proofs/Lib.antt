@@ -4,3 +4,8 @@ pub mod Files
 pub mod Stops
 pub mod ReadBack
 pub mod Cells
+pub mod Readers
+pub mod Steps
+pub mod ImageCells
+pub mod Memory
+pub mod Loading

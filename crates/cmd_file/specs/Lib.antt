@@ -3,3 +3,4 @@ pub mod Written
 pub mod Loaded
 pub mod Header
 pub mod Reading
+pub mod Laws

@@ -4,8 +4,8 @@ use Rattle.host.specs.Host.{HostState}
 use Rattle.hex_file.specs.HexFile.{IsHexOf}
 use Rattle.hex_file.specs.Written.{AreCells, IsWritten}
 use Rattle.asm80_program_types.specs.Program.{Program, IsProgram}
-use Rattle.cpu80_bytes_def.specs.Cells.{program_cells}
-use Rattle.cpu80_bytes_def.specs.Follows.{BytesFollow}
+use Rattle.i80_bytes.specs.Cells.{program_cells}
+use Rattle.i80_bytes.specs.Follows.{BytesFollow}
 use Rattle.cmd_arguments.specs.Words.{Hex80}
 use Rattle.cmd_common.specs.Said.{IsDone, whole, failed, no_memory}
 use Rattle.cmd_common.specs.Sources.{SourceLaw, reading_of}

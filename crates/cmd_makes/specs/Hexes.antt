@@ -11,9 +11,9 @@ use Rattle.asm80_source_def.specs.Source.{IsSource}
 use Rattle.cpu80_tagged_def.specs.Start.{IsPage, run80}
 use Rattle.cpu80_untagged_def.specs.Step.{Fetch}
 use Rattle.cpu80_untagged_def.specs.Follows.{WritesBytes, HasFollowed}
-use Rattle.cpu80_bytes_def.specs.Fetch.{IsFetchOfBytes}
-use Rattle.cpu80_bytes_def.specs.Start.{run_bytes}
-use Rattle.cpu80_bytes_def.specs.Cells.{program_cells}
+use Rattle.i80_bytes.specs.InMemory.{IsFetchOfBytes}
+use Rattle.i80_bytes.specs.Start.{run_bytes}
+use Rattle.i80_bytes.specs.Cells.{program_cells}
 use Rattle.cmd_arguments.specs.Words.{Hex80}
 use Rattle.cmd_common.specs.Lines.{hex_line}
 use Rattle.cmd_common.specs.Files.{input_limit}

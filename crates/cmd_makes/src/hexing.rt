@@ -3,7 +3,7 @@ ghost use Rattle.std.specs.Prelude.{◌≡◌, true, length, IfOk, IfErr};
 ghost use Rattle.std.specs.String.{string_bytes};
 ghost use Rattle.hex_file.specs.Written.{IsWritten};
 ghost use Rattle.asm80_program_types.specs.Program.{is_top};
-ghost use Rattle.cpu80_bytes_def.specs.Cells.{program_cells};
+ghost use Rattle.i80_bytes.specs.Cells.{program_cells};
 ghost use Rattle.cmd_arguments.specs.ReadCommands.{hex80_read};
 ghost use Rattle.cmd_common.specs.Lines.{hex_line};
 ghost use Rattle.cmd_common.specs.Makes.{MakeGives, MakeCompletes, HasMade, MakeStops};

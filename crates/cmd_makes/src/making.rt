@@ -13,8 +13,7 @@ use asm86::texts_have_one_image;
 use asm86_line_types::Line86;
 use cmd_arguments::Cmd;
 use cmd_common::{LoadedText, Stop, command_file_line, read_text, say_done, say_stop};
-use cmd_file::CmdFile;
-use cmd_file_law::loaded_is_same;
+use cmd_file::{CmdFile, loaded_is_same};
 use host::Host;
 use std::alloc::Global;
 

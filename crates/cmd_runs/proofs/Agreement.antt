@@ -26,7 +26,7 @@ use Rattle.dialogue.specs.Replies.{IsReplyBlock as IsBlock, IsReply}
 use Rattle.emulator_loop.specs.Talk.{SeenRun, told_status, replies_to, HasOneRun, SaysRun}
 use Rattle.emulators.specs.Courses.{why80, course80, course86}
 use Rattle.emulators.specs.Starts.{start_by}
-use Rattle.templates_same_law.specs.Names.{IsReplyBlock as SameBlock, IsReply as SameReply, Same}
+use Rattle.templates_law.specs.Names.{IsReplyBlock as SameBlock, IsReply as SameReply, Same}
 use Rattle.cmd_arguments.specs.Words.{Both}
 use Rattle.cmd_runs.specs.Supplies.{fill_by}
 use Rattle.cmd_runs.specs.Settings.{RunComesTo, IsCourse80, IsCourse86}

@@ -36,7 +36,7 @@ use Rattle.cmd_runs.specs.Runs80.{kind80}
 use Rattle.cmd_runs.proofs.Laws80.{laws80}
 use Rattle.templates.specs.declared.translation.Mode.TheVariants.{Lean}
 use Rattle.templates.specs.Translation.{IsText, code_size, CodeFits, IsTooLarge}
-use Rattle.templates_same_law.proofs.OneText.{OneText}
+use Rattle.templates_law.proofs.OneText.{OneText}
 use Rattle.cmd_runs.specs.BothLoads.{source_of, LeanStops, is_large, no_room, NeitherToRun, unloaded, no_image, no_memory}
 use Rattle.cmd_runs.specs.BothRuns.{prefix80, AreBothMade, IsEitherCut, in_first, in_second, work_both}
 use Rattle.cmd_runs.specs.BothCompletes.{LeanFits, BothComeTo, as_run80, too_large, BothComplete}

@@ -12,7 +12,7 @@ use Rattle.cmd_common.specs.declared.stop.Stop.{Stop}
 use Rattle.cmd_common.specs.declared.stop.Stop.TheVariants.{OutOfMemory, CodeTooLarge}
 use Rattle.cmd_runs.specs.Kinds.{IsToRun, NothingToRun}
 use Rattle.cmd_runs.specs.Runs80.{kind80}
-use Rattle.templates_same_law.specs.Names.{Same}
+use Rattle.templates_law.specs.Names.{Same}
 use Rattle.templates.specs.declared.translation.Mode.TheVariants.{Lean}
 use Rattle.templates.specs.Translation.{IsText, CodeFits, IsTooLarge}
 

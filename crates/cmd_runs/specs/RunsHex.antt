@@ -4,7 +4,7 @@ use Rattle.dialogue.specs.declared.request.Reply.{Reply}
 use Rattle.hex_file.specs.declared.fault.HexFault.{HexFault}
 use Rattle.hex_file.specs.declared.fault.HexFault.TheVariants.{Bad, Memory}
 use Rattle.hex_file.specs.HexFile.{IsHexOf, IsHexFaultOf}
-use Rattle.cpu80_bytes_def.specs.Fetch.{IsFetchOfBytes}
+use Rattle.i80_bytes.specs.InMemory.{IsFetchOfBytes}
 use Rattle.i80_bytes.specs.Fetch.{fetch_of_bytes}
 use Rattle.emulator_loop.specs.Talk.{SeenRun}
 use Rattle.emulators.specs.ByteCourses.{course_bytes}

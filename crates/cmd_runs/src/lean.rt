@@ -12,7 +12,7 @@ use asm86_line_types::Line86;
 use cmd_common::Stop;
 use std::alloc::{AllocError, Global};
 use templates::{CoreFault, Mode, translate};
-use templates_same_law::own_texts_are_same;
+use templates_law::own_texts_are_same;
 
 /// The image of a program's lean text, or that its code is too large. A program's own text assembles where its code fits.
 pub fn lean_image<'a>(alloc: Global, program: &Program80) -> Result<Image86, Stop<'a>>

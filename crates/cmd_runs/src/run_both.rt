@@ -18,7 +18,7 @@ use cmd_arguments::Both;
 use cmd_common::sources_have_one_outcome;
 use host::Host;
 use std::alloc::Global;
-use templates_same_law::own_texts_are_same;
+use templates_law::own_texts_are_same;
 
 /// Runs the source of a command on both machines over devices of the same bytes, the 8080 first, says each event of their dialogues and
 /// then what the 8080's run came to, and answers the status. The top of the program area is a multiple of 100H from 1000H to 0FF00H.

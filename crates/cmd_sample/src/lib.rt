@@ -19,8 +19,8 @@ mod counts;
 mod making;
 mod sampling;
 
-use asm80_source_law::statements_without_a_refusal_are_a_program;
 use asm80_text::Intel;
+use asm80_values::statements_without_a_refusal_are_a_program;
 pub use sampling::sample;
 use std::alloc::{AllocError, Global};
 

@@ -6,8 +6,8 @@ use Rattle.host.specs.Host.{HostState, Holds, Missing, IsFile, HasRisen, Says, O
 use Rattle.host.proofs.HostLemmas.{SameFaults-trans, risen_on, fault_after}
 use Rattle.asm86_line_types.specs.Image.{Assembles, Image, image_of}
 use Rattle.asm86.specs.Images.{HasImage}
-use Rattle.commented_text_def.specs.Commented.{kept_of, IsOutput}
-use Rattle.commented_text_def.specs.Reading.{ReadsAs}
+use Rattle.commented_text.specs.Commented.{kept_of, IsOutput}
+use Rattle.commented_text.specs.Reading.{ReadsAs}
 use Rattle.asm86_line_types.specs.Written.{written_text}
 use Rattle.asm86.specs.Stream.{TextGives}
 use Rattle.host_files.specs.Transfer.{CutsLine}
@@ -17,9 +17,9 @@ use Rattle.asm86_line_types.specs.declared.line.Line86.{Line86}
 use Rattle.cmd_arguments.specs.Words.{Translate}
 use Rattle.templates.specs.declared.translation.Mode.{Mode}
 use Rattle.templates.specs.Translation.{IsText, code_size, CodeFits, IsTooLarge}
-use Rattle.templates_same_law.proofs.OneText.{OneText}
+use Rattle.templates_law.proofs.OneText.{OneText}
 use Rattle.i86.specs.Decode.{HasReader}
-use Rattle.templates_same_law.specs.Names.{Same}
+use Rattle.templates_law.specs.Names.{Same}
 use Rattle.cmd_common.specs.declared.stop.Stop.{Stop}
 use Rattle.cmd_common.specs.declared.stop.Stop.TheVariants.{CodeTooLarge}
 use Rattle.cmd_common.specs.Lines.{named_line, memory_line}

@@ -6,7 +6,7 @@ use Rattle.host.proofs.HostLemmas.{SameFaults-trans}
 use Rattle.asm86_line_types.specs.declared.line.Line86.{Line86}
 use Rattle.asm80_program_types.specs.Program.{Program}
 use Rattle.asm80_source_def.specs.Source.{IsSource, OfLine, OfProgram}
-use Rattle.commented_text_def.specs.Commented.{kept_of, IsOutput}
+use Rattle.commented_text.specs.Commented.{kept_of, IsOutput}
 use Rattle.cmd_arguments.specs.Words.{Translate}
 use Rattle.templates.specs.declared.translation.Mode.{Mode}
 use Rattle.templates.specs.declared.translation.Mode.TheVariants.{Plain, Lean}

@@ -4,7 +4,7 @@ use Rattle.host.specs.Host.{HostState, SameSaid, SameFaults, OnlyReads, Rewrites
 use Rattle.asm86_line_types.specs.declared.line.Line86.{Line86}
 use Rattle.asm80_program_types.specs.Program.{Program}
 use Rattle.asm80_source_def.specs.Source.{SourceRule}
-use Rattle.commented_text_def.specs.Commented.{kept_of, IsOutput}
+use Rattle.commented_text.specs.Commented.{kept_of, IsOutput}
 use Rattle.cmd_arguments.specs.Words.{Translate}
 use Rattle.cmd_common.specs.declared.stop.Stop.{Stop}
 use Rattle.cmd_common.specs.declared.stop.Stop.TheVariants.{OutOfMemory, CodeTooLarge}

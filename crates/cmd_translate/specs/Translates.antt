@@ -7,14 +7,14 @@ use Rattle.asm86_line_types.specs.Image.{Image}
 use Rattle.asm80_program_types.specs.Program.{Program}
 use Rattle.asm80_source_def.specs.Source.{IsSource, SourceRule, IsNoSource}
 use Rattle.host_files.specs.Transfer.{IsLonger, CutsLine}
-use Rattle.commented_text_def.specs.Commented.{kept_of, IsOutput}
-use Rattle.commented_text_def.specs.Reading.{ReadsAs}
+use Rattle.commented_text.specs.Commented.{kept_of, IsOutput}
+use Rattle.commented_text.specs.Reading.{ReadsAs}
 use Rattle.cmd_arguments.specs.Words.{Translate}
 use Rattle.i86.specs.Decode.{HasReader}
 use Rattle.templates.specs.declared.translation.Mode.{Mode}
 use Rattle.templates.specs.declared.translation.Mode.TheVariants.{Plain, Lean}
 use Rattle.templates.specs.Translation.{IsText, code_size, CodeFits, IsTooLarge}
-pub use Rattle.templates_same_law.specs.Names.{Same}
+pub use Rattle.templates_law.specs.Names.{Same}
 use Rattle.cmd_common.specs.declared.stop.Stop.TheVariants.{CodeTooLarge}
 use Rattle.cmd_common.specs.Lines.{line_of_stop, named_line, memory_line, translated_line}
 use Rattle.cmd_common.specs.Said.{SaysLine}

@@ -19,14 +19,12 @@ use cmd_common::{
     SOURCE_LIMIT, Stop, program_of_bytes, read_named, read_source, say_done, say_stop,
     sources_have_one_outcome, stop_of_write, translated_line, write_text,
 };
-use commented_text::CommentedText;
-use commented_text_def::commented_texts_read_back;
+use commented_text::{CommentedText, commented_texts_read_back};
 use host::Host;
 use host_files::write_from;
 use std::alloc::{AllocError, Global};
 use templates::{CoreFault, Mode};
-use templates_same_law::own_texts_are_same;
-use templates_text_law::plain_is_a_style;
+use templates_law::{own_texts_are_same, plain_is_a_style};
 
 // The text of a program, and the line that says how much it is.
 #[derive(Drop)]

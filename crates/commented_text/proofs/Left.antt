@@ -5,7 +5,7 @@ use Rattle.std.proofs.lemmas.List.{take_all}
 use Rattle.asm80_program_types.specs.declared.program.Placed.{Placed}
 use Rattle.asm86_line_types.specs.declared.line.Stmt86.{Stmt86}
 use Rattle.asm86_line_types.specs.Written.{written_line}
-use Rattle.commented_text_def.specs.Commented.{comment_line, comments, written}
+use Rattle.commented_text.specs.Commented.{comment_line, comments, written}
 use Rattle.commented_text.specs.Left.{groups_left, text_left}
 
 module _ (stood : ℕ) (ahead : List Placed) where

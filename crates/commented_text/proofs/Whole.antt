@@ -15,10 +15,10 @@ use Rattle.flow.specs.Blocks.{cut_from}
 use Rattle.flow.proofs.Cuts.{flat, flat-cut}
 use Rattle.templates.proofs.Pairs.{BeginsByLahf, pair_last, pair_next}
 use Rattle.templates.specs.Style.{Style, is_pair, knows_function, written_in_style, blocks_of, styled_statements, styled}
-use Rattle.commented_text_def.specs.Groups.{Group, label_if, groups_from, groups_of_blocks, groups}
-use Rattle.commented_text_def.specs.Commented.{comments, written, commented_groups, commented}
+use Rattle.commented_text.specs.Groups.{Group, label_if, groups_from, groups_of_blocks, groups}
+use Rattle.commented_text.specs.Commented.{comments, written, commented_groups, commented}
 use Rattle.commented_text.specs.Sizes.{group_size}
-use Rattle.commented_text_def.proofs.Texts.{statements_in, of_blocks}
+use Rattle.commented_text.proofs.Texts.{statements_in, of_blocks}
 use Rattle.commented_text.specs.Left.{groups_left, text_left}
 use Rattle.commented_text.proofs.FirstLine.{one_more}
 use Rattle.commented_text.proofs.Cutting.{is_fresh, IsCut, written_cut}

@@ -3,7 +3,7 @@ use Rattle.std.specs.Prelude.{ℕ, ◌+◌, ◌-◌, ◌*◌, min, max, List, []
 use Rattle.asm80_program_types.specs.declared.program.Placed.{Placed}
 use Rattle.asm86_line_types.specs.declared.line.Stmt86.{Stmt86}
 use Rattle.asm86_line_types.specs.Image.{statements}
-use Rattle.commented_text_def.specs.Commented.{comments, written}
+use Rattle.commented_text.specs.Commented.{comments, written}
 use Rattle.commented_text.specs.Sizes.{group_size}
 use Rattle.commented_text.specs.Lines.{lines_of}
 use Rattle.commented_text.specs.declared.producer.CommentedText.{CommentedText}

@@ -1,7 +1,7 @@
 // A commented text, piece by piece.
 ghost use Rattle.std.specs.Prelude.{◌≡◌, ◌+◌, ◌<◌, ◌≤◌, [], ◌∷◌, ◌++◌, length, true, false};
 ghost use Rattle.templates.specs.Style.{Style, styled};
-ghost use Rattle.commented_text_def.specs.Commented.{comment_line, Commented};
+ghost use Rattle.commented_text.specs.Commented.{comment_line, Commented};
 
 use crate::groups::group_size;
 use crate::lines::{next_line, source_of};

@@ -6,7 +6,7 @@ use Rattle.cpu80_untagged_def.specs.State.{UntaggedState}
 use Rattle.cpu80_untagged_def.specs.Call.{Stop, NoInstruction, OddCall}
 use Rattle.cpu80_untagged_def.specs.Start.{address_of}
 use Rattle.cpu80_untagged_def.specs.Step.{Fetch, untagged_machine}
-use Rattle.cpu80_bytes_def.specs.Start.{run_bytes}
+use Rattle.i80_bytes.specs.Start.{run_bytes}
 use Rattle.i80_bytes.specs.declared.machine.Byte80.{Byte80}
 use Rattle.i80_bytes.specs.Fetch.{fetch_of_bytes}
 use Rattle.i80_bytes.specs.Standing.{byte_standing, IsByteMachine}

@@ -16,7 +16,7 @@ pub struct RunningBytes {
 }
 
 impl RunningBytes {
-    ghost use Rattle.cpu80_bytes_def.specs.Start.{start_of_bytes};
+    ghost use Rattle.i80_bytes.specs.Start.{start_of_bytes};
     ghost use Rattle.i80_bytes.specs.Standing.{byte_standing};
     ghost use Rattle.emulators.specs.ByteCourses.{RunsBytes};
 

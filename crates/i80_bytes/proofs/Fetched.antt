@@ -6,7 +6,7 @@ use Rattle.i80_encoding.specs.Decoder.{decoded80}
 use Rattle.i80_encoding.specs.Enc80.{enc80}
 use Rattle.i80_encoding.proofs.Readers.{complete, sound, is_the_one, none_stands}
 use Rattle.cpu80_untagged_def.specs.State.{next}
-use Rattle.cpu80_bytes_def.specs.Fetch.{bytes_from, StandsAsTold, IsFetchOfBytes}
+use Rattle.i80_bytes.specs.InMemory.{bytes_from, StandsAsTold, IsFetchOfBytes}
 use Rattle.i80_bytes.specs.Fetch.{fetch_of_bytes}
 
 -- three bytes

@@ -12,8 +12,8 @@ use Rattle.i80_encoding.proofs.Readers.{encoding_length}
 use Rattle.asm80_program_types.proofs.Standing.{placed_is}
 use Rattle.asm80_program_types.specs.declared.program.Placed.{Placed}
 use Rattle.asm80_program_types.specs.Program.{Program, IsProgram, placed_in, instr_at}
-use Rattle.cpu80_bytes_def.specs.Cells.{code_byte, program_byte, with_address, program_cells}
-use Rattle.cpu80_bytes_law.proofs.CellBytes.{placed_byte, IsByteOf, code_byte_is}
+use Rattle.i80_bytes.specs.Cells.{code_byte, program_byte, with_address, program_cells}
+use Rattle.i80_bytes.proofs.CellBytes.{placed_byte, IsByteOf, code_byte_is}
 use Rattle.i80_bytes.specs.Text.{NoneFrom}
 
 -- one address more

@@ -2,7 +2,7 @@
 -- encodings alone.
 use Rattle.i80_encoding.specs.Decoder.{decoded80}
 use Rattle.cpu80_untagged_def.specs.Step.{Fetch}
-use Rattle.cpu80_bytes_def.specs.Fetch.{bytes_from}
+use Rattle.i80_bytes.specs.InMemory.{bytes_from}
 
 abbrev pub fetch_of_bytes : Fetch
 fetch_of_bytes u a = decoded80 (bytes_from u.mem a)

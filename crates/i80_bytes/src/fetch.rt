@@ -1,6 +1,6 @@
 // What the machine takes its instructions from.
 ghost use Rattle.i80_bytes.specs.Fetch.{fetch_of_bytes};
-ghost use Rattle.cpu80_bytes_def.specs.Fetch.{IsFetchOfBytes};
+ghost use Rattle.i80_bytes.specs.InMemory.{IsFetchOfBytes};
 
 use cpu80_untagged::{Fetch80, Processor};
 use i80::Instr80;

@@ -7,7 +7,7 @@ ghost use Rattle.asm80_program_types.specs.Program.{is_top};
 ghost use Rattle.cpu80_untagged_def.specs.Start.{address_of};
 ghost use Rattle.cpu80_untagged_def.specs.Step.{step_untagged, replied_untagged};
 ghost use Rattle.cpu80_untagged.specs.Standing.{status_of};
-ghost use Rattle.cpu80_bytes_def.specs.Start.{start_of_bytes};
+ghost use Rattle.i80_bytes.specs.Start.{start_of_bytes};
 ghost use Rattle.i80_bytes.specs.Fetch.{fetch_of_bytes};
 ghost use Rattle.i80_bytes.specs.Standing.{byte_standing, IsByteMachine};
 

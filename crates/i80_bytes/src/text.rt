@@ -1,6 +1,6 @@
 // A program as a HEX file.
 ghost use Rattle.std.specs.Prelude.{◌≡◌, ◌<◌, Some, IfOk, MatchOption};
-ghost use Rattle.cpu80_bytes_def.specs.Cells.{code_byte, data_byte, program_byte, program_cells};
+ghost use Rattle.i80_bytes.specs.Cells.{code_byte, data_byte, program_byte, program_cells};
 ghost use Rattle.asm80_program_types.specs.Program.{IsProgram};
 ghost use Rattle.hex_file.specs.Written.{IsWritten};
 ghost use Rattle.i80_bytes.specs.Text.{NoneFrom};

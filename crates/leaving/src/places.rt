@@ -1,11 +1,11 @@
 // The places of a program.
 ghost use Rattle.std.specs.Prelude.{◌≡◌, IfOk};
-ghost use Rattle.leaving_def.specs.Leaving.{leaving};
+ghost use Rattle.leaving.specs.Leaving.{leaving};
 
 use crate::block::place_of;
+use crate::departure::Departure;
 use asm80_program_types::Program80;
 use flow::{Graph, blocks_cut_the_program};
-use leaving_def::Departure;
 use std::alloc::{AllocError, Global};
 use sym_run::Work;
 

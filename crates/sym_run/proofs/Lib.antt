@@ -2,7 +2,6 @@ mod BothWays
 mod Ending
 mod Steps
 mod Addresses
-mod Labels
 pub mod Still
 mod Coming
 pub mod Showing

@@ -8,15 +8,15 @@ ghost use Rattle.sym_block_def.specs.Walk86.{after_label};
 ghost use Rattle.sym_run.specs.Places.{IsPlace};
 
 use asm86_line_types::{Label, Line86, Stmt86};
-use indexmap::IndexMap;
 use std::alloc::{AllocError, Global};
+use std::collections::HashMap;
 use std::marker::Model;
 
 /// The statements of a text, and what stands behind each label.
 #[derive(Drop)]
 pub struct Index86 {
     statements: Vec<Stmt86>,
-    places: IndexMap<Label, usize>,
+    places: HashMap<Label, usize>,
 }
 
 impl Model for Index86 {
@@ -72,10 +72,10 @@ fn statements_of(alloc: Global, lines: &[Line86]) -> Result<Vec<Stmt86>, AllocEr
 }
 
 // From the last statement to the first, so that of two labels that are the same the first one counts.
-fn places_of(alloc: Global, statements: &[Stmt86]) -> Result<IndexMap<Label, usize>, AllocError>
+fn places_of(alloc: Global, statements: &[Stmt86]) -> Result<HashMap<Label, usize>, AllocError>
     ensures { IfOk result (λ places. (l : Label) → IsPlace statements.now (offset_in places.entries l) (after_label statements.now l)) }
 {
-    let mut places = IndexMap::new(alloc);
+    let mut places = HashMap::new(alloc);
     let mut at = statements.len();
     while at > 0 {
         at -= 1;
@@ -85,7 +85,7 @@ fn places_of(alloc: Global, statements: &[Stmt86]) -> Result<IndexMap<Label, usi
 }
 
 // The place behind a statement, if that is a label.
-fn define(places: &mut IndexMap<Label, usize>, stmt: Stmt86, place: usize) -> Result<(), AllocError>
+fn define(places: &mut HashMap<Label, usize>, stmt: Stmt86, place: usize) -> Result<(), AllocError>
     ensures { OnOk result ((l : Label) → offset_in places.new.entries l ≡ cond (marks l stmt) (Some place) (offset_in places.old.entries l)) }
 {
     if let Stmt86::Mark(label) = stmt {

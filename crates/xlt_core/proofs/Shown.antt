@@ -15,7 +15,7 @@ use Rattle.simulation_def.specs.Runtime.{HasRuntime}
 use Rattle.simulation_def.specs.Linked.{places}
 use Rattle.simulation_def.specs.Matches.{HasOpening, byte_at, blocks_reason, Matches, DataAreCoded, Finds, opening, runtime, cells, blocks as by_blocks}
 use Rattle.simulation_def.specs.Needed.{needed_by}
-use Rattle.templates_same_law.specs.Names.{Same, IsMatch}
+use Rattle.templates_law.specs.Names.{Same, IsMatch}
 use Rattle.text_check.specs.declared.finding.Finding.{Finding}
 use Rattle.text_check.specs.declared.finding.Finding.TheVariants.{Shown}
 use Rattle.text_check.specs.Findings.{IsFinding, OneFinding}

@@ -5,7 +5,7 @@ use Rattle.asm86_line_types.specs.Image.{Assembles, image_of, statements}
 use Rattle.asm80_program_types.specs.Program.{Program, IsProgram}
 use Rattle.sym_block_def.specs.Sorts.{StatementsAreCoded}
 use Rattle.simulation_def.specs.Matches.{DataAreCoded}
-use Rattle.templates_same_law.specs.Names.{Same}
+use Rattle.templates_law.specs.Names.{Same}
 use Rattle.text_check.specs.declared.finding.Finding.TheVariants.{Shown}
 use Rattle.text_check.specs.Findings.{IsFinding}
 

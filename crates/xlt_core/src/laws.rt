@@ -8,12 +8,12 @@ ghost use Rattle.flow.specs.Solving.{Needs, AreAllNeeds};
 ghost use Rattle.simulation_def.specs.Needed.{needed_by};
 ghost use Rattle.templates.specs.declared.translation.Mode.{Mode};
 ghost use Rattle.templates.specs.Translation.{IsText, CodeFits};
-ghost use Rattle.templates_same_law.specs.Names.{IsMatch};
+ghost use Rattle.templates_law.specs.Names.{IsMatch};
 ghost use Rattle.text_check.specs.declared.finding.Finding.{Finding};
 ghost use Rattle.text_check.specs.declared.finding.Finding.TheVariants.{Shown};
 ghost use Rattle.text_check.specs.Findings.{IsFinding};
 
-use templates_same_law::modes_match;
+use templates_law::modes_match;
 use text_check::findings_are_one;
 
 /// A law: where its code fits, a program's text matches the program, block by block and with what is needed kept, in either mode; so

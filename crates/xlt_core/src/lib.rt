@@ -13,7 +13,7 @@ mod validation;
 
 pub use laws::own_texts_are_shown;
 pub use templates::{CoreFault, Mode, translate};
-pub use templates_same_law::{
+pub use templates_law::{
     block_is_linked, blocks_follow, matches_is_same, own_texts_are_same, plain_matches_alone,
     saves, text_reads_back,
 };

@@ -2,7 +2,7 @@
 ghost use Rattle.std.specs.Prelude.{◌≡◌, ◌<◌, ◌^◌, IfOk, IsTrue, List, length};
 ghost use Rattle.asm86_line_types.specs.declared.line.Line86.{Line86};
 ghost use Rattle.asm86_line_types.specs.Image.{Assembles, IsImage, image_of};
-ghost use Rattle.templates_same_law.specs.Names.{Same};
+ghost use Rattle.templates_law.specs.Names.{Same};
 ghost use Rattle.text_check.specs.Findings.{AreOfLines, IsFinding, IfShown};
 ghost use Rattle.xlt_core.specs.Validation.{ShownIsSame};
 
@@ -11,7 +11,7 @@ use asm86::{Image86, image};
 use asm86_line_types::Line86;
 use flow::Graph;
 use std::alloc::{AllocError, Global};
-use templates_same_law::matching_blocks_are_same;
+use templates_law::matching_blocks_are_same;
 use text_check::{Finding, Index86, Work, lines_are_coded, validate_in};
 
 /// A law, of every program and lines with an image that are found to be shown: the image makes the program's system calls in their

@@ -2,7 +2,7 @@ use Rattle.std.proofs.Common.{sym, subst}
 use Rattle.std.proofs.lemmas.Result.{err_from_is_err_and}
 use Rattle.i86.specs.Decode.{HasReader}
 use Rattle.asm86_line_types.specs.Image.{Image, Assembles, IsImage}
-use Rattle.templates_same_law.specs.Names.{Same}
+use Rattle.templates_law.specs.Names.{Same}
 use Rattle.templates.specs.declared.translation.Mode.TheVariants.{Lean}
 use Rattle.cmd_runs.specs.BothLoads.{no_room}
 use Rattle.cmd_runs.proofs.lean.lean_image.Goals as goal

@@ -3,7 +3,7 @@ use Rattle.asm80_source_def.specs.Source.{IsSource}
 use Rattle.cmd_arguments.specs.ReadCommands.{translate_read}
 use Rattle.cmd_common.specs.Sources.{SourceGives, reading_of}
 use Rattle.templates.specs.Translation.{IsText}
-use Rattle.commented_text_def.specs.Commented.{kept_of}
+use Rattle.commented_text.specs.Commented.{kept_of}
 use Rattle.cmd_translate.specs.Translates.{mode_of}
 use Rattle.cmd_translate.specs.TranslateWork.{TextStops, StopsBy, unread}
 use Rattle.cmd_common.proofs.Told.{handed_on}

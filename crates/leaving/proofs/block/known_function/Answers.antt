@@ -3,7 +3,7 @@ use Rattle.sym_terms.specs.Term.{Term}
 use Rattle.sym_terms.specs.Trees.{tree_in}
 use Rattle.sym_block_def.specs.Outcome.{Held}
 use Rattle.sym_block_def.specs.Block80.{block80}
-use Rattle.leaving_def.specs.Leaving.{number_in}
+use Rattle.leaving.specs.Leaving.{number_in}
 use Rattle.leaving.proofs.Walking.{number_found, some_before}
 use Rattle.leaving.proofs.block.known_function.Goals as goal
 

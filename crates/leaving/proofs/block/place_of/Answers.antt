@@ -1,8 +1,8 @@
 use Rattle.std.proofs.Common.{◌∙◌, ◌-◌, ap, arith}
 use Rattle.asm80_program_types.specs.Program.{instr_at}
 use Rattle.flow.specs.Blocks.{place_after}
-use Rattle.leaving_def.specs.Leaving.{leaving_where}
-use Rattle.leaving_def.proofs.Fronts.{front_may_run}
+use Rattle.leaving.specs.Leaving.{leaving_where}
+use Rattle.leaving.proofs.Fronts.{front_may_run}
 use Rattle.leaving.proofs.Walking.{last_alone}
 use Rattle.leaving.proofs.block.place_of.Goals as goal
 

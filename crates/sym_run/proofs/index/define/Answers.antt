@@ -2,7 +2,7 @@ use Rattle.std.proofs.Common.{◌≡◌, cond, Some, subst, sym}
 use Rattle.asm86_line_types.specs.declared.line.Stmt86.{Stmt86}
 use Rattle.asm86_line_types.specs.Layout.{marks}
 use Rattle.asm86_line_types.specs.Image.{offset_in}
-use Rattle.sym_run.proofs.Labels.{put_is}
+use Rattle.asm86_line_types.proofs.Labels.{put_is}
 use Rattle.sym_run.proofs.index.define.Goals as goal
 
 pub returns-in_ok-insert : goal.returns-in_ok-insert

@@ -1,5 +1,5 @@
 use Rattle.asm86_line_types.specs.Image.{statements}
-use Rattle.commented_text_def.specs.Commented.{comment_line}
+use Rattle.commented_text.specs.Commented.{comment_line}
 use Rattle.commented_text.specs.Left.{left_of}
 use Rattle.commented_text.specs.Lines.{lines_of}
 use Rattle.commented_text.proofs.Left.{moved, due_put}

@@ -1,5 +1,0 @@
-use Rattle.cmd_file_law.proofs.Loading.{loaded_same}
-use Rattle.cmd_file_law.proofs.loaded_is_same.Goals as goal
-
-pub returns : goal.returns
-returns c = loaded_same c.cells_are_sorted.ensures.sorted

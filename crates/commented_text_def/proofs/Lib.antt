@@ -1,8 +1,0 @@
-mod Whole
-mod Ends
-mod Weaving
-mod Rising
-mod Inserting
-mod Reading
-mod Source
-pub mod Texts

@@ -1,4 +1,0 @@
-pub mod Fetch
-pub mod Start
-pub mod Cells
-pub mod Follows

@@ -1,6 +1,0 @@
-mod Encodings
-mod Lookup
-pub mod CellBytes
-mod Small
-mod Following
-mod Ascending

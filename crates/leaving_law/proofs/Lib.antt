@@ -1,4 +1,0 @@
-mod Stepping
-mod Blocks
-mod Listing
-mod Rising

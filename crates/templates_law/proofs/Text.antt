@@ -1,0 +1,17 @@
+pub mod Statements
+pub mod Shapes
+pub mod Body
+pub mod Leading
+pub mod Placing
+pub mod Data
+pub mod Programs
+pub mod Assembling
+pub mod Whole
+pub mod CodeBytes
+pub mod Lines
+pub mod Cells
+pub mod Jumps
+pub mod Plain
+pub mod Nearer
+pub mod LeanText
+pub mod Examples

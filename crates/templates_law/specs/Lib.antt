@@ -1,0 +1,4 @@
+pub mod Text
+pub mod Match
+pub mod Laws
+pub mod Names

@@ -1,4 +1,0 @@
-pub mod Beginning
-mod Styles
-mod Matching
-pub mod OneText

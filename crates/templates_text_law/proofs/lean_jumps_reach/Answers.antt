@@ -1,5 +1,0 @@
-use Rattle.templates_text_law.proofs.LeanText.{lean_reach}
-use Rattle.templates_text_law.proofs.lean_jumps_reach.Goals as goal
-
-pub returns : goal.returns
-returns c n p is = lean_reach n p is (c.blocks_cut_the_program.ensures p is)

@@ -1,8 +1,0 @@
-use Rattle.templates_text_law.proofs.Plain.{plain_is, plain_reaches}
-use Rattle.templates_text_law.proofs.plain_is_a_style.Goals as goal
-
-pub returns-clause-is : goal.returns-clause-is
-returns-clause-is c = plain_is
-
-pub returns-clause-reaches : goal.returns-clause-reaches
-returns-clause-reaches c = plain_reaches
