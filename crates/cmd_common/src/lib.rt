@@ -37,6 +37,6 @@ pub use reasons::reason_name;
 pub use rules::profile_rule;
 pub use say::{say_done, say_made, say_report, say_stop, words_refused};
 pub use source::{program_of_bytes, read_source, read_source_by, sources_have_one_outcome};
-pub use stop::{Stop, word_digits};
+pub use stop::{Stop, not_shown_line, word_digits};
 pub use text::{LoadedText, read_text};
 pub use writing::{stop_of_write, write_text};

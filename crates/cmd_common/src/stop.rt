@@ -182,8 +182,8 @@ fn byte_digits(alloc: Global, byte: u8) -> Result<String, AllocError>
     hex::encode(alloc, &[byte])
 }
 
-// The block that is not shown, and why.
-fn not_shown_line(alloc: Global, at: u16, reason: &str) -> Result<String, AllocError>
+/// The block that is not shown, and why.
+pub fn not_shown_line(alloc: Global, at: u16, reason: &str) -> Result<String, AllocError>
     ensures { IfOk result (λ line. string_bytes line ≡ not_shown_line at reason.now) }
 {
     let digits = word_digits(alloc, at)?;
