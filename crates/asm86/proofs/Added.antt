@@ -1,5 +1,5 @@
 -- Labels in the order in which they were added, beside a hash map of their places: what the offset of a label becomes.
-use Rattle.std.proofs.Common.{◌≡◌, ℕ, Bool, ⊥, cond, List, [], ◌∷◌, ◌++◌, Option, None, Some, true, false, refl, sym, ap, subst, ◌∙◌}
+use Rattle.std.proofs.Common.{◌≡◌, ℕ, Bool, cond, List, [], ◌∷◌, ◌++◌, Option, None, Some, true, false, refl, sym, ap, subst, ◌∙◌}
 use Rattle.std.specs.Map.{lookup}
 use Rattle.asm86_line_types.specs.declared.line.Label.{Label}
 use Rattle.asm86_line_types.specs.Layout.{same_label}

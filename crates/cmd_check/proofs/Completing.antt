@@ -6,6 +6,7 @@ use Rattle.asm86_line_types.specs.declared.line.Line86.{Line86}
 use Rattle.asm80_program_types.specs.Program.{Program}
 use Rattle.xlt_core.specs.Names.{Shown, NotShown as NotFound, OneFinding}
 use Rattle.cmd_arguments.specs.Words.{Check}
+use Rattle.cmd_common.specs.Names.{FileNames, two_names}
 use Rattle.cmd_common.specs.declared.stop.Stop.{Stop}
 use Rattle.cmd_common.specs.declared.stop.Stop.TheVariants.{OutOfMemory, NotShown}
 use Rattle.cmd_common.specs.Said.{IsDone, whole, failed, no_memory, Closes}
@@ -21,16 +22,19 @@ pub one_found : OneFinding → (p : Program) (lines : List Line86) (r s : Result
 one_found one p lines r s h k = h.2 ∙ ap found_count (one p lines h.0 k.0 h.1 k.1) ∙ sym k.2
 
 module _ (law : CheckLaws) (c : Check) (old new : HostState) (none : NoneFailed old new) (source text : List ℕ) (first : FileIsTold old c.source input_limit source) (second : FileIsTold old c.text text_limit text) (status : ℕ) where
+  abbrev names : FileNames
+  names = two_names c.source c.text
+
   abbrev Answer : Type 0
   Answer = HasStatus (FilesComeTo c IsFound source text) status
 
-  by_stop : (mid : HostState) (stop : Stop) → Stops c old mid stop → Closes stop mid new status → Answer
+  by_stop : (mid : HostState) (stop : Stop) → Stops c old mid stop → Closes names stop mid new status → Answer
   by_stop mid stop (unloaded s) closes = by_load_stop law.files c IsFound (one_found law.finding) old new none source text first second status mid stop s closes
   by_stop mid _ (unlike p lines l (not_shown {at = at} {reason = reason} h)) closes =
       ⊎_elim (λ e. inl e)
       (λ e. by_loading law.files c IsFound (one_found law.finding) old new none source text first second status mid p lines l (found_count (NotFound at reason)) (NotFound at reason, h, refl) e)
-      (closes_status (NotShown at reason) mid new status closes)
-  by_stop mid _ (unlike p lines l memory_wanting) closes = inl (memory_status OutOfMemory mid new status refl closes)
+      (closes_status names (NotShown at reason) mid new status closes)
+  by_stop mid _ (unlike p lines l memory_wanting) closes = inl (memory_status names OutOfMemory mid new status refl closes)
 
   pub done : (mid : HostState) (line : List ℕ) → Shows c old mid line → (n : ℕ) → n ≡ status → IsDone line mid new n → Answer
   done mid line h _ e (whole only s same) =

@@ -12,6 +12,8 @@ use Rattle.asm86.proofs.OneOutcome.{never_both, one_fault}
 use Rattle.asm80_program_types.specs.Program.{Program}
 use Rattle.asm80_source_def.specs.Source.{IsSource, SourceRule, IsNoSource, OfLine, OfProgram}
 use Rattle.cmd_arguments.specs.Words.{Check}
+use Rattle.cmd_common.specs.Names.{FileNames, two_names}
+use Rattle.cmd_common.specs.declared.names.InputFile.TheVariants.{First, Text}
 use Rattle.cmd_common.specs.declared.stop.Stop.{Stop}
 use Rattle.cmd_common.specs.Lines.{status_of}
 use Rattle.cmd_common.specs.Said.{Closes}
@@ -53,6 +55,9 @@ module _ (law : FileLaws) (c : Check) where
         one p lines r s (subst (λ l. Then p l r) same (subst (λ (z : Program). Then z others r) ((law.source c.zilog).program source c.top q p also is) k)) h
 
     module _ (old new : HostState) (none : NoneFailed old new) (source text : List ℕ) (first : FileIsTold old c.source input_limit source) (second : FileIsTold old c.text text_limit text) (status : ℕ) where
+      abbrev names : FileNames
+      names = two_names c.source c.text
+
       abbrev Answer : Type 0
       Answer = HasStatus (FilesComeTo c Then source text) status
 
@@ -78,16 +83,16 @@ module _ (law : FileLaws) (c : Check) where
           stopping (stop_of_rule line rule) (record { comes = refused line rule here refl; only = after_refusal source text line rule here }) e
 
       -- they were not
-      pub by_load_stop : (mid : HostState) (stop : Stop) → LoadStops c old mid stop → Closes stop mid new status → Answer
+      pub by_load_stop : (mid : HostState) (stop : Stop) → LoadStops c old mid stop → Closes names stop mid new status → Answer
       by_load_stop mid stop (no_source only s) closes =
-          inl (memory_status stop mid new status (read_stops old mid new c.source input_limit source stop none (closes_reads stop mid new status closes) first s) closes)
+          inl (memory_status names stop mid new status (read_stops old mid new First c.source input_limit source stop none (closes_reads names stop mid new status closes) first s) closes)
       by_load_stop mid stop (no_text bytes w only s) closes =
-          inl (memory_status stop mid new status (read_stops old mid new c.text text_limit text stop none (closes_reads stop mid new status closes) second s) closes)
-      by_load_stop mid _ (source_refused s t r (of_line {line = line} {rule = rule} wrong)) closes = by_refusal mid s t r line (OfLine rule) wrong (closes_status (stop_of_rule line (OfLine rule)) mid new status closes)
-      by_load_stop mid _ (source_refused s t r (of_program {line = line} {rule = rule} wrong)) closes = by_refusal mid s t r line (OfProgram rule) wrong (closes_status (stop_of_rule line (OfProgram rule)) mid new status closes)
+          inl (memory_status names stop mid new status (read_stops old mid new Text c.text text_limit text stop none (closes_reads names stop mid new status closes) second s) closes)
+      by_load_stop mid _ (source_refused s t r (of_line {line = line} {rule = rule} wrong)) closes = by_refusal mid s t r line (OfLine rule) wrong (closes_status names (stop_of_rule line (OfLine rule)) mid new status closes)
+      by_load_stop mid _ (source_refused s t r (of_program {line = line} {rule = rule} wrong)) closes = by_refusal mid s t r line (OfProgram rule) wrong (closes_status names (stop_of_rule line (OfProgram rule)) mid new status closes)
       by_load_stop mid stop (image_wanting s t p fault r is wrong e) closes =
           let source_here = subst (λ b. IsSource (reading_of c.zilog) b c.top p) (source_is mid s t r) is in
           let here = subst (λ b. IsNoImage b fault) (text_is mid s t r) wrong in
           stopping (stop_of_image fault) (record { comes = no_image p fault source_here here refl; only = after_fault source text p fault source_here here })
-          (subst (λ k. (status ≡ 5) ⊎ (status ≡ status_of k)) e (closes_status stop mid new status closes))
-      by_load_stop mid _ (out_of_memory only) closes = inl (memory_status OutOfMemory mid new status refl closes)
+          (subst (λ k. (status ≡ 5) ⊎ (status ≡ status_of k)) e (closes_status names stop mid new status closes))
+      by_load_stop mid _ (out_of_memory only) closes = inl (memory_status names OutOfMemory mid new status refl closes)

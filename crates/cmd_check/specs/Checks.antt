@@ -10,6 +10,8 @@ use Rattle.asm80_source_def.specs.Source.{IsSource}
 use Rattle.sym_block_def.specs.declared.reason.Reason.{Reason}
 use Rattle.xlt_core.specs.Names.{Same, Shown as IsFoundShown, NotShown as IsFoundNot, IsFinding}
 use Rattle.cmd_arguments.specs.Words.{Check}
+use Rattle.cmd_common.specs.Names.{two_names}
+use Rattle.cmd_common.specs.declared.names.InputFile.TheVariants.{First, Text}
 use Rattle.cmd_common.specs.declared.stop.Stop.{Stop}
 use Rattle.cmd_common.specs.declared.stop.Stop.TheVariants.{OutOfMemory, NotShown}
 use Rattle.cmd_common.specs.Lines.{shown_line}
@@ -63,8 +65,8 @@ module _ (c : Check) (old : HostState) where
 
   -- why there is nothing to be checked: a file was not read; the source is refused; the text is, or has no image; or memory ran out
   pub data LoadStops (new : HostState) : Stop → Type 0 where
-    no_source : {stop : Stop} → OnlyReads old new → ReadStops c.source input_limit old new stop → LoadStops new stop
-    no_text : {stop : Stop} (source : List ℕ) → IsWholeFile old c.source input_limit source → OnlyReads old new → ReadStops c.text text_limit old new stop → LoadStops new stop
+    no_source : {stop : Stop} → OnlyReads old new → ReadStops First c.source input_limit old new stop → LoadStops new stop
+    no_text : {stop : Stop} (source : List ℕ) → IsWholeFile old c.source input_limit source → OnlyReads old new → ReadStops Text c.text text_limit old new stop → LoadStops new stop
     refused : {stop : Stop} (source text : List ℕ) → Reads new source text → SourceStops (reading_of c.zilog) source c.top stop → LoadStops new stop
     no_image : {stop : Stop} (source text : List ℕ) (p : Program) (fault : ImageFault) → Reads new source text → IsSource (reading_of c.zilog) source c.top p → IsNoImage text fault → stop ≡ stop_of_image fault → LoadStops new stop
     out_of_memory : OnlyReads old new → LoadStops new OutOfMemory
@@ -77,4 +79,4 @@ module _ (c : Check) (old : HostState) where
   -- what the command gives: the line is said, or its first bytes up to a fault, and then nothing more is; or the line of the stop
   pub data CheckGives (new : HostState) : ℕ → Type 0 where
     shown : {status : ℕ} (mid : HostState) (line : List ℕ) → Shows mid line → IsDone line mid new status → CheckGives new status
-    stopped : {status : ℕ} (mid : HostState) (stop : Stop) → Stops mid stop → Closes stop mid new status → CheckGives new status
+    stopped : {status : ℕ} (mid : HostState) (stop : Stop) → Stops mid stop → Closes (two_names c.source c.text) stop mid new status → CheckGives new status

@@ -1,4 +1,5 @@
 pub mod Checks
+pub mod Loading
 pub mod Completes
 pub mod OwnTexts
 pub mod Laws

@@ -14,7 +14,7 @@ use crate::inputs::load;
 use crate::laws::checks_have_one_outcome;
 use asm80_program_types::Program80;
 use cmd_arguments::Check;
-use cmd_common::{LoadedText, Stop, say_done, say_stop, shown_line};
+use cmd_common::{InputNames, LoadedText, Stop, say_done, say_stop, shown_line};
 use commented_text::commented_texts_read_back;
 use host::Host;
 use std::alloc::Global;
@@ -44,12 +44,17 @@ fn carry_out<H: Host>(alloc: Global, host: &mut H, command: &Check<'_>) -> u8
 {
     match work(alloc, host, command) {
         Ok(line) => say_done(host, line.as_str()),
-        Err(stop) => say_stop(alloc, host, stop),
+        Err(stop) => say_stop(
+            alloc,
+            host,
+            &InputNames::two(command.source, command.text),
+            stop,
+        ),
     }
 }
 
 // The line of a text that is shown.
-fn work<'a, H: Host>(alloc: Global, host: &mut H, command: &Check<'a>) -> Result<String, Stop<'a>>
+fn work<H: Host>(alloc: Global, host: &mut H, command: &Check<'_>) -> Result<String, Stop>
     requires { is_top command.now.top ≡ true }
     ensures worked { IfOk result (λ line. Shows (check_read command.now) (H.state host.old) (H.state host.new) (string_bytes line)) }
     ensures stopped { IfErr result (Stops (check_read command.now) (H.state host.old) (H.state host.new)) }
@@ -59,7 +64,7 @@ fn work<'a, H: Host>(alloc: Global, host: &mut H, command: &Check<'a>) -> Result
 }
 
 // The same of what was loaded.
-fn line_of<'a>(alloc: Global, program: &Program80, text: &LoadedText) -> Result<String, Stop<'a>>
+fn line_of(alloc: Global, program: &Program80, text: &LoadedText) -> Result<String, Stop>
     requires image { IsImage text.now.lines.items text.now.image }
     requires few { length text.now.lines.items < 2 ^ 28 }
     ensures shown { IfOk result (λ line. SaysShown program.now text.now.lines.items (string_bytes line)) }

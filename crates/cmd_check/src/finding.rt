@@ -9,7 +9,7 @@ use std::alloc::Global;
 use xlt_core::{Finding, validate_loaded};
 
 /// How many blocks are shown.
-pub fn find<'a>(alloc: Global, program: &Program80, text: &LoadedText) -> Result<u32, Stop<'a>>
+pub fn find(alloc: Global, program: &Program80, text: &LoadedText) -> Result<u32, Stop>
     requires image { IsImage text.now.lines.items text.now.image }
     requires few { length text.now.lines.items < 2 ^ 28 }
     ensures shown { IfOk result (IsShown program.now text.now.lines.items) }

@@ -4,6 +4,8 @@ use Rattle.host.specs.declared.HostFault.{HostFault}
 use Rattle.host.specs.declared.HostFault.TheVariants.{Failed, Memory}
 use Rattle.host.specs.Host.{HostState, OnlyReads, SameFiles, SameSaid, Says, WriteFault, said_more}
 use Rattle.host.proofs.HostLemmas.{risen_on}
+use Rattle.cmd_common.specs.Names.{FileNames, one_name}
+use Rattle.cmd_common.specs.declared.names.InputFile.TheVariants.{First}
 use Rattle.cmd_common.specs.declared.stop.Stop.{Stop}
 use Rattle.cmd_common.specs.declared.stop.Stop.TheVariants.{OutOfMemory}
 use Rattle.cmd_common.specs.Lines.{status_of, line_of_stop}
@@ -21,6 +23,9 @@ quiet None bytes old new only = only.said
 quiet (Some name) bytes old new h = h.1
 
 module _ {Made : Type 0} (k : MakeKind Made) (old new : HostState) where
+  abbrev names : FileNames
+  names = one_name k.file
+
   -- ---- what is decided
 
   module _ (laws : KindLaws k) (none : NoneFailed old new) (bytes : List ℕ) (told : FileIsTold old k.file k.most bytes) (status : ℕ) (memory : status ≡ 5 → ⊥) where
@@ -40,7 +45,7 @@ module _ {Made : Type 0} (k : MakeKind Made) (old new : HostState) where
     done mid line h _ e (failed s) = absurd (not_unsaid old mid new none h.counted s.cause)
     done mid line h _ e (no_memory_to_say s) = absurd (memory (sym e))
 
-    by_refusal : (mid : HostState) (read : List ℕ) (stop : Stop) → IsWholeFile old k.file k.most read → OnlyReads old mid → k.IsRefused read stop → Closes stop mid new status → Decides k old new bytes status
+    by_refusal : (mid : HostState) (read : List ℕ) (stop : Stop) → IsWholeFile old k.file k.most read → OnlyReads old mid → k.IsRefused read stop → Closes names stop mid new status → Decides k old new bytes status
     by_refusal mid read stop w only is (unsaid n e l) = absurd (memory e)
     by_refusal mid read stop w only is (said e l) =
         let same = told_whole old k.file k.most bytes read told w in
@@ -49,27 +54,27 @@ module _ {Made : Type 0} (k : MakeKind Made) (old new : HostState) where
           accepted = λ m gives. absurd (laws.apart bytes m stop gives refused);
           refused = λ other also.
               let one = laws.refusal bytes stop other refused also in
-              (e ∙ ap status_of one, subst (λ s. SaysLine old new (line_of_stop s)) one (line_after (line_of_stop stop) old mid new only l.line));
+              (e ∙ ap status_of one, subst (λ s. SaysLine old new (line_of_stop names s)) one (line_after (line_of_stop names stop) old mid new only l.line));
           one = inr (stop, refused, e);
         }
 
-    by_nothing : (mid : HostState) (stop : Stop) → OnlyReads old mid → NothingMade k old mid stop → Closes stop mid new status → Decides k old new bytes status
+    by_nothing : (mid : HostState) (stop : Stop) → OnlyReads old mid → NothingMade k old mid stop → Closes names stop mid new status → Decides k old new bytes status
     by_nothing mid stop only (no_file s) closes =
-        absurd (memory (memory_status stop mid new status (read_stops old mid new k.file k.most bytes stop none (closes_reads stop mid new status closes) told s) closes))
+        absurd (memory (memory_status names stop mid new status (read_stops old mid new First k.file k.most bytes stop none (closes_reads names stop mid new status closes) told s) closes))
     by_nothing mid stop only (is_refused read w counted is) closes = by_refusal mid read stop w only is closes
-    by_nothing mid _ only no_memory closes = absurd (memory (memory_status OutOfMemory mid new status refl closes))
+    by_nothing mid _ only no_memory closes = absurd (memory (memory_status names OutOfMemory mid new status refl closes))
 
     -- a write that failed counts as such
-    write_failed : (mid : HostState) (stop : Stop) (fault : HostFault) → WriteFault old mid fault → stop ≡ stop_of_write fault → Closes stop mid new status → ⊥
-    write_failed mid stop Memory cause e closes = memory (memory_status stop mid new status e closes)
+    write_failed : (mid : HostState) (stop : Stop) (fault : HostFault) → WriteFault old mid fault → stop ≡ stop_of_write fault → Closes names stop mid new status → ⊥
+    write_failed mid stop Memory cause e closes = memory (memory_status names stop mid new status e closes)
     write_failed mid stop Failed cause e (said s l) = none.writes (risen_on old.write_faults mid.write_faults new.write_faults cause l.only.writes)
     write_failed mid stop Failed cause e (unsaid n s l) = memory s
 
-    by_loss : (output : Option (List ℕ)) (content : List ℕ) (mid : HostState) (stop : Stop) → LosesOutput output content old mid stop → Closes stop mid new status → ⊥
+    by_loss : (output : Option (List ℕ)) (content : List ℕ) (mid : HostState) (stop : Stop) → LosesOutput output content old mid stop → Closes names stop mid new status → ⊥
     by_loss None content mid stop h closes = h
     by_loss (Some name) content mid stop h closes = write_failed mid stop h.fault h.fails.cause h.is closes
 
-    by_stop : (mid : HostState) (stop : Stop) → MakeStops k old mid stop → Closes stop mid new status → Decides k old new bytes status
+    by_stop : (mid : HostState) (stop : Stop) → MakeStops k old mid stop → Closes names stop mid new status → Decides k old new bytes status
     by_stop mid stop (unmade only s) closes = by_nothing mid stop only s closes
     by_stop mid stop (unwritten m is s) closes = absurd (by_loss k.output (k.content m) mid stop s closes)
 
@@ -92,5 +97,5 @@ module _ {Made : Type 0} (k : MakeKind Made) (old new : HostState) where
 
   pub files_stay : k.output ≡ None → (status : ℕ) → MakeGives k old new status → SameFiles old new
   files_stay e status (made mid line h d) = λ name. done_files line mid new status d name ∙ made_files k.output (k.content h.made) mid e h.output name
-  files_stay e status (stopped mid stop (unmade only s) c) = λ name. closes_files stop mid new status c name ∙ only.files name
-  files_stay e status (stopped mid stop (unwritten m is s) c) = λ name. closes_files stop mid new status c name ∙ lost_files k.output (k.content m) mid stop e s name
+  files_stay e status (stopped mid stop (unmade only s) c) = λ name. closes_files names stop mid new status c name ∙ only.files name
+  files_stay e status (stopped mid stop (unwritten m is s) c) = λ name. closes_files names stop mid new status c name ∙ lost_files k.output (k.content m) mid stop e s name

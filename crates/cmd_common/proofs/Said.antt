@@ -7,6 +7,7 @@ use Rattle.host.specs.declared.HostFault.TheVariants.{Failed, Memory}
 use Rattle.host.specs.Host.{HostState, SameFiles, Says, said_more, OnlyReads, OnlySays, SameFaults, WriteFault}
 use Rattle.host.proofs.HostLemmas.{fault_after_reads}
 use Rattle.host_files.specs.Transfer.{CutsLine}
+use Rattle.cmd_common.specs.Names.{FileNames}
 use Rattle.cmd_common.specs.declared.stop.Stop.{Stop}
 use Rattle.cmd_common.specs.declared.stop.Stop.TheVariants.{SourceLine, SourceProgram, ReadFailed, WriteFailed as Unwritten, OutOfMemory, LeftProfile, StepLimit, NotShown, InputEnded, TextLine, ShortJump, NoInstruction, StackSegment, OddCall, BadDisk, NoDrive, CodeTooLarge, FileTooLong, BadCommandFile, BadHex, TooManyStatements}
 use Rattle.cmd_common.specs.Lines.{status_of, line_of_stop}
@@ -50,45 +51,49 @@ done_by text old new (Err Failed) only all counted part fails = failed (record {
 done_by text old new (Err Memory) only all counted part fails = no_memory (record { only = only; cut = part; cause = fails })
 
 -- a stop's line, said last, closes by it
-pub closed : (stop : Stop) (line : List ℕ) (old new : HostState) (status given : ℕ) → line ≡ line_of_stop stop → status ≡ given → given ≡ status_of stop →
-    SaysLast line old new → Closes stop old new status
-closed stop line old new status given is_line is_given is_status last =
+pub closed : (names : FileNames) (stop : Stop) (line : List ℕ) (old new : HostState) (status given : ℕ) → line ≡ line_of_stop names stop → status ≡ given → given ≡ status_of stop →
+    SaysLast line old new → Closes names stop old new status
+closed names stop line old new status given is_line is_given is_status last =
     said (is_given ∙ is_status) (subst (λ l. SaysLast l old new) is_line last)
 
+-- the names are those that others are
+pub named : {given names : FileNames} {stop : Stop} {old new : HostState} {status : ℕ} → given ≡ names → Closes given stop old new status → Closes names stop old new status
+named {stop = stop} {old = old} {new = new} {status = status} e h = subst (λ n. Closes n stop old new status) e h
+
 -- what is said last changes no file
-pub closes_files : (stop : Stop) (old new : HostState) (status : ℕ) → Closes stop old new status → SameFiles old new
-closes_files stop old new status (said e s) = s.only.files
-closes_files stop old new status (unsaid n e s) = s.only.files
+pub closes_files : (names : FileNames) (stop : Stop) (old new : HostState) (status : ℕ) → Closes names stop old new status → SameFiles old new
+closes_files names stop old new status (said e s) = s.only.files
+closes_files names stop old new status (unsaid n e s) = s.only.files
 
 -- the line of a stop is not empty
-pub line_some : (stop : Stop) → 0 < length (line_of_stop stop)
-line_some (SourceLine line rule) = omega arith
-line_some (SourceProgram line rule) = omega arith
-line_some (ReadFailed name) = omega arith
-line_some Unwritten = omega arith
-line_some OutOfMemory = omega arith
-line_some (LeftProfile line rule) = omega arith
-line_some (StepLimit steps) = omega arith
-line_some (NotShown at reason) = omega arith
-line_some InputEnded = omega arith
-line_some (TextLine line rule) = omega arith
-line_some (ShortJump line) = omega arith
-line_some (NoInstruction offset) = omega arith
-line_some (StackSegment offset) = omega arith
-line_some (OddCall offset function) = omega arith
-line_some (BadDisk place) = omega arith
-line_some (NoDrive function) = omega arith
-line_some (CodeTooLarge size) = omega arith
-line_some (FileTooLong name) = omega arith
-line_some (BadCommandFile place) = omega arith
-line_some (BadHex line) = omega arith
-line_some (TooManyStatements count) = omega arith
+pub line_some : (names : FileNames) (stop : Stop) → 0 < length (line_of_stop names stop)
+line_some names (SourceLine line rule) = omega arith
+line_some names (SourceProgram line rule) = omega arith
+line_some names (ReadFailed file) = omega arith
+line_some names Unwritten = omega arith
+line_some names OutOfMemory = omega arith
+line_some names (LeftProfile line rule) = omega arith
+line_some names (StepLimit steps) = omega arith
+line_some names (NotShown at reason) = omega arith
+line_some names InputEnded = omega arith
+line_some names (TextLine line rule) = omega arith
+line_some names (ShortJump line) = omega arith
+line_some names (NoInstruction offset) = omega arith
+line_some names (StackSegment offset) = omega arith
+line_some names (OddCall offset function) = omega arith
+line_some names (BadDisk place) = omega arith
+line_some names (NoDrive function) = omega arith
+line_some names (CodeTooLarge size) = omega arith
+line_some names (FileTooLong file) = omega arith
+line_some names (BadCommandFile place) = omega arith
+line_some names (BadHex line) = omega arith
+line_some names (TooManyStatements count) = omega arith
 
 -- no stop is status 0
 stop_not_0 : (stop : Stop) → status_of stop ≡ 0 → ⊥
 stop_not_0 (SourceLine line rule) e = absurd (omega arith)
 stop_not_0 (SourceProgram line rule) e = absurd (omega arith)
-stop_not_0 (ReadFailed name) e = absurd (omega arith)
+stop_not_0 (ReadFailed file) e = absurd (omega arith)
 stop_not_0 Unwritten e = absurd (omega arith)
 stop_not_0 OutOfMemory e = absurd (omega arith)
 stop_not_0 (LeftProfile line rule) e = absurd (omega arith)
@@ -103,11 +108,11 @@ stop_not_0 (OddCall offset function) e = absurd (omega arith)
 stop_not_0 (BadDisk place) e = absurd (omega arith)
 stop_not_0 (NoDrive function) e = absurd (omega arith)
 stop_not_0 (CodeTooLarge size) e = absurd (omega arith)
-stop_not_0 (FileTooLong name) e = absurd (omega arith)
+stop_not_0 (FileTooLong file) e = absurd (omega arith)
 stop_not_0 (BadCommandFile place) e = absurd (omega arith)
 stop_not_0 (BadHex line) e = absurd (omega arith)
 stop_not_0 (TooManyStatements count) e = absurd (omega arith)
 
-pub never_0 : (stop : Stop) (old new : HostState) (status : ℕ) → Closes stop old new status → status ≡ 0 → ⊥
-never_0 stop old new status (said e s) z = stop_not_0 stop (sym e ∙ z)
-never_0 stop old new status (unsaid n e s) z = omega (arith, e, z)
+pub never_0 : (names : FileNames) (stop : Stop) (old new : HostState) (status : ℕ) → Closes names stop old new status → status ≡ 0 → ⊥
+never_0 names stop old new status (said e s) z = stop_not_0 stop (sym e ∙ z)
+never_0 names stop old new status (unsaid n e s) z = omega (arith, e, z)

@@ -4,6 +4,8 @@ use Rattle.std.specs.Prelude.{Result, Ok, Err, IsErrAnd, IfErr}
 use Rattle.host.specs.Host.{HostState, FileTold, Holds, Missing, IsFile, HasRisen, SameFiles, SameFaults}
 use Rattle.host.specs.Host.{ReadFailed as ReadFails, WriteFailed as WriteFails}
 use Rattle.host_files.specs.Transfer.{IsLonger}
+use Rattle.cmd_common.specs.Names.{FileNames}
+use Rattle.cmd_common.specs.declared.names.InputFile.{InputFile}
 use Rattle.cmd_common.specs.declared.stop.Stop.{Stop}
 use Rattle.cmd_common.specs.declared.stop.Stop.TheVariants.{OutOfMemory}
 use Rattle.cmd_common.specs.Lines.{status_of}
@@ -42,31 +44,31 @@ not_longer old name bytes limit t l =
     let many = l.2 in
     omega (arith, size, few, many)
 
-pub read_stops : (old mid new : HostState) (name : List ℕ) (limit : ℕ) (bytes : List ℕ) (stop : Stop) → NoneFailed old new → new.read_faults ≡ mid.read_faults → FileIsTold old name limit bytes → ReadStops name limit old mid stop → stop ≡ OutOfMemory
-read_stops old mid new name limit bytes _ none e t (failed same f) = absurd (not_failed old mid new name bytes none e t.0 f)
-read_stops old mid new name limit bytes _ none e t (too_long same l s) = absurd (not_longer old name bytes limit t l)
-read_stops old mid new name limit bytes _ none e t no_memory = refl
+pub read_stops : (old mid new : HostState) (file : InputFile) (name : List ℕ) (limit : ℕ) (bytes : List ℕ) (stop : Stop) → NoneFailed old new → new.read_faults ≡ mid.read_faults → FileIsTold old name limit bytes → ReadStops file name limit old mid stop → stop ≡ OutOfMemory
+read_stops old mid new file name limit bytes _ none e t (failed f) = absurd (not_failed old mid new name bytes none e t.0 f)
+read_stops old mid new file name limit bytes _ none e t (too_long l s) = absurd (not_longer old name bytes limit t l)
+read_stops old mid new file name limit bytes _ none e t no_memory = refl
 
-pub input_stops : (old mid new : HostState) (i : Option (List ℕ)) (bytes : List ℕ) (stop : Stop) → NoneFailed old new → new.read_faults ≡ mid.read_faults → InputIsTold old i bytes → InputStops i old mid stop → stop ≡ OutOfMemory
-input_stops old mid new None bytes stop none e t s = absurd s
-input_stops old mid new (Some name) bytes stop none e t s = read_stops old mid new name input_limit bytes stop none e t s
+pub input_stops : (old mid new : HostState) (file : InputFile) (i : Option (List ℕ)) (bytes : List ℕ) (stop : Stop) → NoneFailed old new → new.read_faults ≡ mid.read_faults → InputIsTold old i bytes → InputStops file i old mid stop → stop ≡ OutOfMemory
+input_stops old mid new file None bytes stop none e t s = absurd s
+input_stops old mid new file (Some name) bytes stop none e t s = read_stops old mid new file name input_limit bytes stop none e t s
 
 -- no write failed behind what failed none
 pub not_unsaid : (old mid new : HostState) → NoneFailed old new → SameFaults old mid → WriteFails mid new → ⊥
 not_unsaid old mid new none same f = none.writes (subst (λ n. HasRisen n new.write_faults) same.writes f)
 
 -- the reads are those before the last line
-pub closes_reads : (stop : Stop) (mid new : HostState) (status : ℕ) → Closes stop mid new status → new.read_faults ≡ mid.read_faults
-closes_reads stop mid new status (said e s) = s.only.reads
-closes_reads stop mid new status (unsaid n e s) = s.only.reads
+pub closes_reads : (names : FileNames) (stop : Stop) (mid new : HostState) (status : ℕ) → Closes names stop mid new status → new.read_faults ≡ mid.read_faults
+closes_reads names stop mid new status (said e s) = s.only.reads
+closes_reads names stop mid new status (unsaid n e s) = s.only.reads
 
-pub closes_status : (stop : Stop) (mid new : HostState) (status : ℕ) → Closes stop mid new status → (status ≡ 5) ⊎ (status ≡ status_of stop)
-closes_status stop mid new status (said e s) = inr e
-closes_status stop mid new status (unsaid n e s) = inl e
+pub closes_status : (names : FileNames) (stop : Stop) (mid new : HostState) (status : ℕ) → Closes names stop mid new status → (status ≡ 5) ⊎ (status ≡ status_of stop)
+closes_status names stop mid new status (said e s) = inr e
+closes_status names stop mid new status (unsaid n e s) = inl e
 
-pub memory_status : (stop : Stop) (mid new : HostState) (status : ℕ) → stop ≡ OutOfMemory → Closes stop mid new status → status ≡ 5
-memory_status stop mid new status e (said s l) = s ∙ ap status_of e
-memory_status stop mid new status e (unsaid n s l) = s
+pub memory_status : (names : FileNames) (stop : Stop) (mid new : HostState) (status : ℕ) → stop ≡ OutOfMemory → Closes names stop mid new status → status ≡ 5
+memory_status names stop mid new status e (said s l) = s ∙ ap status_of e
+memory_status names stop mid new status e (unsaid n s l) = s
 
 -- what is said last changes no file
 pub done_files : (line : List ℕ) (old new : HostState) (status : ℕ) → IsDone line old new status → SameFiles old new

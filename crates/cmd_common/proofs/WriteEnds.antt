@@ -6,6 +6,7 @@ use Rattle.host.specs.declared.HostFault.TheVariants.{Failed, Memory}
 use Rattle.host.specs.Host.{HostState, OnlyFileChanged, OnlyReads, OnlySays, OnlyWrites, SameSaid, Says, Rewrites, WriteFault, said_more, rewritten}
 use Rattle.host.proofs.HostLemmas.{fault_after_reads}
 use Rattle.host_files.specs.Transfer.{IsBeforeOrPart, CutsLine}
+use Rattle.cmd_common.specs.Names.{FileNames}
 use Rattle.cmd_common.specs.Lines.{memory_line}
 use Rattle.cmd_common.specs.Said.{SaysLast, Closes, said, unsaid}
 use Rattle.cmd_common.specs.Writing.{Writes, WritesPart, FailsToWrite, SaysOfWrite, stop_of_write}
@@ -55,11 +56,11 @@ module _ (old mid new : HostState) where
     }
 
     -- what is said where the write was the end
-    pub write_end : (gives : ℕ → Type 0) → (WritesPart name text old new → SaysOfWrite old new Failed (codes "write failed\n") → gives 4) → (WritesPart name text old new → SaysOfWrite old new Memory memory_line → gives 5) → (fault : HostFault) → FailsToWrite name text old mid fault → (status : ℕ) → Closes (stop_of_write fault) mid new status → gives status
-    write_end gives refused wanting Failed w status (unsaid n e l) = let fixed : true ≡ false = n in absurd cc
-    write_end gives refused wanting Memory w status (unsaid n e l) = let fixed : true ≡ false = n in absurd cc
-    write_end gives refused wanting Failed w status (said e l) = subst gives (sym e) (refused (part_on l.only w.part) (of_write (codes "write failed\n") Failed w l))
-    write_end gives refused wanting Memory w status (said e l) = subst gives (sym e) (wanting (part_on l.only w.part) (of_write memory_line Memory w l))
+    pub write_end : (names : FileNames) (gives : ℕ → Type 0) → (WritesPart name text old new → SaysOfWrite old new Failed (codes "write failed\n") → gives 4) → (WritesPart name text old new → SaysOfWrite old new Memory memory_line → gives 5) → (fault : HostFault) → FailsToWrite name text old mid fault → (status : ℕ) → Closes names (stop_of_write fault) mid new status → gives status
+    write_end names gives refused wanting Failed w status (unsaid n e l) = let fixed : true ≡ false = n in absurd cc
+    write_end names gives refused wanting Memory w status (unsaid n e l) = let fixed : true ≡ false = n in absurd cc
+    write_end names gives refused wanting Failed w status (said e l) = subst gives (sym e) (refused (part_on l.only w.part) (of_write (codes "write failed\n") Failed w l))
+    write_end names gives refused wanting Memory w status (said e l) = subst gives (sym e) (wanting (part_on l.only w.part) (of_write memory_line Memory w l))
 
 -- what the writing of a file comes to
 pub wrote : (name text : List ℕ) (old new : HostState) → OnlyWrites old new name → Rewrites old new name text → Writes name text old new

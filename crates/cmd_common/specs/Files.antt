@@ -1,9 +1,9 @@
 -- The files that a run reads, and why one of them is not read.
 use Rattle.std.specs.Prelude.{◌≡◌, ℕ, ◌≤◌, List, [], length, Option, Some, None}
-use Rattle.std.specs.Borrow.{Bor}
 use Rattle.host.specs.Host.{HostState, Holds, IsFile, HasRisen, SameFaults}
 use Rattle.host.specs.Host.{ReadFailed as ReadFails}
 use Rattle.host_files.specs.Transfer.{IsLonger}
+use Rattle.cmd_common.specs.declared.names.InputFile.{InputFile}
 use Rattle.cmd_common.specs.declared.stop.Stop.{Stop}
 use Rattle.cmd_common.specs.declared.stop.Stop.TheVariants.{ReadFailed, OutOfMemory, FileTooLong}
 
@@ -23,15 +23,15 @@ abbrev pub IsInput : HostState → Option (List ℕ) → List ℕ → Type 0
 IsInput old None bytes = bytes ≡ []
 IsInput old (Some name) bytes = IsWholeFile old name input_limit bytes
 
--- why the file of a name was not read: a read failed, or it is longer than the limit, or memory ran out
-pub data ReadStops (name : List ℕ) (limit : ℕ) (old new : HostState) : Stop → Type 0 where
-  failed : {n : Bor (List ℕ)} → n.now ≡ name → ReadFails old new name → ReadStops name limit old new (ReadFailed n)
-  too_long : {n : Bor (List ℕ)} → n.now ≡ name → IsLonger (old.file name) limit → SameFaults old new → ReadStops name limit old new (FileTooLong n)
-  no_memory : ReadStops name limit old new OutOfMemory
+-- why a file of a command, of this name, was not read: a read failed, or it is longer than the limit, or memory ran out
+pub data ReadStops (file : InputFile) (name : List ℕ) (limit : ℕ) (old new : HostState) : Stop → Type 0 where
+  failed : ReadFails old new name → ReadStops file name limit old new (ReadFailed file)
+  too_long : IsLonger (old.file name) limit → SameFaults old new → ReadStops file name limit old new (FileTooLong file)
+  no_memory : ReadStops file name limit old new OutOfMemory
 
-abbrev pub InputStops : Option (List ℕ) → HostState → HostState → Stop → Type 0
-InputStops None old new stop = ⊥
-InputStops (Some name) old new stop = ReadStops name input_limit old new stop
+abbrev pub InputStops : InputFile → Option (List ℕ) → HostState → HostState → Stop → Type 0
+InputStops file None old new stop = ⊥
+InputStops file (Some name) old new stop = ReadStops file name input_limit old new stop
 
 -- no call of the host failed: neither count of faults rose, or stands at its last value
 pub record NoneFailed (old new : HostState) : Type 0 where

@@ -1,3 +1,4 @@
+pub mod Names
 pub mod Files
 pub mod Sources
 pub mod Texts

@@ -15,6 +15,7 @@ use Rattle.asm86_line_types.specs.declared.line.TextRule.{TextRule}
 use Rattle.asm86_line_types.specs.declared.line.TextRule.TheVariants.{M1, M2, M3, M4, M5, M6}
 use Rattle.sym_block_def.specs.declared.reason.Reason.{Reason}
 use Rattle.sym_block_def.specs.declared.reason.Reason.TheVariants.{Opening, Runtime, DataPart, Missing, Length, Form, Actions, Exits, Kept, KeptSp}
+use Rattle.cmd_common.specs.Names.{FileNames, name_of}
 use Rattle.cmd_common.specs.declared.stop.Stop.{Stop}
 use Rattle.cmd_common.specs.declared.stop.Stop.TheVariants.{SourceLine, SourceProgram, ReadFailed, WriteFailed, OutOfMemory, LeftProfile, StepLimit, NotShown, InputEnded, TextLine, ShortJump, NoInstruction, StackSegment, OddCall, BadDisk, NoDrive, CodeTooLarge, FileTooLong, BadCommandFile, BadHex, TooManyStatements}
 
@@ -143,7 +144,7 @@ memory_line = codes "out of memory\n"
 abbrev pub status_of : Stop → ℕ
 status_of (SourceLine line rule) = 1
 status_of (SourceProgram line rule) = 1
-status_of (ReadFailed name) = 3
+status_of (ReadFailed file) = 3
 status_of WriteFailed = 4
 status_of OutOfMemory = 5
 status_of (LeftProfile line rule) = 6
@@ -158,7 +159,7 @@ status_of (OddCall offset function) = 11
 status_of (BadDisk place) = 12
 status_of (NoDrive function) = 12
 status_of (CodeTooLarge size) = 13
-status_of (FileTooLong name) = 14
+status_of (FileTooLong file) = 14
 status_of (BadCommandFile place) = 15
 status_of (BadHex line) = 16
 status_of (TooManyStatements count) = 17
@@ -167,7 +168,7 @@ status_of (TooManyStatements count) = 17
 abbrev pub is_fixed : Stop → Bool
 is_fixed (SourceLine line rule) = false
 is_fixed (SourceProgram line rule) = false
-is_fixed (ReadFailed name) = false
+is_fixed (ReadFailed file) = false
 is_fixed WriteFailed = true
 is_fixed OutOfMemory = true
 is_fixed (LeftProfile line rule) = false
@@ -182,33 +183,34 @@ is_fixed (OddCall offset function) = false
 is_fixed (BadDisk place) = false
 is_fixed (NoDrive function) = false
 is_fixed (CodeTooLarge size) = false
-is_fixed (FileTooLong name) = false
+is_fixed (FileTooLong file) = false
 is_fixed (BadCommandFile place) = false
 is_fixed (BadHex line) = false
 is_fixed (TooManyStatements count) = false
 
-abbrev pub line_of_stop : Stop → List ℕ
-line_of_stop (SourceLine line rule) = rule_line (codes "source line ") line (line_rule rule)
-line_of_stop (SourceProgram line rule) = rule_line (codes "source line ") line (asm_rule rule)
-line_of_stop (ReadFailed name) = named_line (codes "read failed: ") name.now
-line_of_stop WriteFailed = codes "write failed\n"
-line_of_stop OutOfMemory = memory_line
-line_of_stop (LeftProfile line rule) = rule_line (codes "left the profile at line ") line (profile_rule rule)
-line_of_stop (StepLimit steps) = count_line (codes "step limit: ") steps (codes " instructions")
-line_of_stop (NotShown at reason) = not_shown_line at (reason_name reason)
-line_of_stop InputEnded = codes "input ended\n"
-line_of_stop (TextLine line rule) = rule_line (codes "text line ") line (text_rule rule)
-line_of_stop (ShortJump line) = rule_line (codes "text line ") line (codes "short")
-line_of_stop (NoInstruction offset) = stopped_line offset (codes "no instruction")
-line_of_stop (StackSegment offset) = stopped_line offset (codes "stack segment")
-line_of_stop (OddCall offset function) = stopped_line offset (odd_call function)
-line_of_stop (BadDisk place) = count_line (codes "disk refused: byte ") place []
-line_of_stop (NoDrive function) = drive_line function
-line_of_stop (CodeTooLarge size) = count_line (codes "code too large: ") size (codes " bytes")
-line_of_stop (FileTooLong name) = named_line (codes "file too long: ") name.now
-line_of_stop (BadCommandFile place) = count_line (codes "command file refused: byte ") place []
-line_of_stop (BadHex line) = count_line (codes "hex refused: line ") line []
-line_of_stop (TooManyStatements count) = count_line (codes "too many statements: ") count []
+-- the line of a stop, by the names of the files that the command reads
+abbrev pub line_of_stop : FileNames → Stop → List ℕ
+line_of_stop names (SourceLine line rule) = rule_line (codes "source line ") line (line_rule rule)
+line_of_stop names (SourceProgram line rule) = rule_line (codes "source line ") line (asm_rule rule)
+line_of_stop names (ReadFailed file) = named_line (codes "read failed: ") (name_of names file)
+line_of_stop names WriteFailed = codes "write failed\n"
+line_of_stop names OutOfMemory = memory_line
+line_of_stop names (LeftProfile line rule) = rule_line (codes "left the profile at line ") line (profile_rule rule)
+line_of_stop names (StepLimit steps) = count_line (codes "step limit: ") steps (codes " instructions")
+line_of_stop names (NotShown at reason) = not_shown_line at (reason_name reason)
+line_of_stop names InputEnded = codes "input ended\n"
+line_of_stop names (TextLine line rule) = rule_line (codes "text line ") line (text_rule rule)
+line_of_stop names (ShortJump line) = rule_line (codes "text line ") line (codes "short")
+line_of_stop names (NoInstruction offset) = stopped_line offset (codes "no instruction")
+line_of_stop names (StackSegment offset) = stopped_line offset (codes "stack segment")
+line_of_stop names (OddCall offset function) = stopped_line offset (odd_call function)
+line_of_stop names (BadDisk place) = count_line (codes "disk refused: byte ") place []
+line_of_stop names (NoDrive function) = drive_line function
+line_of_stop names (CodeTooLarge size) = count_line (codes "code too large: ") size (codes " bytes")
+line_of_stop names (FileTooLong file) = named_line (codes "file too long: ") (name_of names file)
+line_of_stop names (BadCommandFile place) = count_line (codes "command file refused: byte ") place []
+line_of_stop names (BadHex line) = count_line (codes "hex refused: line ") line []
+line_of_stop names (TooManyStatements count) = count_line (codes "too many statements: ") count []
 
 -- ---- the ends that are 0
 

@@ -1,6 +1,8 @@
 -- What a command that makes something of one file gives, by its status: said once of all of them.
 use Rattle.std.specs.Prelude.{◌≡◌, ◌≢◌, ℕ, ◌⊎◌, List, Option, Some, None}
 use Rattle.host.specs.Host.{HostState, Says, SameSaid, SameFaults, OnlyReads}
+use Rattle.cmd_common.specs.Names.{one_name}
+use Rattle.cmd_common.specs.declared.names.InputFile.TheVariants.{First}
 use Rattle.cmd_common.specs.declared.stop.Stop.{Stop}
 use Rattle.cmd_common.specs.declared.stop.Stop.TheVariants.{OutOfMemory}
 use Rattle.cmd_common.specs.Lines.{status_of, line_of_stop}
@@ -29,7 +31,7 @@ module _ {Made : Type 0} (k : MakeKind Made) (old : HostState) where
   module _ (new : HostState) where
     -- why there is nothing to write: the file was not read, or its whole bytes are refused, or memory ran out
     pub data NothingMade : Stop → Type 0 where
-      no_file : {stop : Stop} → ReadStops k.file k.most old new stop → NothingMade stop
+      no_file : {stop : Stop} → ReadStops First k.file k.most old new stop → NothingMade stop
       is_refused : {stop : Stop} (bytes : List ℕ) → IsWholeFile old k.file k.most bytes → SameFaults old new → k.IsRefused bytes stop → NothingMade stop
       no_memory : NothingMade OutOfMemory
 
@@ -51,13 +53,13 @@ module _ {Made : Type 0} (k : MakeKind Made) (old : HostState) where
     -- up to a fault; or the command stops before, and the line of the stop is said
     pub data MakeGives : ℕ → Type 0 where
       made : {status : ℕ} (mid : HostState) (line : List ℕ) → HasMade mid line → IsDone line mid new status → MakeGives status
-      stopped : {status : ℕ} (mid : HostState) (stop : Stop) → MakeStops mid stop → Closes stop mid new status → MakeGives status
+      stopped : {status : ℕ} (mid : HostState) (stop : Stop) → MakeStops mid stop → Closes (one_name k.file) stop mid new status → MakeGives status
 
     -- what the status of whole bytes is, want of memory aside: 0 with the line of what they give, or that of the stop by which they are
     -- refused, with its line, which only a want of memory of the host's cuts off; and one of these it is
     pub record Decides (bytes : List ℕ) (status : ℕ) : Type 0 where
       pub accepted : (m : Made) → k.IsGiven bytes m → (status ≡ 0) × Says old new (k.report m)
-      pub refused : (stop : Stop) → k.IsRefused bytes stop → (status ≡ status_of stop) × SaysLine old new (line_of_stop stop)
+      pub refused : (stop : Stop) → k.IsRefused bytes stop → (status ≡ status_of stop) × SaysLine old new (line_of_stop (one_name k.file) stop)
       pub one : ((status ≡ 0) × (m : Made) × k.IsGiven bytes m) ⊎ ((stop : Stop) × k.IsRefused bytes stop × (status ≡ status_of stop))
 
     -- so it is where no call failed and the host tells the file within its limit

@@ -4,6 +4,7 @@ use Rattle.host.specs.declared.HostFault.{HostFault}
 use Rattle.host.specs.declared.HostFault.TheVariants.{Failed, Memory}
 use Rattle.host.specs.Host.{HostState, Says, SameFaults, OnlySays, WriteFault}
 use Rattle.host_files.specs.Transfer.{CutsLine}
+use Rattle.cmd_common.specs.Names.{FileNames}
 use Rattle.cmd_common.specs.declared.stop.Stop.{Stop}
 use Rattle.cmd_common.specs.Lines.{status_of, is_fixed, line_of_stop, words_line, memory_line}
 
@@ -41,7 +42,7 @@ said_status (Ok _) = 0
 said_status (Err Failed) = 4
 said_status (Err Memory) = 5
 
--- the line of a stop is said; want of memory for a line that needs some is a stop of its own
-pub data Closes (stop : Stop) (old new : HostState) : ℕ → Type 0 where
-  said : {status : ℕ} → status ≡ status_of stop → SaysLast (line_of_stop stop) old new → Closes stop old new status
-  unsaid : {status : ℕ} → is_fixed stop ≡ false → status ≡ 5 → SaysLast memory_line old new → Closes stop old new status
+-- the line of a stop, with the name of its file, is said; want of memory for a line that needs some is a stop of its own
+pub data Closes (names : FileNames) (stop : Stop) (old new : HostState) : ℕ → Type 0 where
+  said : {status : ℕ} → status ≡ status_of stop → SaysLast (line_of_stop names stop) old new → Closes names stop old new status
+  unsaid : {status : ℕ} → is_fixed stop ≡ false → status ≡ 5 → SaysLast memory_line old new → Closes names stop old new status

@@ -1,5 +1,5 @@
 -- What the file of a source is to a command.
-use Rattle.std.specs.Prelude.{◌≡◌, ℕ, Bool, true, false, List, Result, Ok, Err}
+use Rattle.std.specs.Prelude.{◌≡◌, ℕ, codes, Bool, true, false, List, Result, Ok, Err}
 use Rattle.host.specs.Host.{HostState}
 use Rattle.asm80_statement_types.specs.declared.fault.LineRule.{LineRule}
 use Rattle.asm80_statement_types.specs.Tree.{Statement}
@@ -12,7 +12,7 @@ use Rattle.asm80_source_def.specs.Assembly.{IsAssembled, IsRefused}
 use Rattle.asm80_source_def.specs.Source.{IsSource, IsNoSource, SourceRule, OfLine, OfProgram}
 use Rattle.cmd_common.specs.declared.stop.Stop.{Stop}
 use Rattle.cmd_common.specs.declared.stop.Stop.TheVariants.{SourceLine, SourceProgram}
-use Rattle.cmd_common.specs.Lines.{line_of_stop}
+use Rattle.cmd_common.specs.Lines.{rule_line, line_rule, asm_rule}
 use Rattle.cmd_common.specs.Files.{IsWholeFile, input_limit}
 
 -- the reading of sources that the words of a command ask for: in Zilog's spelling, or in Intel's
@@ -32,13 +32,14 @@ pub data SourceStops (reading : Reading) (bytes : List ℕ) (top : ℕ) : Stop �
   of_line : {line : ℕ} {rule : LineRule} → IsNoSource reading bytes top line (OfLine rule) → SourceStops reading bytes top (SourceLine line rule)
   of_program : {line : ℕ} {rule : AsmRule} → IsNoSource reading bytes top line (OfProgram rule) → SourceStops reading bytes top (SourceProgram line rule)
 
--- the stop of a line and a rule, and its line
+-- the stop of a line and a rule, and its line, which names no file
 abbrev pub stop_of_rule : ℕ → SourceRule → Stop
 stop_of_rule line (OfLine rule) = SourceLine line rule
 stop_of_rule line (OfProgram rule) = SourceProgram line rule
 
 abbrev pub refusal_line : ℕ → SourceRule → List ℕ
-refusal_line line rule = line_of_stop (stop_of_rule line rule)
+refusal_line line (OfLine rule) = rule_line (codes "source line ") line (line_rule rule)
+refusal_line line (OfProgram rule) = rule_line (codes "source line ") line (asm_rule rule)
 
 -- what bytes are by a reading: the source of a program, or none
 abbrev pub SourceGives : Reading → List ℕ → ℕ → Result Program Stop → Type 0

@@ -9,14 +9,16 @@
 // `read_input` keeps the bytes of a file for a run's devices. `LoadedText::of` makes of lines their image, whose code has one reader
 // (`HasOneImage`), or tells why they have none.
 //
-// Proved of ends: each `Stop` has one status and one last line (`status_of`, `line_of_stop`). `say_stop` says that line and answers that
-// status, and a fault in saying it changes no status; where memory runs out for a line that is not always the same, `out of memory` is said
-// and the status is 5 (`Closes`). `say_done` says the line of status 0; a call that failed there is status 4, one that wanted memory 5
-// (`IsDone`); `say_report` the same of several lines, as one text; `words_refused` takes no memory.
+// Proved of ends: each `Stop` has one status, and one last line by the names of the command's files (`status_of`, `line_of_stop`): a stop
+// says which file was not read (`InputFile`), and its line has the name that the words gave it (`name_of`). `say_stop` says that line and
+// answers that status, and a fault in saying it changes no status; where memory runs out for a line that is not always the same, `out of
+// memory` is said and the status is 5 (`Closes`). `say_done` says the line of status 0; a call that failed there is status 4, one that
+// wanted memory 5 (`IsDone`); `say_report` the same of several lines, as one text; `words_refused` takes no memory.
 #![tactic(auto)]
 
 mod done;
 mod files;
+mod names;
 mod reasons;
 mod rules;
 mod say;
@@ -30,10 +32,11 @@ pub use done::{
     shown_line, shrunk_line, translated_line,
 };
 pub use files::{SOURCE_LIMIT, read_input, read_named};
+pub use names::{InputFile, InputNames};
 pub use reasons::reason_name;
 pub use rules::profile_rule;
 pub use say::{say_done, say_made, say_report, say_stop, words_refused};
 pub use source::{program_of_bytes, read_source, read_source_by, sources_have_one_outcome};
-pub use stop::{Stop, word_digits};
+pub use stop::{Stop, not_shown_line, word_digits};
 pub use text::{LoadedText, read_text};
 pub use writing::{stop_of_write, write_text};

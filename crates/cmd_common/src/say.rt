@@ -5,8 +5,10 @@ ghost use Rattle.std.specs.String.{string_bytes};
 ghost use Rattle.host.specs.Host.{SameFaults, OnlySays, Says, WriteFault};
 ghost use Rattle.host_files.specs.Transfer.{CutsLine};
 ghost use Rattle.cmd_common.specs.Lines.{line_of_stop};
+ghost use Rattle.cmd_common.specs.Names.{names_read};
 ghost use Rattle.cmd_common.specs.Said.{Closes, IsDone, IsRefusedWords, SaysLast, said_status};
 
+use crate::names::InputNames;
 use crate::stop::Stop;
 use host::{Host, HostFault};
 use host_files::say_line;
@@ -61,24 +63,24 @@ fn say_lines<H: Host>(host: &mut H, lines: &[String]) -> Result<(), HostFault>
     Ok(())
 }
 
-/// Says why a command's work did not come to status 0, and answers its status.
-pub fn say_stop<H: Host>(alloc: Global, host: &mut H, stop: Stop<'_>) -> u8
-    ensures { Closes stop.entry (H.state host.old) (H.state host.new) result }
+/// Says why a command's work did not come to status 0, with the name of the file that stopped it among these, and answers its status.
+pub fn say_stop<H: Host>(alloc: Global, host: &mut H, names: &InputNames<'_>, stop: Stop) -> u8
+    ensures { Closes (names_read names.now) stop (H.state host.old) (H.state host.new) result }
 {
     if let Some(line) = stop.fixed_line() {
         return say_last(host, line, stop.status());
     }
-    match stop.line(alloc) {
+    match stop.line(alloc, names) {
         Ok(line) => say_last(host, line.as_str(), stop.status()),
         Err(_) => say_last(host, "out of memory\n", 5),
     }
 }
 
 /// Says the line of a stop, which was made before, and answers its status.
-pub fn say_made<H: Host>(host: &mut H, stop: Stop<'_>, line: &str) -> u8
+pub fn say_made<H: Host>(host: &mut H, names: &InputNames<'_>, stop: Stop, line: &str) -> u8
     requires some { 0 < length line.now }
-    requires made { line.now ≡ line_of_stop stop }
-    ensures { Closes stop.entry (H.state host.old) (H.state host.new) result }
+    requires made { line.now ≡ line_of_stop (names_read names.now) stop }
+    ensures { Closes (names_read names.now) stop (H.state host.old) (H.state host.new) result }
 {
     say_last(host, line, stop.status())
 }

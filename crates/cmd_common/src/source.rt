@@ -4,10 +4,12 @@ ghost use Rattle.host.specs.Host.{SameFaults, OnlyReads};
 ghost use Rattle.asm80_program_types.specs.Program.{is_top};
 ghost use Rattle.asm80_statement_types.specs.Tree.{statement_of};
 ghost use Rattle.asm80_text.specs.Intel.{intel_reading};
+ghost use Rattle.cmd_common.specs.declared.names.InputFile.TheVariants.{First};
 ghost use Rattle.cmd_common.specs.Files.{ReadStops, input_limit};
 ghost use Rattle.cmd_common.specs.Sources.{ReadsSource, SourceGives, SourceLaw, StatementsGive, reading_of};
 
 use crate::files::{SOURCE_LIMIT, read_named_into};
+use crate::names::InputFile;
 use crate::stop::Stop;
 use asm80_program_types::Program80;
 use asm80_statement_types::{ReadFault, StatementReader, Stmt80};
@@ -18,21 +20,21 @@ use host_files::Sink;
 use std::alloc::{AllocError, Global};
 use zilog80::ZLines;
 
-/// The program of the source in the file of a name, in Zilog's spelling or in Intel's, for a top of the program area, a multiple of 100H
+/// The program of the source in the first file of a command, by its name, in Zilog's spelling or in Intel's, for a top of the program area, a multiple of 100H
 /// from 1000H to 0FF00H. The inner answer is the program, or the first refusal: of a line, else of names and values, else of the layout;
 /// a command tells it once its other files are read. The outer one, that the file was not read or memory ran out, is told at once.
-pub fn read_source<'a, H: Host>(
+pub fn read_source<H: Host>(
     alloc: Global,
     host: &mut H,
-    name: &'a str,
+    name: &str,
     zilog: bool,
     top: u16,
-) -> Result<Result<Program80, Stop<'a>>, Stop<'a>>
+) -> Result<Result<Program80, Stop>, Stop>
     requires { is_top top ≡ true }
     ensures only { OnlyReads (H.state host.old) (H.state host.new) }
     ensures read { IfOk result (ReadsSource (reading_of zilog) (H.state host.old) name.now top) }
     ensures counted { OnOk result (SameFaults (H.state host.old) (H.state host.new)) }
-    ensures stopped { IfErr result (ReadStops name.now input_limit (H.state host.old) (H.state host.new)) }
+    ensures stopped { IfErr result (ReadStops First name.now input_limit (H.state host.old) (H.state host.new)) }
 {
     if zilog {
         read_source_by::<H, ZLines>(alloc, host, name, top)
@@ -42,32 +44,32 @@ pub fn read_source<'a, H: Host>(
 }
 
 /// The same by any reader.
-pub fn read_source_by<'a, H: Host, R: StatementReader>(
+pub fn read_source_by<H: Host, R: StatementReader>(
     alloc: Global,
     host: &mut H,
-    name: &'a str,
+    name: &str,
     top: u16,
-) -> Result<Result<Program80, Stop<'a>>, Stop<'a>>
+) -> Result<Result<Program80, Stop>, Stop>
     requires { is_top top ≡ true }
     ensures only { OnlyReads (H.state host.old) (H.state host.new) }
     ensures read { IfOk result (ReadsSource R.reading (H.state host.old) name.now top) }
     ensures counted { OnOk result (SameFaults (H.state host.old) (H.state host.new)) }
-    ensures stopped { IfErr result (ReadStops name.now input_limit (H.state host.old) (H.state host.new)) }
+    ensures stopped { IfErr result (ReadStops First name.now input_limit (H.state host.old) (H.state host.new)) }
 {
     let mut source = SourceLines {
         reader: R::new(alloc)?,
     };
-    read_named_into(host, name, SOURCE_LIMIT, &mut source)?;
+    read_named_into(host, InputFile::First, name, SOURCE_LIMIT, &mut source)?;
     Ok(source.program(alloc, top)?)
 }
 
 /// The program of the source that bytes are, in Zilog's spelling or in Intel's, for a top of the program area, or its first refusal.
-pub fn program_of_bytes<'a>(
+pub fn program_of_bytes(
     alloc: Global,
     bytes: &[u8],
     zilog: bool,
     top: u16,
-) -> Result<Result<Program80, Stop<'a>>, AllocError>
+) -> Result<Result<Program80, Stop>, AllocError>
     requires { is_top top ≡ true }
     ensures { IfOk result (SourceGives (reading_of zilog) bytes.now top) }
 {
@@ -79,11 +81,11 @@ pub fn program_of_bytes<'a>(
 }
 
 // The same by any reader.
-fn program_of_bytes_by<'a, R: StatementReader>(
+fn program_of_bytes_by<R: StatementReader>(
     alloc: Global,
     bytes: &[u8],
     top: u16,
-) -> Result<Result<Program80, Stop<'a>>, AllocError>
+) -> Result<Result<Program80, Stop>, AllocError>
     requires { is_top top ≡ true }
     ensures { IfOk result (SourceGives R.reading bytes.now top) }
 {
@@ -119,7 +121,7 @@ impl<R: StatementReader> SourceLines<R> {
     ghost use Rattle.cmd_common.specs.Sources.{SourceGives};
 
     // The program of the whole source, or its first refusal.
-    fn program<'a>(self, alloc: Global, top: u16) -> Result<Result<Program80, Stop<'a>>, AllocError>
+    fn program(self, alloc: Global, top: u16) -> Result<Result<Program80, Stop>, AllocError>
         requires { is_top top ≡ true }
         ensures { IfOk result (λ outcome. (bytes : List ℕ) → R.was_fed self.reader bytes → SourceGives R.reading bytes top outcome) }
     {
@@ -134,11 +136,11 @@ impl<R: StatementReader> SourceLines<R> {
 }
 
 // The program of the statements of a source, or the first rule of names, values and layout that they break.
-fn program_of<'a>(
+fn program_of(
     alloc: Global,
     statements: &[Stmt80],
     top: u16,
-) -> Result<Result<Program80, Stop<'a>>, AllocError>
+) -> Result<Result<Program80, Stop>, AllocError>
     requires { is_top top ≡ true }
     ensures { IfOk result (StatementsGive (map statement_of statements.now) top) }
 {

@@ -1,8 +1,10 @@
 // The ends of a command's work that are not status 0, and their lines.
 ghost use Rattle.std.specs.Prelude.{◌≡◌, ◌++◌, codes, false, IfOk, MatchOption};
 ghost use Rattle.std.specs.String.{string_bytes};
+ghost use Rattle.cmd_common.specs.Names.{FileNames, names_read};
 ghost use Rattle.cmd_common.specs.Lines.{status_of, is_fixed, line_of_stop, named_line, rule_line, count_line, stopped_line, not_shown_line, drive_line, odd_call, word_digits, byte_digits};
 
+use crate::names::{InputFile, InputNames};
 use crate::reasons::reason_name;
 use crate::rules::{asm_rule, line_rule, profile_rule, text_rule};
 use asm80_source_def::AsmRule;
@@ -14,13 +16,13 @@ use sym_block_def::Reason;
 
 /// Why a command's work did not come to status 0. Lines are counted from 1, and 0 is no line.
 #[derive(Clone, Copy)]
-pub enum Stop<'a> {
+pub enum Stop {
     /// The source breaks a rule of lines.
     SourceLine(u32, LineRule),
     /// The source breaks a rule of names, values or layout.
     SourceProgram(u32, AsmRule),
-    /// The file of this name was not read.
-    ReadFailed(&'a str),
+    /// This file of the command was not read.
+    ReadFailed(InputFile),
     /// A file was not written.
     WriteFailed,
     OutOfMemory,
@@ -48,8 +50,8 @@ pub enum Stop<'a> {
     NoDrive(u8),
     /// The code has this number of bytes, above 65,535.
     CodeTooLarge(u32),
-    /// The file of this name has more bytes than its limit.
-    FileTooLong(&'a str),
+    /// This file of the command has more bytes than its limit.
+    FileTooLong(InputFile),
     /// The file is no command file: the byte at this place, counted from 0, cannot go on.
     BadCommandFile(u32),
     /// The file is no HEX file: this line is the first that fits nowhere, or the number of lines plus 1 where no end line comes.
@@ -58,20 +60,20 @@ pub enum Stop<'a> {
     TooManyStatements(u32),
 }
 
-impl<'a> From<AllocError> for Stop<'a> {
+impl From<AllocError> for Stop {
     ghost use Rattle.cmd_common.specs.declared.stop.Stop.TheVariants.{OutOfMemory};
 
     ghost from_gives = { λ _ stop. stop ≡ OutOfMemory };
 
-    fn from(_error: AllocError) -> Stop<'a> {
+    fn from(_error: AllocError) -> Stop {
         Stop::OutOfMemory
     }
 }
 
-impl<'a> Stop<'a> {
+impl Stop {
     /// The status of the process.
     pub fn status(self) -> u8
-        ensures { result ≡ status_of self.entry }
+        ensures { result ≡ status_of self }
     {
         match self {
             Stop::SourceLine(_, _) | Stop::SourceProgram(_, _) => 1,
@@ -95,7 +97,7 @@ impl<'a> Stop<'a> {
 
     /// The line, where it is always the same: it takes no memory.
     pub fn fixed_line(self) -> Option<&'static str>
-        ensures { MatchOption result (is_fixed self.entry ≡ false) (λ line. line.now ≡ line_of_stop self.entry) }
+        ensures { MatchOption result (is_fixed self ≡ false) (λ line. (names : FileNames) → line.now ≡ line_of_stop names self) }
     {
         match self {
             Stop::WriteFailed => Some("write failed\n"),
@@ -105,9 +107,9 @@ impl<'a> Stop<'a> {
         }
     }
 
-    /// The line.
-    pub fn line(self, alloc: Global) -> Result<String, AllocError>
-        ensures { IfOk result (λ line. string_bytes line ≡ line_of_stop self.entry) }
+    /// The line, with the name that a file has among these.
+    pub fn line(self, alloc: Global, names: &InputNames<'_>) -> Result<String, AllocError>
+        ensures { IfOk result (λ line. string_bytes line ≡ line_of_stop (names_read names.now) self) }
     {
         match self {
             Stop::SourceLine(line, rule) => {
@@ -116,7 +118,7 @@ impl<'a> Stop<'a> {
             Stop::SourceProgram(line, rule) => {
                 rule_line(alloc, "source line ", line, asm_rule(rule))
             }
-            Stop::ReadFailed(name) => named_line(alloc, "read failed: ", name),
+            Stop::ReadFailed(file) => named_line(alloc, "read failed: ", names.name(file)),
             Stop::WriteFailed => String::from_str(alloc, "write failed\n"),
             Stop::OutOfMemory => String::from_str(alloc, "out of memory\n"),
             Stop::LeftProfile(line, rule) => {
@@ -133,7 +135,7 @@ impl<'a> Stop<'a> {
             Stop::BadDisk(place) => count_line(alloc, "disk refused: byte ", place, ""),
             Stop::NoDrive(function) => drive_line(alloc, function),
             Stop::CodeTooLarge(size) => count_line(alloc, "code too large: ", size, " bytes"),
-            Stop::FileTooLong(name) => named_line(alloc, "file too long: ", name),
+            Stop::FileTooLong(file) => named_line(alloc, "file too long: ", names.name(file)),
             Stop::BadCommandFile(place) => {
                 count_line(alloc, "command file refused: byte ", place, "")
             }
@@ -180,8 +182,8 @@ fn byte_digits(alloc: Global, byte: u8) -> Result<String, AllocError>
     hex::encode(alloc, &[byte])
 }
 
-// The block that is not shown, and why.
-fn not_shown_line(alloc: Global, at: u16, reason: &str) -> Result<String, AllocError>
+/// The block that is not shown, and why.
+pub fn not_shown_line(alloc: Global, at: u16, reason: &str) -> Result<String, AllocError>
     ensures { IfOk result (λ line. string_bytes line ≡ not_shown_line at reason.now) }
 {
     let digits = word_digits(alloc, at)?;

@@ -8,6 +8,7 @@ ghost use Rattle.i86.specs.Decode.{HasReader};
 ghost use Rattle.cmd_common.specs.Texts.{ReadsTextFile, HasOneImage, ImageStops, stop_of_image};
 
 use crate::files::{TEXT_LIMIT, read_named_into};
+use crate::names::InputFile;
 use crate::stop::Stop;
 use asm86::{Image86, ImageFault, Line86, Text86, TextFault, image};
 use host::Host;
@@ -15,24 +16,25 @@ use host_files::Sink;
 use i86::code_has_one_reader;
 use std::alloc::{AllocError, Global};
 
-/// The lines of the text in the file of a name. The inner answer is the lines, or the first rule that one of them breaks; a
+/// The lines of the text in a file of a command, by its name. The inner answer is the lines, or the first rule that one of them breaks; a
 /// command tells it once its other files are read. The outer one, that the file was not read or memory ran out, is told at once.
-pub fn read_text<'a, H: Host>(
+pub fn read_text<H: Host>(
     alloc: Global,
     host: &mut H,
-    name: &'a str,
-) -> Result<Result<Vec<Line86>, Stop<'a>>, Stop<'a>>
+    file: InputFile,
+    name: &str,
+) -> Result<Result<Vec<Line86>, Stop>, Stop>
     ensures only { OnlyReads (H.state host.old) (H.state host.new) }
     ensures read { IfOk result (ReadsTextFile (H.state host.old) name.now) }
     ensures in_order { IfOk result (λ text. IfOk text (λ lines. in_order at_start (statements lines.items) ≡ true)) }
     ensures few { IfOk result (λ text. IfOk text (λ lines. length lines.items < 2 ^ 28)) }
     ensures counted { OnOk result (SameFaults (H.state host.old) (H.state host.new)) }
-    ensures stopped { IfErr result (ReadStops name.now text_limit (H.state host.old) (H.state host.new)) }
+    ensures stopped { IfErr result (ReadStops file name.now text_limit (H.state host.old) (H.state host.new)) }
 {
     let mut text = TextLines {
         reader: Text86::new(alloc)?,
     };
-    read_named_into(host, name, TEXT_LIMIT, &mut text)?;
+    read_named_into(host, file, name, TEXT_LIMIT, &mut text)?;
     Ok(text.lines()?)
 }
 
@@ -64,7 +66,7 @@ impl TextLines {
     ghost use Rattle.cmd_common.specs.Texts.{BytesGiveLines};
 
     // The lines of the whole text, or the first rule that one of them breaks.
-    fn lines<'a>(self) -> Result<Result<Vec<Line86>, Stop<'a>>, AllocError>
+    fn lines(self) -> Result<Result<Vec<Line86>, Stop>, AllocError>
         ensures read { IfOk result (λ outcome. (bytes : List ℕ) → AfterText bytes self.reader → BytesGiveLines bytes outcome) }
         ensures in_order { IfOk result (λ outcome. IfOk outcome (λ lines. in_order at_start (statements lines.items) ≡ true)) }
         ensures few { IfOk result (λ outcome. IfOk outcome (λ lines. length lines.items < 2 ^ 28)) }
@@ -89,7 +91,7 @@ pub struct LoadedText {
 
 impl LoadedText {
     /// The lines of a text, of which there are fewer than 2^28, with the image that they have, or why they have none.
-    pub fn of<'a>(alloc: Global, lines: Vec<Line86>) -> Result<LoadedText, Stop<'a>>
+    pub fn of(alloc: Global, lines: Vec<Line86>) -> Result<LoadedText, Stop>
         requires order { in_order at_start (statements lines.items) ≡ true }
         requires few { length lines.items < 2 ^ 28 }
         ensures lines { IfOk result (λ text. text.lines.items ≡ lines.items) }
@@ -114,7 +116,7 @@ fn bytes_have_one_reader(code: &[u8])
 }
 
 // What it is to a command that lines have no image.
-fn stop_of_image<'a>(fault: ImageFault) -> Stop<'a>
+fn stop_of_image(fault: ImageFault) -> Stop
     ensures { result ≡ stop_of_image fault }
 {
     match fault {

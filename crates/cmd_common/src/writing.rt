@@ -10,7 +10,7 @@ use host::{Host, HostFault};
 use host_files::write_out;
 
 /// What a fault of a write is.
-pub fn stop_of_write<'a>(fault: HostFault) -> Stop<'a>
+pub fn stop_of_write(fault: HostFault) -> Stop
     ensures { result ≡ stop_of_write fault }
 {
     match fault {
@@ -20,7 +20,7 @@ pub fn stop_of_write<'a>(fault: HostFault) -> Stop<'a>
 }
 
 /// Writes the text of lines to the file of a name. It takes no memory.
-pub fn write_text<'a, H: Host>(host: &mut H, name: &str, lines: &[Line86]) -> Result<(), Stop<'a>>
+pub fn write_text<H: Host>(host: &mut H, name: &str, lines: &[Line86]) -> Result<(), Stop>
     ensures only { OnlyWrites (H.state host.old) (H.state host.new) name.now }
     ensures written { OnOk result (Rewrites (H.state host.old) (H.state host.new) name.now (written_text lines.now)) }
     ensures counted { OnOk result (SameFaults (H.state host.old) (H.state host.new)) }

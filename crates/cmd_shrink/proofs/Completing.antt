@@ -11,6 +11,7 @@ use Rattle.sym_block_def.specs.declared.reason.Reason.{Reason}
 use Rattle.xlt_core.specs.Names.{Shown, NotShown as NotFound}
 use Rattle.shrink.specs.Laws.{OneShrunk}
 use Rattle.cmd_arguments.specs.Words.{Shrink}
+use Rattle.cmd_common.specs.Names.{FileNames, two_names}
 use Rattle.cmd_common.specs.declared.stop.Stop.{Stop}
 use Rattle.cmd_common.specs.declared.stop.Stop.TheVariants.{OutOfMemory, NotShown, TooManyStatements}
 use Rattle.cmd_common.specs.Said.{IsDone, whole, failed, no_memory, Closes, said, unsaid}
@@ -49,27 +50,30 @@ module _ (law : Laws) (p : Program) (lines : List Line86) where
       left_out ys = Ok (length lines - length ys)
 
 module _ (law : Laws) (c : Shrink) (old new : HostState) (none : NoneFailed old new) (source text : List ℕ) (first : FileIsTold old c.source input_limit source) (second : FileIsTold old c.text text_limit text) (status : ℕ) where
+  abbrev names : FileNames
+  names = two_names c.source c.text
+
   abbrev Answer : Type 0
   Answer = HasStatus (FilesComeTo (check_of c) LeavesOut source text) status
 
   -- a write that failed counts as such
-  by_write : (mid : HostState) (stop : Stop) (fault : HostFault) → WriteFault old mid fault → stop ≡ stop_of_write fault → Closes stop mid new status → Answer
-  by_write mid stop Memory cause e closes = inl (memory_status stop mid new status e closes)
+  by_write : (mid : HostState) (stop : Stop) (fault : HostFault) → WriteFault old mid fault → stop ≡ stop_of_write fault → Closes names stop mid new status → Answer
+  by_write mid stop Memory cause e closes = inl (memory_status names stop mid new status e closes)
   by_write mid stop Failed cause e (said s l) = absurd (none.writes (risen_on old.write_faults mid.write_faults new.write_faults cause l.only.writes))
   by_write mid stop Failed cause e (unsaid n s l) = inl s
 
-  by_stop : (mid : HostState) (stop : Stop) → Stops c old mid stop → Closes stop mid new status → Answer
+  by_stop : (mid : HostState) (stop : Stop) → Stops c old mid stop → Closes names stop mid new status → Answer
   by_stop mid stop (unloaded s) closes = by_load_stop law.check.files (check_of c) LeavesOut (one law) old new none source text first second status mid stop s closes
   by_stop mid _ (unshrunk p lines l (too_many many)) closes =
       ⊎_elim (λ e. inl e)
       (λ e. by_loading law.check.files (check_of c) LeavesOut (one law) old new none source text first second status mid p lines l (Err (TooManyStatements (length lines))) (too_many_left many refl) e)
-      (closes_status (TooManyStatements (length lines)) mid new status closes)
+      (closes_status names (TooManyStatements (length lines)) mid new status closes)
   by_stop mid _ (unshrunk p lines l (unlike few (is_not_shown {at = at} {reason = reason} h))) closes =
       ⊎_elim (λ e. inl e)
       (λ e. by_loading law.check.files (check_of c) LeavesOut (one law) old new none source text first second status mid p lines l (Err (NotShown at reason)) (not_shown at reason few h refl) e)
-      (closes_status (NotShown at reason) mid new status closes)
-  by_stop mid _ (unshrunk p lines l (unlike few memory_to_find)) closes = inl (memory_status OutOfMemory mid new status refl closes)
-  by_stop mid _ (unshrunk p lines l no_room) closes = inl (memory_status OutOfMemory mid new status refl closes)
+      (closes_status names (NotShown at reason) mid new status closes)
+  by_stop mid _ (unshrunk p lines l (unlike few memory_to_find)) closes = inl (memory_status names OutOfMemory mid new status refl closes)
+  by_stop mid _ (unshrunk p lines l no_room) closes = inl (memory_status names OutOfMemory mid new status refl closes)
   by_stop mid stop (unwritten read p lines left l is w) closes = by_write mid stop w.fault w.fails.cause w.is closes
 
   done : (mid : HostState) (line : List ℕ) → HasShrunk c old mid line → (n : ℕ) → n ≡ status → IsDone line mid new n → Answer

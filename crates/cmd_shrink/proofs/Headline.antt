@@ -10,6 +10,7 @@ use Rattle.asm86_line_types.specs.Image.{image_of, statements}
 use Rattle.asm86_line_types.specs.Written.{written_text}
 use Rattle.asm86_line_types.proofs.Sizes.{length_bytes}
 use Rattle.cmd_arguments.specs.Words.{Shrink}
+use Rattle.cmd_common.specs.Names.{two_names}
 use Rattle.cmd_common.specs.Said.{IsDone, whole, failed, no_memory}
 use Rattle.cmd_common.proofs.Said.{never_0}
 use Rattle.cmd_common.proofs.WriteEnds.{writes_on}
@@ -57,4 +58,4 @@ module _ (c : Shrink) (old new : HostState) where
 
   pub headline : (status : ℕ) → ShrinkGives c old new status → status ≡ 0 → ShrunkHeadline c old new
   headline status (shrunk mid line h d) e = done mid line status h d e
-  headline status (stopped mid stop s k) e = absurd (never_0 stop mid new status k e)
+  headline status (stopped mid stop s k) e = absurd (never_0 (two_names c.source c.text) stop mid new status k e)

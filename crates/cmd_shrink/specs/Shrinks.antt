@@ -1,6 +1,6 @@
 -- What `shrink` gives, by its status: the causes, what is written and said, and after status 0 what OUT is.
 use Rattle.std.specs.Prelude.{◌≡◌, false, ℕ, ◌-◌, ◌<◌, ◌≤◌, List, length, Ok}
-use Rattle.host.specs.Host.{HostState, IsFile, SameSaid, SameFaults, Rewrites}
+use Rattle.host.specs.Host.{HostState, IsFile, SameSaid, SameFaults, OnlyWrites, Rewrites}
 use Rattle.i86.specs.Decode.{HasReader}
 use Rattle.asm86_line_types.specs.declared.line.Line86.{Line86}
 use Rattle.asm86_line_types.specs.Layout.{sizes_of}
@@ -15,6 +15,7 @@ use Rattle.xlt_core.specs.Names.{Same, IsFinding, Shown as IsFoundShown}
 use Rattle.shrink.specs.Shrunk.{IsShrunk}
 use Rattle.shrink.specs.Laws.{IsSublist}
 use Rattle.cmd_arguments.specs.Words.{Check, Shrink}
+use Rattle.cmd_common.specs.Names.{two_names}
 use Rattle.cmd_common.specs.declared.stop.Stop.{Stop}
 use Rattle.cmd_common.specs.declared.stop.Stop.TheVariants.{OutOfMemory, TooManyStatements}
 use Rattle.cmd_common.specs.Lines.{shrunk_line}
@@ -53,6 +54,21 @@ pub data LeftStops (p : Program) (lines : List Line86) : Stop → Type 0 where
   unlike : {stop : Stop} → length lines ≤ most_statements → FindStops p lines stop → LeftStops p lines stop
   no_memory : LeftStops p lines OutOfMemory
 
+module _ (p : Program) (lines : List Line86) (name : List ℕ) (old new : HostState) where
+  -- what is left was written to the file of a name, and this line says how much it is
+  pub record WritesLeft (line : List ℕ) : Type 0 where
+    pub left : List Line86
+    pub is : IsLeft p lines left
+    pub only : OnlyWrites old new name
+    pub written : Rewrites old new name (written_text left)
+    pub counted : SameFaults old new
+    pub line_is : line ≡ line_of_left lines left
+
+  -- or nothing is left, and nothing was done; or it was not written
+  pub data LosesLeft : Stop → Type 0 where
+    nothing_left : {stop : Stop} → new ≡ old → LeftStops p lines stop → LosesLeft stop
+    left_unwritten : {stop : Stop} (left : List Line86) → IsLeft p lines left → WriteStops name (written_text left) old new stop → LosesLeft stop
+
 module _ (c : Shrink) (old : HostState) where
   -- it was written, and this line is to be said
   pub record HasShrunk (new : HostState) (line : List ℕ) : Type 0 where
@@ -77,7 +93,7 @@ module _ (c : Shrink) (old : HostState) where
   -- and the line of the stop is said
   pub data ShrinkGives (new : HostState) : ℕ → Type 0 where
     shrunk : {status : ℕ} (mid : HostState) (line : List ℕ) → HasShrunk mid line → IsDone line mid new status → ShrinkGives new status
-    stopped : {status : ℕ} (mid : HostState) (stop : Stop) → Stops mid stop → Closes stop mid new status → ShrinkGives new status
+    stopped : {status : ℕ} (mid : HostState) (stop : Stop) → Stops mid stop → Closes (two_names c.source c.text) stop mid new status → ShrinkGives new status
 
 -- What stands after status 0: the files, where the host tells them, are the source of a program and a text of these lines; the output
 -- holds the text of what is left of them, which is a part of them and has no more code; that text has an image, whose code is read in one

@@ -19,17 +19,17 @@ use xlt_core::shown_is_same;
 /// What is left of a text, and the line that says how much it is.
 #[derive(Drop)]
 pub struct Left {
-    pub text: LoadedText,
+    pub lines: Vec<Line86>,
     pub line: String,
 }
 
 /// What is left of a text that has few enough statements and is shown; or why there is nothing to be left.
-pub fn leave<'a>(alloc: Global, program: &Program80, text: &LoadedText) -> Result<Left, Stop<'a>>
+pub fn leave(alloc: Global, program: &Program80, text: &LoadedText) -> Result<Left, Stop>
     requires image { IsImage text.now.lines.items text.now.image }
     requires few { length text.now.lines.items < 2 ^ 28 }
     requires gives { (bytes : List ℕ) × TextGives bytes (Ok text.now.lines.items) }
-    ensures left { IfOk result (λ l. IsLeft program.now text.now.lines.items l.text.lines.items) }
-    ensures line { IfOk result (λ l. string_bytes l.line ≡ line_of_left text.now.lines.items l.text.lines.items) }
+    ensures left { IfOk result (λ l. IsLeft program.now text.now.lines.items l.lines.items) }
+    ensures line { IfOk result (λ l. string_bytes l.line ≡ line_of_left text.now.lines.items l.lines.items) }
     ensures stopped { IfErr result (LeftStops program.now text.now.lines.items) }
 {
     let lines = text.lines.as_slice();
@@ -42,13 +42,13 @@ pub fn leave<'a>(alloc: Global, program: &Program80, text: &LoadedText) -> Resul
 }
 
 // What is left of lines that are shown. It is loaded as any text is, which it can always be: so its code is read in one way.
-fn left_of<'a>(alloc: Global, program: &Program80, lines: &[Line86]) -> Result<Left, Stop<'a>>
+fn left_of(alloc: Global, program: &Program80, lines: &[Line86]) -> Result<Left, Stop>
     requires assembles { Assembles lines.now }
     requires few { length lines.now ≤ 2048 }
     requires gives { (bytes : List ℕ) × TextGives bytes (Ok lines.now) }
     requires shown { (blocks : ℕ) × IsFinding program.now lines.now (Shown blocks) }
-    ensures left { IfOk result (λ l. IsLeft program.now lines.now l.text.lines.items) }
-    ensures line { IfOk result (λ l. string_bytes l.line ≡ line_of_left lines.now l.text.lines.items) }
+    ensures left { IfOk result (λ l. IsLeft program.now lines.now l.lines.items) }
+    ensures line { IfOk result (λ l. string_bytes l.line ≡ line_of_left lines.now l.lines.items) }
     ensures stopped { IfErr result (LeftStops program.now lines.now) }
 {
     shrunk_is_left();
@@ -62,5 +62,8 @@ fn left_of<'a>(alloc: Global, program: &Program80, lines: &[Line86]) -> Result<L
     let code = code_size(left.as_slice());
     let line = shrunk_line(alloc, lines.len() - left.len(), code)?;
     let text = LoadedText::of(alloc, left)?;
-    Ok(Left { text, line })
+    Ok(Left {
+        lines: text.lines,
+        line,
+    })
 }

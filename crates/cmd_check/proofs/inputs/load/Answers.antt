@@ -1,16 +1,19 @@
-use Rattle.std.proofs.Common.{List, sym, subst}
+use Rattle.std.proofs.Common.{◌<◌, ◌^◌, List, length, sym, subst}
+use Rattle.std.specs.Prelude.{IfOk}
+use Rattle.std.proofs.lemmas.Result.{IfOk-weaker, IfErr-weaker}
 use Rattle.host.proofs.HostLemmas.{OnlyReads-trans}
 use Rattle.asm86_line_types.specs.declared.line.Line86.{Line86}
 use Rattle.asm86_line_types.specs.Image.{IsImage}
 use Rattle.cmd_arguments.specs.ReadCommands.{check_read}
+use Rattle.cmd_common.specs.declared.names.InputFile.TheVariants.{Text}
 use Rattle.cmd_common.specs.Files.{text_limit}
-use Rattle.cmd_common.specs.Sources.{SourceGives, reading_of}
-use Rattle.cmd_common.specs.Texts.{BytesGiveLines, HasOneImage}
 use Rattle.cmd_common.proofs.Told.{handed_on}
 use Rattle.cmd_common.proofs.Before.{stops_before}
-use Rattle.cmd_check.specs.Checks.{Loads, LoadStops, no_source, no_text, refused}
-use Rattle.cmd_check.proofs.Loading.{both_read, lines_stop, image_stop}
+use Rattle.cmd_check.specs.Checks.{Reads, LoadStops, no_source, no_text}
+use Rattle.cmd_check.proofs.Loading.{both_read, loads, load_stop}
+use Rattle.cmd_check.proofs.inputs.load.Given.{Over}
 use Rattle.cmd_check.proofs.inputs.load.Goals as goal
+use Rattle.cmd_check.proofs.inputs.load.Goals.{After-loaded_of}
 
 pub returns-in_err-source-clause-stopped : goal.returns-in_err-source-clause-stopped
 returns-in_err-source-clause-stopped g c =
@@ -30,73 +33,36 @@ returns-in_err-text-clause-stopped g c =
     let stop = c.in_err-text.field-0.0 in
     handed_on c.from_residual-in_err-text.result stop (LoadStops command old new) c.from_residual-in_err-text.ensures.1
     (no_text first.read.bytes first.read.file (OnlyReads-trans first.only c.in_err-text.ensures.only)
-    (stops_before old mid new first.only first.counted command.text text_limit stop c.in_err-text.ensures.stopped))
+    (stops_before old mid new first.only first.counted Text command.text text_limit stop c.in_err-text.ensures.stopped))
 
--- the source is refused, and both files were read
-pub returns-in_err-program-clause-stopped : goal.returns-in_err-program-clause-stopped
-returns-in_err-program-clause-stopped g c =
-    let command = check_read c.args.command.now in
-    let old = g.H.Host.state c.args.host.now in
-    let mid = g.H.Host.state c.read_source.new.host in
-    let new = g.H.Host.state c.read_text.new.host in
+-- both files were read
+reads : (g : Over) (c : After-loaded_of g) → Reads (check_read c.args.command.now) (g.H.Host.state c.args.host.now) (g.H.Host.state c.read_text.new.host) c.in_ok-source.ensures.read.bytes c.in_ok-text.ensures.read.bytes
+reads g c =
     let first = c.in_ok-source.ensures in
     let second = c.in_ok-text.ensures in
-    let stop = c.in_err-program.field-0.0 in
-    let reads = both_read command old mid new first.read.bytes second.read.bytes first.only first.counted first.read.file second.only second.counted second.read.file in
-    handed_on c.from_residual-in_err-program.result stop (LoadStops command old new) c.from_residual-in_err-program.ensures.1
-    (refused first.read.bytes second.read.bytes reads (subst (SourceGives (reading_of command.zilog) first.read.bytes command.top) c.in_err-program.was first.read.gives))
-
--- a line of the text is refused
-pub returns-in_err-lines-clause-stopped : goal.returns-in_err-lines-clause-stopped
-returns-in_err-lines-clause-stopped g c =
-    let command = check_read c.args.command.now in
-    let old = g.H.Host.state c.args.host.now in
-    let mid = g.H.Host.state c.read_source.new.host in
-    let new = g.H.Host.state c.read_text.new.host in
-    let first = c.in_ok-source.ensures in
-    let second = c.in_ok-text.ensures in
-    let stop = c.in_err-lines.field-0.0 in
-    let reads = both_read command old mid new first.read.bytes second.read.bytes first.only first.counted first.read.file second.only second.counted second.read.file in
-    handed_on c.from_residual-in_err-lines.result stop (LoadStops command old new) c.from_residual-in_err-lines.ensures.1
-    (lines_stop command old new first.read.bytes second.read.bytes reads c.in_ok-program.program (subst (SourceGives (reading_of command.zilog) first.read.bytes command.top) c.in_ok-program.was first.read.gives) stop
-    (subst (BytesGiveLines second.read.bytes) c.in_err-lines.was second.read.gives))
-
--- its lines have no image
-pub returns-in_err-loaded-clause-stopped : goal.returns-in_err-loaded-clause-stopped
-returns-in_err-loaded-clause-stopped g c =
-    let command = check_read c.args.command.now in
-    let old = g.H.Host.state c.args.host.now in
-    let mid = g.H.Host.state c.read_source.new.host in
-    let new = g.H.Host.state c.read_text.new.host in
-    let first = c.in_ok-source.ensures in
-    let second = c.in_ok-text.ensures in
-    let stop = c.in_err-loaded.field-0.0 in
-    let reads = both_read command old mid new first.read.bytes second.read.bytes first.only first.counted first.read.file second.only second.counted second.read.file in
-    handed_on c.from_residual-in_err-loaded.result stop (LoadStops command old new) c.from_residual-in_err-loaded.ensures.1
-    (image_stop command old new first.read.bytes second.read.bytes reads c.in_ok-program.program (subst (SourceGives (reading_of command.zilog) first.read.bytes command.top) c.in_ok-program.was first.read.gives)
-    c.in_ok-lines.lines.items (subst (BytesGiveLines second.read.bytes) c.in_ok-lines.was second.read.gives) stop c.in_err-loaded.ensures.stopped)
+    both_read (check_read c.args.command.now) (g.H.Host.state c.args.host.now) (g.H.Host.state c.read_source.new.host) (g.H.Host.state c.read_text.new.host) first.read.bytes second.read.bytes first.only first.counted first.read.file second.only second.counted second.read.file
 
 pub returns-clause-loaded : goal.returns-clause-loaded
 returns-clause-loaded g c =
-    let command = check_read c.args.command.now in
-    let old = g.H.Host.state c.args.host.now in
-    let mid = g.H.Host.state c.read_source.new.host in
-    let new = g.H.Host.state c.read_text.new.host in
-    let first = c.in_ok-source.ensures in
-    let second = c.in_ok-text.ensures in
-    let lines = c.in_ok-lines.lines.items in
-    let text = c.in_ok-loaded.ensures in
-    subst (Loads command old new c.in_ok-program.program) (sym text.lines)
-    (record {
-      source = first.read.bytes;
-      text = second.read.bytes;
-      reads = both_read command old mid new first.read.bytes second.read.bytes first.only first.counted first.read.file second.only second.counted second.read.file;
-      is_source = subst (SourceGives (reading_of command.zilog) first.read.bytes command.top) c.in_ok-program.was first.read.gives;
-      gives = subst (BytesGiveLines second.read.bytes) c.in_ok-lines.was second.read.gives;
-      stands = subst (HasOneImage lines) text.image.made.is text.image;
-    })
+    let first = c.in_ok-source.ensures.read in
+    let second = c.in_ok-text.ensures.read in
+    IfOk-weaker c.loaded_of.result _ _
+    (loads (check_read c.args.command.now) (g.H.Host.state c.args.host.now) (g.H.Host.state c.read_text.new.host) c.in_ok-source.source c.in_ok-text.text first.bytes second.bytes (reads g c) first.gives second.gives)
+    c.loaded_of.ensures.loaded
 
 pub returns-clause-image : goal.returns-clause-image
-returns-clause-image g c =
-    let text = c.in_ok-loaded.ensures in
-    subst (λ (l : List Line86). IsImage l c.in_ok-loaded.loaded.image) (sym text.lines) text.image.made
+returns-clause-image g c = IfOk-weaker c.loaded_of.result _ _ (λ l h. subst (λ (ls : List Line86). IsImage ls l.text.image) (sym h.same) h.image.made) c.loaded_of.ensures.loaded
+
+pub returns-clause-few : goal.returns-clause-few
+returns-clause-few g c =
+    IfOk-weaker c.loaded_of.result _ _
+    (λ l h. subst (λ (ls : List Line86). length ls < 2 ^ 28) (sym h.same) (subst (λ t. IfOk t (λ lines. length lines.items < 2 ^ 28)) h.gives c.in_ok-text.ensures.few))
+    c.loaded_of.ensures.loaded
+
+pub returns-clause-stopped : goal.returns-clause-stopped
+returns-clause-stopped g c =
+    let first = c.in_ok-source.ensures.read in
+    let second = c.in_ok-text.ensures.read in
+    IfErr-weaker c.loaded_of.result _ _
+    (load_stop (check_read c.args.command.now) (g.H.Host.state c.args.host.now) (g.H.Host.state c.read_text.new.host) c.in_ok-source.source c.in_ok-text.text first.bytes second.bytes (reads g c) first.gives second.gives)
+    c.loaded_of.ensures.stopped

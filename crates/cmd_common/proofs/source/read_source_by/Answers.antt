@@ -1,5 +1,6 @@
 use Rattle.std.proofs.lemmas.Result.{err_from_is_err_and, IfOk-from_err}
 use Rattle.host.proofs.HostLemmas.{OnlyReads-refl}
+use Rattle.cmd_common.specs.declared.names.InputFile.TheVariants.{First}
 use Rattle.cmd_common.specs.Files.{ReadStops, no_memory, input_limit}
 use Rattle.cmd_common.proofs.Told.{handed_on}
 use Rattle.cmd_common.proofs.source.read_source_by.Goals as goal
@@ -29,5 +30,5 @@ returns-in_err-new-clause-only g c = OnlyReads-refl (g.H.Host.state c.args.host.
 -- the file was not read
 pub returns-in_err-read_named_into-clause-stopped : goal.returns-in_err-read_named_into-clause-stopped
 returns-in_err-read_named_into-clause-stopped g c =
-    let stops = ReadStops c.args.name.now input_limit (g.H.Host.state c.args.host.now) (g.H.Host.state c.read_named_into.new.host) in
+    let stops = ReadStops First c.args.name.now input_limit (g.H.Host.state c.args.host.now) (g.H.Host.state c.read_named_into.new.host) in
     handed_on c.from_residual-in_err-read_named_into.result c.in_err-read_named_into.field-0.0 stops c.from_residual-in_err-read_named_into.ensures.1 c.in_err-read_named_into.ensures.stopped

@@ -47,5 +47,5 @@ returns-in_err-new-clause-only g c = OnlyReads-refl (g.H.Host.state c.args.host.
 -- the file was not read
 pub returns-in_err-read_named_into-clause-stopped : goal.returns-in_err-read_named_into-clause-stopped
 returns-in_err-read_named_into-clause-stopped g c =
-    let stops = ReadStops c.args.name.now text_limit (g.H.Host.state c.args.host.now) (g.H.Host.state c.read_named_into.new.host) in
+    let stops = ReadStops c.args.file c.args.name.now text_limit (g.H.Host.state c.args.host.now) (g.H.Host.state c.read_named_into.new.host) in
     handed_on c.from_residual-in_err-read_named_into.result c.in_err-read_named_into.field-0.0 stops c.from_residual-in_err-read_named_into.ensures.1 c.in_err-read_named_into.ensures.stopped

@@ -1,14 +1,20 @@
-use Rattle.std.proofs.Common.{List, sym, subst, arith}
+use Rattle.std.proofs.Common.{ℕ, ◌-◌, ◌<◌, ◌≤◌, ◌∙◌, List, length, ap, sym, subst, arith}
 use Rattle.i86.specs.Decode.{HasReader}
 use Rattle.asm86_line_types.specs.declared.line.Line86.{Line86}
+use Rattle.asm86_line_types.specs.Layout.{sizes_of}
 use Rattle.asm86_line_types.specs.Image.{Image, statements}
 use Rattle.sym_block_def.specs.Sorts.{StatementsAreCoded}
 use Rattle.simulation_def.specs.Matches.{DataAreCoded}
 use Rattle.cmd_common.specs.declared.stop.Stop.TheVariants.{OutOfMemory}
+use Rattle.cmd_common.specs.Lines.{shrunk_line}
 use Rattle.cmd_common.proofs.Told.{handed_on}
 use Rattle.cmd_shrink.specs.Shrinks.{LeftStops, IsLeft, no_memory}
 use Rattle.cmd_shrink.proofs.Left.{left_stops}
 use Rattle.cmd_shrink.proofs.leaving.left_of.Goals as goal
+
+-- what is left is no more than what there was
+few_lines : (n m : ℕ) → n ≤ m → m ≤ 2048 → n < 0x10000000
+few_lines n m fewer few = omega arith
 
 pub returns-in_err-left-clause-stopped : goal.returns-in_err-left-clause-stopped
 returns-in_err-left-clause-stopped c =
@@ -26,8 +32,7 @@ of-requires-clause-order c = ((c.shrunk_is_left.ensures.left c.args.program.now 
 pub of-requires-clause-few : goal.of-requires-clause-few
 of-requires-clause-few c =
     let fewer = (c.shrunk_is_left.ensures.left c.args.program.now c.args.lines.now c.in_ok-left.left.items c.in_ok-left.ensures).fewer in
-    let few = c.requires.few in
-    omega (arith, fewer, few)
+    few_lines _ _ fewer c.requires.few
 
 pub returns-in_err-text-clause-stopped : goal.returns-in_err-text-clause-stopped
 returns-in_err-text-clause-stopped c =
@@ -65,3 +70,17 @@ returns-clause-left c =
           (subst (λ (ls : List Line86). DataAreCoded (statements ls)) c.as_slice.ensures.value c.lines_are_coded.ensures.data)
           (l.shown blocks finding);
     })
+
+pub code_size-code-requires : goal.code_size-code-requires
+code_size-code-requires c =
+    let fewer = (c.shrunk_is_left.ensures.left c.args.program.now c.args.lines.now c.in_ok-left.left.items c.in_ok-left.ensures).fewer in
+    subst (λ (ls : List Line86). length ls < 0x10000000) (sym c.as_slice-2.ensures.value) (few_lines _ _ fewer c.requires.few)
+
+pub returns-clause-line : goal.returns-clause-line
+returns-clause-line c =
+    let lines = c.args.lines.now in
+    let left = c.in_ok-text.text.lines.items in
+    let same = sym c.in_ok-text.ensures.lines in
+    c.in_ok-line.ensures
+    ∙ ap (λ n. shrunk_line (length lines - n) c.code_size-code.result) (c.len.ensures ∙ sym c.as_slice-2.ensures.len ∙ ap length (c.as_slice-2.ensures.value ∙ same))
+    ∙ ap (λ n. shrunk_line (length lines - length left) n) (c.code_size-code.ensures.value ∙ ap (λ (ls : List Line86). sizes_of (statements ls)) (c.as_slice-2.ensures.value ∙ same))

@@ -1,6 +1,7 @@
 use Rattle.std.proofs.Common.{ℕ, List, length, ◌<◌, ◌∙◌, sym, subst}
 use Rattle.std.specs.String.{string_bytes}
 use Rattle.cmd_common.specs.Said.{IsDone}
+use Rattle.cmd_common.proofs.Said.{named}
 use Rattle.cmd_shrink.specs.Shrinks.{shrunk, stopped}
 use Rattle.cmd_shrink.proofs.Left.{line_some}
 use Rattle.cmd_shrink.proofs.shrinking.carry_out.Goals as goal
@@ -17,4 +18,4 @@ returns-in-Ok g c =
     shrunk mid (string_bytes c.in-Ok.line) c.in-Ok.ensures.worked (subst (λ l. IsDone l mid new c.say_done.result) c.as_str.ensures.value c.say_done.ensures)
 
 pub returns-in-Err : goal.returns-in-Err
-returns-in-Err g c = stopped (g.H.Host.state c.work.new.host) c.in-Err.stop c.in-Err.ensures.stopped c.say_stop.ensures
+returns-in-Err g c = stopped (g.H.Host.state c.work.new.host) c.in-Err.stop c.in-Err.ensures.stopped (named c.two.ensures c.say_stop.ensures)

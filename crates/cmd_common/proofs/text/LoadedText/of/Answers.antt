@@ -11,7 +11,7 @@ returns-in-Ok-clause-image c = record {
   reader = subst HasReader c.code.ensures.value c.bytes_have_one_reader.ensures;
 }
 
-pub returns-clause-stopped : goal.returns-clause-stopped
-returns-clause-stopped c =
+pub returns-in-Err-clause-stopped : goal.returns-in-Err-clause-stopped
+returns-in-Err-clause-stopped c =
     subst (λ (l : List Line86). ImageStops l c.stop_of_image.result) c.as_slice.ensures.value
     (record { fault = c.in-Err.fault; refused = c.in-Err.ensures.answer; is = c.stop_of_image.ensures })
