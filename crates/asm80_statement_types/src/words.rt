@@ -6,69 +6,66 @@ ghost use Rattle.std.specs.Str.{bytes_eq};
 ghost use Rattle.asm80_statement_types.specs.Words.{are_by_letter, is_operation, is_register};
 
 /// Words by their first letters: those with A, those with B, and so on.
-pub type WordsByLetter<'a> = [&'a [&'a [u8]]; 26];
+pub type WordsByLetter<'a> = [&'a [&'a str]; 26];
 
 /// The 8080's operations and the directives.
 static OPERATIONS: WordsByLetter<'static> = [
-    &[b"ADD", b"ADC", b"ANA", b"ADI", b"ACI", b"ANI"],
+    &["ADD", "ADC", "ANA", "ADI", "ACI", "ANI"],
     &[],
     &[
-        b"CMP", b"CPI", b"CMA", b"CMC", b"CALL", b"CNZ", b"CZ", b"CNC", b"CC", b"CPO", b"CPE",
-        b"CP", b"CM",
+        "CMP", "CPI", "CMA", "CMC", "CALL", "CNZ", "CZ", "CNC", "CC", "CPO", "CPE", "CP", "CM",
     ],
-    &[b"DCR", b"DCX", b"DAD", b"DAA", b"DI", b"DB", b"DW", b"DS"],
-    &[b"EI", b"END", b"EQU", b"ENDIF"],
+    &["DCR", "DCX", "DAD", "DAA", "DI", "DB", "DW", "DS"],
+    &["EI", "END", "EQU", "ENDIF"],
     &[],
     &[],
-    &[b"HLT"],
-    &[b"INR", b"INX", b"IN", b"IF"],
-    &[
-        b"JMP", b"JNZ", b"JZ", b"JNC", b"JC", b"JPO", b"JPE", b"JP", b"JM",
-    ],
+    &["HLT"],
+    &["INR", "INX", "IN", "IF"],
+    &["JMP", "JNZ", "JZ", "JNC", "JC", "JPO", "JPE", "JP", "JM"],
     &[],
-    &[b"LXI", b"LDA", b"LHLD", b"LDAX"],
-    &[b"MOV", b"MVI"],
-    &[b"NOP"],
-    &[b"ORA", b"ORI", b"OUT", b"ORG"],
-    &[b"PCHL", b"PUSH", b"POP"],
+    &["LXI", "LDA", "LHLD", "LDAX"],
+    &["MOV", "MVI"],
+    &["NOP"],
+    &["ORA", "ORI", "OUT", "ORG"],
+    &["PCHL", "PUSH", "POP"],
     &[],
     &[
-        b"RLC", b"RRC", b"RAL", b"RAR", b"RET", b"RNZ", b"RZ", b"RNC", b"RC", b"RPO", b"RPE",
-        b"RP", b"RM", b"RST",
+        "RLC", "RRC", "RAL", "RAR", "RET", "RNZ", "RZ", "RNC", "RC", "RPO", "RPE", "RP", "RM",
+        "RST",
     ],
     &[
-        b"STA", b"SHLD", b"STAX", b"SPHL", b"SUB", b"SBB", b"SUI", b"SBI", b"STC", b"SET",
+        "STA", "SHLD", "STAX", "SPHL", "SUB", "SBB", "SUI", "SBI", "STC", "SET",
     ],
     &[],
     &[],
     &[],
     &[],
-    &[b"XCHG", b"XTHL", b"XRA", b"XRI"],
+    &["XCHG", "XTHL", "XRA", "XRI"],
     &[],
     &[],
 ];
 
 /// The names of registers and register pairs, and of the memory operand.
 static REGISTERS: WordsByLetter<'static> = [
-    &[b"A"],
-    &[b"B"],
-    &[b"C"],
-    &[b"D"],
-    &[b"E"],
+    &["A"],
+    &["B"],
+    &["C"],
+    &["D"],
+    &["E"],
     &[],
     &[],
-    &[b"H"],
+    &["H"],
     &[],
     &[],
     &[],
-    &[b"L"],
-    &[b"M"],
+    &["L"],
+    &["M"],
     &[],
     &[],
-    &[b"PSW"],
+    &["PSW"],
     &[],
     &[],
-    &[b"SP"],
+    &["SP"],
     &[],
     &[],
     &[],
@@ -106,8 +103,8 @@ pub fn is_listed(lists: &WordsByLetter<'_>, name: &[u8]) -> bool
     }
 }
 
-fn is_among(words: &[&[u8]], name: &[u8]) -> bool
+fn is_among(words: &[&str], name: &[u8]) -> bool
     ensures { result ≡ list_any (λ word. bytes_eq word.now name.now) words.now }
 {
-    words.iter().any(|word| *word == name)
+    words.iter().any(|word| word.as_bytes() == name)
 }

@@ -6,23 +6,20 @@ ghost use Rattle.asm80_tokens.specs.declared.fault.ParseFault.TheVariants as par
 
 use asm80_statement_types::LineRule;
 use std::alloc::{AllocError, AllocFailed};
-use thiserror::Error;
 
 /// Why there is no token.
-#[derive(Clone, Copy, Debug, PartialEq, Eq, Drop, Error)]
+#[derive(Clone, Copy, Drop)]
 pub enum ScanFault {
-    #[error("{0:?}")]
+    /// A rule that the bytes break.
     Rule(LineRule),
-    #[error("out of memory")]
     Memory,
 }
 
 /// Why there is no expression or no statement.
-#[derive(Clone, Copy, Debug, PartialEq, Eq, Drop, Error)]
+#[derive(Clone, Copy, Drop)]
 pub enum ParseFault {
-    #[error("the tokens form none")]
+    /// The tokens form none.
     Malformed,
-    #[error("out of memory")]
     Memory,
 }
 

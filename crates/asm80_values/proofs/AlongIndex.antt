@@ -1,5 +1,5 @@
 -- Along the second walk, by the index of the next row.
-use Rattle.std.proofs.Common.{◌≡◌, ℕ, ◌+◌, suc, Bool, ◌<◌, ◌≤◌, length, List, [], ◌∷◌, ◌++◌, drop, get_or, map, filter, Option, Ok, Err, sym, ap, subst, ◌∙◌, add-one, append-nil, drop-cons, drop_of_length-le}
+use Rattle.std.proofs.Common.{◌≡◌, ℕ, ◌+◌, suc, Bool, ◌<◌, ◌≤◌, length, List, [], ◌∷◌, ◌++◌, drop, get_or, map, filter, Ok, Err, sym, ap, subst, ◌∙◌, add-one, append-nil, drop-cons, drop_of_length-le}
 use Rattle.std.specs.Option.{option_to_list}
 use Rattle.asm80_statement_types.specs.declared.stmt.Stmt80.{Stmt80}
 use Rattle.asm80_statement_types.specs.Tree.{statement_of}
@@ -14,7 +14,7 @@ use Rattle.asm80_source_def.specs.Operands.{second_fault}
 use Rattle.asm80_source_def.specs.Items.{fills_cells, item_rows as rows_that_fill, starts_in}
 use Rattle.asm80_values.specs.declared.item.Item.{Item}
 use Rattle.asm80_values.specs.Items.{AreItems}
-use Rattle.asm80_values.specs.Second.{seen_in, names_set, GivesItem, AreItemsOf, AreRefused}
+use Rattle.asm80_values.specs.Second.{AddsItem, AreItemsOf, AreRefused}
 use Rattle.asm80_values.proofs.Along.{Along, along_step, along_fault}
 
 stands_within : (statements : List Stmt80) (t : Taken) (ts : List Taken) (left : List WalkRow) → Stand statements (t ∷ ts) left → t.statement < length statements
@@ -40,22 +40,24 @@ module _
   same : (r : WalkRow) → StandsForRow statements (get_or ts i d) r → statement_of s ≡ r.statement
   same r stands = ap statement_of is ∙ stands.statement s
 
-  pub index_step :
-      (o : Option Item) (next : List Name)
-      → ((statements : List Stmt80) (r : WalkRow) → StandsForRow statements (get_or ts i d) r → statement_of s ≡ r.statement → GivesItem (seen_in names flags r) r (Ok o))
-      → ((statements : List Stmt80) (r : WalkRow) → StandsForRow statements (get_or ts i d) r → statement_of s ≡ r.statement → next ≡ names_set r names)
-      → Along statements (drop (i + 1) ts) next (found ++ option_to_list o)
-  index_step o next item set =
-      let Rest : ℕ → Type 0 = λ k. Along statements (drop k ts) next (found ++ option_to_list o) in
-      subst Rest (sym (add-one i))
-      (along_step statements (get_or ts i d) (drop (suc i) ts) names flags starts found o next here (λ r stands. item statements r stands (same r stands)) (λ r stands. set statements r stands (same r stands)))
+  -- the rows that it may stand for
+  abbrev Is : WalkRow → Type 0
+  Is r = (others : List Stmt80) × StandsForRow others (get_or ts i d) r × (statement_of s ≡ r.statement)
 
-  pub index_fault :
-      (fault : AsmFault)
-      → ((statements : List Stmt80) (r : WalkRow) → StandsForRow statements (get_or ts i d) r → statement_of s ≡ r.statement → GivesItem (seen_in names flags r) r (Err fault))
-      → AreRefused statements fault
-  index_fault (Refused line rule) item = along_fault statements (get_or ts i d) (drop (suc i) ts) names flags starts found line rule here (λ r stands. item statements r stands (same r stands))
-  index_fault Memory item = tt
+  is_row : (r : WalkRow) → StandsForRow statements (get_or ts i d) r → Is r
+  is_row r stands = (statements, stands, same r stands)
+
+  pub index_step :
+      (next : List Name) (more : List Item) → AddsItem Is names flags found next more (Ok tt)
+      → Along statements (drop (i + 1) ts) next more
+  index_step next more added =
+      let Rest : ℕ → List Item → Type 0 = λ k items. Along statements (drop k ts) next items in
+      let step = along_step statements (get_or ts i d) (drop (suc i) ts) names flags starts found added.0 next here (λ r stands. added.2 r (is_row r stands)) (λ r stands. added.3 r (is_row r stands)) in
+      subst (λ (items : List Item). Rest (i + 1) items) (sym added.1) (subst (λ (k : ℕ). Rest k (found ++ option_to_list added.0)) (sym (add-one i)) step)
+
+  pub index_fault : (fault : AsmFault) (next : List Name) (more : List Item) → AddsItem Is names flags found next more (Err fault) → AreRefused statements fault
+  index_fault (Refused line rule) next more item = along_fault statements (get_or ts i d) (drop (suc i) ts) names flags starts found line rule here (λ r stands. item r (is_row r stands))
+  index_fault Memory next more item = tt
 
 -- ---- at the end
 

@@ -1,8 +1,8 @@
 -- What the second walk gives, by the definitions.
-use Rattle.std.specs.Prelude.{◌≡◌, ℕ, ◌^◌, ◌<◌, ◌||◌, Bool, true, false, cond, List, map, filter, Option, Some, None, Result, Ok, Err}
+use Rattle.std.specs.Prelude.{◌≡◌, ℕ, ◌^◌, ◌<◌, ◌||◌, Bool, true, false, ◌++◌, cond, List, map, filter, option_to_list, Option, Some, None, Result, Ok, Err}
 use Rattle.asm80_statement_types.specs.declared.stmt.Stmt80.{Stmt80}
 use Rattle.asm80_statement_types.specs.Tree.{statement_of}
-use Rattle.base_types.specs.Addresses.{has_address}
+use Rattle.base_types.specs.Addresses.{has_address, IsSetOf}
 use Rattle.asm80_values.specs.declared.fault.FormFault.{FormFault}
 use Rattle.asm80_values.specs.declared.fault.FormFault.TheVariants.{Rule, Memory as NoRoom}
 use Rattle.asm80_first_walk.specs.declared.walked.Taken.{Taken}
@@ -12,8 +12,9 @@ use Rattle.asm80_source_def.specs.declared.operation.Operation.{Operation}
 use Rattle.asm80_source_def.specs.declared.operation.Operation.TheVariants.{Set}
 use Rattle.asm80_source_def.specs.Names.{Name, defined}
 use Rattle.asm80_source_def.specs.Walk.{WalkRow, rows, walked, meaning_in, row_is_taken, row_operation, size_of_statement, definition}
+use Rattle.asm80_source_def.specs.FirstFaults.{first_fault}
 use Rattle.asm80_source_def.specs.Operands.{rule_of_operands, second_fault}
-use Rattle.asm80_source_def.specs.Items.{Setting, address, is_instruction_op, is_data_op, item_rows}
+use Rattle.asm80_source_def.specs.Items.{Setting, address, is_instruction_op, is_data_op, item_rows, starts_in}
 use Rattle.asm80_values.specs.declared.item.Item.{Item}
 use Rattle.asm80_values.specs.Items.{IsFormBy, AreItems}
 
@@ -64,6 +65,16 @@ set_by r names o label = names
 abbrev pub names_set : WalkRow → List Name → List Name
 names_set r names = set_by r names (row_operation r) r.statement.label
 
+-- The item of a row, if it has one, is added, and the name of a SET set again; or the row is refused. The row is of those that
+-- are told.
+abbrev pub AddsItem : (WalkRow → Type 0) → List Name → List Bool → List Item → List Name → List Item → Result (Unit {0}) AsmFault → Type 0
+AddsItem Is names starts items names' items' (Ok done) =
+    (o : Option Item)
+    × (items' ≡ items ++ option_to_list o)
+    × ((r : WalkRow) → Is r → GivesItem (seen_in names starts r) r (Ok o))
+    × ((r : WalkRow) → Is r → names' ≡ names_set r names)
+AddsItem Is names starts items names' items' (Err fault) = (r : WalkRow) → Is r → GivesItem (seen_in names starts r) r (Err fault)
+
 -- ---- all rows
 
 abbrev pub AreItemsOf : List Stmt80 → List Item → Type 0
@@ -75,3 +86,9 @@ abbrev pub AreRefused : List Stmt80 → AsmFault → Type 0
 AreRefused statements (Refused line rule) =
     second_fault (walked (map statement_of statements)) (rows (map statement_of statements)) ≡ Some (line, rule)
 AreRefused statements Memory = Unit {0}
+
+-- neither walk finds a fault in the statements, and these are their items and the addresses at which instructions start
+pub record AreFound (statements : List Stmt80) (items : List Item) (starts : List Bool) : Type 0 where
+  pub accepted : first_fault (rows (map statement_of statements)) (walked (map statement_of statements)) ≡ None
+  pub are_items : AreItemsOf statements items
+  pub are_starts : IsSetOf starts (starts_in (rows (map statement_of statements)))

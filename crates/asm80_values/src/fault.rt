@@ -3,15 +3,12 @@ ghost use Rattle.std.specs.Prelude.{◌≡◌};
 
 use asm80_source_def::AsmRule;
 use std::alloc::{AllocError, AllocFailed};
-use thiserror::Error;
 
 /// Why operands are refused.
-#[derive(Clone, Copy, Debug, PartialEq, Eq, Drop, Error)]
+#[derive(Clone, Copy, Drop)]
 pub enum FormFault {
     /// The first rule that they break, in the order V5, V1, V4, V3.
-    #[error("{0:?}")]
     Rule(AsmRule),
-    #[error("out of memory")]
     Memory,
 }
 

@@ -4,6 +4,7 @@ ghost use Rattle.asm80_statement_types.specs.Tree.{operand_of};
 ghost use Rattle.asm80_program_types.specs.Program.{IsCoded};
 ghost use Rattle.asm80_values.specs.Settings.{setting_of};
 ghost use Rattle.asm80_source_def.specs.Items.{goal, instruction, word_of};
+ghost use Rattle.asm80_values.specs.Instructions.{register_instruction};
 
 use crate::registers::{indirect_of, pair_of, src_of, stack_of};
 use crate::setting::{Setting, byte, code_address, value};
@@ -75,6 +76,26 @@ fn bare(setting: &Setting<'_>, operation: Operation) -> Option<Instr80>
     }
 }
 
+// An instruction with one operand, which is a register or a pair.
+fn with_register(operation: Operation, arg: &Arg) -> Option<Instr80>
+    ensures instr { result ≡ register_instruction operation (operand_of arg.now) }
+    ensures coded { IfSome result (λ x. IsCoded x) }
+{
+    match operation {
+        Operation::Ldax => Some(Instr80::Ldax(indirect_of(arg)?)),
+        Operation::Stax => Some(Instr80::Stax(indirect_of(arg)?)),
+        Operation::Alu(op) => Some(Instr80::Alu(op, src_of(arg)?)),
+        Operation::Inr => Some(Instr80::Inr(src_of(arg)?)),
+        Operation::Dcr => Some(Instr80::Dcr(src_of(arg)?)),
+        Operation::Inx => Some(Instr80::Inx(pair_of(arg)?)),
+        Operation::Dcx => Some(Instr80::Dcx(pair_of(arg)?)),
+        Operation::Dad => Some(Instr80::Dad(pair_of(arg)?)),
+        Operation::Push => Some(Instr80::Push(stack_of(arg)?)),
+        Operation::Pop => Some(Instr80::Pop(stack_of(arg)?)),
+        _ => None,
+    }
+}
+
 // An instruction with one operand.
 fn with_one(setting: &Setting<'_>, operation: Operation, arg: &Arg) -> Option<Instr80>
     ensures instr { result ≡ instruction (setting_of setting.now) operation (operand_of arg.now ∷ []) }
@@ -85,17 +106,7 @@ fn with_one(setting: &Setting<'_>, operation: Operation, arg: &Arg) -> Option<In
         Operation::Sta => Some(Instr80::Sta(value(setting, arg))),
         Operation::Lhld => Some(Instr80::Lhld(value(setting, arg))),
         Operation::Shld => Some(Instr80::Shld(value(setting, arg))),
-        Operation::Ldax => Some(Instr80::Ldax(indirect_of(arg)?)),
-        Operation::Stax => Some(Instr80::Stax(indirect_of(arg)?)),
-        Operation::Alu(op) => Some(Instr80::Alu(op, src_of(arg)?)),
         Operation::AluI(op) => Some(Instr80::AluI(op, byte(setting, arg))),
-        Operation::Inr => Some(Instr80::Inr(src_of(arg)?)),
-        Operation::Dcr => Some(Instr80::Dcr(src_of(arg)?)),
-        Operation::Inx => Some(Instr80::Inx(pair_of(arg)?)),
-        Operation::Dcx => Some(Instr80::Dcx(pair_of(arg)?)),
-        Operation::Dad => Some(Instr80::Dad(pair_of(arg)?)),
-        Operation::Push => Some(Instr80::Push(stack_of(arg)?)),
-        Operation::Pop => Some(Instr80::Pop(stack_of(arg)?)),
         Operation::Jmp => Some(Instr80::Jmp(goal(value(setting, arg)))),
         Operation::Jif(cond) => Some(Instr80::Jif(cond, goal(value(setting, arg)))),
         Operation::Call => Some(Instr80::Call(goal(value(setting, arg)))),
@@ -103,7 +114,7 @@ fn with_one(setting: &Setting<'_>, operation: Operation, arg: &Arg) -> Option<In
         Operation::In => Some(Instr80::In(byte(setting, arg))),
         Operation::Out => Some(Instr80::Out(byte(setting, arg))),
         Operation::Rst => restart(value(setting, arg)),
-        _ => None,
+        _ => with_register(operation, arg),
     }
 }
 

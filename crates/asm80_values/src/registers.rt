@@ -29,68 +29,50 @@ fn name_alone(e: &Expr) -> Option<&[u8]>
 fn src_named(name: &[u8]) -> Option<Src>
     ensures { result ≡ src_named name.now }
 {
-    if name == b"A".as_slice() {
-        Some(Src::Reg(Reg::A))
-    } else if name == b"B".as_slice() {
-        Some(Src::Reg(Reg::B))
-    } else if name == b"C".as_slice() {
-        Some(Src::Reg(Reg::C))
-    } else if name == b"D".as_slice() {
-        Some(Src::Reg(Reg::D))
-    } else if name == b"E".as_slice() {
-        Some(Src::Reg(Reg::E))
-    } else if name == b"H".as_slice() {
-        Some(Src::Reg(Reg::H))
-    } else if name == b"L".as_slice() {
-        Some(Src::Reg(Reg::L))
-    } else if name == b"M".as_slice() {
-        Some(Src::Mem)
-    } else {
-        None
+    match name {
+        b"A" => Some(Src::Reg(Reg::A)),
+        b"B" => Some(Src::Reg(Reg::B)),
+        b"C" => Some(Src::Reg(Reg::C)),
+        b"D" => Some(Src::Reg(Reg::D)),
+        b"E" => Some(Src::Reg(Reg::E)),
+        b"H" => Some(Src::Reg(Reg::H)),
+        b"L" => Some(Src::Reg(Reg::L)),
+        b"M" => Some(Src::Mem),
+        _ => None,
     }
 }
 
 fn pair_named(name: &[u8]) -> Option<Pair>
     ensures { result ≡ pair_named name.now }
 {
-    if name == b"B".as_slice() {
-        Some(Pair::B)
-    } else if name == b"D".as_slice() {
-        Some(Pair::D)
-    } else if name == b"H".as_slice() {
-        Some(Pair::H)
-    } else if name == b"SP".as_slice() {
-        Some(Pair::Sp)
-    } else {
-        None
+    match name {
+        b"B" => Some(Pair::B),
+        b"D" => Some(Pair::D),
+        b"H" => Some(Pair::H),
+        b"SP" => Some(Pair::Sp),
+        _ => None,
     }
 }
 
 fn indirect_named(name: &[u8]) -> Option<Pair>
     ensures { result ≡ indirect_named name.now }
 {
-    if name == b"B".as_slice() {
-        Some(Pair::B)
-    } else if name == b"D".as_slice() {
-        Some(Pair::D)
-    } else {
-        None
+    match name {
+        b"B" => Some(Pair::B),
+        b"D" => Some(Pair::D),
+        _ => None,
     }
 }
 
 fn stack_named(name: &[u8]) -> Option<StackPair>
     ensures { result ≡ stack_named name.now }
 {
-    if name == b"B".as_slice() {
-        Some(StackPair::B)
-    } else if name == b"D".as_slice() {
-        Some(StackPair::D)
-    } else if name == b"H".as_slice() {
-        Some(StackPair::H)
-    } else if name == b"PSW".as_slice() {
-        Some(StackPair::Psw)
-    } else {
-        None
+    match name {
+        b"B" => Some(StackPair::B),
+        b"D" => Some(StackPair::D),
+        b"H" => Some(StackPair::H),
+        b"PSW" => Some(StackPair::Psw),
+        _ => None,
     }
 }
 

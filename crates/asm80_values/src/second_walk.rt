@@ -7,7 +7,7 @@ ghost use Rattle.asm80_values.specs.Forms.{IsForm};
 ghost use Rattle.asm80_first_walk.specs.Walked.{IsRowOf as StandsForRow, Stand, IsWalked};
 ghost use Rattle.asm80_source_def.specs.Walk.{WalkRow, row_operation, size_by, rows};
 ghost use Rattle.asm80_source_def.specs.Items.{Setting as Seen, address, is_instruction_op, starts_in};
-ghost use Rattle.asm80_values.specs.Second.{taken_rows, start_of_row, seen_in, names_set, fault_on, IsItemOf, GivesItem, AreItemsOf, AreRefused};
+ghost use Rattle.asm80_values.specs.Second.{taken_rows, start_of_row, seen_in, names_set, fault_on, IsItemOf, GivesItem, AddsItem, AreItemsOf, AreRefused};
 
 use crate::item::Item;
 use crate::{Form, FormFault, Setting, form_of, kinds_of};
@@ -118,6 +118,24 @@ fn set_again(names: &mut Names, statement: &Stmt80, row: &Taken) -> Result<(), A
     }
 }
 
+// Adds the item of a row that is taken, if it has one, and sets the name of a SET again.
+fn add_item(
+    alloc: Global,
+    statement: &Stmt80,
+    row: &Taken,
+    names: &mut Names,
+    starts: &AddressSet,
+    items: &mut Vec<Item>,
+) -> Result<(), AsmFault>
+    ensures { AddsItem (λ r. (statements : List Stmt80) × StandsForRow statements row.now r × (statement_of statement.now ≡ r.statement)) names.old starts.now items.old.items names.new items.new.items result }
+{
+    if let Some(item) = item_of(alloc, statement, row, names, starts)? {
+        items.push(item)?;
+    }
+    set_again(names, statement, row)?;
+    Ok(())
+}
+
 /// The items of the rows that are taken, or the first fault of their operands.
 pub fn items_of(
     alloc: Global,
@@ -134,10 +152,7 @@ pub fn items_of(
     let mut items = Vec::new(alloc);
     for row in &rows {
         let statement = &statements[row.statement];
-        if let Some(item) = item_of(alloc, statement, row, &names, starts)? {
-            items.push(item)?;
-        }
-        set_again(&mut names, statement, row)?;
+        add_item(alloc, statement, row, &mut names, starts, &mut items)?;
     }
     Ok(items)
 }

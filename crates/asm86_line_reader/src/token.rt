@@ -4,7 +4,7 @@ use asm86_line_types::Label;
 use i86::{AluOp, Count, Jump, Ptr, Reg8, Reg16, Rotate};
 
 /// A word that begins a statement: the operation of an instruction, or a directive.
-#[derive(Clone, Copy, PartialEq, Eq)]
+#[derive(Clone, Copy)]
 pub enum Operation {
     Mov,
     /// `ADD` and the like
@@ -42,7 +42,7 @@ pub enum Operation {
 }
 
 /// A word, a number or a sign.
-#[derive(Clone, Copy, PartialEq, Eq)]
+#[derive(Clone, Copy)]
 pub enum Token {
     Operation(Operation),
     Reg8(Reg8),
@@ -69,7 +69,7 @@ pub enum Token {
 }
 
 /// An operand.
-#[derive(Clone, Copy, PartialEq, Eq)]
+#[derive(Clone, Copy)]
 pub enum Operand {
     Reg8(Reg8),
     Reg16(Reg16),

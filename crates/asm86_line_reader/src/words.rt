@@ -12,110 +12,110 @@ use asm86_line_types::Label;
 use i86::{AluOp, Count, Jump, Reg8, Reg16, Rotate};
 
 /// Words and their tokens.
-type Words<'a> = &'a [(&'a [u8], Token)];
+type Words<'a> = &'a [(&'a str, Token)];
 
 /// The words of instructions, directives and operands, and the labels without a number, by the letter that they begin with, from A on.
 static WORDS: [Words<'static>; 26] = [
     &[
-        (b"ADD", Token::Operation(Operation::Alu(AluOp::Add))),
-        (b"ADC", Token::Operation(Operation::Alu(AluOp::Adc))),
-        (b"AND", Token::Operation(Operation::Alu(AluOp::And))),
-        (b"AL", Token::Reg8(Reg8::Al)),
-        (b"AH", Token::Reg8(Reg8::Ah)),
-        (b"AX", Token::Reg16(Reg16::Ax)),
+        ("ADD", Token::Operation(Operation::Alu(AluOp::Add))),
+        ("ADC", Token::Operation(Operation::Alu(AluOp::Adc))),
+        ("AND", Token::Operation(Operation::Alu(AluOp::And))),
+        ("AL", Token::Reg8(Reg8::Al)),
+        ("AH", Token::Reg8(Reg8::Ah)),
+        ("AX", Token::Reg16(Reg16::Ax)),
     ],
     &[
-        (b"BL", Token::Reg8(Reg8::Bl)),
-        (b"BH", Token::Reg8(Reg8::Bh)),
-        (b"BX", Token::Reg16(Reg16::Bx)),
-        (b"BYTE", Token::Byte),
+        ("BL", Token::Reg8(Reg8::Bl)),
+        ("BH", Token::Reg8(Reg8::Bh)),
+        ("BX", Token::Reg16(Reg16::Bx)),
+        ("BYTE", Token::Byte),
     ],
     &[
-        (b"CMP", Token::Operation(Operation::Alu(AluOp::Cmp))),
-        (b"CMC", Token::Operation(Operation::Cmc)),
-        (b"CALL", Token::Operation(Operation::Call)),
-        (b"CSEG", Token::Operation(Operation::Cseg)),
-        (b"CL", Token::Reg8(Reg8::Cl)),
-        (b"CH", Token::Reg8(Reg8::Ch)),
-        (b"CX", Token::Reg16(Reg16::Cx)),
+        ("CMP", Token::Operation(Operation::Alu(AluOp::Cmp))),
+        ("CMC", Token::Operation(Operation::Cmc)),
+        ("CALL", Token::Operation(Operation::Call)),
+        ("CSEG", Token::Operation(Operation::Cseg)),
+        ("CL", Token::Reg8(Reg8::Cl)),
+        ("CH", Token::Reg8(Reg8::Ch)),
+        ("CX", Token::Reg16(Reg16::Cx)),
     ],
     &[
-        (b"DEC", Token::Operation(Operation::Count(Count::Dec))),
-        (b"DAA", Token::Operation(Operation::Daa)),
-        (b"DSEG", Token::Operation(Operation::Dseg)),
-        (b"DB", Token::Operation(Operation::Db)),
-        (b"DW", Token::Operation(Operation::Dw)),
-        (b"DL", Token::Reg8(Reg8::Dl)),
-        (b"DH", Token::Reg8(Reg8::Dh)),
-        (b"DX", Token::Reg16(Reg16::Dx)),
-        (b"DS", Token::Ds),
+        ("DEC", Token::Operation(Operation::Count(Count::Dec))),
+        ("DAA", Token::Operation(Operation::Daa)),
+        ("DSEG", Token::Operation(Operation::Dseg)),
+        ("DB", Token::Operation(Operation::Db)),
+        ("DW", Token::Operation(Operation::Dw)),
+        ("DL", Token::Reg8(Reg8::Dl)),
+        ("DH", Token::Reg8(Reg8::Dh)),
+        ("DX", Token::Reg16(Reg16::Dx)),
+        ("DS", Token::Ds),
     ],
-    &[(b"END", Token::Operation(Operation::End))],
+    &[("END", Token::Operation(Operation::End))],
     &[],
     &[],
     &[],
     &[
-        (b"INC", Token::Operation(Operation::Count(Count::Inc))),
-        (b"INT", Token::Operation(Operation::Int)),
-        (b"IN", Token::Operation(Operation::In)),
+        ("INC", Token::Operation(Operation::Count(Count::Inc))),
+        ("INT", Token::Operation(Operation::Int)),
+        ("IN", Token::Operation(Operation::In)),
     ],
     &[
-        (b"JB", Token::Operation(Operation::Jcc(Jump::Jb))),
-        (b"JNB", Token::Operation(Operation::Jcc(Jump::Jnb))),
-        (b"JZ", Token::Operation(Operation::Jcc(Jump::Jz))),
-        (b"JNZ", Token::Operation(Operation::Jcc(Jump::Jnz))),
-        (b"JS", Token::Operation(Operation::Jcc(Jump::Js))),
-        (b"JNS", Token::Operation(Operation::Jcc(Jump::Jns))),
-        (b"JP", Token::Operation(Operation::Jcc(Jump::Jp))),
-        (b"JNP", Token::Operation(Operation::Jcc(Jump::Jnp))),
-        (b"JMP", Token::Operation(Operation::Jmp)),
-        (b"JMPS", Token::Operation(Operation::Jmps)),
-    ],
-    &[],
-    &[(b"LAHF", Token::Operation(Operation::Lahf))],
-    &[(b"MOV", Token::Operation(Operation::Mov))],
-    &[
-        (b"NOT", Token::Operation(Operation::Not)),
-        (b"NOP", Token::Operation(Operation::Nop)),
-    ],
-    &[
-        (b"OR", Token::Operation(Operation::Alu(AluOp::Or))),
-        (b"OUT", Token::Operation(Operation::Out)),
-        (b"ORG", Token::Operation(Operation::Org)),
-        (b"OFFSET", Token::Offset),
-    ],
-    &[
-        (b"PUSH", Token::Operation(Operation::Push)),
-        (b"POP", Token::Operation(Operation::Pop)),
-        (b"PTR", Token::Ptr),
+        ("JB", Token::Operation(Operation::Jcc(Jump::Jb))),
+        ("JNB", Token::Operation(Operation::Jcc(Jump::Jnb))),
+        ("JZ", Token::Operation(Operation::Jcc(Jump::Jz))),
+        ("JNZ", Token::Operation(Operation::Jcc(Jump::Jnz))),
+        ("JS", Token::Operation(Operation::Jcc(Jump::Js))),
+        ("JNS", Token::Operation(Operation::Jcc(Jump::Jns))),
+        ("JP", Token::Operation(Operation::Jcc(Jump::Jp))),
+        ("JNP", Token::Operation(Operation::Jcc(Jump::Jnp))),
+        ("JMP", Token::Operation(Operation::Jmp)),
+        ("JMPS", Token::Operation(Operation::Jmps)),
     ],
     &[],
+    &[("LAHF", Token::Operation(Operation::Lahf))],
+    &[("MOV", Token::Operation(Operation::Mov))],
     &[
-        (b"ROL", Token::Operation(Operation::Rotate(Rotate::Rol))),
-        (b"ROR", Token::Operation(Operation::Rotate(Rotate::Ror))),
-        (b"RCL", Token::Operation(Operation::Rotate(Rotate::Rcl))),
-        (b"RCR", Token::Operation(Operation::Rotate(Rotate::Rcr))),
-        (b"RET", Token::Operation(Operation::Ret)),
-        (b"RB", Token::Operation(Operation::Rb)),
+        ("NOT", Token::Operation(Operation::Not)),
+        ("NOP", Token::Operation(Operation::Nop)),
     ],
     &[
-        (b"SBB", Token::Operation(Operation::Alu(AluOp::Sbb))),
-        (b"SUB", Token::Operation(Operation::Alu(AluOp::Sub))),
-        (b"SAHF", Token::Operation(Operation::Sahf)),
-        (b"STC", Token::Operation(Operation::Stc)),
-        (b"SP", Token::Reg16(Reg16::Sp)),
-        (b"SI", Token::Reg16(Reg16::Si)),
-        (b"SS", Token::Ss),
+        ("OR", Token::Operation(Operation::Alu(AluOp::Or))),
+        ("OUT", Token::Operation(Operation::Out)),
+        ("ORG", Token::Operation(Operation::Org)),
+        ("OFFSET", Token::Offset),
+    ],
+    &[
+        ("PUSH", Token::Operation(Operation::Push)),
+        ("POP", Token::Operation(Operation::Pop)),
+        ("PTR", Token::Ptr),
+    ],
+    &[],
+    &[
+        ("ROL", Token::Operation(Operation::Rotate(Rotate::Rol))),
+        ("ROR", Token::Operation(Operation::Rotate(Rotate::Ror))),
+        ("RCL", Token::Operation(Operation::Rotate(Rotate::Rcl))),
+        ("RCR", Token::Operation(Operation::Rotate(Rotate::Rcr))),
+        ("RET", Token::Operation(Operation::Ret)),
+        ("RB", Token::Operation(Operation::Rb)),
+    ],
+    &[
+        ("SBB", Token::Operation(Operation::Alu(AluOp::Sbb))),
+        ("SUB", Token::Operation(Operation::Alu(AluOp::Sub))),
+        ("SAHF", Token::Operation(Operation::Sahf)),
+        ("STC", Token::Operation(Operation::Stc)),
+        ("SP", Token::Reg16(Reg16::Sp)),
+        ("SI", Token::Reg16(Reg16::Si)),
+        ("SS", Token::Ss),
     ],
     &[],
     &[],
     &[],
-    &[(b"WORD", Token::Word)],
+    &[("WORD", Token::Word)],
     &[
-        (b"XOR", Token::Operation(Operation::Alu(AluOp::Xor))),
-        (b"XCHG", Token::Operation(Operation::Xchg)),
-        (b"X_SYS", Token::Label(Label::Sys)),
-        (b"X_END", Token::Label(Label::End)),
+        ("XOR", Token::Operation(Operation::Alu(AluOp::Xor))),
+        ("XCHG", Token::Operation(Operation::Xchg)),
+        ("X_SYS", Token::Label(Label::Sys)),
+        ("X_END", Token::Label(Label::End)),
     ],
     &[],
     &[],
@@ -161,7 +161,7 @@ fn listed_in(lists: &[Words<'_>], word: &[u8]) -> Option<Token>
     look(lists.get(usize::from(letter - b'A'))?, word)
 }
 
-fn look(table: &[(&[u8], Token)], word: &[u8]) -> Option<Token>
+fn look(table: &[(&str, Token)], word: &[u8]) -> Option<Token>
     ensures { result ≡ word_in_table (map (λ e. (e.0.now, e.1)) table.now) word.now }
 {
     match entry(table, word) {
@@ -170,10 +170,10 @@ fn look(table: &[(&[u8], Token)], word: &[u8]) -> Option<Token>
     }
 }
 
-fn entry<'a>(table: &'a [(&'a [u8], Token)], word: &[u8]) -> Option<&'a (&'a [u8], Token)>
+fn entry<'a>(table: &'a [(&'a str, Token)], word: &[u8]) -> Option<&'a (&'a str, Token)>
     ensures { option_map (λ e. e.now) result ≡ find (λ e. bytes_eq e.0.now word.now) table.now }
 {
-    table.iter().find(|e| e.0 == word)
+    table.iter().find(|e| e.0.as_bytes() == word)
 }
 
 // The label that L, K or U with four hexadecimal digits is.

@@ -1,0 +1,21 @@
+-- The instructions whose one operand is a register or a pair.
+use Rattle.std.specs.Prelude.{Option, None, option_map}
+use Rattle.i80.specs.declared.Instr80.{Instr80}
+use Rattle.i80.specs.declared.Instr80.TheVariants as i80
+use Rattle.asm80_statement_types.specs.Tree.{Operand}
+use Rattle.asm80_source_def.specs.declared.operation.Operation.{Operation}
+use Rattle.asm80_source_def.specs.declared.operation.Operation.TheVariants as op
+use Rattle.asm80_source_def.specs.Operands.{src_of, pair_of_operand, indirect_of, stack_of}
+
+abbrev pub register_instruction : Operation → Operand → Option Instr80
+register_instruction op.Ldax a = option_map i80.Ldax (indirect_of a)
+register_instruction op.Stax a = option_map i80.Stax (indirect_of a)
+register_instruction (op.Alu o) a = option_map (i80.Alu o) (src_of a)
+register_instruction op.Inr a = option_map i80.Inr (src_of a)
+register_instruction op.Dcr a = option_map i80.Dcr (src_of a)
+register_instruction op.Inx a = option_map i80.Inx (pair_of_operand a)
+register_instruction op.Dcx a = option_map i80.Dcx (pair_of_operand a)
+register_instruction op.Dad a = option_map i80.Dad (pair_of_operand a)
+register_instruction op.Push a = option_map i80.Push (stack_of a)
+register_instruction op.Pop a = option_map i80.Pop (stack_of a)
+register_instruction o a = None
