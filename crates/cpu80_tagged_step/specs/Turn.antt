@@ -25,11 +25,6 @@ returns_in (Err r) = Err r
 abbrev pub shape_at : Program → State80 → Bool → Result Shape Rule
 shape_at p s is_popped = shape_of (num_of s.regs.c) (num_of s.regs.d) (num_of s.regs.e) s.dma (seen_by_tagged p s is_popped)
 
--- a goto that passes, or is refused
-abbrev pub gone : Result (Unit {0}) Rule → State80 → Answer State80 Rule
-gone (Ok u) t = Ran t
-gone (Err r) t = Stops r
-
 -- what a question asks: the system, by the shape of the call that the state would make, or a port
 abbrev pub answer_of_question : Program → State80 → Bool → Question → Answer State80 Rule
 answer_of_question p s is_popped System = ask p s is_popped (shape_at p s is_popped)

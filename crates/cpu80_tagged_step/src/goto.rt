@@ -23,21 +23,23 @@ pub fn place_named(area: &Area, high: Cell, low: Cell) -> Result<Place, Rule>
 impl Draft<'_> {
     ghost use Rattle.cpu80_tagged_def.specs.Effect.{known};
     ghost use Rattle.cells.specs.Conditions.{holds};
+    ghost use Rattle.cpu80_tagged_def.specs.State.{State80};
     ghost use Rattle.cpu80_tagged_def.specs.Call.{popped_return, return_after};
     ghost use Rattle.cpu80_tagged_def.specs.Step.{go_to, go_back, leave_to, jump, call, where_holds};
     ghost use Rattle.cpu80_tagged_step.specs.Draft.{IsFresh, state_of_draft};
-    ghost use Rattle.cpu80_tagged_step.specs.Turn.{IsAsking, AsksNothing, answer_of_turn, gone, returns_in};
+    ghost use Rattle.cpu80_tagged_step.specs.Turn.{IsAsking, AsksNothing, answer_of_turn, returns_in};
 
     /// Goes on to an instruction: P1 where none starts there.
-    pub fn go_to(&mut self, area: &Area, at: u16) -> Result<(), Rule>
-        ensures state { gone result (state_of_draft self.new) ≡ go_to area.now.program.now (state_of_draft self.old) at }
+    pub(crate) fn go_to(&mut self, area: &Area, at: u16) -> Result<Turn, Rule>
+        ensures answer { (before : State80) → answer_of_turn area.now.program.now before result (state_of_draft self.new) ≡ go_to area.now.program.now (state_of_draft self.old) at }
+        ensures nothing_asked { AsksNothing result }
         ensures memory { self.new.memory.now ≡ self.old.memory.now }
     {
         if !area.is_start(at) {
             return Err(Rule::P1);
         }
         self.place = Place::At(at);
-        Ok(())
+        Ok(Turn::Ran)
     }
 
     /// Goes to a place that cells named; the place of the end ends the program.
@@ -103,19 +105,17 @@ impl Draft<'_> {
         ensures memory { self.new.memory.now ≡ self.old.memory.now }
     {
         match goal {
-            Goal::At(at) => {
-                self.go_to(area, at)?;
-                Ok(Turn::Ran)
-            }
+            Goal::At(at) => self.go_to(area, at),
             Goal::Boot => Ok(Turn::Ended),
             Goal::Bdos => self.call_system(area, self.popped_return(area)),
         }
     }
 
     // CALL of an instruction: pushes the code address of the place after it, which has to be an instruction.
-    fn enter(&mut self, area: &Area, at: u16, after: u16) -> Result<(), Rule>
+    fn enter(&mut self, area: &Area, at: u16, after: u16) -> Result<Turn, Rule>
         requires { IsFresh self.old }
-        ensures state { gone result (state_of_draft self.new) ≡ call area.now.program.now (state_of_draft self.old) after (Goal.At at) }
+        ensures answer { answer_of_turn area.now.program.now (state_of_draft self.old) result (state_of_draft self.new) ≡ call area.now.program.now (state_of_draft self.old) after (Goal.At at) }
+        ensures nothing_asked { AsksNothing result }
         ensures memory { self.new.memory.now ≡ self.old.memory.now }
     {
         let place = Place::At(after);
@@ -140,10 +140,7 @@ impl Draft<'_> {
         ensures memory { self.new.memory.now ≡ self.old.memory.now }
     {
         match goal {
-            Goal::At(at) => {
-                self.enter(area, at, after)?;
-                Ok(Turn::Ran)
-            }
+            Goal::At(at) => self.enter(area, at, after),
             Goal::Boot => Ok(Turn::Ended),
             Goal::Bdos => self.call_system(area, self.return_after(area, after)),
         }
@@ -166,8 +163,7 @@ impl Draft<'_> {
         if self.condition(cond)? {
             return self.jump(area, goal);
         }
-        self.go_to(area, after)?;
-        Ok(Turn::Ran)
+        self.go_to(area, after)
     }
 
     /// A conditional call.
@@ -180,8 +176,7 @@ impl Draft<'_> {
         if self.condition(cond)? {
             return self.call(area, goal, after);
         }
-        self.go_to(area, after)?;
-        Ok(Turn::Ran)
+        self.go_to(area, after)
     }
 
     /// A conditional return.
@@ -194,7 +189,6 @@ impl Draft<'_> {
         if self.condition(cond)? {
             return self.go_back(area);
         }
-        self.go_to(area, after)?;
-        Ok(Turn::Ran)
+        self.go_to(area, after)
     }
 }

@@ -23,8 +23,7 @@ impl Draft<'_> {
         ensures memory { self.new.memory.now ≡ self.old.memory.now }
     {
         self.effect(area, instr)?;
-        self.go_to(area, after)?;
-        Ok(Turn::Ran)
+        self.go_to(area, after)
     }
 
     // The instruction at an address.

@@ -17,7 +17,7 @@ use parts::{
 };
 
 /// A register.
-#[derive(Clone, Copy, PartialEq, Eq)]
+#[derive(Clone, Copy)]
 pub enum Reg {
     A,
     B,
@@ -29,14 +29,14 @@ pub enum Reg {
 }
 
 /// A byte operand: a register, or M, the cell at the address in HL.
-#[derive(Clone, Copy, PartialEq, Eq)]
+#[derive(Clone, Copy)]
 pub enum Src {
     Reg(Reg),
     Mem,
 }
 
 /// A register pair: BC, DE, HL or SP.
-#[derive(Clone, Copy, PartialEq, Eq)]
+#[derive(Clone, Copy)]
 pub enum Pair {
     B,
     D,
@@ -45,7 +45,7 @@ pub enum Pair {
 }
 
 /// A pair that PUSH and POP take: BC, DE, HL or A with the flags.
-#[derive(Clone, Copy, PartialEq, Eq)]
+#[derive(Clone, Copy)]
 pub enum StackPair {
     B,
     D,
@@ -54,7 +54,7 @@ pub enum StackPair {
 }
 
 /// An operation on A.
-#[derive(Clone, Copy, PartialEq, Eq)]
+#[derive(Clone, Copy)]
 pub enum Op {
     Add,
     Adc,
@@ -76,14 +76,14 @@ impl Op {
 }
 
 /// The operand of LXI: a number, or the code address of an instruction.
-#[derive(Clone, Copy, PartialEq, Eq)]
+#[derive(Clone, Copy)]
 pub enum Word {
     Num(u16),
     Code(u16),
 }
 
 /// The target of a jump or call: an instruction's address, 0 (the system's warm start) or 5 (the BDOS).
-#[derive(Clone, Copy, PartialEq, Eq)]
+#[derive(Clone, Copy)]
 pub enum Goal {
     At(u16),
     Boot,

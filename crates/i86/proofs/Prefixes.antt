@@ -19,7 +19,7 @@ has_front : (front rest : List ℕ) → HasBytes (front ++ rest) 0 front
 has_front [] rest = tt
 has_front (b ∷ front) rest = (refl, behind b (front ++ rest) 0 front (has_front front rest))
 
-has_itself : (bytes : List ℕ) → HasBytes bytes 0 bytes
+pub has_itself : (bytes : List ℕ) → HasBytes bytes 0 bytes
 has_itself [] = tt
 has_itself (b ∷ bytes) = (refl, behind b bytes 0 bytes (has_itself bytes))
 

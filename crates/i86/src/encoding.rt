@@ -1,5 +1,10 @@
 // From instructions to bytes.
 ghost use Rattle.std.specs.Prelude.{◌≡◌, ℕ, ◌+◌, ◌*◌, ◌/◌, ◌%◌, ◌≤◌, ◌<◌, List, [], ◌∷◌, length, take};
+ghost use Rattle.std.specs.Cmp.{partial_equiv_from_equiv};
+ghost use Rattle.std.specs.Cmp.Lexicographic.{nat_list_eq_equiv};
+ghost use Rattle.std.proofs.lemmas.Cmp.{on_equiv};
+ghost use Rattle.std.specs.Ordering.{on};
+ghost use Rattle.std.specs.Str.{bytes_eq};
 ghost use Rattle.i86.specs.Enc86.{enc86, code8, code16, code_of_ptr, code_of_alu, code_of_count, code_of_rotate, code_of_jump, reg_of_stack, with_operand, two, one, word_then};
 ghost use Rattle.i86.specs.Decode.{IsPrefixFree};
 
@@ -121,6 +126,21 @@ pub fn encode(i: Instr86) -> Code
         Instr86::InAl(port) => Code::of_two(0xE4, port),
         Instr86::OutAl(port) => Code::of_two(0xE6, port),
     }
+}
+
+// (two instructions are the same where their bytes are: `encodings_are_prefix_free`)
+impl PartialEq for Instr86 {
+    ghost eq = { on enc86 bytes_eq };
+
+    ghost laws = { partial_equiv_from_equiv (on_equiv enc86 nat_list_eq_equiv) };
+
+    fn eq(&self, other: &Instr86) -> bool {
+        encode(*self).bytes() == encode(*other).bytes()
+    }
+}
+
+impl Eq for Instr86 {
+    ghost laws = { on_equiv enc86 nat_list_eq_equiv };
 }
 
 // MOV of a word register from a register or from memory.

@@ -37,7 +37,7 @@ pub enum Reg16 {
 }
 
 /// A word register that PUSH and POP take: SP is none.
-#[derive(Clone, Copy, PartialEq, Eq)]
+#[derive(Clone, Copy)]
 pub enum StackReg {
     Ax,
     Cx,
@@ -54,14 +54,14 @@ pub enum Ptr {
 }
 
 /// A byte operand: a register, or a byte in memory.
-#[derive(Clone, Copy, PartialEq, Eq)]
+#[derive(Clone, Copy)]
 pub enum Operand8 {
     Reg(Reg8),
     Mem(Ptr),
 }
 
 /// A word operand: a register, or the word at a direct address, `WORD PTR .a`.
-#[derive(Clone, Copy, PartialEq, Eq)]
+#[derive(Clone, Copy)]
 pub enum Operand16 {
     Reg(Reg16),
     Direct(u16),
@@ -111,7 +111,7 @@ pub enum Jump {
 
 /// An instruction. A displacement is the field's byte or word, counted from the next instruction modulo 65,536; a byte is
 /// signed, so that 0FAH goes back by 6.
-#[derive(Clone, Copy, PartialEq, Eq)]
+#[derive(Clone, Copy)]
 pub enum Instr86 {
     /// `MOV r8,r8` and `MOV r8,BYTE PTR [p]`
     MovReg8(Reg8, Operand8),

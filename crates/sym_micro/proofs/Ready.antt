@@ -22,7 +22,7 @@ use Rattle.sym_micro.specs.declared.micro.FlagSlot.TheVariants.{S, Z, Ac, P, Cy}
 use Rattle.sym_micro.specs.declared.micro.WordSlot.{WordSlot}
 use Rattle.sym_micro.specs.declared.micro.WordSlot.TheVariants.{V, W, X}
 use Rattle.sym_micro.specs.Machine.{Machine, byte_in, with_byte, word_in, with_word, with_flag}
-use Rattle.sym_micro.specs.Stands.{id_of_reg, id_of_byte, run_with_reg, run_with_byte, run_with_word, run_with_flag, trees_of_held, tree_of_action, trees_of_actions, machine_of, HeldIsGiven, ActionIsGiven, ActionsAreGiven, RunIsGiven, IsResult, IsTurned, IsSorted, IsReady, GoesOn, Gives, Runs}
+use Rattle.sym_micro.specs.Stands.{id_of_reg, id_of_byte, id_of_word, run_with_reg, run_with_byte, run_with_word, run_with_flag, trees_of_held, tree_of_action, trees_of_actions, machine_of, HeldIsGiven, ActionIsGiven, ActionsAreGiven, RunIsGiven, IsResult, IsTurned, IsSorted, IsReady, GoesOn, Gives, Runs}
 use Rattle.sym_micro.proofs.Sorted.{byte_sorted, with_byte_sorted, with_word_sorted, with_flag_sorted, with_result_sorted, with_turned_sorted}
 
 module _ (old new : Contents) (n : ℕ) (g : PoolGrows old new n) where
@@ -561,6 +561,35 @@ byte_later old new n r slot t g h e =
 
 pub byte_tree_here : (pool : Contents) (r : Run) (slot : ByteSlot) (t : TermId) → t ≡ id_of_byte r slot → tree_in pool t ≡ byte_in (machine_of pool r) slot
 byte_tree_here pool r slot t e = ap (tree_in pool) e ∙ byte_tree pool r slot
+
+-- so it is with the id of a word
+word_id_given : (pool : Contents) (r : Run) (slot : WordSlot) → RunIsGiven pool r → IsGiven pool (id_of_word r slot)
+word_id_given pool r V h = h.v
+word_id_given pool r W h = h.w
+word_id_given pool r X h = h.x
+
+word_sorted : (m : Machine) (slot : WordSlot) → IsSorted m → IsMadeAs is_word (word_in m slot)
+word_sorted m V h = h.v
+word_sorted m W h = h.w
+word_sorted m X h = h.x
+
+word_tree : (pool : Contents) (r : Run) (slot : WordSlot) → tree_in pool (id_of_word r slot) ≡ word_in (machine_of pool r) slot
+word_tree pool r V = refl
+word_tree pool r W = refl
+word_tree pool r X = refl
+
+pub word_here : (pool : Contents) (r : Run) (slot : WordSlot) (t : TermId) → IsReady pool r → t ≡ id_of_word r slot → IsA is_word pool t
+word_here pool r slot t h e = record {
+  given = subst (IsGiven pool) (sym e) (word_id_given pool r slot h.given);
+  of_sort = ap (λ x. is_word (tree_in pool x)) e ∙ ap is_word (word_tree pool r slot) ∙ (word_sorted (machine_of pool r) slot h.sorted).1;
+}
+
+pub word_tree_here : (pool : Contents) (r : Run) (slot : WordSlot) (t : TermId) → t ≡ id_of_word r slot → tree_in pool t ≡ word_in (machine_of pool r) slot
+word_tree_here pool r slot t e = ap (tree_in pool) e ∙ word_tree pool r slot
+
+-- a term that is given need not be made
+pub made_already : (pool : Contents) (tree : Term) (t : TermId) → AreTerms pool → IsGiven pool t → tree_in pool t ≡ tree → Makes pool pool 1 tree (Some t)
+made_already pool tree t h given is = record { grows = more pool pool 0 1 (omega arith) (still pool); gives = (given, is); room = λ _. refl; terms = h }
 
 -- a maker of a term makes an equal one
 pub makes_same : (old new : Contents) (x y : Term) (made : Option TermId) → x ≡ y → Makes old new 1 x made → Makes old new 1 y made

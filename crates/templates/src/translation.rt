@@ -8,10 +8,9 @@ use asm80_program_types::Program80;
 use asm86_line_types::{Line86, code_size};
 use flow::Graph;
 use std::alloc::{AllocError, Global};
-use thiserror::Error;
 
 /// How a program is written.
-#[derive(Clone, Copy, PartialEq, Eq)]
+#[derive(Clone, Copy)]
 pub enum Mode {
     /// Each instruction by its template with a save of the flags, without an analysis.
     Plain,
@@ -20,12 +19,11 @@ pub enum Mode {
 }
 
 /// Why a program has no text.
-#[derive(Clone, Copy, Debug, PartialEq, Eq, Drop, Error)]
+#[derive(Clone, Copy)]
 pub enum CoreFault {
     /// The code has this number of bytes, above 65,535.
-    #[error("the code has {0} bytes")]
     CodeTooLarge(u32),
-    #[error("out of memory")]
+    /// There is no memory for the text.
     Memory,
 }
 

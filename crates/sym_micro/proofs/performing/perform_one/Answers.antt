@@ -1,61 +1,82 @@
 -- What each arm calls ensures it of the arm's micro-operation, which saves a long search.
-use Rattle.std.proofs.Common.{◌≡◌, subst, sym}
+use Rattle.std.proofs.Common.{◌≡◌, ap, ap₂, subst, sym, Option}
+use Rattle.xlt_pool.specs.Contents.{Contents}
+use Rattle.sym_block_def.specs.Outcome.{Action, Load8, Load16, Store8, Store16}
 use Rattle.sym_micro.specs.declared.micro.Micro.{Micro}
-use Rattle.sym_micro.specs.Machine.{micro, weight, moves}
+use Rattle.sym_micro.specs.declared.run.Run.{Run}
+use Rattle.sym_micro.specs.Machine.{Machine, micro, weight, moves, loads_at, stores_at}
 use Rattle.sym_micro.specs.Stands.{machine_of, GoesOn}
+use Rattle.sym_micro.proofs.Ready.{byte_tree_here, word_tree_here}
 use Rattle.sym_micro.proofs.performing.perform_one.Goals as goal
 
+of_arm : {step arm : Micro} (old new : Contents) (r s : Run) (made : Option (Unit {0})) → step ≡ arm → GoesOn old new r s (weight arm) (moves arm) (λ m. m ≡ micro (machine_of old r) arm) made → GoesOn old new r s (weight step) (moves step) (λ m. m ≡ micro (machine_of old r) step) made
+of_arm old new r s made is h = subst (λ (k : Micro). GoesOn old new r s (weight k) (moves k) (λ m. m ≡ micro (machine_of old r) k) made) (sym is) h
+
+-- the action of the ids is that of their trees
+by_trees : (after : Machine → Action → Machine) {x y : Action} (old : Contents) (r s : Run) (made : Option (Unit {0})) → x ≡ y → GoesOn old old r s 0 1 (λ m. m ≡ after (machine_of old r) x) made → GoesOn old old r s 0 1 (λ m. m ≡ after (machine_of old r) y) made
+by_trees after old r s made same h = subst (λ a. GoesOn old old r s 0 1 (λ m. m ≡ after (machine_of old r) a) made) same h
+
 pub returns-in-Byte : goal.returns-in-Byte
-returns-in-Byte c =
-    subst (λ (step : Micro). GoesOn c.args.terms.now c.give_byte.new.terms c.args.run.now c.give_byte.new.run (weight step) (moves step) (λ m. m ≡ micro (machine_of c.args.terms.now c.args.run.now) step) c.give_byte.result)
-    (sym c.in-Byte.is) c.give_byte.ensures
+returns-in-Byte c = of_arm c.args.terms.now c.give_byte.new.terms c.args.run.now c.give_byte.new.run c.give_byte.result c.in-Byte.is c.give_byte.ensures
 
 pub returns-in-Word : goal.returns-in-Word
-returns-in-Word c =
-    subst (λ (step : Micro). GoesOn c.args.terms.now c.give_word.new.terms c.args.run.now c.give_word.new.run (weight step) (moves step) (λ m. m ≡ micro (machine_of c.args.terms.now c.args.run.now) step) c.give_word.result)
-    (sym c.in-Word.is) c.give_word.ensures
+returns-in-Word c = of_arm c.args.terms.now c.give_word.new.terms c.args.run.now c.give_word.new.run c.give_word.result c.in-Word.is c.give_word.ensures
 
 pub returns-in-Flag : goal.returns-in-Flag
-returns-in-Flag c =
-    subst (λ (step : Micro). GoesOn c.args.terms.now c.give_flag.new.terms c.args.run.now c.give_flag.new.run (weight step) (moves step) (λ m. m ≡ micro (machine_of c.args.terms.now c.args.run.now) step) c.give_flag.result)
-    (sym c.in-Flag.is) c.give_flag.ensures
+returns-in-Flag c = of_arm c.args.terms.now c.give_flag.new.terms c.args.run.now c.give_flag.new.run c.give_flag.result c.in-Flag.is c.give_flag.ensures
 
 pub returns-in-Flags : goal.returns-in-Flags
-returns-in-Flags c =
-    subst (λ (step : Micro). GoesOn c.args.terms.now c.give_flags.new.terms c.args.run.now c.give_flags.new.run (weight step) (moves step) (λ m. m ≡ micro (machine_of c.args.terms.now c.args.run.now) step) c.give_flags.result)
-    (sym c.in-Flags.is) c.give_flags.ensures
+returns-in-Flags c = of_arm c.args.terms.now c.give_flags.new.terms c.args.run.now c.give_flags.new.run c.give_flags.result c.in-Flags.is c.give_flags.ensures
 
 pub returns-in-Put : goal.returns-in-Put
-returns-in-Put c =
-    subst (λ (step : Micro). GoesOn c.args.terms.now c.put.new.terms c.args.run.now c.put.new.run (weight step) (moves step) (λ m. m ≡ micro (machine_of c.args.terms.now c.args.run.now) step) c.put.result)
-    (sym c.in-Put.is) c.put.ensures
+returns-in-Put c = of_arm c.args.terms.now c.put.new.terms c.args.run.now c.put.new.run c.put.result c.in-Put.is c.put.ensures
 
 pub returns-in-Sum : goal.returns-in-Sum
-returns-in-Sum c =
-    subst (λ (step : Micro). GoesOn c.args.terms.now c.give_sum.new.terms c.args.run.now c.give_sum.new.run (weight step) (moves step) (λ m. m ≡ micro (machine_of c.args.terms.now c.args.run.now) step) c.give_sum.result)
-    (sym c.in-Sum.is) c.give_sum.ensures
+returns-in-Sum c = of_arm c.args.terms.now c.give_sum.new.terms c.args.run.now c.give_sum.new.run c.give_sum.result c.in-Sum.is c.give_sum.ensures
 
 pub returns-in-FlagByte : goal.returns-in-FlagByte
-returns-in-FlagByte c =
-    subst (λ (step : Micro). GoesOn c.args.terms.now c.give_flag_byte.new.terms c.args.run.now c.give_flag_byte.new.run (weight step) (moves step) (λ m. m ≡ micro (machine_of c.args.terms.now c.args.run.now) step) c.give_flag_byte.result)
-    (sym c.in-FlagByte.is) c.give_flag_byte.ensures
+returns-in-FlagByte c = of_arm c.args.terms.now c.give_flag_byte.new.terms c.args.run.now c.give_flag_byte.new.run c.give_flag_byte.result c.in-FlagByte.is c.give_flag_byte.ensures
 
 pub returns-in-Complement : goal.returns-in-Complement
-returns-in-Complement c =
-    subst (λ (step : Micro). GoesOn c.args.terms.now c.complement.new.terms c.args.run.now c.complement.new.run (weight step) (moves step) (λ m. m ≡ micro (machine_of c.args.terms.now c.args.run.now) step) c.complement.result)
-    (sym c.in-Complement.is) c.complement.ensures
+returns-in-Complement c = of_arm c.args.terms.now c.complement.new.terms c.args.run.now c.complement.new.run c.complement.result c.in-Complement.is c.complement.ensures
 
 pub returns-in-Operate : goal.returns-in-Operate
-returns-in-Operate c =
-    subst (λ (step : Micro). GoesOn c.args.terms.now c.operate.new.terms c.args.run.now c.operate.new.run (weight step) (moves step) (λ m. m ≡ micro (machine_of c.args.terms.now c.args.run.now) step) c.operate.result)
-    (sym c.in-Operate.is) c.operate.ensures
+returns-in-Operate c = of_arm c.args.terms.now c.operate.new.terms c.args.run.now c.operate.new.run c.operate.result c.in-Operate.is c.operate.ensures
 
 pub returns-in-Adjust : goal.returns-in-Adjust
-returns-in-Adjust c =
-    subst (λ (step : Micro). GoesOn c.args.terms.now c.adjust.new.terms c.args.run.now c.adjust.new.run (weight step) (moves step) (λ m. m ≡ micro (machine_of c.args.terms.now c.args.run.now) step) c.adjust.result)
-    (sym c.in-Adjust.is) c.adjust.ensures
+returns-in-Adjust c = of_arm c.args.terms.now c.adjust.new.terms c.args.run.now c.adjust.new.run c.adjust.result c.in-Adjust.is c.adjust.ensures
 
 pub returns-in-Turn : goal.returns-in-Turn
-returns-in-Turn c =
-    subst (λ (step : Micro). GoesOn c.args.terms.now c.turn.new.terms c.args.run.now c.turn.new.run (weight step) (moves step) (λ m. m ≡ micro (machine_of c.args.terms.now c.args.run.now) step) c.turn.result)
-    (sym c.in-Turn.is) c.turn.ensures
+returns-in-Turn c = of_arm c.args.terms.now c.turn.new.terms c.args.run.now c.turn.new.run c.turn.result c.in-Turn.is c.turn.ensures
+
+pub returns-in-Load8 : goal.returns-in-Load8
+returns-in-Load8 c =
+    let old = c.args.terms.now in
+    let r = c.args.run.now in
+    let s = c.load.new.run in
+    let same = ap Load8 (word_tree_here old r c.in-Load8.address c.word.result c.word.ensures) in
+    of_arm old old r s c.load.result c.in-Load8.is (by_trees loads_at old r s c.load.result same c.load.ensures)
+
+pub returns-in-Load16 : goal.returns-in-Load16
+returns-in-Load16 c =
+    let old = c.args.terms.now in
+    let r = c.args.run.now in
+    let s = c.load-in-Load16.new.run in
+    let same = ap Load16 (word_tree_here old r c.in-Load16.address c.word-in-Load16.result c.word-in-Load16.ensures) in
+    of_arm old old r s c.load-in-Load16.result c.in-Load16.is (by_trees loads_at old r s c.load-in-Load16.result same c.load-in-Load16.ensures)
+
+pub returns-in-Store8 : goal.returns-in-Store8
+returns-in-Store8 c =
+    let old = c.args.terms.now in
+    let r = c.args.run.now in
+    let s = c.store.new.run in
+    let same = ap₂ Store8 (word_tree_here old r c.in-Store8.address c.word-in-Store8.result c.word-in-Store8.ensures) (byte_tree_here old r c.in-Store8.byte c.byte.result c.byte.ensures) in
+    of_arm old old r s c.store.result c.in-Store8.is (by_trees stores_at old r s c.store.result same c.store.ensures)
+
+pub returns-in-Store16 : goal.returns-in-Store16
+returns-in-Store16 c =
+    let old = c.args.terms.now in
+    let r = c.args.run.now in
+    let s = c.store-in-Store16.new.run in
+    let same = ap₂ Store16 (word_tree_here old r c.in-Store16.address c.word-in-Store16.result c.word-in-Store16.ensures) (word_tree_here old r c.in-Store16.word c.word-in-Store16-2.result c.word-in-Store16-2.ensures) in
+    of_arm old old r s c.store-in-Store16.result c.in-Store16.is (by_trees stores_at old r s c.store-in-Store16.result same c.store-in-Store16.ensures)

@@ -1,15 +1,34 @@
-use Rattle.std.proofs.Common.{◌≤◌, ◌++◌, refl, sym, ap, subst, ◌∙◌, All, arith}
+use Rattle.std.proofs.Common.{◌≡◌, ℕ, ◌+◌, ◌*◌, ◌<◌, ◌≤◌, List, ◌++◌, length, take, drop, refl, sym, ap, subst, ◌∙◌, All, arith, append-nil}
+use Rattle.std.proofs.lemmas.List.{length-map, length-take, drop_all}
 use Rattle.std.proofs.lemmas.Bool.{and_parts, leb-true}
-use Rattle.std.specs.Prelude.{◌==◌, ◌%◌, nat_le, ◌&&◌}
-use Rattle.std.proofs.lemmas.List.Elements.{All-drop}
-use Rattle.flow.specs.Blocks.{cut_from}
+use Rattle.std.specs.Prelude.{◌==◌, ◌^◌, ◌%◌, nat_le, ◌&&◌}
+use Rattle.std.proofs.lemmas.List.Elements.{All-drop, All-take}
+use Rattle.asm86_line_types.specs.declared.line.Stmt86.{Stmt86}
+use Rattle.asm80_program_types.specs.declared.program.Placed.{Placed}
+use Rattle.asm80_program_types.specs.Program.{Program}
+use Rattle.flow.specs.Blocks.{cut_from, extent, blocks, leaders}
 use Rattle.flow.specs.Cut.{EndsInMemory}
 use Rattle.flow.specs.Solving.{AreAllNeeds}
 use Rattle.flow.proofs.Cuts.{flat-cut}
-use Rattle.templates.specs.Style.{block_in_style}
+use Rattle.templates.specs.Style.{Style, block_in_style, blocks_of}
 use Rattle.templates.specs.Jumps.{style_by}
 use Rattle.templates.proofs.Joined.{next_found, put_next}
 use Rattle.templates.proofs.blocks.put_blocks.Goals as goal
+
+-- a block of what is left has room, where what is left has
+block_fits : (text front rest old : ℕ) → text + 13 * rest ≤ old + 13 * 65022 → front ≤ rest → old < 2 ^ 16 → text + 13 * front < 2 ^ 20
+block_fits text front rest old most part small = omega (arith, most, part, small)
+
+front_is_part : (k : ℕ) (front xs : List Placed) → front ≡ take k xs → length front ≤ length xs
+front_is_part k front xs e = let same = ap length e ∙ length-take k xs in omega (arith, same)
+
+-- past the last leader no block is left
+all_put : (p q : Program) (s : Style) (xs : List ℕ) (i : ℕ) (text whole : List Stmt86) → xs ≡ leaders q → q ≡ p → length xs ≤ i → text ++ blocks_of s (drop i (cut_from p 0 p.instrs)) ≡ whole → text ≡ whole
+all_put p q s xs i text whole e same past so_far =
+    let cuts = cut_from p 0 p.instrs in
+    let count = ap length (e ∙ ap leaders same) ∙ (length-map (blocks p) (λ (b : ℕ × ℕ). b.0) ∙ length-map cuts extent) in
+    let none = drop_all i cuts (subst (λ n. n ≤ i) count past) in
+    sym (append-nil text) ∙ (ap (λ rest. text ++ blocks_of s rest) (sym none) ∙ so_far)
 
 pub loop-leader-init : goal.loop-leader-init
 loop-leader-init c =
@@ -38,3 +57,17 @@ loop-leader-preserved c =
       whole = subst (All EndsInMemory) (sym c.split_at.ensures.back) (All-drop EndsInMemory c.unwrap_or-count.result c.loop-leader.rest.now c.loop-leader.invariant.whole);
       most = let more = c.in_ok-put_block.ensures.most in let front = c.split_at.ensures.front_len in let back = c.split_at.ensures.back_len in let before = c.loop-leader.invariant.most in omega (arith, more, front, back, before);
     }
+
+pub put_block-requires-clause-room : goal.put_block-requires-clause-room
+put_block-requires-clause-room c =
+    let front = c.split_at.result.0.now in
+    let rest = c.loop-leader.rest.now in
+    block_fits (length c.loop-leader.text) (length front) (length rest) (length c.args.text.now) c.loop-leader.invariant.most (front_is_part c.unwrap_or-count.result front rest c.split_at.ensures.front) c.requires.room
+
+pub put_block-requires-clause-whole : goal.put_block-requires-clause-whole
+put_block-requires-clause-whole c =
+    subst (All EndsInMemory) (sym c.split_at.ensures.front) (All-take EndsInMemory c.unwrap_or-count.result c.loop-leader.rest.now c.loop-leader.invariant.whole)
+
+pub returns-clause-value : goal.returns-clause-value
+returns-clause-value c = λ n all.
+    all_put c.args.program.now c.args.graph.now.program (style_by n c.args.jumps.now) c.leaders-leader-items.result.now c.loop-leader.leader-index c.loop-leader.text _ c.leaders-leader-items.ensures c.requires.program c.loop-leader-test.false (c.loop-leader.invariant.so_far n all)

@@ -1,0 +1,44 @@
+use Rattle.std.proofs.Common.{◌≡◌, ap, sym, Option, Some}
+use Rattle.sym_terms.specs.declared.head.Term.{Term as TermId}
+use Rattle.sym_terms.specs.Making.{half_of}
+use Rattle.sym_terms.specs.Trees.{Makes}
+use Rattle.xlt_pool.specs.Contents.{Contents}
+use Rattle.sym_micro.specs.declared.micro.ByteValue.{ByteValue}
+use Rattle.sym_micro.specs.declared.run.Run.{Run}
+use Rattle.sym_micro.specs.Machine.{byte_value}
+use Rattle.sym_micro.specs.Stands.{machine_of}
+use Rattle.sym_micro.proofs.Ready.{byte_here, byte_tree_here, word_here, word_tree_here, made_already, makes_same}
+use Rattle.sym_micro.proofs.values.byte_term.Goals as goal
+
+of_arm : {value arm : ByteValue} (old new : Contents) (r : Run) (made : Option TermId) → value ≡ arm → Makes old new 1 (byte_value (machine_of old r) arm) made → Makes old new 1 (byte_value (machine_of old r) value) made
+of_arm old new r made is h = makes_same old new _ _ made (ap (byte_value (machine_of old r)) (sym is)) h
+
+pub returns-in-Of-clause-made : goal.returns-in-Of-clause-made
+returns-in-Of-clause-made c =
+    let old = c.args.terms.now in
+    let r = c.args.run.now in
+    let slot = c.in-Of.slot in
+    let here = byte_here old r slot c.byte.result c.requires c.byte.ensures in
+    of_arm old old r (Some c.byte.result) c.in-Of.is (made_already old _ c.byte.result c.requires.terms here.given (byte_tree_here old r slot c.byte.result c.byte.ensures))
+
+pub returns-in-Number-clause-made : goal.returns-in-Number-clause-made
+returns-in-Number-clause-made c = of_arm c.args.terms.now c.byte_number.new.terms c.args.run.now c.byte_number.result c.in-Number.is c.byte_number.ensures.made
+
+pub returns-in-Start-clause-made : goal.returns-in-Start-clause-made
+returns-in-Start-clause-made c = of_arm c.args.terms.now c.start_term.new.terms c.args.run.now c.start_term.result c.in-Start.is c.start_term.ensures
+
+pub returns-in-Code-clause-made : goal.returns-in-Code-clause-made
+returns-in-Code-clause-made c = of_arm c.args.terms.now c.code.new.self c.args.run.now c.code.result c.in-Code.is c.code.ensures
+
+pub half-requires : goal.half-requires
+half-requires c = word_here c.args.terms.now c.args.run.now c.in-Half.slot c.word.result c.requires c.word.ensures
+
+pub returns-in-Half-clause-made : goal.returns-in-Half-clause-made
+returns-in-Half-clause-made c =
+    let old = c.args.terms.now in
+    let r = c.args.run.now in
+    let same = ap (half_of c.in-Half.high) (word_tree_here old r c.in-Half.slot c.word.result c.word.ensures) in
+    of_arm old c.half.new.self r c.half.result c.in-Half.is (makes_same old c.half.new.self _ _ c.half.result same c.half.ensures)
+
+pub returns-in-Loaded-clause-made : goal.returns-in-Loaded-clause-made
+returns-in-Loaded-clause-made c = of_arm c.args.terms.now c.loaded.new.self c.args.run.now c.loaded.result c.in-Loaded.is c.loaded.ensures
