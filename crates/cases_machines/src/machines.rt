@@ -5,8 +5,8 @@ use crate::tagged::{Held, push_changes};
 use asm80_program_types::Program80;
 use cells::{Place, Rule};
 use cpu80::{Cpu80, Plain80, Step80, StepPlain};
+use cpu86::processor::Processor;
 use cpu86::{Cpu86, Step86};
-use cpu86_step::processor::Processor;
 use dialogue::{Event, Reply};
 use std::alloc::{AllocError, Global};
 

@@ -1,10 +1,10 @@
 // States of the 8086 as words, `ax=1122`, `flags=SZ` or `2100=7e`, a place and what stands there.
 use crate::words::{push_byte, push_word};
-use cpu86_step::flags::Flags;
-use cpu86_step::memory::Memory;
-use cpu86_step::processor::Processor;
-use cpu86_step::registers::Registers;
-use cpu86_step::start::start_memory;
+use cpu86::flags::Flags;
+use cpu86::initial_memory::start_memory;
+use cpu86::memory::Memory;
+use cpu86::processor::Processor;
+use cpu86::registers::Registers;
 use i86::Reg16;
 use std::alloc::{AllocError, Global};
 

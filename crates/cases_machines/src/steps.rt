@@ -2,8 +2,8 @@
 use crate::events::push_range;
 use crate::states::{push_changes, put, start};
 use crate::words::{bytes_of, number_of, push_number, value_of};
-use cpu86_step::processor::Processor;
-use cpu86_step::system::Interrupt;
+use cpu86::processor::Processor;
+use cpu86::system::Interrupt;
 use dialogue::{Block, Blocks, Bytes, Reply, Request, Shape, fits};
 use i86::{Instr86, decode};
 use std::alloc::{AllocError, Global};

@@ -1,3 +1,5 @@
+pub mod Sights
+pub mod Turns
 pub mod Writes
 pub mod Spoils
 pub mod Starts

@@ -1,2 +1,5 @@
+pub mod Writes
+pub mod Overlay
+pub mod Calls
 pub mod Steps
 pub mod Replies

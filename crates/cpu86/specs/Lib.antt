@@ -1,3 +1,5 @@
+pub mod State
+pub mod System
 pub mod Standing
 pub mod Starts
 pub mod Histories

@@ -8,7 +8,7 @@ use Rattle.dialogue.specs.Run.{Status, Going, Waiting, Over, Stopped}
 use Rattle.dialogue.specs.Calls.{Standing}
 use Rattle.cpu86_def.specs.State.{State86}
 use Rattle.cpu86_def.specs.Call.{Stop, NoInstruction, StackSegment, OddCall}
-use Rattle.cpu86_step.specs.State.{state_of_86}
+use Rattle.cpu86.specs.State.{state_of_86}
 use Rattle.cpu86.specs.declared.cpu.Pending.{Pending}
 use Rattle.cpu86.specs.declared.cpu.Pending.TheVariants.{Nothing, Answer, Byte, Taking, Ending}
 use Rattle.cpu86.specs.declared.cpu.Step86.{Step86}

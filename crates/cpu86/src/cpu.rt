@@ -2,17 +2,17 @@
 ghost use Rattle.std.specs.Prelude.{◌≡◌, ℕ, Option, Some, length};
 ghost use Rattle.dialogue.specs.declared.request.Shape.{Shape};
 ghost use Rattle.cpu86_def.specs.Step.{uses_stack};
-ghost use Rattle.cpu86_step.specs.State.{state_of_86};
-ghost use Rattle.cpu86_step.specs.System.{IsShapeAsked};
+ghost use Rattle.cpu86.specs.State.{state_of_86};
+ghost use Rattle.cpu86.specs.System.{IsShapeAsked};
 ghost use Rattle.cpu86.specs.declared.cpu.Pending.TheVariants.{Answer};
 ghost use Rattle.std.proofs.Props.{props};
 
+use crate::flags::Flags;
+use crate::initial_memory::start_memory;
+use crate::processor::Processor;
 use crate::start::Start86;
+use crate::system::Interrupt;
 use asm86::Image86;
-use cpu86_step::flags::Flags;
-use cpu86_step::processor::Processor;
-use cpu86_step::start::start_memory;
-use cpu86_step::system::Interrupt;
 use dialogue::{Blocks, Event, Page, Reply, Request, Shape, fits, fits_event, request_of};
 use i86::{Instr86, Reg8, decode_at};
 use std::alloc::{AllocError, Global};

@@ -1,8 +1,8 @@
 // The start of a program.
 ghost use Rattle.std.specs.Prelude.{◌≡◌, ◌/◌, ◌%◌};
-ghost use Rattle.cpu86_step.specs.State.{regs_of_86};
+ghost use Rattle.cpu86.specs.State.{regs_of_86};
 
-use cpu86_step::registers::Registers;
+use crate::registers::Registers;
 
 /// What the registers, segments and flags hold at the start. Bits 0 to 4 of `flags` are SF, ZF, AF, PF and CF; its other bits
 /// are not looked at.

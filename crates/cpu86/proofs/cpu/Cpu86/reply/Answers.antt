@@ -1,4 +1,4 @@
-use Rattle.cpu86_step.specs.State.{state_of_86, memory_of_86}
+use Rattle.cpu86.specs.State.{state_of_86, memory_of_86}
 use Rattle.cpu86.specs.Standing.{standing, said_by}
 use Rattle.dialogue.proofs.Called.{taken}
 use Rattle.cpu86_def.specs.Call.{replied86}

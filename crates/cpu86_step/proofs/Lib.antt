@@ -1,3 +1,0 @@
-pub mod Writes
-pub mod Overlay
-pub mod Calls
