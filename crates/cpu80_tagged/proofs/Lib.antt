@@ -1,5 +1,3 @@
-pub mod Sights
-pub mod Turns
 pub mod Writes
 pub mod Spoils
 pub mod Starts

@@ -8,15 +8,15 @@ use Rattle.asm80_program_types.specs.Program.{Program}
 use Rattle.cpu80_tagged_def.specs.State.{State80, num_of}
 use Rattle.cpu80_tagged_def.specs.Call.{ask, is_place}
 use Rattle.cpu80_tagged_def.specs.Step.{step80, return_at}
-use Rattle.cpu80_tagged.specs.declared.turn.Return.{Return as KeptReturn}
-use Rattle.cpu80_tagged.specs.declared.turn.Question.{Question}
-use Rattle.cpu80_tagged.specs.declared.turn.Question.TheVariants.{System, In, Out}
-use Rattle.cpu80_tagged.specs.declared.turn.Turn.{Turn}
-use Rattle.cpu80_tagged.specs.declared.turn.Turn.TheVariants.{Ran as TurnRan, Asked as TurnAsked}
-use Rattle.cpu80_tagged.specs.Turn.{return_of_turn, shape_at, answer_of_question, answer_of_turn, MayAsk, IsAsking}
+use Rattle.cpu80_tagged_step.specs.declared.turn.Return.{Return as KeptReturn}
+use Rattle.cpu80_tagged_step.specs.declared.turn.Question.{Question}
+use Rattle.cpu80_tagged_step.specs.declared.turn.Question.TheVariants.{System, In, Out}
+use Rattle.cpu80_tagged_step.specs.declared.turn.Turn.{Turn}
+use Rattle.cpu80_tagged_step.specs.declared.turn.Turn.TheVariants.{Ran as TurnRan, Asked as TurnAsked}
+use Rattle.cpu80_tagged_step.specs.Turn.{return_of_turn, shape_at, answer_of_question, answer_of_turn, MayAsk, IsAsking}
 use Rattle.cpu80_tagged.specs.declared.processor.Step80.TheVariants.{Asked as DidAsk}
-use Rattle.cpu80_tagged.specs.declared.area.CellUse.{CellUse}
-use Rattle.cpu80_tagged.specs.Area.{HasUses}
+use Rattle.cpu80_tagged_step.specs.declared.area.CellUse.{CellUse}
+use Rattle.cpu80_tagged_step.specs.Area.{HasUses}
 use Rattle.cpu80_tagged.specs.declared.processor.Cpu80.{Cpu80}
 use Rattle.cpu80_tagged.specs.declared.processor.Phase.TheVariants.{Running}
 use Rattle.cpu80_tagged.specs.State.{tagged_state}

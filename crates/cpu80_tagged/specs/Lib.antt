@@ -1,9 +1,3 @@
-pub mod Area
-pub mod Draft
-pub mod Row
-pub mod Sight
-pub mod Turn
-pub mod Write
 pub mod State
 pub mod Machine
 pub mod Reply

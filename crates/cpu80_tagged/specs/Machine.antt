@@ -13,11 +13,11 @@ use Rattle.asm80_program_types.specs.Program.{Program}
 use Rattle.cpu80_tagged_def.specs.State.{State80, num_of}
 use Rattle.cpu80_tagged_def.specs.Call.{is_place, seen_by_tagged}
 use Rattle.cpu80_tagged_def.specs.Step.{step80, return_at, replied80}
-use Rattle.cpu80_tagged.specs.declared.turn.Question.{Question}
-use Rattle.cpu80_tagged.specs.declared.turn.Question.TheVariants.{System, In, Out}
-use Rattle.cpu80_tagged.specs.declared.turn.Return.{Return}
-use Rattle.cpu80_tagged.specs.Area.{HasUses}
-use Rattle.cpu80_tagged.specs.Turn.{return_of_turn, shape_at}
+use Rattle.cpu80_tagged_step.specs.declared.turn.Question.{Question}
+use Rattle.cpu80_tagged_step.specs.declared.turn.Question.TheVariants.{System, In, Out}
+use Rattle.cpu80_tagged_step.specs.declared.turn.Return.{Return}
+use Rattle.cpu80_tagged_step.specs.Area.{HasUses}
+use Rattle.cpu80_tagged_step.specs.Turn.{return_of_turn, shape_at}
 use Rattle.cpu80_tagged.specs.declared.processor.Cpu80.{Cpu80}
 use Rattle.cpu80_tagged.specs.declared.processor.Phase.{Phase}
 use Rattle.cpu80_tagged.specs.declared.processor.Phase.TheVariants.{Running, Asking, Ended}

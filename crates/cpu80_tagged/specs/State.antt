@@ -4,8 +4,8 @@ use Rattle.cells.specs.declared.Rule.{Rule}
 use Rattle.dialogue.specs.declared.request.Shape.{Shape}
 use Rattle.dialogue.specs.Shape.{Seen, shape_of}
 use Rattle.cpu80_tagged_def.specs.State.{State80, num_of}
-use Rattle.cpu80_tagged.specs.Draft.{regs_of_draft, memory_of}
-use Rattle.cpu80_tagged.specs.Sight.{seen_over, closed_in}
+use Rattle.cpu80_tagged_step.specs.Draft.{regs_of_draft, memory_of}
+use Rattle.cpu80_tagged_step.specs.Sight.{seen_over, closed_in}
 use Rattle.cpu80_tagged.specs.declared.processor.Cpu80.{Cpu80}
 use Rattle.cpu80_tagged.specs.declared.processor.Phase.{Phase}
 use Rattle.cpu80_tagged.specs.declared.processor.Phase.TheVariants.{Running, Asking, Ended}

@@ -7,7 +7,7 @@ ghost use Rattle.cpu80_untagged.specs.State.{untagged_flags, untagged_state};
 
 use crate::flags::FlagBits;
 use crate::processor::Processor;
-use cpu80_tagged::numbers::{adjusted, byte_flags, is_excepted, outcome, outcome_flags};
+use cpu80_tagged_step::numbers::{adjusted, byte_flags, is_excepted, outcome, outcome_flags};
 use dialogue::choice_byte;
 use i80::{Op, Pair, Src};
 

@@ -6,7 +6,7 @@ use Rattle.dialogue.specs.Fits.{fits, fits_event}
 use Rattle.cpu80_tagged_def.specs.State.{State80}
 use Rattle.cpu80_tagged_def.specs.Call.{is_place, seen_by_tagged}
 use Rattle.cpu80_tagged_def.specs.Step.{replied80}
-use Rattle.cpu80_tagged.specs.Sight.{closed_in}
+use Rattle.cpu80_tagged_step.specs.Sight.{closed_in}
 use Rattle.cpu80_tagged.specs.State.{tagged_state, tagged_shape, waits}
 use Rattle.cpu80_tagged.specs.Machine.{IsPhase, IsCalling, IsMachineOf}
 use Rattle.cpu80_tagged.proofs.Steps.{runs_on}

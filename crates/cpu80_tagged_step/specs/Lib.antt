@@ -1,0 +1,6 @@
+pub mod Area
+pub mod Draft
+pub mod Row
+pub mod Sight
+pub mod Turn
+pub mod Write

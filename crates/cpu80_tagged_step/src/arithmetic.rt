@@ -1,0 +1,265 @@
+// Arithmetic (8080 Assembly Language Programming Manual, "Register or memory to accumulator instructions", "Single register
+// instructions", "Register pair instructions", "Rotate accumulator instructions"). It is of numbers alone.
+ghost use Rattle.std.specs.Prelude.{◌≡◌};
+ghost use Rattle.base_arithmetic_def.specs.Arithmetic.{as_bit, turned_left, turned_right, bit7, bit0};
+
+use crate::area::Area;
+use crate::draft::Draft;
+use crate::numbers::{
+    address_in, adjusted, byte_flags, carry_in, is_excepted, known_flag, number, outcome,
+    outcome_flags,
+};
+use cells::{Cell, Rule};
+use dialogue::join;
+use i80::{Op, Pair, Reg, Src};
+
+// A byte rotated left; the bit comes in at the right.
+fn left(value: u8, bit: bool) -> u8
+    ensures { result ≡ turned_left value (as_bit bit) }
+{
+    ((2 * u16::from(value) + u16::from(bit)) % 256) as u8
+}
+
+// A byte rotated right; the bit comes in at the left.
+fn right(value: u8, bit: bool) -> u8
+    ensures { result ≡ turned_right value (as_bit bit) }
+{
+    value / 2 + 128 * u8::from(bit)
+}
+
+fn high_bit(value: u8) -> bool
+    ensures { result ≡ bit7 value }
+{
+    value > 127
+}
+
+fn low_bit(value: u8) -> bool
+    ensures { result ≡ bit0 value }
+{
+    value % 2 == 1
+}
+
+impl Draft<'_> {
+    ghost use Rattle.cells.specs.declared.Cell.TheVariants.{Num};
+    ghost use Rattle.cpu80_tagged_def.specs.State.{with_a, with_cy};
+    ghost use Rattle.cpu80_tagged_def.specs.Effect.{alu, alu_with, cleared, counted, counted_up, counted_down, inr, dcr, pair_num, add_to_pair, dad, daa, cma, cmc, rlc, rrc, ral, rar};
+    ghost use Rattle.cpu80_tagged_step.specs.Row.{IsRow};
+    ghost use Rattle.cpu80_tagged_step.specs.Draft.{IsFresh, state_of_draft};
+
+    // A becomes 0, whatever it held.
+    fn clear_a(&mut self)
+        ensures state { state_of_draft self.new ≡ cleared (state_of_draft self.old) }
+        ensures memory { self.new.memory.now ≡ self.old.memory.now }
+    {
+        self.set_a(Cell::Num(0));
+        self.set_flags(byte_flags(0, None, Some(false)));
+    }
+
+    /// An operation on A and a cell; CMP keeps A.
+    pub fn operate_on(&mut self, op: Op, cell: Cell) -> Result<(), Rule>
+        ensures row { IsRow (alu_with (state_of_draft self.old) op cell) result (state_of_draft self.old) (state_of_draft self.new) }
+        ensures memory { self.new.memory.now ≡ self.old.memory.now }
+    {
+        let x = number(self.registers.a, Rule::P5)?;
+        let y = number(cell, Rule::P5)?;
+        let carry = carry_in(op, self.flags)?;
+        if !matches!(op, Op::Cmp) {
+            self.set_a(Cell::Num(outcome(op, x, y, carry)));
+        }
+        self.set_flags(outcome_flags(op, x, y, carry));
+        Ok(())
+    }
+
+    /// ADD, ADC, SUB, SBB, ANA, XRA, ORA and CMP.
+    pub fn operate(&mut self, area: &Area, op: Op, from: Src) -> Result<(), Rule>
+        requires { IsFresh self.old }
+        ensures row { IsRow (alu area.now.program.now (state_of_draft self.old) op from) result (state_of_draft self.old) (state_of_draft self.new) }
+        ensures memory { self.new.memory.now ≡ self.old.memory.now }
+    {
+        if op.gives_zero(from) {
+            self.clear_a();
+            return Ok(());
+        }
+        let cell = self.source(area, from)?;
+        self.operate_on(op, cell)
+    }
+
+    // The number that INR and DCR count; in memory its cell has to be one that can be written too.
+    fn counted(&self, area: &Area, on: Src) -> Result<u8, Rule>
+        requires { IsFresh self.now }
+        ensures { result ≡ counted area.now.program.now (state_of_draft self.now) on }
+    {
+        match on {
+            Src::Reg(register) => number(self.registers.get(register), Rule::P5),
+            Src::Mem => {
+                let at = address_in(self.registers.h, self.registers.l)?;
+                let cell = self.read(area, at)?;
+                area.may_write(at)?;
+                number(cell, Rule::P5)
+            }
+        }
+    }
+
+    // The flags of a count up; CY is kept.
+    fn set_counted_up(&mut self, x: u8)
+        ensures state { state_of_draft self.new ≡ counted_up (state_of_draft self.old) x }
+        ensures memory { self.new.memory.now ≡ self.old.memory.now }
+    {
+        let mut flags = outcome_flags(Op::Add, x, 1, 0);
+        flags.cy = self.flags.cy;
+        self.set_flags(flags);
+    }
+
+    // The flags of a count down; CY is kept.
+    fn set_counted_down(&mut self, x: u8)
+        ensures state { state_of_draft self.new ≡ counted_down (state_of_draft self.old) x }
+        ensures memory { self.new.memory.now ≡ self.old.memory.now }
+    {
+        let mut flags = outcome_flags(Op::Sub, x, 1, 0);
+        flags.cy = self.flags.cy;
+        self.set_flags(flags);
+    }
+
+    /// INR.
+    pub fn count_up(&mut self, area: &Area, on: Src) -> Result<(), Rule>
+        requires { IsFresh self.old }
+        ensures row { IsRow (inr area.now.program.now (state_of_draft self.old) on) result (state_of_draft self.old) (state_of_draft self.new) }
+        ensures memory { self.new.memory.now ≡ self.old.memory.now }
+    {
+        let x = self.counted(area, on)?;
+        self.put_into(area, on, Cell::Num(outcome(Op::Add, x, 1, 0)))?;
+        self.set_counted_up(x);
+        Ok(())
+    }
+
+    /// DCR.
+    pub fn count_down(&mut self, area: &Area, on: Src) -> Result<(), Rule>
+        requires { IsFresh self.old }
+        ensures row { IsRow (dcr area.now.program.now (state_of_draft self.old) on) result (state_of_draft self.old) (state_of_draft self.new) }
+        ensures memory { self.new.memory.now ≡ self.old.memory.now }
+    {
+        let x = self.counted(area, on)?;
+        self.put_into(area, on, Cell::Num(outcome(Op::Sub, x, 1, 0)))?;
+        self.set_counted_down(x);
+        Ok(())
+    }
+
+    // The number in a pair.
+    fn pair_number(&self, pair: Pair) -> Result<u16, Rule>
+        ensures { result ≡ pair_num (state_of_draft self.now) pair }
+    {
+        let high = number(self.high(pair), Rule::P5)?;
+        let low = number(self.low(pair), Rule::P5)?;
+        Ok(join(high, low))
+    }
+
+    /// INX adds 1, DCX adds 0FFFFH. No flag changes.
+    pub fn add_to_pair(&mut self, pair: Pair, number: u16) -> Result<(), Rule>
+        ensures row { IsRow (add_to_pair (state_of_draft self.old) pair number) result (state_of_draft self.old) (state_of_draft self.new) }
+        ensures memory { self.new.memory.now ≡ self.old.memory.now }
+    {
+        let word = self.pair_number(pair)?;
+        self.set_pair(pair, word.wrapping_add(number));
+        Ok(())
+    }
+
+    /// DAD.
+    pub fn add_pair(&mut self, pair: Pair) -> Result<(), Rule>
+        ensures row { IsRow (dad (state_of_draft self.old) pair) result (state_of_draft self.old) (state_of_draft self.new) }
+        ensures memory { self.new.memory.now ≡ self.old.memory.now }
+    {
+        let x = self.pair_number(Pair::H)?;
+        let y = self.pair_number(pair)?;
+        self.set_pair(Pair::H, x.wrapping_add(y));
+        self.set_cy(u32::from(x) + u32::from(y) > 0xFFFF);
+        Ok(())
+    }
+
+    /// DAA.
+    pub fn adjust(&mut self) -> Result<(), Rule>
+        ensures row { IsRow (daa (state_of_draft self.old)) result (state_of_draft self.old) (state_of_draft self.new) }
+        ensures memory { self.new.memory.now ≡ self.old.memory.now }
+    {
+        let x = number(self.registers.a, Rule::P5)?;
+        let half = known_flag(self.flags.ac)?;
+        let carry = known_flag(self.flags.cy)?;
+        if is_excepted(x, half, carry) {
+            return Err(Rule::P7);
+        }
+        let (value, carry) = adjusted(x, half, carry);
+        self.set_a(Cell::Num(value));
+        self.set_flags(byte_flags(value, None, Some(carry)));
+        Ok(())
+    }
+
+    /// CMA.
+    pub fn invert(&mut self) -> Result<(), Rule>
+        ensures row { IsRow (cma (state_of_draft self.old)) result (state_of_draft self.old) (state_of_draft self.new) }
+        ensures memory { self.new.memory.now ≡ self.old.memory.now }
+    {
+        let x = number(self.registers.a, Rule::P5)?;
+        self.set_a(Cell::Num(255 - x));
+        Ok(())
+    }
+
+    /// CMC.
+    pub fn invert_cy(&mut self) -> Result<(), Rule>
+        ensures row { IsRow (cmc (state_of_draft self.old)) result (state_of_draft self.old) (state_of_draft self.new) }
+        ensures memory { self.new.memory.now ≡ self.old.memory.now }
+    {
+        let carry = known_flag(self.flags.cy)?;
+        self.set_cy(!carry);
+        Ok(())
+    }
+
+    // A rotated byte in A, and the bit that went out in CY.
+    fn turn(&mut self, value: u8, out: bool)
+        ensures state { state_of_draft self.new ≡ with_cy (with_a (state_of_draft self.old) (Num value)) out }
+        ensures memory { self.new.memory.now ≡ self.old.memory.now }
+    {
+        self.set_a(Cell::Num(value));
+        self.set_cy(out);
+    }
+
+    /// RLC.
+    pub fn rotate_left(&mut self) -> Result<(), Rule>
+        ensures row { IsRow (rlc (state_of_draft self.old)) result (state_of_draft self.old) (state_of_draft self.new) }
+        ensures memory { self.new.memory.now ≡ self.old.memory.now }
+    {
+        let x = number(self.registers.a, Rule::P5)?;
+        self.turn(left(x, high_bit(x)), high_bit(x));
+        Ok(())
+    }
+
+    /// RRC.
+    pub fn rotate_right(&mut self) -> Result<(), Rule>
+        ensures row { IsRow (rrc (state_of_draft self.old)) result (state_of_draft self.old) (state_of_draft self.new) }
+        ensures memory { self.new.memory.now ≡ self.old.memory.now }
+    {
+        let x = number(self.registers.a, Rule::P5)?;
+        self.turn(right(x, low_bit(x)), low_bit(x));
+        Ok(())
+    }
+
+    /// RAL.
+    pub fn rotate_left_through_cy(&mut self) -> Result<(), Rule>
+        ensures row { IsRow (ral (state_of_draft self.old)) result (state_of_draft self.old) (state_of_draft self.new) }
+        ensures memory { self.new.memory.now ≡ self.old.memory.now }
+    {
+        let x = number(self.registers.a, Rule::P5)?;
+        let carry = known_flag(self.flags.cy)?;
+        self.turn(left(x, carry), high_bit(x));
+        Ok(())
+    }
+
+    /// RAR.
+    pub fn rotate_right_through_cy(&mut self) -> Result<(), Rule>
+        ensures row { IsRow (rar (state_of_draft self.old)) result (state_of_draft self.old) (state_of_draft self.new) }
+        ensures memory { self.new.memory.now ≡ self.old.memory.now }
+    {
+        let x = number(self.registers.a, Rule::P5)?;
+        let carry = known_flag(self.flags.cy)?;
+        self.turn(right(x, carry), low_bit(x));
+        Ok(())
+    }
+}

@@ -1,0 +1,83 @@
+// PUSH and POP (8080 Assembly Language Programming Manual, "Register pair instructions"). They carry any cell.
+ghost use Rattle.std.specs.Prelude.{◌≡◌};
+ghost use Rattle.base_arithmetic_def.specs.Operations.{flags_in};
+
+use crate::area::Area;
+use crate::draft::{Draft, Word};
+use cells::{Cell, Flags, Rule};
+use i80::StackPair;
+
+// The flags that POP PSW takes from a cell.
+fn flags_of_cell(cell: Cell) -> Flags
+    ensures { result ≡ flags_in cell }
+{
+    match cell {
+        Cell::Num(byte) => Flags::of_byte(byte),
+        Cell::Psw(flags) => flags,
+        Cell::Lo(_) | Cell::Hi(_) | Cell::Junk => Flags::unknown(),
+    }
+}
+
+impl Draft<'_> {
+    ghost use Rattle.cpu80_tagged_def.specs.Effect.{push, push_pair, popped, pop_pair};
+    ghost use Rattle.cpu80_tagged_step.specs.Row.{IsRow, halves_of};
+    ghost use Rattle.cpu80_tagged_step.specs.Draft.{IsFresh, state_of_draft};
+
+    /// Two cells onto the stack, which grows down: the high one at SP-1, the low one at SP-2.
+    pub fn push(&mut self, area: &Area, word: Word) -> Result<(), Rule>
+        requires { IsFresh self.old }
+        ensures row { IsRow (push area.now.program.now (state_of_draft self.old) word.high word.low) result (state_of_draft self.old) (state_of_draft self.new) }
+        ensures memory { self.new.memory.now ≡ self.old.memory.now }
+    {
+        let sp = self.sp.wrapping_sub(2);
+        self.write_word(area, sp, word)?;
+        self.sp = sp;
+        Ok(())
+    }
+
+    /// PUSH.
+    pub fn push_pair(&mut self, area: &Area, pair: StackPair) -> Result<(), Rule>
+        requires { IsFresh self.old }
+        ensures row { IsRow (push_pair area.now.program.now (state_of_draft self.old) pair) result (state_of_draft self.old) (state_of_draft self.new) }
+        ensures memory { self.new.memory.now ≡ self.old.memory.now }
+    {
+        let word = match pair {
+            StackPair::B => self.bc(),
+            StackPair::D => self.de(),
+            StackPair::H => self.hl(),
+            StackPair::Psw => Word {
+                high: self.registers.a,
+                low: Cell::Psw(self.flags),
+            },
+        };
+        self.push(area, word)
+    }
+
+    // A popped word into its pair.
+    fn take_popped(&mut self, pair: StackPair, word: Word)
+        ensures state { state_of_draft self.new ≡ popped (state_of_draft self.old) pair (halves_of word) }
+        ensures memory { self.new.memory.now ≡ self.old.memory.now }
+    {
+        match pair {
+            StackPair::B => self.set_bc(word),
+            StackPair::D => self.set_de(word),
+            StackPair::H => self.set_hl(word),
+            StackPair::Psw => {
+                self.set_a(word.high);
+                self.set_flags(flags_of_cell(word.low));
+            }
+        }
+    }
+
+    /// POP.
+    pub fn pop_pair(&mut self, area: &Area, pair: StackPair) -> Result<(), Rule>
+        requires { IsFresh self.old }
+        ensures row { IsRow (pop_pair area.now.program.now (state_of_draft self.old) pair) result (state_of_draft self.old) (state_of_draft self.new) }
+        ensures memory { self.new.memory.now ≡ self.old.memory.now }
+    {
+        let word = self.read_word(area, self.sp)?;
+        self.sp = self.sp.wrapping_add(2);
+        self.take_popped(pair, word);
+        Ok(())
+    }
+}
