@@ -236,3 +236,12 @@ module _ (count : ℕ) (few : count ≤ 64) (bytes : List ℕ) (files : List Sto
             let same : at + (used + k) ≡ at + used + k = omega arith in
             subst (λ j. BreaksAt (AreFiles None count 8000) files_bytes bytes j) same (still_breaks (used + k) (next_breaks last after room le (drop at bytes) f used next k here));
       }
+
+-- the whole list is read where no more files are wanted
+pub all_read : (count : ℕ) (bytes : List ℕ) (files : List Stored) (last : Option (List ℕ)) (room at index : ℕ) → StillReading count bytes files last room at index → count ≤ index →
+    AreFiles None count 8000 files × (bytes ≡ files_bytes files ++ drop at bytes) × (at ≤ length bytes)
+all_read count bytes files last room at index s all = (
+  subst (AreFiles None count 8000) (append-nil files) (s.whole [] (record { files = tt; count_is = omega arith; small = omega arith })),
+  s.stands,
+  s.within,
+)

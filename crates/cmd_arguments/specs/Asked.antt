@@ -3,6 +3,7 @@ use Rattle.std.specs.Prelude.{◌≡◌, Bool, true, false, List, [], ◌∷◌,
 use Rattle.std.specs.Str.{bytes_eq}
 use Rattle.clap.specs.Words.{App, Rule, new_app, new_rule, with_rule}
 use Rattle.clap.specs.Simple.{on_top}
+use Rattle.clap.specs.declared.builder.ArgAction.{ArgAction}
 use Rattle.clap.specs.declared.builder.ArgAction.TheVariants.{Append, Set, SetTrue}
 use Rattle.cmd_arguments.specs.declared.table.CommandName.{CommandName}
 use Rattle.cmd_arguments.specs.declared.table.OptionName.{OptionName}
@@ -15,13 +16,17 @@ use Rattle.cmd_arguments.specs.Words.{command_of}
 abbrev pub names_rule : Rule
 names_rule = record (new_rule (codes "names")) { action = Some Append }
 
+-- an option that stands by its name, and what it does
+abbrev pub rule_with : ArgAction → OptionName → Rule
+rule_with action o = record (new_rule (long_name o)) { long = Some (long_name o); action = Some action }
+
 -- an option that stands at most once, with one value
 abbrev pub option_rule : OptionName → Rule
-option_rule o = record (new_rule (long_name o)) { long = Some (long_name o); action = Some Set }
+option_rule o = rule_with Set o
 
 -- a flag that stands at most once
 abbrev pub flag_rule : OptionName → Rule
-flag_rule o = record (new_rule (long_name o)) { long = Some (long_name o); action = Some SetTrue }
+flag_rule o = rule_with SetTrue o
 
 -- a command that knows no word for help
 abbrev pub bare_command : CommandName → App

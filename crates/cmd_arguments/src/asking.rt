@@ -2,7 +2,7 @@
 
 ghost use Rattle.std.specs.Prelude.{◌≡◌, false, fold, map, IfOk};
 ghost use Rattle.clap.specs.Words.{app_of, rule_of, with_rule};
-ghost use Rattle.cmd_arguments.specs.Asked.{clap_command, bare_command, flag_rule, names_rule, option_rule};
+ghost use Rattle.cmd_arguments.specs.Asked.{clap_command, bare_command, names_rule, rule_with};
 
 use crate::table::{CommandName, OptionName};
 use clap::{Arg, ArgAction, Command};
@@ -16,8 +16,8 @@ pub fn asked<'a>(alloc: Global, command: CommandName) -> Result<Command<'a>, All
     ensures { IfOk result (λ asked_of. app_of asked_of ≡ clap_command command) }
 {
     let with_names = bare_command(alloc, command).arg(names_argument(alloc))?;
-    let with_flags = with_flags(alloc, with_names, command.flags())?;
-    with_options(alloc, with_flags, command.options())
+    let with_flags = with_options(alloc, with_names, command.flags(), ArgAction::SetTrue)?;
+    with_options(alloc, with_flags, command.options(), ArgAction::Set)
 }
 
 fn bare_command<'a>(alloc: Global, command: CommandName) -> Command<'a>
@@ -28,30 +28,18 @@ fn bare_command<'a>(alloc: Global, command: CommandName) -> Command<'a>
         .disable_help_flag(true)
 }
 
-fn with_flags<'a>(
-    alloc: Global,
-    command: Command<'a>,
-    flags: &[OptionName],
-) -> Result<Command<'a>, AllocError>
-    ensures { IfOk result (λ r. app_of r ≡ fold with_rule (app_of command.entry) (map flag_rule flags.now)) }
-{
-    let mut asked = command;
-    for flag in flags {
-        asked = asked.arg(flag_argument(alloc, *flag))?;
-    }
-    Ok(asked)
-}
-
+// The command with options more, of which each does the same: takes a value, or is a flag.
 fn with_options<'a>(
     alloc: Global,
     command: Command<'a>,
     options: &[OptionName],
+    action: ArgAction,
 ) -> Result<Command<'a>, AllocError>
-    ensures { IfOk result (λ r. app_of r ≡ fold with_rule (app_of command.entry) (map option_rule options.now)) }
+    ensures { IfOk result (λ r. app_of r ≡ fold with_rule (app_of command.entry) (map (rule_with action) options.now)) }
 {
     let mut asked = command;
     for option in options {
-        asked = asked.arg(option_argument(alloc, *option))?;
+        asked = asked.arg(option_argument(alloc, *option, action))?;
     }
     Ok(asked)
 }
@@ -63,20 +51,11 @@ fn names_argument<'a>(alloc: Global) -> Arg<'a>
     Arg::new(alloc, NAMES).action(ArgAction::Append)
 }
 
-fn option_argument<'a>(alloc: Global, option: OptionName) -> Arg<'a>
-    ensures rule { rule_of result ≡ option_rule option }
+fn option_argument<'a>(alloc: Global, option: OptionName, action: ArgAction) -> Arg<'a>
+    ensures rule { rule_of result ≡ rule_with action option }
     ensures local { result.global ≡ false }
 {
     Arg::new(alloc, option.name())
         .long(option.name())
-        .action(ArgAction::Set)
-}
-
-fn flag_argument<'a>(alloc: Global, flag: OptionName) -> Arg<'a>
-    ensures rule { rule_of result ≡ flag_rule flag }
-    ensures local { result.global ≡ false }
-{
-    Arg::new(alloc, flag.name())
-        .long(flag.name())
-        .action(ArgAction::SetTrue)
+        .action(action)
 }

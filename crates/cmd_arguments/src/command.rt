@@ -269,8 +269,8 @@ impl<'a> Given<'a> {
         let disk = input_file(self.disk)?;
         let ports = input_file(self.ports)?;
         let out_disk = input_file(self.out_disk)?;
-        let page = self.page()?;
         let steps = self.steps()?;
+        let page = self.page()?;
         Some(RunOptions {
             input,
             disk,
@@ -325,9 +325,7 @@ impl<'a> Given<'a> {
     fn run80(&self) -> Option<Run80<'a>>
         ensures { option_map run80_read result ≡ run80_of self.now }
     {
-        let zilog = self.zilog();
-        let source = self.names.one_file()?;
-        let top = self.top()?;
+        let Listing { source, zilog, top } = self.listing()?;
         let run = self.run_options()?;
         Some(Run80 {
             source,
@@ -349,9 +347,7 @@ impl<'a> Given<'a> {
     fn both(&self) -> Option<Both<'a>>
         ensures { option_map both_read result ≡ both_of self.now }
     {
-        let zilog = self.zilog();
-        let source = self.names.one_file()?;
-        let top = self.top()?;
+        let Listing { source, zilog, top } = self.listing()?;
         let choice = self.choice()?;
         let run = self.run_options()?;
         Some(Both {

@@ -11,6 +11,7 @@ pub mod Loading
 pub mod Disks
 mod Settings
 pub mod Working
+pub mod Equipped
 pub mod OneRun
 pub mod Completing
 pub mod OneOutcome

@@ -51,6 +51,11 @@ module _ {Loaded : Type 0} (k : RunKind Loaded) where
       pub readable : k.IsReadable loaded
       pub devices : HasDisk given supply
 
+    -- the same before there are devices, of which these are the bytes of the files
+    pub record CanBeRun (loaded : Loaded) (given : Given) : Type 0 where
+      pub named : IsNamed loaded given
+      pub readable : k.IsReadable loaded
+
     -- why there is nothing to run: the file, or what the devices have, was not read, or the file's bytes are refused, or the disk's file
     -- is none, or memory ran out
     pub data NothingToRun (new : HostState) : Stop → Type 0 where

@@ -1,17 +1,18 @@
 // Both runs, of the program of a source and of the image of its lean text.
-ghost use Rattle.std.specs.Prelude.{◌≡◌, ◌^◌, ◌<◌, ◌≤◌, All, IfOk, IfErr, length};
+ghost use Rattle.std.specs.Prelude.{◌≡◌, ◌^◌, ◌<◌, ◌≤◌, All, IfOk, IfErr};
 ghost use Rattle.host.specs.Host.{HostState};
 ghost use Rattle.cpu80_tagged_def.specs.Start.{IsPage};
 ghost use Rattle.cmd_arguments.specs.ReadCommands.{both_read};
-ghost use Rattle.cmd_runs.specs.Supplies.{fill_by};
+ghost use Rattle.cmd_runs.specs.Supplies.{IsFillBy};
 ghost use Rattle.cmd_runs.specs.Kinds.{HasRead};
 ghost use Rattle.cmd_runs.specs.Works.{HaltsFrom};
 ghost use Rattle.cmd_runs.specs.BothLoads.{AreToRun};
 ghost use Rattle.cmd_runs.specs.BothRuns.{limit86, AreBothMade, work_both};
 ghost use Rattle.cmd_runs.specs.BothMaking.{runs_made};
 
-use crate::both_inputs::Loaded;
+use crate::both_inputs::{FilledImage, TwoDevices};
 use crate::{Halt, line_of, run_image, run_program};
+use asm80_program_types::Program80;
 use cmd_arguments::Both;
 use dialogue::Page;
 use emulators::{Conversation, runs_are_one};
@@ -26,43 +27,44 @@ pub struct Made {
     pub second: Conversation,
 }
 
-/// Makes both runs of what was loaded, the 8080's first.
+/// Makes both runs, the 8080's first: of the program, and of the image of its lean text.
 pub fn make_runs<'a, H: Host>(
     alloc: Global,
     host: &mut H,
     command: &Both<'a>,
-    loaded: &mut Loaded,
+    program: &Program80,
+    text: &FilledImage,
+    devices: &mut TwoDevices,
 ) -> Result<Made, Halt<'a>>
-    requires fill { loaded.old.fill.items ≡ fill_by command.now.choice }
-    requires fill_len { length loaded.old.fill.items ≡ 0x10000 }
-    requires second { loaded.old.second ≡ loaded.old.devices }
-    ensures made { IfOk result (λ made. (begin : HostState) → HasRead (AreToRun (both_read command.now) begin loaded.old.program loaded.old.image loaded.old.devices) begin (H.state host.old) → AreBothMade (both_read command.now) begin (H.state host.new) (runs_made made loaded.new.devices)) }
-    ensures halted { IfErr result (HaltsFrom (work_both (both_read command.now)) (λ begin. AreToRun (both_read command.now) begin loaded.old.program loaded.old.image loaded.old.devices) (H.state host.old) (H.state host.new)) }
+    requires fill { IsFillBy command.now.choice text.now.fill.items }
+    requires second { devices.old.second ≡ devices.old.first }
+    ensures made { IfOk result (λ made. (begin : HostState) → HasRead (AreToRun (both_read command.now) begin program.now text.now.image devices.old.first) begin (H.state host.old) → AreBothMade (both_read command.now) begin (H.state host.new) (runs_made made devices.new.first)) }
+    ensures halted { IfErr result (HaltsFrom (work_both (both_read command.now)) (λ begin. AreToRun (both_read command.now) begin program.now text.now.image devices.old.first) (H.state host.old) (H.state host.new)) }
 {
     runs_are_one();
     let page = &command.run.page;
-    let fill = loaded.fill.as_slice();
+    let fill = text.fill.as_slice();
     start_is_in_range(page, fill, command.choice);
     let steps = u64::from(command.run.steps);
     let first = run_program(
         alloc,
         host,
-        &loaded.program,
+        program,
         page,
-        &mut loaded.devices,
+        &mut devices.first,
         steps,
         b"80 ",
     )?;
-    let line = line_of(&loaded.program, first.end);
+    let line = line_of(program, first.end);
     let limit = limit86(first.steps);
     let second = run_image(
         alloc,
         host,
-        &loaded.image,
+        &text.image,
         page,
         fill,
         command.choice,
-        &mut loaded.second,
+        &mut devices.second,
         limit,
         b"86 ",
     )?;
@@ -91,11 +93,7 @@ fn start_is_in_range(page: &Page, fill: &[u8], choice: u128)
     bytes_are_in_range(fill);
 }
 
-// A law too: its loop only leads the proof from byte to byte.
+// A law too, of any bytes.
 fn bytes_are_in_range(bytes: &[u8])
     ensures { All (λ n. n < 256) bytes.now }
-{
-    for byte in bytes {
-        let _byte = *byte;
-    }
-}
+{}

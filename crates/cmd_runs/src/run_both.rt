@@ -1,18 +1,23 @@
 // The work of `both`: a source's program runs on the tagged 8080, and the image of its lean text on the 8086.
-ghost use Rattle.std.specs.Prelude.{◌≡◌, true, IfOk, IfErr, length};
-ghost use Rattle.asm80_program_types.specs.Program.{is_top};
+ghost use Rattle.std.specs.Prelude.{◌≡◌, true, IfOk, IfErr};
+ghost use Rattle.asm80_program_types.specs.Program.{IsProgram, is_top};
 ghost use Rattle.cmd_arguments.specs.ReadCommands.{both_read};
 ghost use Rattle.cmd_runs.specs.Keeping.{DiskAlone};
-ghost use Rattle.cmd_runs.specs.Supplies.{fill_by};
+ghost use Rattle.cmd_runs.specs.Supplies.{given_of, IsFillBy};
 ghost use Rattle.cmd_runs.specs.Lasts.{IsLastMade};
+ghost use Rattle.cmd_runs.specs.Kinds.{IsNamed, IsToRun};
+ghost use Rattle.cmd_runs.specs.Runs80.{kind80};
 ghost use Rattle.cmd_runs.specs.Works.{WorkHasLast, WorkHalts, HasLastFrom, HaltsFrom, WorkGives};
-ghost use Rattle.cmd_runs.specs.BothLoads.{AreToRun};
+ghost use Rattle.cmd_runs.specs.BothLoads.{source_of, AreToRun};
 ghost use Rattle.cmd_runs.specs.BothRuns.{work_both};
 ghost use Rattle.cmd_runs.specs.BothCompletes.{BothComplete};
 
-use crate::both_inputs::{Loaded, load};
+use crate::both_inputs::{FilledImage, TwoDevices, filled_image, two_devices};
 use crate::making::make_runs;
-use crate::{Halt, Last, came_to, close_work, kept_disk_name, leave_runs};
+use crate::{
+    Halt, Last, Named, Supplies, came_to, close_work, kept_disk_name, leave_runs, read_program,
+};
+use asm80_program_types::Program80;
 use bdos_disk::disks_read_back;
 use cmd_arguments::Both;
 use cmd_common::sources_have_one_outcome;
@@ -42,27 +47,71 @@ fn work<'a, H: Host>(alloc: Global, host: &mut H, command: &Both<'a>) -> Result<
     ensures came { IfOk result (WorkHasLast (work_both (both_read command.now)) (H.state host.old) (H.state host.new)) }
     ensures halted { IfErr result (WorkHalts (work_both (both_read command.now)) (H.state host.old) (H.state host.new)) }
 {
-    let mut loaded = load(alloc, host, command)?;
-    run_loaded(alloc, host, command, &mut loaded)
+    let named = read_program(
+        alloc,
+        host,
+        command.source,
+        command.zilog,
+        command.top,
+        &command.run,
+    )?;
+    let Named { program, supplies } = named;
+    run_over(alloc, host, command, &program, supplies)
 }
 
-// The runs of what was loaded, and the disk that the 8080's leaves.
-fn run_loaded<'a, H: Host>(
+// The runs of it over devices of what was read.
+fn run_over<'a, H: Host>(
     alloc: Global,
     host: &mut H,
     command: &Both<'a>,
-    loaded: &mut Loaded,
+    program: &Program80,
+    supplies: Supplies,
 ) -> Result<Last<'a>, Halt<'a>>
-    requires fill { loaded.old.fill.items ≡ fill_by command.now.choice }
-    requires fill_len { length loaded.old.fill.items ≡ 0x10000 }
-    requires second { loaded.old.second ≡ loaded.old.devices }
+    requires { IsProgram program.now }
     ensures made { IfOk result IsLastMade }
-    ensures came { IfOk result (HasLastFrom (work_both (both_read command.now)) (λ begin. AreToRun (both_read command.now) begin loaded.old.program loaded.old.image loaded.old.devices) (H.state host.old) (H.state host.new)) }
-    ensures halted { IfErr result (HaltsFrom (work_both (both_read command.now)) (λ begin. AreToRun (both_read command.now) begin loaded.old.program loaded.old.image loaded.old.devices) (H.state host.old) (H.state host.new)) }
+    ensures came { IfOk result (HasLastFrom (work_both (both_read command.now)) (λ begin. IsNamed (kind80 (source_of (both_read command.now))) begin program.now (given_of supplies.input.items supplies.disk.items supplies.ports.items)) (H.state host.old) (H.state host.new)) }
+    ensures halted { IfErr result (HaltsFrom (work_both (both_read command.now)) (λ begin. IsNamed (kind80 (source_of (both_read command.now))) begin program.now (given_of supplies.input.items supplies.disk.items supplies.ports.items)) (H.state host.old) (H.state host.new)) }
 {
-    let made = make_runs(alloc, host, command, loaded)?;
+    let mut devices = two_devices(alloc, supplies)?;
+    run_imaged(alloc, host, command, program, &mut devices)
+}
+
+// The runs of it, and of the image of its lean text.
+fn run_imaged<'a, H: Host>(
+    alloc: Global,
+    host: &mut H,
+    command: &Both<'a>,
+    program: &Program80,
+    devices: &mut TwoDevices,
+) -> Result<Last<'a>, Halt<'a>>
+    requires program { IsProgram program.now }
+    requires second { devices.old.second ≡ devices.old.first }
+    ensures made { IfOk result IsLastMade }
+    ensures came { IfOk result (HasLastFrom (work_both (both_read command.now)) (λ begin. IsToRun (kind80 (source_of (both_read command.now))) begin program.now devices.old.first) (H.state host.old) (H.state host.new)) }
+    ensures halted { IfErr result (HaltsFrom (work_both (both_read command.now)) (λ begin. IsToRun (kind80 (source_of (both_read command.now))) begin program.now devices.old.first) (H.state host.old) (H.state host.new)) }
+{
+    let text = filled_image(alloc, program, command.choice)?;
+    run_equipped(alloc, host, command, program, &text, devices)
+}
+
+// The runs with all that they have, and the disk that the 8080's leaves.
+fn run_equipped<'a, H: Host>(
+    alloc: Global,
+    host: &mut H,
+    command: &Both<'a>,
+    program: &Program80,
+    text: &FilledImage,
+    devices: &mut TwoDevices,
+) -> Result<Last<'a>, Halt<'a>>
+    requires fill { IsFillBy command.now.choice text.now.fill.items }
+    requires second { devices.old.second ≡ devices.old.first }
+    ensures made { IfOk result IsLastMade }
+    ensures came { IfOk result (HasLastFrom (work_both (both_read command.now)) (λ begin. AreToRun (both_read command.now) begin program.now text.now.image devices.old.first) (H.state host.old) (H.state host.new)) }
+    ensures halted { IfErr result (HaltsFrom (work_both (both_read command.now)) (λ begin. AreToRun (both_read command.now) begin program.now text.now.image devices.old.first) (H.state host.old) (H.state host.new)) }
+{
+    let made = make_runs(alloc, host, command, program, text, devices)?;
     let came = came_to(made.first, command.run.steps, made.line);
     let second = Some(made.second.steps);
     let name = kept_disk_name(command.run.out_disk, made.first.end);
-    leave_runs(alloc, host, came, second, name, loaded.devices.disk())
+    leave_runs(alloc, host, came, second, name, devices.first.disk())
 }

@@ -1,22 +1,25 @@
 // The work of `runhex`: the cells of a HEX file run over devices, by a choice.
-ghost use Rattle.std.specs.Prelude.{◌≡◌, true, IfOk, IfErr, length};
+ghost use Rattle.std.specs.Prelude.{◌≡◌, true, IfOk, IfErr};
 ghost use Rattle.asm80_program_types.specs.Program.{is_top};
 ghost use Rattle.cmd_arguments.specs.ReadCommands.{run_hex_read};
 ghost use Rattle.cmd_runs.specs.Keeping.{DiskAlone};
-ghost use Rattle.cmd_runs.specs.Supplies.{fill_by};
+ghost use Rattle.cmd_runs.specs.Supplies.{given_of, IsFillBy};
 ghost use Rattle.cmd_runs.specs.Lasts.{IsLastMade};
-ghost use Rattle.cmd_runs.specs.Kinds.{IsToRun};
+ghost use Rattle.cmd_runs.specs.Kinds.{IsToRun, CanBeRun};
 ghost use Rattle.cmd_runs.specs.Works.{WorkHasLast, WorkHalts, HasLastFrom, HaltsFrom, WorkGives};
 ghost use Rattle.cmd_runs.specs.Outcomes.{RunCompletes};
 ghost use Rattle.cmd_runs.specs.RunsHex.{kind_hex, work_hex};
 
-use crate::hex_inputs::{LoadedHex, load};
+use crate::hex_inputs::hex_of_bytes;
 use crate::running::run_cells;
-use crate::{Halt, Last, came_to, close_work, kept_disk_name, leave_runs};
+use crate::supplies::{Equipment, equipment_of};
+use crate::{Halt, Last, Supplies, came_to, close_work, kept_disk_name, leave_runs, read_supplies};
 use bdos_disk::disks_read_back;
 use cmd_arguments::RunHex;
-use hex_file::hex_file_has_one_reading;
+use cmd_common::{SOURCE_LIMIT, read_named};
+use hex_file::{HexFile, hex_file_has_one_reading};
 use host::Host;
+use i80_bytes::memory_is_fetched;
 use std::alloc::Global;
 
 /// Runs the HEX file of a command over devices, says each event of its dialogue and then what the run came to, and answers the status.
@@ -43,38 +46,58 @@ fn work<'a, H: Host>(
     ensures came { IfOk result (WorkHasLast (work_hex (run_hex_read command.now)) (H.state host.old) (H.state host.new)) }
     ensures halted { IfErr result (WorkHalts (work_hex (run_hex_read command.now)) (H.state host.old) (H.state host.new)) }
 {
-    let mut loaded = load(alloc, host, command)?;
-    run_loaded(alloc, host, command, &mut loaded)
+    memory_is_fetched();
+    let bytes = read_named(alloc, host, command.file, SOURCE_LIMIT)?;
+    let supplies = read_supplies(alloc, host, &command.run)?;
+    let hex = hex_of_bytes(alloc, bytes)?;
+    run_over(alloc, host, command, &hex, supplies)
 }
 
-// The run of what was loaded, and the disk that it leaves.
-fn run_loaded<'a, H: Host>(
+// The run of it over the devices of what was read.
+fn run_over<'a, H: Host>(
     alloc: Global,
     host: &mut H,
     command: &RunHex<'a>,
-    loaded: &mut LoadedHex,
+    hex: &HexFile,
+    supplies: Supplies,
+) -> Result<Last<'a>, Halt<'a>>
+    requires { is_top command.now.top ≡ true }
+    ensures made { IfOk result IsLastMade }
+    ensures came { IfOk result (HasLastFrom (work_hex (run_hex_read command.now)) (λ begin. CanBeRun (kind_hex (run_hex_read command.now)) begin hex.now (given_of supplies.input.items supplies.disk.items supplies.ports.items)) (H.state host.old) (H.state host.new)) }
+    ensures halted { IfErr result (HaltsFrom (work_hex (run_hex_read command.now)) (λ begin. CanBeRun (kind_hex (run_hex_read command.now)) begin hex.now (given_of supplies.input.items supplies.disk.items supplies.ports.items)) (H.state host.old) (H.state host.new)) }
+{
+    let mut equipment = equipment_of(alloc, supplies, command.choice)?;
+    run_equipped(alloc, host, command, hex, &mut equipment)
+}
+
+// The run over these devices, and the disk that it leaves.
+fn run_equipped<'a, H: Host>(
+    alloc: Global,
+    host: &mut H,
+    command: &RunHex<'a>,
+    hex: &HexFile,
+    equipment: &mut Equipment,
 ) -> Result<Last<'a>, Halt<'a>>
     requires top { is_top command.now.top ≡ true }
-    requires fill { loaded.old.fill.items ≡ fill_by command.now.choice }
-    requires fill_len { length loaded.old.fill.items ≡ 0x10000 }
+    requires fill { IsFillBy command.now.choice equipment.old.fill.items }
     ensures made { IfOk result IsLastMade }
-    ensures came { IfOk result (HasLastFrom (work_hex (run_hex_read command.now)) (λ begin. IsToRun (kind_hex (run_hex_read command.now)) begin loaded.old.hex loaded.old.devices) (H.state host.old) (H.state host.new)) }
-    ensures halted { IfErr result (HaltsFrom (work_hex (run_hex_read command.now)) (λ begin. IsToRun (kind_hex (run_hex_read command.now)) begin loaded.old.hex loaded.old.devices) (H.state host.old) (H.state host.new)) }
+    ensures came { IfOk result (HasLastFrom (work_hex (run_hex_read command.now)) (λ begin. IsToRun (kind_hex (run_hex_read command.now)) begin hex.now equipment.old.devices) (H.state host.old) (H.state host.new)) }
+    ensures halted { IfErr result (HaltsFrom (work_hex (run_hex_read command.now)) (λ begin. IsToRun (kind_hex (run_hex_read command.now)) begin hex.now equipment.old.devices) (H.state host.old) (H.state host.new)) }
 {
     let limit = u64::from(command.run.steps);
     let ran = run_cells(
         alloc,
         host,
-        &loaded.hex,
+        hex,
         command.top,
         &command.run.page,
-        loaded.fill.as_slice(),
+        equipment.fill.as_slice(),
         command.choice,
-        &mut loaded.devices,
+        &mut equipment.devices,
         limit,
         b"",
     )?;
     let came = came_to(ran, command.run.steps, 0);
     let name = kept_disk_name(command.run.out_disk, ran.end);
-    leave_runs(alloc, host, came, None, name, loaded.devices.disk())
+    leave_runs(alloc, host, came, None, name, equipment.devices.disk())
 }

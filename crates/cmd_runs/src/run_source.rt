@@ -8,7 +8,7 @@ ghost use Rattle.cmd_runs.specs.Ends.{Halts};
 ghost use Rattle.cmd_runs.specs.Keeping.{DiskAlone};
 ghost use Rattle.cmd_runs.specs.Lasts.{IsLastMade};
 ghost use Rattle.cmd_runs.specs.Supplies.{given_of};
-ghost use Rattle.cmd_runs.specs.Kinds.{IsNamed, IsToRun, NothingToRun};
+ghost use Rattle.cmd_runs.specs.Kinds.{IsNamed, CanBeRun, IsToRun, NothingToRun};
 ghost use Rattle.cmd_runs.specs.Works.{WorkHasLast, WorkHalts, HasLastFrom, HaltsFrom, WorkGives};
 ghost use Rattle.cmd_runs.specs.Outcomes.{RunCompletes};
 ghost use Rattle.cmd_runs.specs.Runs80.{words_of, kind80, work80, IsLineAt, IsLineOf};
@@ -34,13 +34,6 @@ pub struct Named {
     pub supplies: Supplies,
 }
 
-// What there is before the run: the program, and the devices.
-#[derive(Drop)]
-struct Loaded {
-    program: Program80,
-    devices: Devices,
-}
-
 /// Runs the source of a command over devices, says each event of its dialogue and then what the run came to, and answers the
 /// status. The top of the program area is a multiple of 100H from 1000H to 0FF00H.
 pub fn run80<H: Host>(alloc: Global, host: &mut H, command: &Run80<'_>) -> u8
@@ -62,46 +55,6 @@ fn work<'a, H: Host>(alloc: Global, host: &mut H, command: &Run80<'a>) -> Result
     ensures came { IfOk result (WorkHasLast (work80 (run80_read command.now)) (H.state host.old) (H.state host.new)) }
     ensures halted { IfErr result (WorkHalts (work80 (run80_read command.now)) (H.state host.old) (H.state host.new)) }
 {
-    let mut loaded = load(alloc, host, command)?;
-    run_loaded(alloc, host, command, &mut loaded)
-}
-
-// The run of what was loaded, and the disk that it leaves.
-fn run_loaded<'a, H: Host>(
-    alloc: Global,
-    host: &mut H,
-    command: &Run80<'a>,
-    loaded: &mut Loaded,
-) -> Result<Last<'a>, Halt<'a>>
-    ensures made { IfOk result IsLastMade }
-    ensures came { IfOk result (HasLastFrom (work80 (run80_read command.now)) (λ begin. IsToRun (kind80 (run80_read command.now)) begin loaded.old.program loaded.old.devices) (H.state host.old) (H.state host.new)) }
-    ensures halted { IfErr result (HaltsFrom (work80 (run80_read command.now)) (λ begin. IsToRun (kind80 (run80_read command.now)) begin loaded.old.program loaded.old.devices) (H.state host.old) (H.state host.new)) }
-{
-    let limit = u64::from(command.run.steps);
-    let ran = run_program(
-        alloc,
-        host,
-        &loaded.program,
-        &command.run.page,
-        &mut loaded.devices,
-        limit,
-        b"",
-    )?;
-    let line = line_of(&loaded.program, ran.end);
-    let came = came_to(ran, command.run.steps, line);
-    let name = kept_disk_name(command.run.out_disk, ran.end);
-    leave_runs(alloc, host, came, None, name, loaded.devices.disk())
-}
-
-// Reads the files, the source one as its program, and makes the devices. That the source or the disk is refused is told once all of
-// them are read.
-fn load<'a, H: Host>(alloc: Global, host: &mut H, command: &Run80<'a>) -> Result<Loaded, Halt<'a>>
-    requires { is_top command.now.top ≡ true }
-    ensures only { OnlyReads (H.state host.old) (H.state host.new) }
-    ensures loaded { IfOk result (λ l. IsToRun (kind80 (run80_read command.now)) (H.state host.old) l.program l.devices) }
-    ensures counted { OnOk result (SameFaults (H.state host.old) (H.state host.new)) }
-    ensures stopped { IfErr result (Halts (NothingToRun (kind80 (run80_read command.now)) (H.state host.old) (H.state host.new))) }
-{
     let named = read_program(
         alloc,
         host,
@@ -111,8 +64,43 @@ fn load<'a, H: Host>(alloc: Global, host: &mut H, command: &Run80<'a>) -> Result
         &command.run,
     )?;
     let Named { program, supplies } = named;
-    let devices = devices_of(alloc, supplies)?;
-    Ok(Loaded { program, devices })
+    run_over(alloc, host, command, &program, supplies)
+}
+
+// The run of it over the devices of what was read.
+fn run_over<'a, H: Host>(
+    alloc: Global,
+    host: &mut H,
+    command: &Run80<'a>,
+    program: &Program80,
+    supplies: Supplies,
+) -> Result<Last<'a>, Halt<'a>>
+    ensures made { IfOk result IsLastMade }
+    ensures came { IfOk result (HasLastFrom (work80 (run80_read command.now)) (λ begin. CanBeRun (kind80 (run80_read command.now)) begin program.now (given_of supplies.input.items supplies.disk.items supplies.ports.items)) (H.state host.old) (H.state host.new)) }
+    ensures halted { IfErr result (HaltsFrom (work80 (run80_read command.now)) (λ begin. CanBeRun (kind80 (run80_read command.now)) begin program.now (given_of supplies.input.items supplies.disk.items supplies.ports.items)) (H.state host.old) (H.state host.new)) }
+{
+    let mut devices = devices_of(alloc, supplies)?;
+    run_equipped(alloc, host, command, program, &mut devices)
+}
+
+// The run over these devices, and the disk that it leaves.
+fn run_equipped<'a, H: Host>(
+    alloc: Global,
+    host: &mut H,
+    command: &Run80<'a>,
+    program: &Program80,
+    devices: &mut Devices,
+) -> Result<Last<'a>, Halt<'a>>
+    ensures made { IfOk result IsLastMade }
+    ensures came { IfOk result (HasLastFrom (work80 (run80_read command.now)) (λ begin. IsToRun (kind80 (run80_read command.now)) begin program.now devices.old) (H.state host.old) (H.state host.new)) }
+    ensures halted { IfErr result (HaltsFrom (work80 (run80_read command.now)) (λ begin. IsToRun (kind80 (run80_read command.now)) begin program.now devices.old) (H.state host.old) (H.state host.new)) }
+{
+    let limit = u64::from(command.run.steps);
+    let ran = run_program(alloc, host, program, &command.run.page, devices, limit, b"")?;
+    let line = line_of(program, ran.end);
+    let came = came_to(ran, command.run.steps, line);
+    let name = kept_disk_name(command.run.out_disk, ran.end);
+    leave_runs(alloc, host, came, None, name, devices.disk())
 }
 
 /// Reads the files, that of the source as its program, in Zilog's spelling or in Intel's, for a top of the program area, a multiple of 100H from 1000H to 0FF00H. That the

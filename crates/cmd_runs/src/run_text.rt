@@ -1,19 +1,23 @@
 // The work of `run86`: a text's image runs over devices, by a choice.
-ghost use Rattle.std.specs.Prelude.{◌≡◌, IfOk, IfErr, length};
+ghost use Rattle.std.specs.Prelude.{IfOk, IfErr};
 ghost use Rattle.cmd_arguments.specs.ReadCommands.{run86_read};
 ghost use Rattle.cmd_runs.specs.Keeping.{DiskAlone};
-ghost use Rattle.cmd_runs.specs.Supplies.{fill_by};
+ghost use Rattle.cmd_runs.specs.Supplies.{given_of, IsFillBy};
 ghost use Rattle.cmd_runs.specs.Lasts.{IsLastMade};
-ghost use Rattle.cmd_runs.specs.Kinds.{IsToRun};
+ghost use Rattle.cmd_runs.specs.Kinds.{IsToRun, CanBeRun};
 ghost use Rattle.cmd_runs.specs.Works.{WorkHasLast, WorkHalts, HasLastFrom, HaltsFrom, WorkGives};
 ghost use Rattle.cmd_runs.specs.Outcomes.{RunCompletes};
 ghost use Rattle.cmd_runs.specs.Runs86.{kind86, work86};
 
-use crate::text_inputs::{Loaded, load};
-use crate::{Halt, Last, came_to, close_work, kept_disk_name, leave_runs, run_image};
-use asm86::texts_have_one_image;
+use crate::supplies::{Equipment, equipment_of};
+use crate::text_inputs::read_image;
+use crate::{
+    Halt, Last, Supplies, came_to, close_work, kept_disk_name, leave_runs, read_supplies, run_image,
+};
+use asm86::{Image86, texts_have_one_image};
 use bdos_disk::disks_read_back;
 use cmd_arguments::Run86;
+use cmd_common::read_text;
 use host::Host;
 use std::alloc::Global;
 
@@ -36,36 +40,54 @@ fn work<'a, H: Host>(alloc: Global, host: &mut H, command: &Run86<'a>) -> Result
     ensures came { IfOk result (WorkHasLast (work86 (run86_read command.now)) (H.state host.old) (H.state host.new)) }
     ensures halted { IfErr result (WorkHalts (work86 (run86_read command.now)) (H.state host.old) (H.state host.new)) }
 {
-    let mut loaded = load(alloc, host, command)?;
-    run_loaded(alloc, host, command, &mut loaded)
+    let text = read_text(alloc, host, command.text)?;
+    let supplies = read_supplies(alloc, host, &command.run)?;
+    let image = read_image(alloc, text)?;
+    run_over(alloc, host, command, &image, supplies)
 }
 
-// The run of what was loaded, and the disk that it leaves.
-fn run_loaded<'a, H: Host>(
+// The run of it over the devices of what was read.
+fn run_over<'a, H: Host>(
     alloc: Global,
     host: &mut H,
     command: &Run86<'a>,
-    loaded: &mut Loaded,
+    image: &Image86,
+    supplies: Supplies,
 ) -> Result<Last<'a>, Halt<'a>>
-    requires fill { loaded.old.fill.items ≡ fill_by command.now.choice }
-    requires fill_len { length loaded.old.fill.items ≡ 0x10000 }
     ensures made { IfOk result IsLastMade }
-    ensures came { IfOk result (HasLastFrom (work86 (run86_read command.now)) (λ begin. IsToRun (kind86 (run86_read command.now)) begin loaded.old.image loaded.old.devices) (H.state host.old) (H.state host.new)) }
-    ensures halted { IfErr result (HaltsFrom (work86 (run86_read command.now)) (λ begin. IsToRun (kind86 (run86_read command.now)) begin loaded.old.image loaded.old.devices) (H.state host.old) (H.state host.new)) }
+    ensures came { IfOk result (HasLastFrom (work86 (run86_read command.now)) (λ begin. CanBeRun (kind86 (run86_read command.now)) begin image.now (given_of supplies.input.items supplies.disk.items supplies.ports.items)) (H.state host.old) (H.state host.new)) }
+    ensures halted { IfErr result (HaltsFrom (work86 (run86_read command.now)) (λ begin. CanBeRun (kind86 (run86_read command.now)) begin image.now (given_of supplies.input.items supplies.disk.items supplies.ports.items)) (H.state host.old) (H.state host.new)) }
+{
+    let mut equipment = equipment_of(alloc, supplies, command.choice)?;
+    run_equipped(alloc, host, command, image, &mut equipment)
+}
+
+// The run over these devices, and the disk that it leaves.
+fn run_equipped<'a, H: Host>(
+    alloc: Global,
+    host: &mut H,
+    command: &Run86<'a>,
+    image: &Image86,
+    equipment: &mut Equipment,
+) -> Result<Last<'a>, Halt<'a>>
+    requires { IsFillBy command.now.choice equipment.old.fill.items }
+    ensures made { IfOk result IsLastMade }
+    ensures came { IfOk result (HasLastFrom (work86 (run86_read command.now)) (λ begin. IsToRun (kind86 (run86_read command.now)) begin image.now equipment.old.devices) (H.state host.old) (H.state host.new)) }
+    ensures halted { IfErr result (HaltsFrom (work86 (run86_read command.now)) (λ begin. IsToRun (kind86 (run86_read command.now)) begin image.now equipment.old.devices) (H.state host.old) (H.state host.new)) }
 {
     let limit = u64::from(command.run.steps);
     let ran = run_image(
         alloc,
         host,
-        &loaded.image,
+        image,
         &command.run.page,
-        loaded.fill.as_slice(),
+        equipment.fill.as_slice(),
         command.choice,
-        &mut loaded.devices,
+        &mut equipment.devices,
         limit,
         b"",
     )?;
     let came = came_to(ran, command.run.steps, 0);
     let name = kept_disk_name(command.run.out_disk, ran.end);
-    leave_runs(alloc, host, came, None, name, loaded.devices.disk())
+    leave_runs(alloc, host, came, None, name, equipment.devices.disk())
 }

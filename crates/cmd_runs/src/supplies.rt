@@ -1,9 +1,8 @@
 // What the devices of a run have to answer with, and what fills a memory.
-ghost use Rattle.std.specs.Prelude.{◌≡◌, ◌⊎◌, IfOk, IfErr, OnOk, option_copied, length};
+ghost use Rattle.std.specs.Prelude.{◌≡◌, IfOk, IfErr, OnOk, MatchResult, option_copied, length};
 ghost use Rattle.host.specs.Host.{SameFaults, OnlyReads};
 ghost use Rattle.cmd_arguments.specs.ReadCommands.{run_options_read};
-ghost use Rattle.cmd_common.specs.declared.stop.Stop.TheVariants.{OutOfMemory};
-ghost use Rattle.cmd_runs.specs.Supplies.{given_of, fill_by, IsDiskFile, DiskFileStops, IsSupplied, SupplyStops, HasDisk, stop_of_disk, DiskStops};
+ghost use Rattle.cmd_runs.specs.Supplies.{given_of, fill_by, IsDiskFile, DiskFileStops, IsSupplied, SupplyStops, HasDisk, stop_of_disk, DiskStops, IsFillBy, EquipmentStops};
 
 use bdos_small::{Devices, Disk, DiskFault};
 use cmd_arguments::RunOptions;
@@ -99,10 +98,9 @@ pub fn equipment_of<'a>(
     supplies: Supplies,
     choice: u128,
 ) -> Result<Equipment, Stop<'a>>
-    ensures devices { IfOk result (λ e. HasDisk (given_of supplies.input.items supplies.disk.items supplies.ports.items) e.devices) }
-    ensures fill { IfOk result (λ e. e.fill.items ≡ fill_by choice) }
-    ensures fill_len { IfOk result (λ e. length e.fill.items ≡ 0x10000) }
-    ensures stopped { IfErr result (λ stop. DiskStops supplies.disk.items stop ⊎ (stop ≡ OutOfMemory)) }
+    ensures { MatchResult result
+        (λ e. HasDisk (given_of supplies.input.items supplies.disk.items supplies.ports.items) e.devices × IsFillBy choice e.fill.items)
+        (EquipmentStops supplies.disk.items) }
 {
     let devices = devices_of(alloc, supplies)?;
     let fill = fill_of(alloc, choice)?;

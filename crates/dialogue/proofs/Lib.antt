@@ -1,4 +1,5 @@
 pub mod Cells
+pub mod Placed
 pub mod Rows
 pub mod LawfulShapes
 pub mod ByteMemory

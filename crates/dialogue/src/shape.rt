@@ -122,11 +122,11 @@ fn shape_by<V: View>(
 {
     let arg = argument_of(row.argument, d, e)?;
     let de = address_of(arg);
-    let reads = reads_within(row.reads, de, dma, view)?;
+    let reads = places_within(Access::Read, &row.reads, de, dma, view)?;
     if !has_room(row.writes, de, view) {
         return Err(Rule::P10);
     }
-    let writes = writes_within(row.writes, de, dma, view)?;
+    let writes = places_within(Access::Write, &row.writes, de, dma, view)?;
     Ok(Shape {
         function,
         arg,
@@ -158,39 +158,22 @@ pub(crate) fn address_of(arg: ArgWord) -> u16
     }
 }
 
-/// The ranges that a call reads.
-fn reads_within<V: View>(
-    extents: [Option<Extent>; 3],
+/// The ranges of extents, each in the place of its extent, where all give this access.
+fn places_within<V: View, const N: usize>(
+    access: Access,
+    extents: &[Option<Extent>; N],
     de: u16,
     dma: u16,
     view: &V,
-) -> Result<[Option<Range>; 3], Rule>
-    requires { IsTrue (list_all has_cells extents) }
-    ensures { result ≡ places_within Access.Read (seen_by_view (V.byte_at view.now) (V.is_writable view.now)) de dma extents }
+) -> Result<[Option<Range>; N], Rule>
+    requires { IsTrue (list_all has_cells extents.now) }
+    ensures { result ≡ places_within access (seen_by_view (V.byte_at view.now) (V.is_writable view.now)) de dma extents.now }
 {
-    let [first, second, third] = extents;
-    Ok([
-        place_within(Access::Read, first, de, dma, view)?,
-        place_within(Access::Read, second, de, dma, view)?,
-        place_within(Access::Read, third, de, dma, view)?,
-    ])
-}
-
-/// The ranges that a call may write.
-fn writes_within<V: View>(
-    extents: [Option<Extent>; 2],
-    de: u16,
-    dma: u16,
-    view: &V,
-) -> Result<[Option<Range>; 2], Rule>
-    requires { IsTrue (list_all has_cells extents) }
-    ensures { result ≡ places_within Access.Write (seen_by_view (V.byte_at view.now) (V.is_writable view.now)) de dma extents }
-{
-    let [first, second] = extents;
-    Ok([
-        place_within(Access::Write, first, de, dma, view)?,
-        place_within(Access::Write, second, de, dma, view)?,
-    ])
+    let mut places = [None; N];
+    for k in 0..N {
+        places[k] = place_within(access, extents[k], de, dma, view)?;
+    }
+    Ok(places)
 }
 
 /// The range of an extent, if there is one.

@@ -1,7 +1,12 @@
 // The call table (CP/M 2.2 Operating System Manual, "BDOS functions").
-ghost use Rattle.std.specs.Prelude.{◌≡◌, option_map, IfSome};
+ghost use Rattle.std.specs.Prelude.{◌≡◌, ◌<◌, ◌≤◌, option_map, IfSome};
 ghost use Rattle.dialogue.specs.Table.{row_of, laid_out};
 ghost use Rattle.dialogue.specs.Places.{HaveCells};
+
+use AnswerKind::*;
+use AnswerRule::*;
+use Argument::*;
+use Extent::*;
 
 /// Where a call finds its argument.
 #[derive(Clone, Copy, PartialEq, Eq)]
@@ -52,25 +57,49 @@ pub struct Row {
 }
 
 /// The row of a function, if the profile has it.
-#[tactic(auto, unfolding(crate::specs::Table::row_of))]
-#[rattlefmt::skip]
 pub fn row_of(function: u8) -> Option<Row>
     ensures row { result ≡ option_map laid_out (row_of function) }
     ensures cells { IfSome result HaveCells }
 {
-    use AnswerKind::*;
-    use AnswerRule::*;
-    use Argument::*;
-    use Extent::*;
+    match function {
+        0..=12 => device_row(function),
+        13..=32 => file_row(function),
+        _ => random_row(function),
+    }
+}
 
+/// The row of a function of the system or of a character device: those below 13.
+#[tactic(auto, unfolding(crate::specs::Table::row_of))]
+#[rattlefmt::skip]
+fn device_row(function: u8) -> Option<Row>
+    requires { function < 13 }
+    ensures row { result ≡ option_map laid_out (row_of function) }
+    ensures cells { IfSome result HaveCells }
+{
     let (argument, answer, reads, writes) = match function {
-        0 | 13 => (NoArgument, Always(NoAnswer), [None; 3], [None; 2]),
-        1 | 11 | 25 => (NoArgument, Always(ByteAnswer), [None; 3], [None; 2]),
-        2 | 14 => (InE, Always(NoAnswer), [None; 3], [None; 2]),
+        0 => (NoArgument, Always(NoAnswer), [None; 3], [None; 2]),
+        1 | 11 => (NoArgument, Always(ByteAnswer), [None; 3], [None; 2]),
+        2 => (InE, Always(NoAnswer), [None; 3], [None; 2]),
         6 => (DirectInE, ByteWhere(0xFF), [None; 3], [None; 2]),
         9 => (InDE, Always(NoAnswer), [Some(Text), None, None], [None; 2]),
         10 => (InDE, Always(NoAnswer), [Some(F(0, 1)), None, None], [Some(Line), None]),
         12 => (NoArgument, Always(WordAnswer), [None; 3], [None; 2]),
+        _ => return None,
+    };
+    Some(Row { argument, answer, reads, writes })
+}
+
+/// The row of a function of the disks, of a directory or of a file that is read in order: those from 13 up to 32.
+#[tactic(auto, unfolding(crate::specs::Table::row_of))]
+#[rattlefmt::skip]
+fn file_row(function: u8) -> Option<Row>
+    requires { 13 ≤ function × function < 33 }
+    ensures row { result ≡ option_map laid_out (row_of function) }
+    ensures cells { IfSome result HaveCells }
+{
+    let (argument, answer, reads, writes) = match function {
+        13 => (NoArgument, Always(NoAnswer), [None; 3], [None; 2]),
+        14 => (InE, Always(NoAnswer), [None; 3], [None; 2]),
         15 | 22 => (InDE, Always(ByteAnswer), [Some(F(0, 13)), None, None], [Some(F(0, 32)), None]),
         16 => (InDE, Always(ByteAnswer), [Some(F(0, 32)), None, None], [Some(F(12, 20)), None]),
         17 => (InDE, Always(ByteAnswer), [Some(F(0, 13)), None, None], [Some(Dma), None]),
@@ -79,7 +108,22 @@ pub fn row_of(function: u8) -> Option<Row>
         20 => (InDE, Always(ByteAnswer), [Some(F(0, 33)), None, None], [Some(F(12, 21)), Some(Dma)]),
         21 => (InDE, Always(ByteAnswer), [Some(F(0, 33)), Some(Dma), None], [Some(F(12, 21)), None]),
         23 => (InDE, Always(ByteAnswer), [Some(F(0, 12)), Some(F(16, 12)), None], [None; 2]),
+        25 => (NoArgument, Always(ByteAnswer), [None; 3], [None; 2]),
         26 => (InDE, Always(NoAnswer), [None; 3], [None; 2]),
+        _ => return None,
+    };
+    Some(Row { argument, answer, reads, writes })
+}
+
+/// The row of a function of a file that is read or written at random: those from 33 up.
+#[tactic(auto, unfolding(crate::specs::Table::row_of))]
+#[rattlefmt::skip]
+fn random_row(function: u8) -> Option<Row>
+    requires { 33 ≤ function }
+    ensures row { result ≡ option_map laid_out (row_of function) }
+    ensures cells { IfSome result HaveCells }
+{
+    let (argument, answer, reads, writes) = match function {
         33 => (InDE, Always(ByteAnswer), [Some(F(0, 32)), Some(F(33, 3)), None], [Some(F(12, 21)), Some(Dma)]),
         34 => (InDE, Always(ByteAnswer), [Some(F(0, 32)), Some(F(33, 3)), Some(Dma)], [Some(F(12, 21)), None]),
         35 => (InDE, Always(NoAnswer), [Some(F(0, 12)), None, None], [Some(F(33, 3)), None]),

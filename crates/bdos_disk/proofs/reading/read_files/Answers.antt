@@ -4,7 +4,7 @@ use Rattle.std.proofs.lemmas.List.{take_rest}
 use Rattle.bdos_disk.specs.Spelled.{BreaksAt}
 use Rattle.bdos_disk.specs.DiskFile.{files_bytes}
 use Rattle.bdos_disk.specs.Reading.{AreFiles, IsNextFile, StopsBy}
-use Rattle.bdos_disk.proofs.Steps.{StillReading, still_breaks, still_next}
+use Rattle.bdos_disk.proofs.Steps.{StillReading, still_breaks, still_next, all_read}
 use Rattle.bdos_disk.proofs.Whole.{stops_behind}
 use Rattle.bdos_disk.proofs.reading.read_files.Goals as goal
 
@@ -39,3 +39,10 @@ loop-index-preserved c =
     subst (λ l. StillReading count bytes l (Some c.name.result) (room - length c.records.result.now) (at + used) (index + 1)) (sym items)
     (subst (λ n. StillReading count bytes (files ++ f ∷ []) (Some n) (room - length c.records.result.now) (at + used) (index + 1)) (sym c.name.ensures)
     (subst (λ (rs : List (List ℕ)). StillReading count bytes (files ++ f ∷ []) (Some f.name) (room - length rs) (at + used) (index + 1)) (sym c.records.ensures) next))
+
+pub read_file-requires-clause-named : goal.read_file-requires-clause-named
+read_file-requires-clause-named c = c.loop-index.invariant.can c.loop-index-test.true
+
+pub returns : goal.returns
+returns c =
+    all_read c.args.count c.args.bytes.now c.loop-index.files.items c.loop-index.last c.loop-index.room c.loop-index.at c.loop-index.index c.loop-index.invariant c.loop-index-test.false

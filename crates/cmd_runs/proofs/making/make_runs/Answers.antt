@@ -17,12 +17,14 @@ returns-in_err-first-clause-halted g c =
     let command = both_read c.args.command.now in
     let start = g.H.Host.state c.args.host.now in
     let new = g.H.Host.state c.run_program.new.host in
-    let l = c.args.loaded.now in
+    let program = c.args.program.now in
+    let image = c.args.text.now.image in
+    let supply = c.args.devices.now.first in
     let fault = c.in_err-first.field-0.0 in
-    let cut : IsRunCutOff (first_setting command l.program) l.devices fault start new =
-    subst (λ n. IsRunCutOff (setting80 command.run.page l.program n prefix80) l.devices fault start new) c.from-steps.ensures c.in_err-first.ensures.cut in
-    handed_on c.from_residual.result (halt_of_talk fault) (HaltsFrom (work_both command) (λ begin. AreToRun command begin l.program l.image l.devices) start new) c.from_residual.ensures.1
-    (λ begin read. first_halts command begin start l.program l.image l.devices read new fault cut)
+    let cut : IsRunCutOff (first_setting command program) supply fault start new =
+    subst (λ n. IsRunCutOff (setting80 command.run.page program n prefix80) supply fault start new) c.from-steps.ensures c.in_err-first.ensures.cut in
+    handed_on c.from_residual.result (halt_of_talk fault) (HaltsFrom (work_both command) (λ begin. AreToRun command begin program image supply) start new) c.from_residual.ensures.1
+    (λ begin read. first_halts command begin start program image supply read new fault cut)
 
 -- a fault cut the 8086's run off
 pub returns-in_err-second-clause-halted : goal.returns-in_err-second-clause-halted
@@ -31,14 +33,16 @@ returns-in_err-second-clause-halted g c =
     let start = g.H.Host.state c.args.host.now in
     let mid = g.H.Host.state c.run_program.new.host in
     let new = g.H.Host.state c.run_image.new.host in
-    let l = c.args.loaded.now in
+    let program = c.args.program.now in
+    let image = c.args.text.now.image in
+    let supply = c.args.devices.now.first in
     let o = c.in_ok-first.first in
     let left = c.run_program.new.devices in
-    let first : RunComesTo (first_setting command l.program) l.devices o left start mid =
-    subst (λ n. RunComesTo (setting80 command.run.page l.program n prefix80) l.devices o left start mid) c.from-steps.ensures c.in_ok-first.ensures.run in
+    let first : RunComesTo (first_setting command program) supply o left start mid =
+    subst (λ n. RunComesTo (setting80 command.run.page program n prefix80) supply o left start mid) c.from-steps.ensures c.in_ok-first.ensures.run in
     let fault = c.in_err-second.field-0.0 in
-    handed_on c.from_residual-in_err-second.result (halt_of_talk fault) (HaltsFrom (work_both command) (λ begin. AreToRun command begin l.program l.image l.devices) start new) c.from_residual-in_err-second.ensures.1
-    (λ begin read. second_halts command begin start l.program l.image l.devices read mid new o left l.second c.limit86-limit.result first c.requires.second c.limit86-limit.ensures fault c.in_err-second.ensures.cut)
+    handed_on c.from_residual-in_err-second.result (halt_of_talk fault) (HaltsFrom (work_both command) (λ begin. AreToRun command begin program image supply) start new) c.from_residual-in_err-second.ensures.1
+    (λ begin read. second_halts command begin start program image supply read mid new o left c.args.devices.now.second c.limit86-limit.result first c.requires.second c.limit86-limit.ensures fault c.in_err-second.ensures.cut)
 
 pub returns-clause-made : goal.returns-clause-made
 returns-clause-made g c = λ begin read.
@@ -46,12 +50,14 @@ returns-clause-made g c = λ begin read.
     let start = g.H.Host.state c.args.host.now in
     let mid = g.H.Host.state c.run_program.new.host in
     let new = g.H.Host.state c.run_image.new.host in
-    let l = c.args.loaded.now in
+    let program = c.args.program.now in
+    let image = c.args.text.now.image in
+    let supply = c.args.devices.now.first in
     let o = c.in_ok-first.first in
     let left = c.run_program.new.devices in
-    let first : RunComesTo (first_setting command l.program) l.devices o left start mid =
-    subst (λ n. RunComesTo (setting80 command.run.page l.program n prefix80) l.devices o left start mid) c.from-steps.ensures c.in_ok-first.ensures.run in
+    let first : RunComesTo (first_setting command program) supply o left start mid =
+    subst (λ n. RunComesTo (setting80 command.run.page program n prefix80) supply o left start mid) c.from-steps.ensures c.in_ok-first.ensures.run in
     let choice = c.args.command.now.choice in
-    both_made command begin start l.program l.image l.devices read mid new o left l.second c.limit86-limit.result first c.requires.second c.limit86-limit.ensures c.start_is_in_range.ensures.page
-    (filled choice l.fill.items c.as_slice-fill.result.now c.requires.fill c.requires.fill_len c.as_slice-fill.ensures.value c.start_is_in_range.ensures.fill) c.start_is_in_range.ensures.choice
-    (λ fetch. c.runs_are_one.ensures.of_86 fetch l.image c.args.command.now.run.page (fill_by choice) (start_by choice) (choice ∷ [])) c.line_of-line.result c.line_of-line.ensures c.in_ok-second.second c.run_image.new.devices c.in_ok-second.ensures.run
+    both_made command begin start program image supply read mid new o left c.args.devices.now.second c.limit86-limit.result first c.requires.second c.limit86-limit.ensures c.start_is_in_range.ensures.page
+    (filled choice c.args.text.now.fill.items c.as_slice-fill.result.now c.requires.fill.bytes c.requires.fill.size c.as_slice-fill.ensures.value c.start_is_in_range.ensures.fill) c.start_is_in_range.ensures.choice
+    (λ fetch. c.runs_are_one.ensures.of_86 fetch image c.args.command.now.run.page (fill_by choice) (start_by choice) (choice ∷ [])) c.line_of-line.result c.line_of-line.ensures c.in_ok-second.second c.run_image.new.devices c.in_ok-second.ensures.run

@@ -1,30 +1,42 @@
+use Rattle.host.specs.Host.{HostState}
 use Rattle.cmd_arguments.specs.ReadCommands.{both_read}
 use Rattle.cmd_common.proofs.Told.{handed_on}
+use Rattle.cmd_runs.specs.Supplies.{given_of}
+use Rattle.cmd_runs.specs.Kinds.{IsNamed, NothingToRun, HasRead}
+use Rattle.cmd_runs.specs.Runs80.{kind80}
 use Rattle.cmd_runs.specs.Works.{WorkHalts}
-use Rattle.cmd_runs.proofs.Working.{unloaded_halts, begun_has, begun_halts}
-use Rattle.cmd_runs.specs.BothLoads.{AreToRun}
+use Rattle.cmd_runs.specs.BothLoads.{source_of, NeitherToRun, unloaded}
 use Rattle.cmd_runs.specs.BothRuns.{work_both}
+use Rattle.cmd_runs.proofs.Working.{halts_for, unloaded_halts, begun_has, begun_halts}
 use Rattle.cmd_runs.proofs.run_both.work.Goals as goal
 
-pub returns-in_err-loaded-clause-halted : goal.returns-in_err-loaded-clause-halted
-returns-in_err-loaded-clause-halted g c =
-    let w = work_both (both_read c.args.command.now) in
+pub returns-in_err-named-clause-halted : goal.returns-in_err-named-clause-halted
+returns-in_err-named-clause-halted g c =
+    let command = both_read c.args.command.now in
+    let w = work_both command in
     let old = g.H.Host.state c.args.host.now in
-    let new = g.H.Host.state c.load.new.host in
-    let halt = c.in_err-loaded.field-0.0 in
+    let new = g.H.Host.state c.read_program.new.host in
+    let halt = c.in_err-named.field-0.0 in
     handed_on c.from_residual.result halt (WorkHalts w old new) c.from_residual.ensures.1
-    (unloaded_halts w old new halt c.in_err-loaded.ensures.only c.in_err-loaded.ensures.stopped)
+    (unloaded_halts w old new halt c.in_err-named.ensures.only
+    (halts_for (NothingToRun (kind80 (source_of command)) old new) (NeitherToRun command old new) (λ stop s. unloaded s) halt c.in_err-named.ensures.stopped))
+
+pub run_over-requires : goal.run_over-requires
+run_over-requires g c = c.in_ok-named.ensures.named.gives.program.program.lawful
 
 pub returns : goal.returns
 returns g c =
     let command = both_read c.args.command.now in
     let old = g.H.Host.state c.args.host.now in
-    let start = g.H.Host.state c.load.new.host in
-    let new = g.H.Host.state c.run_loaded.new.host in
-    let l = c.in_ok-loaded.loaded in
-    let e = c.in_ok-loaded.ensures in
+    let start = g.H.Host.state c.read_program.new.host in
+    let new = g.H.Host.state c.run_over.new.host in
+    let n = c.in_ok-named.named in
+    let s = n.supplies in
+    let e = c.in_ok-named.ensures in
+    let Stood = λ (begin : HostState). IsNamed (kind80 (source_of command)) begin n.program (given_of s.input.items s.disk.items s.ports.items) in
+    let read : HasRead (Stood old) old start = record { stands = e.named; reads = e.only; counted = e.counted } in
     record {
-      made = c.run_loaded.ensures.made;
-      came = begun_has (work_both command) (λ begin. AreToRun command begin l.program l.image l.devices) old start new (record { stands = e.loaded; reads = e.only; counted = e.counted }) c.run_loaded.result c.run_loaded.ensures.came;
-      halted = begun_halts (work_both command) (λ begin. AreToRun command begin l.program l.image l.devices) old start new (record { stands = e.loaded; reads = e.only; counted = e.counted }) c.run_loaded.result c.run_loaded.ensures.halted;
+      made = c.run_over.ensures.made;
+      came = begun_has (work_both command) Stood old start new read c.run_over.result c.run_over.ensures.came;
+      halted = begun_halts (work_both command) Stood old start new read c.run_over.result c.run_over.ensures.halted;
     }

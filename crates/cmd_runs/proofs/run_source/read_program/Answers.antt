@@ -1,5 +1,5 @@
 use Rattle.std.proofs.Common.{subst}
-use Rattle.host.proofs.HostLemmas.{SameFaults-trans}
+use Rattle.host.proofs.HostLemmas.{OnlyReads-trans, SameFaults-trans}
 use Rattle.cmd_arguments.specs.ReadCommands.{run_options_read}
 use Rattle.cmd_arguments.specs.Words.{Run80}
 use Rattle.cmd_runs.specs.declared.halt.Halt.TheVariants.{By}
@@ -62,3 +62,15 @@ returns-clause-named g c =
       gives = subst (SourceGives (reading_of command.zilog) first.read.bytes command.top) c.in_ok-program.was first.read.gives;
       supplied = supply_before old mid new first.only first.counted command.run given second.read;
     }
+
+pub returns-in_err-supplies-clause-only : goal.returns-in_err-supplies-clause-only
+returns-in_err-supplies-clause-only g c = OnlyReads-trans c.in_ok-source.ensures.only c.in_err-supplies.ensures.only
+
+pub returns-in_err-program-clause-only : goal.returns-in_err-program-clause-only
+returns-in_err-program-clause-only g c = OnlyReads-trans c.in_ok-source.ensures.only c.in_ok-supplies.ensures.only
+
+pub returns-clause-only : goal.returns-clause-only
+returns-clause-only g c = OnlyReads-trans c.in_ok-source.ensures.only c.in_ok-supplies.ensures.only
+
+pub returns-clause-counted : goal.returns-clause-counted
+returns-clause-counted g c = SameFaults-trans c.in_ok-source.ensures.counted c.in_ok-supplies.ensures.counted

@@ -1,30 +1,35 @@
+use Rattle.host.specs.Host.{HostState}
 use Rattle.cmd_arguments.specs.ReadCommands.{run80_read}
 use Rattle.cmd_common.proofs.Told.{handed_on}
-use Rattle.cmd_runs.specs.Kinds.{IsToRun}
+use Rattle.cmd_runs.specs.Supplies.{given_of}
+use Rattle.cmd_runs.specs.Kinds.{HasRead, CanBeRun}
 use Rattle.cmd_runs.specs.Works.{WorkHalts}
-use Rattle.cmd_runs.proofs.Working.{unloaded_halts, begun_has, begun_halts}
 use Rattle.cmd_runs.specs.Runs80.{kind80, work80}
+use Rattle.cmd_runs.proofs.Working.{unloaded_halts, begun_has, begun_halts}
 use Rattle.cmd_runs.proofs.run_source.work.Goals as goal
 
-pub returns-in_err-loaded-clause-halted : goal.returns-in_err-loaded-clause-halted
-returns-in_err-loaded-clause-halted g c =
+pub returns-in_err-named-clause-halted : goal.returns-in_err-named-clause-halted
+returns-in_err-named-clause-halted g c =
     let w = work80 (run80_read c.args.command.now) in
     let old = g.H.Host.state c.args.host.now in
-    let new = g.H.Host.state c.load.new.host in
-    let halt = c.in_err-loaded.field-0.0 in
+    let new = g.H.Host.state c.read_program.new.host in
+    let halt = c.in_err-named.field-0.0 in
     handed_on c.from_residual.result halt (WorkHalts w old new) c.from_residual.ensures.1
-    (unloaded_halts w old new halt c.in_err-loaded.ensures.only c.in_err-loaded.ensures.stopped)
+    (unloaded_halts w old new halt c.in_err-named.ensures.only c.in_err-named.ensures.stopped)
 
 pub returns : goal.returns
 returns g c =
     let command = run80_read c.args.command.now in
     let old = g.H.Host.state c.args.host.now in
-    let start = g.H.Host.state c.load.new.host in
-    let new = g.H.Host.state c.run_loaded.new.host in
-    let l = c.in_ok-loaded.loaded in
-    let e = c.in_ok-loaded.ensures in
+    let start = g.H.Host.state c.read_program.new.host in
+    let new = g.H.Host.state c.run_over.new.host in
+    let n = c.in_ok-named.named in
+    let s = n.supplies in
+    let e = c.in_ok-named.ensures in
+    let Stood = λ (begin : HostState). CanBeRun (kind80 command) begin n.program (given_of s.input.items s.disk.items s.ports.items) in
+    let read : HasRead (Stood old) old start = record { stands = record { named = e.named; readable = tt }; reads = e.only; counted = e.counted } in
     record {
-      made = c.run_loaded.ensures.made;
-      came = begun_has (work80 command) (λ begin. IsToRun (kind80 command) begin l.program l.devices) old start new (record { stands = e.loaded; reads = e.only; counted = e.counted }) c.run_loaded.result c.run_loaded.ensures.came;
-      halted = begun_halts (work80 command) (λ begin. IsToRun (kind80 command) begin l.program l.devices) old start new (record { stands = e.loaded; reads = e.only; counted = e.counted }) c.run_loaded.result c.run_loaded.ensures.halted;
+      made = c.run_over.ensures.made;
+      came = begun_has (work80 command) Stood old start new read c.run_over.result c.run_over.ensures.came;
+      halted = begun_halts (work80 command) Stood old start new read c.run_over.result c.run_over.ensures.halted;
     }

@@ -27,12 +27,15 @@ loop-place-preserved g c =
           ∙ c.loop-place.invariant.blocks;
     }
 
-pub returns-clause-lawful : goal.returns-clause-lawful
-returns-clause-lawful g c =
+pub returns : goal.returns
+returns g c =
     let seen : Seen = seen_by_view (g.V.View.byte_at c.args.view.now) (g.V.View.is_writable c.args.view.now) in
     let none : drop c.loop-place.place-index c.args.shape.reads ≡ [] =
     drop_of_length-le c.args.shape.reads {i = c.loop-place.place-index} (omega arith) in
     let whole = rw none at c.loop-place.invariant.blocks in
     let blocks : c.from_vec.result ≡ map (block_seen seen) (ranges c.args.shape.reads) =
     c.from_vec.ensures ∙ rw append-nil at whole in
-    rw blocks (made-lawful seen c.args.shape (made seen c.args.shape c.requires))
+    record {
+      request = rw blocks refl;
+      lawful = rw blocks (made-lawful seen c.args.shape (made seen c.args.shape c.requires));
+    }

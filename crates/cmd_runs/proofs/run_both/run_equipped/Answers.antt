@@ -6,16 +6,18 @@ use Rattle.cmd_runs.proofs.Working.{left_has, left_halts}
 use Rattle.cmd_runs.specs.BothLoads.{AreToRun}
 use Rattle.cmd_runs.specs.BothRuns.{work_both}
 use Rattle.cmd_runs.specs.BothMaking.{runs_made}
-use Rattle.cmd_runs.proofs.run_both.run_loaded.Goals as goal
+use Rattle.cmd_runs.proofs.run_both.run_equipped.Goals as goal
 
 -- a run was cut off
 pub returns-in_err-made-clause-halted : goal.returns-in_err-made-clause-halted
 returns-in_err-made-clause-halted g c =
     let command = both_read c.args.command.now in
     let start = g.H.Host.state c.args.host.now in
-    let l = c.args.loaded.now in
+    let program = c.args.program.now in
+    let image = c.args.text.now.image in
+    let supply = c.args.devices.now.first in
     let new = g.H.Host.state c.make_runs.new.host in
-    handed_on c.from_residual.result c.in_err-made.field-0.0 (HaltsFrom (work_both command) (λ begin. AreToRun command begin l.program l.image l.devices) start new) c.from_residual.ensures.1 c.in_err-made.ensures.halted
+    handed_on c.from_residual.result c.in_err-made.field-0.0 (HaltsFrom (work_both command) (λ begin. AreToRun command begin program image supply) start new) c.from_residual.ensures.1 c.in_err-made.ensures.halted
 
 pub returns : goal.returns
 returns g c =
@@ -24,13 +26,15 @@ returns g c =
     let start = g.H.Host.state c.args.host.now in
     let mid = g.H.Host.state c.make_runs.new.host in
     let new = g.H.Host.state c.leave_runs.new.host in
-    let l = c.args.loaded.now in
-    let m = runs_made c.in_ok-made.made c.make_runs.new.loaded.devices in
+    let program = c.args.program.now in
+    let image = c.args.text.now.image in
+    let supply = c.args.devices.now.first in
+    let m = runs_made c.in_ok-made.made c.make_runs.new.devices.first in
     let came = c.came_to-came.result in
     let name = option_copied c.kept_disk_name-name.result in
     let disk = c.disk.result.now in
     record {
       made = c.leave_runs.ensures.made;
-      came = left_has w (λ begin. AreToRun command begin l.program l.image l.devices) start mid new m c.in_ok-made.ensures.made came name disk c.came_to-came.ensures c.kept_disk_name-name.ensures c.disk.ensures c.leave_runs.result c.leave_runs.ensures.left;
-      halted = left_halts w (λ begin. AreToRun command begin l.program l.image l.devices) start mid new m c.in_ok-made.ensures.made came name disk c.came_to-came.ensures c.kept_disk_name-name.ensures c.disk.ensures c.leave_runs.result c.leave_runs.ensures.halted;
+      came = left_has w (λ begin. AreToRun command begin program image supply) start mid new m c.in_ok-made.ensures.made came name disk c.came_to-came.ensures c.kept_disk_name-name.ensures c.disk.ensures c.leave_runs.result c.leave_runs.ensures.left;
+      halted = left_halts w (λ begin. AreToRun command begin program image supply) start mid new m c.in_ok-made.ensures.made came name disk c.came_to-came.ensures c.kept_disk_name-name.ensures c.disk.ensures c.leave_runs.result c.leave_runs.ensures.halted;
     }
