@@ -4,6 +4,7 @@ use Rattle.std.proofs.lemmas.List.{length-take-le, length-drop, take-take}
 use Rattle.host.specs.Host.{HostState, SameFiles, Says, said_more}
 use Rattle.host.proofs.HostLemmas.{said_more-take}
 use Rattle.host_files.specs.Transfer.{CutsLine}
+use Rattle.cmd_common.specs.Names.{FileNames}
 use Rattle.cmd_common.specs.declared.stop.Stop.{Stop}
 use Rattle.cmd_common.proofs.Said.{closes_files}
 use Rattle.cmd_explain.specs.Explains.{SaysBefore, whole, failed, no_memory}
@@ -37,7 +38,7 @@ module _ (text : List ℕ) (n size : ℕ) (old mid new : HostState) (before : Sa
       }
 
 -- what is said before the last line, and that line, change no file
-pub before_files : (text : List ℕ) (stop : Stop) (old new : HostState) (status : ℕ) → SaysBefore text stop old new status → SameFiles old new
-before_files text stop old new status (whole mid only s f closes) = λ name. closes_files stop mid new status closes name ∙ only.files name
-before_files text stop old new _ (failed s) = s.only.files
-before_files text stop old new _ (no_memory s) = s.only.files
+pub before_files : (names : FileNames) (text : List ℕ) (stop : Stop) (old new : HostState) (status : ℕ) → SaysBefore names text stop old new status → SameFiles old new
+before_files names text stop old new status (whole mid only s f closes) = λ name. closes_files names stop mid new status closes name ∙ only.files name
+before_files names text stop old new _ (failed s) = s.only.files
+before_files names text stop old new _ (no_memory s) = s.only.files

@@ -5,22 +5,24 @@ ghost use Rattle.std.specs.String.{string_bytes};
 ghost use Rattle.host.specs.Host.{SameFiles, SameFaults, OnlySays, Says, WriteFault};
 ghost use Rattle.host_files.specs.Transfer.{CutsLine};
 ghost use Rattle.asm80_program_types.specs.Program.{is_top};
-ghost use Rattle.asm86_line_types.specs.Image.{IsImage, image_of};
+ghost use Rattle.asm86_line_types.specs.Image.{IsImage};
 ghost use Rattle.cmd_arguments.specs.ReadCommands.{check_read};
-ghost use Rattle.cmd_common.specs.declared.stop.Stop.TheVariants.{NotShown};
-ghost use Rattle.cmd_common.specs.Lines.{line_of_stop};
+ghost use Rattle.cmd_common.specs.declared.stop.Stop.TheVariants.{OutOfMemory, NotShown};
+ghost use Rattle.cmd_common.specs.Names.{names_read};
+ghost use Rattle.cmd_common.specs.Lines.{not_shown_line, reason_name};
 ghost use Rattle.cmd_check.specs.Checks.{LoadStops};
 ghost use Rattle.cmd_check.specs.Completes.{CheckCompletes};
-ghost use Rattle.xlt_core.specs.Names.{Same, IsFinding, IfShown};
-ghost use Rattle.cmd_explain.specs.Explained.{Explained};
 ghost use Rattle.cmd_explain.specs.Explains.{SaysBefore, ExplainGives};
-ghost use Rattle.cmd_explain.specs.Worked.{last_line, SaysFound, ComesTo};
+ghost use Rattle.cmd_explain.specs.Worked.{last_line, SaysFound, IsMadeOf, ComesTo};
 
 use crate::telling::{Explanation, explain_text};
 use asm80_program_types::Program80;
 use cmd_arguments::Check;
 use cmd_check::{checks_have_one_outcome, load};
-use cmd_common::{LoadedText, Stop, say_done, say_made, say_stop, shown_line};
+use cmd_common::{
+    InputNames, LoadedText, Stop, not_shown_line, reason_name, say_done, say_made, say_stop,
+    shown_line,
+};
 use host::{Host, HostFault};
 use host_files::say_line;
 use std::alloc::{AllocError, Global};
@@ -45,9 +47,10 @@ fn carry_out<H: Host>(alloc: Global, host: &mut H, command: &Check<'_>) -> u8
     ensures gives { ExplainGives (check_read command.now) (H.state host.old) (H.state host.new) result }
     ensures files { SameFiles (H.state host.old) (H.state host.new) }
 {
+    let names = InputNames::two(command.source, command.text);
     match work(alloc, host, command) {
-        Ok(worked) => say_worked(host, &worked),
-        Err(stop) => say_stop(alloc, host, stop),
+        Ok(worked) => say_worked(host, &names, &worked),
+        Err(stop) => say_stop(alloc, host, &names, stop),
     }
 }
 
@@ -58,23 +61,21 @@ struct Worked {
     last_line: String,
 }
 
-fn work<'a, H: Host>(alloc: Global, host: &mut H, command: &Check<'a>) -> Result<Worked, Stop<'a>>
+fn work<H: Host>(alloc: Global, host: &mut H, command: &Check<'_>) -> Result<Worked, Stop>
     requires { is_top command.now.top ≡ true }
     ensures worked { IfOk result (λ w. ComesTo (check_read command.now) (H.state host.old) (H.state host.new) w.explanation.finding w.explanation.text.items (string_bytes w.last_line)) }
     ensures stopped { IfErr result (LoadStops (check_read command.now) (H.state host.old) (H.state host.new)) }
 {
     let loaded = load(alloc, host, command)?;
-    Ok(work_on(alloc, &loaded.program, &loaded.text)?)
+    work_on(alloc, &loaded.program, &loaded.text)
 }
 
 // The same of what was loaded.
-fn work_on(alloc: Global, program: &Program80, text: &LoadedText) -> Result<Worked, AllocError>
+fn work_on(alloc: Global, program: &Program80, text: &LoadedText) -> Result<Worked, Stop>
     requires image { IsImage text.now.lines.items text.now.image }
     requires few { length text.now.lines.items < 2 ^ 28 }
-    ensures finding { IfOk result (λ w. IsFinding program.now text.now.lines.items w.explanation.finding) }
-    ensures same { IfOk result (λ w. IfShown w.explanation.finding (Same program.now (image_of text.now.lines.items))) }
-    ensures explained { IfOk result (λ w. Explained program.now text.now.lines.items (image_of text.now.lines.items) w.explanation.text.items) }
-    ensures line { IfOk result (λ w. string_bytes w.last_line ≡ last_line w.explanation.finding) }
+    ensures made { IfOk result (λ w. IsMadeOf program.now text.now.lines.items w.explanation.finding w.explanation.text.items (string_bytes w.last_line)) }
+    ensures stopped { IfErr result (λ stop. stop ≡ OutOfMemory) }
 {
     let explanation = explain_text(alloc, program, text)?;
     let last_line = last_line(alloc, explanation.finding)?;
@@ -89,14 +90,14 @@ fn last_line(alloc: Global, finding: Finding) -> Result<String, AllocError>
 {
     match finding {
         Finding::Shown(blocks) => shown_line(alloc, blocks),
-        Finding::NotShown(at, reason) => Stop::NotShown(at, reason).line(alloc),
+        Finding::NotShown(at, reason) => not_shown_line(alloc, at, reason_name(reason)),
     }
 }
 
 // Says why a text is not shown, if it is not, and then the last line.
-fn say_worked<H: Host>(host: &mut H, worked: &Worked) -> u8
+fn say_worked<H: Host>(host: &mut H, names: &InputNames<'_>, worked: &Worked) -> u8
     requires { string_bytes worked.now.last_line ≡ last_line worked.now.explanation.finding }
-    ensures { SaysFound worked.now.explanation.finding worked.now.explanation.text.items (string_bytes worked.now.last_line) (H.state host.old) (H.state host.new) result }
+    ensures { SaysFound (names_read names.now) worked.now.explanation.finding worked.now.explanation.text.items (string_bytes worked.now.last_line) (H.state host.old) (H.state host.new) result }
 {
     let last_line = worked.last_line.as_str();
     match worked.explanation.finding {
@@ -104,6 +105,7 @@ fn say_worked<H: Host>(host: &mut H, worked: &Worked) -> u8
         Finding::NotShown(at, reason) => {
             say_why(
                 host,
+                names,
                 at,
                 reason,
                 worked.explanation.text.as_slice(),
@@ -114,12 +116,19 @@ fn say_worked<H: Host>(host: &mut H, worked: &Worked) -> u8
 }
 
 // Says why a text is not shown, and then the last line.
-fn say_why<H: Host>(host: &mut H, at: u16, reason: Reason, text: &[u8], last_line: &str) -> u8
-    requires { last_line.now ≡ line_of_stop (NotShown at reason) }
-    ensures { SaysBefore text.now (NotShown at reason) (H.state host.old) (H.state host.new) result }
+fn say_why<H: Host>(
+    host: &mut H,
+    names: &InputNames<'_>,
+    at: u16,
+    reason: Reason,
+    text: &[u8],
+    last_line: &str,
+) -> u8
+    requires { last_line.now ≡ not_shown_line at (reason_name reason) }
+    ensures { SaysBefore (names_read names.now) text.now (NotShown at reason) (H.state host.old) (H.state host.new) result }
 {
     match say_lines(host, text) {
-        Ok(()) => say_made(host, Stop::NotShown(at, reason), last_line),
+        Ok(()) => say_made(host, names, Stop::NotShown(at, reason), last_line),
         Err(HostFault::Failed) => 4,
         Err(HostFault::Memory) => 5,
     }

@@ -65,17 +65,34 @@ fn explain_lines(
     ensures explained { IfOk result (λ e. Explained program.now lines.now image.now e.text.items) }
 {
     let graph = Graph::solved(alloc, program)?;
+    explain_by_graph(alloc, program, &graph, lines, image)
+}
+
+// The same with the graph of the program.
+fn explain_by_graph(
+    alloc: Global,
+    program: &Program80,
+    graph: &Graph,
+    lines: &[Line86],
+    image: &Image86,
+) -> Result<Explanation, AllocError>
+    requires solved { IsTrue graph.now.is_solved }
+    requires program { graph.now.program ≡ program.now }
+    requires made { IsImage lines.now image.now }
+    ensures finding { IfOk result (λ e. IsFinding program.now lines.now e.finding) }
+    ensures explained { IfOk result (λ e. Explained program.now lines.now image.now e.text.items) }
+{
     let text = Index86::of(alloc, lines)?;
     let sides = Sides {
         program,
-        graph: &graph,
+        graph,
         lines,
         text: &text,
     };
     explain_sides(alloc, &sides, image)
 }
 
-// The same with the graph of the program and the index of the lines.
+// The same with the index of the lines too.
 fn explain_sides(
     alloc: Global,
     sides: &Sides<'_>,
@@ -121,12 +138,30 @@ fn tell_blocks(
     ensures told { OnOk result ((n : Needs) → AreAllNeeds sides.now.program.now n
         → Tells (BlocksTold sides.now.program.now sides.now.lines.now (needed_by sides.now.program.now n) (blocks sides.now.program.now)) told.old.items told.new.items) }
 {
+    let mut work = Work::new(alloc)?;
+    tell_each(alloc, &mut work, told, sides)
+}
+
+// The same over the memory of one run after the other.
+fn tell_each(
+    alloc: Global,
+    work: &mut Work,
+    told: &mut Vec<u8>,
+    sides: &Sides<'_>,
+) -> Result<Option<(u16, Reason)>, AllocError>
+    requires solved { IsTrue sides.now.graph.now.is_solved }
+    requires program { sides.now.graph.now.program ≡ sides.now.program.now }
+    requires text { sides.now.text.now ≡ statements sides.now.lines.now }
+    ensures reason { IfOk result (λ first. (n : Needs) → AreAllNeeds sides.now.program.now n
+        → first ≡ blocks_reason sides.now.program.now (statements sides.now.lines.now) (needed_by sides.now.program.now n) (blocks sides.now.program.now)) }
+    ensures told { OnOk result ((n : Needs) → AreAllNeeds sides.now.program.now n
+        → Tells (BlocksTold sides.now.program.now sides.now.lines.now (needed_by sides.now.program.now n) (blocks sides.now.program.now)) told.old.items told.new.items) }
+{
     blocks_cut_the_program();
     let _top = sides.program.top();
-    let mut work = Work::new(alloc)?;
     let mut first = None;
     for leader in sides.graph.leaders() {
-        let reason = tell_next(alloc, &mut work, told, sides, *leader)?;
+        let reason = tell_next(alloc, work, told, sides, *leader)?;
         first = first_of(first, *leader, reason);
     }
     Ok(first)

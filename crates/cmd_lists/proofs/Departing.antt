@@ -16,6 +16,7 @@ use Rattle.leaving.specs.Leaving.{leaving}
 use Rattle.flow.proofs.Further.{instr_behind}
 use Rattle.leaving.specs.Left.{IsLeft, PlacesAreLeft, PlacesAscend}
 use Rattle.cmd_arguments.specs.Words.{Listing}
+use Rattle.cmd_common.specs.Names.{one_name}
 use Rattle.cmd_common.specs.Lines.{word_digits, profile_rule, leaves_line}
 use Rattle.cmd_common.specs.Said.{IsDone, whole, failed, no_memory}
 use Rattle.cmd_common.specs.Makes.{HasMade, MakeGives, made, stopped}
@@ -103,4 +104,4 @@ module _ (left : PlacesAreLeft) (ascend : PlacesAscend) (c : Listing) (old new :
 
   pub has_departures : (status : ℕ) → status ≡ 0 → MakeGives (leaves_kind c) old new status → HasDepartures c old new
   has_departures status e (made mid line h d) = by_done mid line h status e d
-  has_departures status e (stopped mid stop s k) = absurd (never_0 stop mid new status k e)
+  has_departures status e (stopped mid stop s k) = absurd (never_0 (one_name c.source) stop mid new status k e)

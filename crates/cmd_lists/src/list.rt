@@ -10,7 +10,7 @@ ghost use Rattle.cmd_lists.specs.Lists.{list_kind};
 
 use asm80_program_types::Program80;
 use cmd_arguments::Listing;
-use cmd_common::{Stop, read_source, say_report, say_stop, sources_have_one_outcome};
+use cmd_common::{InputNames, Stop, read_source, say_report, say_stop, sources_have_one_outcome};
 use host::Host;
 use std::alloc::{AllocError, Global};
 
@@ -44,16 +44,16 @@ pub fn list<L: Listed, H: Host>(alloc: Global, host: &mut H, command: &Listing<'
     L::lines_are_one();
     match work::<L, H>(alloc, host, command) {
         Ok(lines) => say_report(host, lines.as_slice()),
-        Err(stop) => say_stop(alloc, host, stop),
+        Err(stop) => say_stop(alloc, host, &InputNames::one(command.source), stop),
     }
 }
 
 // The lines. All memory is taken before the first of them is said.
-fn work<'a, L: Listed, H: Host>(
+fn work<L: Listed, H: Host>(
     alloc: Global,
     host: &mut H,
-    command: &Listing<'a>,
-) -> Result<Vec<String>, Stop<'a>>
+    command: &Listing<'_>,
+) -> Result<Vec<String>, Stop>
     requires { is_top command.now.top ≡ true }
     ensures made { IfOk result (λ lines. HasMade (list_kind L.are_lines (listing_read command.now)) (H.state host.old) (H.state host.new) (concat (map string_bytes lines.items))) }
     ensures some { IfOk result (λ lines. All (λ line. 0 < length line) (map string_bytes lines.items)) }

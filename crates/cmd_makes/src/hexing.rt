@@ -12,7 +12,9 @@ ghost use Rattle.cmd_makes.specs.Hexes.{hex_kind, HasHexFile};
 use crate::write_made;
 use asm80_program_types::Program80;
 use cmd_arguments::Hex80;
-use cmd_common::{Stop, hex_line, read_source, say_done, say_stop, sources_have_one_outcome};
+use cmd_common::{
+    InputNames, Stop, hex_line, read_source, say_done, say_stop, sources_have_one_outcome,
+};
 use hex_file::{write_cells, written_reads_back};
 use host::Host;
 use i80_bytes::{bytes_follow, program_cells, program_cells_are_cells};
@@ -32,12 +34,12 @@ pub fn hex80<H: Host>(alloc: Global, host: &mut H, command: &Hex80<'_>) -> u8
     bytes_follow();
     match work(alloc, host, command) {
         Ok(line) => say_done(host, line.as_str()),
-        Err(stop) => say_stop(alloc, host, stop),
+        Err(stop) => say_stop(alloc, host, &InputNames::one(command.source), stop),
     }
 }
 
 // The work up to the last line, which is the answer where the file was written. All memory is taken before the output is touched.
-fn work<'a, H: Host>(alloc: Global, host: &mut H, command: &Hex80<'a>) -> Result<String, Stop<'a>>
+fn work<H: Host>(alloc: Global, host: &mut H, command: &Hex80<'_>) -> Result<String, Stop>
     requires { is_top command.now.top ≡ true }
     ensures made { IfOk result (λ line. HasMade (hex_kind (hex80_read command.now)) (H.state host.old) (H.state host.new) (string_bytes line)) }
     ensures stopped { IfErr result (MakeStops (hex_kind (hex80_read command.now)) (H.state host.old) (H.state host.new)) }

@@ -7,7 +7,9 @@ ghost use Rattle.cmd_common.specs.Makes.{MakeGives, MakeCompletes, HasMade, Make
 ghost use Rattle.cmd_makes.specs.Shows.{cmd_show_kind, stop_of_file};
 
 use cmd_arguments::CmdShow;
-use cmd_common::{SOURCE_LIMIT, Stop, groups_line, read_named, say_done, say_stop};
+use cmd_common::{
+    InputFile, InputNames, SOURCE_LIMIT, Stop, groups_line, read_named, say_done, say_stop,
+};
 use cmd_file::{CmdFault, CmdFile, command_file_has_one_reading};
 use host::Host;
 use std::alloc::Global;
@@ -21,16 +23,16 @@ pub fn cmdshow<H: Host>(alloc: Global, host: &mut H, command: &CmdShow<'_>) -> u
     command_file_has_one_reading();
     match work(alloc, host, command) {
         Ok(line) => say_done(host, line.as_str()),
-        Err(stop) => say_stop(alloc, host, stop),
+        Err(stop) => say_stop(alloc, host, &InputNames::one(command.file), stop),
     }
 }
 
 // The work up to the last line.
-fn work<'a, H: Host>(alloc: Global, host: &mut H, command: &CmdShow<'a>) -> Result<String, Stop<'a>>
+fn work<H: Host>(alloc: Global, host: &mut H, command: &CmdShow<'_>) -> Result<String, Stop>
     ensures made { IfOk result (λ line. HasMade (cmd_show_kind (cmd_show_read command.now)) (H.state host.old) (H.state host.new) (string_bytes line)) }
     ensures stopped { IfErr result (MakeStops (cmd_show_kind (cmd_show_read command.now)) (H.state host.old) (H.state host.new)) }
 {
-    let bytes = read_named(alloc, host, command.file, SOURCE_LIMIT)?;
+    let bytes = read_named(alloc, host, InputFile::First, command.file, SOURCE_LIMIT)?;
     let file = match CmdFile::read(alloc, bytes.as_slice()) {
         Ok(file) => file,
         Err(fault) => return Err(stop_of(fault)),
@@ -39,7 +41,7 @@ fn work<'a, H: Host>(alloc: Global, host: &mut H, command: &CmdShow<'a>) -> Resu
 }
 
 // What it is to the command that bytes are no command file.
-fn stop_of<'a>(fault: CmdFault) -> Stop<'a>
+fn stop_of(fault: CmdFault) -> Stop
     ensures { result ≡ stop_of_file fault }
 {
     match fault {

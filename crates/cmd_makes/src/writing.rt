@@ -8,7 +8,7 @@ use host::Host;
 use host_files::write_bytes;
 
 /// Writes the bytes of what was made to the file of a name. It takes no memory.
-pub fn write_made<'a, H: Host>(host: &mut H, name: &str, bytes: &[u8]) -> Result<(), Stop<'a>>
+pub fn write_made<H: Host>(host: &mut H, name: &str, bytes: &[u8]) -> Result<(), Stop>
     ensures only { OnlyWrites (H.state host.old) (H.state host.new) name.now }
     ensures written { OnOk result (Rewrites (H.state host.old) (H.state host.new) name.now bytes.now) }
     ensures counted { OnOk result (SameFaults (H.state host.old) (H.state host.new)) }

@@ -20,6 +20,8 @@ use Rattle.templates.specs.Translation.{IsText, code_size, CodeFits, IsTooLarge}
 use Rattle.templates_law.proofs.OneText.{OneText}
 use Rattle.i86.specs.Decode.{HasReader}
 use Rattle.templates_law.specs.Names.{Same}
+use Rattle.cmd_common.specs.Names.{FileNames, one_name}
+use Rattle.cmd_common.specs.declared.names.InputFile.TheVariants.{First}
 use Rattle.cmd_common.specs.declared.stop.Stop.{Stop}
 use Rattle.cmd_common.specs.declared.stop.Stop.TheVariants.{CodeTooLarge}
 use Rattle.cmd_common.specs.Lines.{named_line, memory_line}
@@ -52,6 +54,9 @@ not_both one mode p lines size text fits large =
     omega (arith, is, more, fits)
 
 module _ (c : Translate) (old mid new : HostState) where
+  abbrev names : FileNames
+  names = one_name c.input
+
   has_same : TextLaw → CommentLaw → (p : Program) (lines : List Line86) (a : Accepts c old p lines) → HasSame c old new p lines a.out
   has_same law comments p lines a = record {
     reads = comments.reads (kept_of c.comments a.bytes) (mode_of c.plain) p lines a.out a.text a.written (law.reads (mode_of c.plain) p lines a.source.program.program.lawful a.text);
@@ -85,39 +90,38 @@ module _ (c : Translate) (old mid new : HostState) where
   quiet_end : OnlyReads old mid → SaysLast memory_line mid new → TranslateGives c old new 5
   quiet_end only l = no_room (ends_with memory_line only l)
 
-  unread_end : (stop : Stop) → ReadStops c.input input_limit old mid stop → OnlyReads old mid → (status : ℕ) → Closes stop mid new status → TranslateGives c old new status
+  unread_end : (stop : Stop) → ReadStops First c.input input_limit old mid stop → OnlyReads old mid → (status : ℕ) → Closes names stop mid new status → TranslateGives c old new status
   unread_end stop s only status (unsaid n e l) = subst (TranslateGives c old new) (sym e) (quiet_end only l)
-  unread_end _ (read_failed {n = n} is f) only status (said e l) =
+  unread_end _ (read_failed f) only status (said e l) =
       subst (TranslateGives c old new) (sym e)
       (unread (⊎_elim (λ r. inl (subst (λ k. HasRisen old.read_faults k) (sym l.only.reads) r)) (λ m. inr m) f)
-      (subst (λ name. EndsWith old new (named_line (codes "read failed: ") name)) is (ends_with (named_line (codes "read failed: ") n.now) only l)))
-  unread_end _ (file_too_long {n = n} is longer same) only status (said e l) =
+      (ends_with (named_line (codes "read failed: ") c.input) only l))
+  unread_end _ (file_too_long longer same) only status (said e l) =
       subst (TranslateGives c old new) (sym e)
-      (too_long longer
-      (subst (λ name. EndsWith old new (named_line (codes "file too long: ") name)) is (ends_with (named_line (codes "file too long: ") n.now) only l)))
+      (too_long longer (ends_with (named_line (codes "file too long: ") c.input) only l))
   unread_end _ no_memory_to_read only status (said e l) = subst (TranslateGives c old new) (sym e) (quiet_end only l)
 
-  refused_end : (line : ℕ) (rule : SourceRule) → Refuses c old line rule → OnlyReads old mid → (status : ℕ) → Closes (stop_of_rule line rule) mid new status → TranslateGives c old new status
+  refused_end : (line : ℕ) (rule : SourceRule) → Refuses c old line rule → OnlyReads old mid → (status : ℕ) → Closes names (stop_of_rule line rule) mid new status → TranslateGives c old new status
   refused_end line rule r only status (unsaid n e l) = subst (TranslateGives c old new) (sym e) (quiet_end only l)
   refused_end line (OfLine rule) r only status (said e l) =
       subst (TranslateGives c old new) (sym e) (refused line (OfLine rule) r (ends_with (refusal_line line (OfLine rule)) only l))
   refused_end line (OfProgram rule) r only status (said e l) =
       subst (TranslateGives c old new) (sym e) (refused line (OfProgram rule) r (ends_with (refusal_line line (OfProgram rule)) only l))
 
-  large_end : (size : ℕ) → Exceeds c old size → OnlyReads old mid → (status : ℕ) → Closes (CodeTooLarge size) mid new status → TranslateGives c old new status
+  large_end : (size : ℕ) → Exceeds c old size → OnlyReads old mid → (status : ℕ) → Closes names (CodeTooLarge size) mid new status → TranslateGives c old new status
   large_end size x only status (unsaid n e l) = subst (TranslateGives c old new) (sym e) (quiet_end only l)
   large_end size x only status (said e l) = subst (TranslateGives c old new) (sym e) (too_large size x (ends_with (size_line size) only l))
 
-  unwritten_end : (p : Program) (lines : List Line86) (a : Accepts c old p lines) (stop : Stop) → WriteStops c.output a.out old mid stop → (status : ℕ) → Closes stop mid new status → TranslateGives c old new status
+  unwritten_end : (p : Program) (lines : List Line86) (a : Accepts c old p lines) (stop : Stop) → WriteStops c.output a.out old mid stop → (status : ℕ) → Closes names stop mid new status → TranslateGives c old new status
   unwritten_end p lines accepts stop w status closes =
-      write_end old mid new c.output accepts.out (TranslateGives c old new) (unwritten p lines accepts) (no_memory_to_write p lines accepts)
-      w.fault w.fails status (subst (λ s. Closes s mid new status) w.is closes)
+      write_end old mid new c.output accepts.out names (TranslateGives c old new) (unwritten p lines accepts) (no_memory_to_write p lines accepts)
+      w.fault w.fails status (subst (λ s. Closes names s mid new status) w.is closes)
 
   -- the work ended early
-  pub stopped : (stop : Stop) → StopsBy c old mid stop → (status : ℕ) → Closes stop mid new status → TranslateGives c old new status
+  pub stopped : (stop : Stop) → StopsBy c old mid stop → (status : ℕ) → Closes names stop mid new status → TranslateGives c old new status
   stopped stop (stop_unread s only) status closes = unread_end stop s only status closes
-  stopped stop (stop_refused line rule r e only same) status closes = refused_end line rule r only status (subst (λ s. Closes s mid new status) e closes)
-  stopped stop (stop_too_large size x e only same) status closes = large_end size x only status (subst (λ s. Closes s mid new status) e closes)
+  stopped stop (stop_refused line rule r e only same) status closes = refused_end line rule r only status (subst (λ s. Closes names s mid new status) e closes)
+  stopped stop (stop_too_large size x e only same) status closes = large_end size x only status (subst (λ s. Closes names s mid new status) e closes)
   stopped _ (stop_no_memory only) status (said e l) = subst (TranslateGives c old new) (sym e) (quiet_end only l)
   stopped _ (stop_no_memory only) status (unsaid n e l) = subst (TranslateGives c old new) (sym e) (quiet_end only l)
   stopped stop (stop_unwritten p lines accepts w) status closes = unwritten_end p lines accepts stop w status closes

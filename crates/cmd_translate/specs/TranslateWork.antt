@@ -6,6 +6,7 @@ use Rattle.asm80_program_types.specs.Program.{Program}
 use Rattle.asm80_source_def.specs.Source.{SourceRule}
 use Rattle.commented_text.specs.Commented.{kept_of, IsOutput}
 use Rattle.cmd_arguments.specs.Words.{Translate}
+use Rattle.cmd_common.specs.declared.names.InputFile.TheVariants.{First}
 use Rattle.cmd_common.specs.declared.stop.Stop.{Stop}
 use Rattle.cmd_common.specs.declared.stop.Stop.TheVariants.{OutOfMemory, CodeTooLarge}
 use Rattle.cmd_common.specs.Files.{IsWholeFile, ReadStops, input_limit}
@@ -47,7 +48,7 @@ pub record Works (c : Translate) (old new : HostState) (text : List ℕ) : Type 
 module _ (c : Translate) (old new : HostState) where
   -- why the work ended early
   pub data StopsBy : Stop → Type 0 where
-    unread : {stop : Stop} → ReadStops c.input input_limit old new stop → OnlyReads old new → StopsBy stop
+    unread : {stop : Stop} → ReadStops First c.input input_limit old new stop → OnlyReads old new → StopsBy stop
     refused : {stop : Stop} (line : ℕ) (rule : SourceRule) → Refuses c old line rule → stop ≡ stop_of_rule line rule → OnlyReads old new → SameFaults old new → StopsBy stop
     too_large : {stop : Stop} (size : ℕ) → Exceeds c old size → stop ≡ CodeTooLarge size → OnlyReads old new → SameFaults old new → StopsBy stop
     no_memory : OnlyReads old new → StopsBy OutOfMemory

@@ -15,8 +15,7 @@ use Rattle.templates.specs.declared.translation.Mode.{Mode}
 use Rattle.templates.specs.declared.translation.Mode.TheVariants.{Plain, Lean}
 use Rattle.templates.specs.Translation.{IsText, code_size, CodeFits, IsTooLarge}
 pub use Rattle.templates_law.specs.Names.{Same}
-use Rattle.cmd_common.specs.declared.stop.Stop.TheVariants.{CodeTooLarge}
-use Rattle.cmd_common.specs.Lines.{line_of_stop, named_line, memory_line, translated_line}
+use Rattle.cmd_common.specs.Lines.{named_line, count_line, memory_line, translated_line}
 use Rattle.cmd_common.specs.Said.{SaysLine}
 use Rattle.cmd_common.specs.Files.{IsWholeFile, NoneFailed, FileIsTold, input_limit}
 use Rattle.cmd_common.specs.Sources.{refusal_line, reading_of}
@@ -34,7 +33,7 @@ line_of_text p lines = translated_line (length p.instrs) (length p.cells) (code_
 
 -- the line of status 13: so many bytes are too many
 abbrev pub size_line : ℕ → List ℕ
-size_line size = line_of_stop (CodeTooLarge size)
+size_line size = count_line (codes "code too large: ") size (codes " bytes")
 
 module _ (c : Translate) (old : HostState) where
   -- the source's file has this program, these lines are its text in the mode that is asked for, whose code fits, and this is what is

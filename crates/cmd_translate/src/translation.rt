@@ -4,6 +4,7 @@ ghost use Rattle.std.specs.String.{string_bytes};
 ghost use Rattle.host.specs.Host.{SameFaults, OnlyReads, OnlyWrites};
 ghost use Rattle.asm80_program_types.specs.Program.{Program, is_top};
 ghost use Rattle.templates.specs.Style.{Style, styled};
+ghost use Rattle.cmd_common.specs.declared.names.InputFile.TheVariants.{First};
 ghost use Rattle.cmd_common.specs.Files.{ReadStops, input_limit};
 ghost use Rattle.templates.specs.declared.translation.Mode.{Mode};
 ghost use Rattle.templates.specs.Translation.{IsText, CodeFits, HasNoText};
@@ -16,8 +17,8 @@ use asm80_program_types::Program80;
 use asm86_line_types::{Line86, code_size};
 use cmd_arguments::Translate;
 use cmd_common::{
-    SOURCE_LIMIT, Stop, program_of_bytes, read_named, read_source, say_done, say_stop,
-    sources_have_one_outcome, stop_of_write, translated_line, write_text,
+    InputFile, InputNames, SOURCE_LIMIT, Stop, program_of_bytes, read_named, read_source, say_done,
+    say_stop, sources_have_one_outcome, stop_of_write, translated_line, write_text,
 };
 use commented_text::{CommentedText, commented_texts_read_back};
 use host::Host;
@@ -46,17 +47,13 @@ pub fn translate<H: Host>(alloc: Global, host: &mut H, command: &Translate<'_>) 
     sources_have_one_outcome();
     match work(alloc, host, command) {
         Ok(line) => say_done(host, line.as_str()),
-        Err(stop) => say_stop(alloc, host, stop),
+        Err(stop) => say_stop(alloc, host, &InputNames::one(command.input), stop),
     }
 }
 
 // The work up to the last line, which is the answer where the text was written. All memory is taken before the output is
 // touched.
-fn work<'a, H: Host>(
-    alloc: Global,
-    host: &mut H,
-    command: &Translate<'a>,
-) -> Result<String, Stop<'a>>
+fn work<H: Host>(alloc: Global, host: &mut H, command: &Translate<'_>) -> Result<String, Stop>
     requires { is_top command.now.top ≡ true }
     ensures worked { IfOk result (λ line. Works (translate_read command.now) (H.state host.old) (H.state host.new) (string_bytes line)) }
     ensures stopped { IfErr result (StopsBy (translate_read command.now) (H.state host.old) (H.state host.new)) }
@@ -70,34 +67,34 @@ fn work<'a, H: Host>(
 }
 
 // The program of the source, or its refusal; and the source's bytes where its lines are to stand in the text.
-fn read_kept<'a, H: Host>(
+fn read_kept<H: Host>(
     alloc: Global,
     host: &mut H,
-    command: &Translate<'a>,
-) -> Result<(Result<Program80, Stop<'a>>, Option<Vec<u8>>), Stop<'a>>
+    command: &Translate<'_>,
+) -> Result<(Result<Program80, Stop>, Option<Vec<u8>>), Stop>
     requires { is_top command.now.top ≡ true }
     ensures only { OnlyReads (H.state host.old) (H.state host.new) }
     ensures read { IfOk result (λ r. ReadsKept (translate_read command.now) (H.state host.old) r.0 (option_map (λ v. v.items) r.1)) }
     ensures counted { OnOk result (SameFaults (H.state host.old) (H.state host.new)) }
-    ensures stopped { IfErr result (ReadStops command.now.input.now input_limit (H.state host.old) (H.state host.new)) }
+    ensures stopped { IfErr result (ReadStops First command.now.input.now input_limit (H.state host.old) (H.state host.new)) }
 {
     if !command.comments {
         let source = read_source(alloc, host, command.input, command.zilog, command.top)?;
         return Ok((source, None));
     }
-    let bytes = read_named(alloc, host, command.input, SOURCE_LIMIT)?;
+    let bytes = read_named(alloc, host, InputFile::First, command.input, SOURCE_LIMIT)?;
     let source = program_of_bytes(alloc, &bytes, command.zilog, command.top)?;
     Ok((source, Some(bytes)))
 }
 
 // Writes the text of a program's lines, with the lines of the source among them where its bytes are kept. It takes no memory.
-fn write_kept<'a, H: Host>(
+fn write_kept<H: Host>(
     host: &mut H,
     name: &str,
     program: &Program80,
     lines: &[Line86],
     kept: Option<&[u8]>,
-) -> Result<(), Stop<'a>>
+) -> Result<(), Stop>
     ensures only { OnlyWrites (H.state host.old) (H.state host.new) name.now }
     ensures wrote { (s : Style) → lines.now ≡ styled s program.now → WritesOut (option_map (λ bytes. bytes.now) kept.entry) program.now lines.now name.now (H.state host.old) (H.state host.new) result }
     ensures counted { OnOk result (SameFaults (H.state host.old) (H.state host.new)) }
@@ -119,7 +116,7 @@ fn mode_of(plain: bool) -> Mode
 }
 
 // The text of a program, with its line.
-fn text_of_program<'a>(alloc: Global, program: &Program80, mode: Mode) -> Result<Text, Stop<'a>>
+fn text_of_program(alloc: Global, program: &Program80, mode: Mode) -> Result<Text, Stop>
     ensures text { IfOk result (λ t. IsText mode program.now t.lines.items) }
     ensures fits { IfOk result (λ t. CodeFits t.lines.items) }
     ensures line { IfOk result (λ t. string_bytes t.line ≡ line_of_text program.now t.lines.items) }
@@ -131,7 +128,7 @@ fn text_of_program<'a>(alloc: Global, program: &Program80, mode: Mode) -> Result
 }
 
 // The lines of the text, whose code fits.
-fn lines_of<'a>(alloc: Global, program: &Program80, mode: Mode) -> Result<Vec<Line86>, Stop<'a>>
+fn lines_of(alloc: Global, program: &Program80, mode: Mode) -> Result<Vec<Line86>, Stop>
     ensures text { IfOk result (λ lines. IsText mode program.now lines.items) }
     ensures fits { IfOk result (λ lines. CodeFits lines.items) }
     ensures few { IfOk result (λ lines. vec_len lines < 2 ^ 20) }
@@ -144,7 +141,7 @@ fn lines_of<'a>(alloc: Global, program: &Program80, mode: Mode) -> Result<Vec<Li
 }
 
 // Why there is no text.
-fn stop_of<'a>(fault: CoreFault) -> Stop<'a>
+fn stop_of(fault: CoreFault) -> Stop
     ensures { (mode : Mode) (p : Program) → HasNoText mode p fault → TextStops mode p result }
 {
     match fault {

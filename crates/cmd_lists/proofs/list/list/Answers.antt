@@ -5,6 +5,7 @@ use Rattle.std.specs.String.{string_bytes}
 use Rattle.cmd_arguments.specs.ReadCommands.{listing_read}
 use Rattle.cmd_common.specs.Said.{IsDone}
 use Rattle.cmd_common.specs.Makes.{MakeGives, made, stopped}
+use Rattle.cmd_common.proofs.Said.{named}
 use Rattle.cmd_common.proofs.Deciding.{completes, files_stay}
 use Rattle.cmd_lists.specs.Lists.{list_kind}
 use Rattle.cmd_lists.proofs.Laws.{laws_of_list}
@@ -20,7 +21,7 @@ gives-in-Ok g c =
     (subst (λ ls. IsDone (concat (map string_bytes ls)) mid new c.say_report.result) c.as_slice.ensures.value c.say_report.ensures)
 
 gives-in-Err : (g : Over) (c : After-say_stop g) → MakeGives (list_kind g.L.Listed.are_lines (listing_read c.args.command.now)) (g.H.Host.state c.args.host.now) (g.H.Host.state c.say_stop.new.host) c.say_stop.result
-gives-in-Err g c = stopped (g.H.Host.state c.work.new.host) c.in-Err.stop c.in-Err.ensures.stopped c.say_stop.ensures
+gives-in-Err g c = stopped (g.H.Host.state c.work.new.host) c.in-Err.stop c.in-Err.ensures.stopped (named c.one.ensures c.say_stop.ensures)
 
 pub say_report-requires : goal.say_report-requires
 say_report-requires g c = subst (λ ls. All (λ (l : List ℕ). 0 < length l) (map string_bytes ls)) (sym c.as_slice.ensures.value) c.in-Ok.ensures.some

@@ -2,7 +2,8 @@ use Rattle.std.proofs.Common.{subst}
 use Rattle.std.specs.String.{string_bytes}
 use Rattle.cmd_arguments.specs.ReadCommands.{hex80_read}
 use Rattle.cmd_common.specs.Said.{IsDone}
-use Rattle.cmd_common.proofs.Said.{never_0}
+use Rattle.cmd_common.specs.Names.{names_read}
+use Rattle.cmd_common.proofs.Said.{named, never_0}
 use Rattle.cmd_common.specs.Makes.{MakeGives, made, stopped}
 use Rattle.cmd_makes.specs.Hexes.{hex_kind}
 use Rattle.cmd_common.proofs.Deciding.{completes}
@@ -18,7 +19,7 @@ gives-in-Ok : (g : Over) (c : After-drop-line g) → MakeGives (hex_kind (hex80_
 gives-in-Ok g c = made (g.H.Host.state c.work.new.host) (string_bytes c.in-Ok.line) c.in-Ok.ensures.made (done g c)
 
 gives-in-Err : (g : Over) (c : After-say_stop g) → MakeGives (hex_kind (hex80_read c.args.command.now)) (g.H.Host.state c.args.host.now) (g.H.Host.state c.say_stop.new.host) c.say_stop.result
-gives-in-Err g c = stopped (g.H.Host.state c.work.new.host) c.in-Err.stop c.in-Err.ensures.stopped c.say_stop.ensures
+gives-in-Err g c = stopped (g.H.Host.state c.work.new.host) c.in-Err.stop c.in-Err.ensures.stopped (named c.one.ensures c.say_stop.ensures)
 
 pub returns-in-Ok-clause-gives : goal.returns-in-Ok-clause-gives
 returns-in-Ok-clause-gives g c = gives-in-Ok g c
@@ -44,4 +45,4 @@ returns-in-Err-clause-completes g c =
     (laws_of_hex80 command (c.sources_have_one_outcome.ensures command.zilog) c.written_reads_back.ensures.one_file) c.say_stop.result (gives-in-Err g c)
 
 pub returns-in-Err-clause-file : goal.returns-in-Err-clause-file
-returns-in-Err-clause-file g c = λ e. absurd (never_0 c.in-Err.stop (g.H.Host.state c.work.new.host) (g.H.Host.state c.say_stop.new.host) c.say_stop.result c.say_stop.ensures e)
+returns-in-Err-clause-file g c = λ e. absurd (never_0 (names_read c.one.result) c.in-Err.stop (g.H.Host.state c.work.new.host) (g.H.Host.state c.say_stop.new.host) c.say_stop.result c.say_stop.ensures e)

@@ -3,7 +3,8 @@ use Rattle.std.specs.String.{string_bytes}
 use Rattle.cmd_arguments.specs.ReadCommands.{cmd_read}
 use Rattle.cmd_common.specs.Said.{IsDone}
 use Rattle.cmd_common.specs.Makes.{MakeGives, made, stopped}
-use Rattle.cmd_common.proofs.Said.{never_0}
+use Rattle.cmd_common.specs.Names.{names_read}
+use Rattle.cmd_common.proofs.Said.{named, never_0}
 use Rattle.cmd_common.proofs.Deciding.{completes}
 use Rattle.cmd_makes.specs.Cmds.{cmd_kind}
 use Rattle.cmd_makes.proofs.Laws.{laws_of_cmd, has_command_file}
@@ -18,7 +19,7 @@ gives-in-Ok : (g : Over) (c : After-drop-line g) → MakeGives (cmd_kind (cmd_re
 gives-in-Ok g c = made (g.H.Host.state c.work.new.host) (string_bytes c.in-Ok.line) c.in-Ok.ensures.made.has (done g c)
 
 gives-in-Err : (g : Over) (c : After-say_stop g) → MakeGives (cmd_kind (cmd_read c.args.command.now)) (g.H.Host.state c.args.host.now) (g.H.Host.state c.say_stop.new.host) c.say_stop.result
-gives-in-Err g c = stopped (g.H.Host.state c.work.new.host) c.in-Err.stop c.in-Err.ensures.stopped c.say_stop.ensures
+gives-in-Err g c = stopped (g.H.Host.state c.work.new.host) c.in-Err.stop c.in-Err.ensures.stopped (named c.one.ensures c.say_stop.ensures)
 
 pub returns-in-Ok-clause-gives : goal.returns-in-Ok-clause-gives
 returns-in-Ok-clause-gives g c = gives-in-Ok g c
@@ -42,4 +43,4 @@ returns-in-Err-clause-completes g c =
     completes (cmd_kind (cmd_read c.args.command.now)) (g.H.Host.state c.args.host.now) (g.H.Host.state c.say_stop.new.host) (laws_of_cmd law.image law.fault law.apart (cmd_read c.args.command.now)) c.say_stop.result (gives-in-Err g c)
 
 pub returns-in-Err-clause-loads : goal.returns-in-Err-clause-loads
-returns-in-Err-clause-loads g c = λ e. absurd (never_0 c.in-Err.stop (g.H.Host.state c.work.new.host) (g.H.Host.state c.say_stop.new.host) c.say_stop.result c.say_stop.ensures e)
+returns-in-Err-clause-loads g c = λ e. absurd (never_0 (names_read c.one.result) c.in-Err.stop (g.H.Host.state c.work.new.host) (g.H.Host.state c.say_stop.new.host) c.say_stop.result c.say_stop.ensures e)

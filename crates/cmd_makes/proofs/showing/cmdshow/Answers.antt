@@ -2,6 +2,7 @@ use Rattle.std.proofs.Common.{refl, subst}
 use Rattle.std.specs.String.{string_bytes}
 use Rattle.cmd_arguments.specs.ReadCommands.{cmd_show_read}
 use Rattle.cmd_common.specs.Said.{IsDone}
+use Rattle.cmd_common.proofs.Said.{named}
 use Rattle.cmd_common.specs.Makes.{MakeGives, made, stopped}
 use Rattle.cmd_common.proofs.Deciding.{completes, files_stay}
 use Rattle.cmd_makes.specs.Shows.{cmd_show_kind}
@@ -17,7 +18,7 @@ gives-in-Ok g c =
     made mid (string_bytes c.in-Ok.line) c.in-Ok.ensures.made (subst (λ l. IsDone l mid new c.say_done.result) c.as_str.ensures.value c.say_done.ensures)
 
 gives-in-Err : (g : Over) (c : After-say_stop g) → MakeGives (cmd_show_kind (cmd_show_read c.args.command.now)) (g.H.Host.state c.args.host.now) (g.H.Host.state c.say_stop.new.host) c.say_stop.result
-gives-in-Err g c = stopped (g.H.Host.state c.work.new.host) c.in-Err.stop c.in-Err.ensures.stopped c.say_stop.ensures
+gives-in-Err g c = stopped (g.H.Host.state c.work.new.host) c.in-Err.stop c.in-Err.ensures.stopped (named c.one.ensures c.say_stop.ensures)
 
 pub returns-in-Ok-clause-gives : goal.returns-in-Ok-clause-gives
 returns-in-Ok-clause-gives g c = gives-in-Ok g c

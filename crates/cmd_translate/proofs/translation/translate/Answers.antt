@@ -2,6 +2,7 @@ use Rattle.std.proofs.Common.{subst}
 use Rattle.std.specs.String.{string_bytes}
 use Rattle.cmd_arguments.specs.ReadCommands.{translate_read}
 use Rattle.cmd_common.specs.Said.{IsDone}
+use Rattle.cmd_common.proofs.Said.{named}
 use Rattle.cmd_translate.specs.Translates.{TranslateGives}
 use Rattle.cmd_translate.proofs.TranslateFinish.{worked, stopped, decides}
 use Rattle.cmd_translate.proofs.translation.translate.Given.{Over}
@@ -21,7 +22,7 @@ gives-in-Ok g c =
 gives-in-Err : (g : Over) (c : After-say_stop g) → TranslateGives (translate_read c.args.command.now) (g.H.Host.state c.args.host.now) (g.H.Host.state c.say_stop.new.host) c.say_stop.result
 gives-in-Err g c =
     stopped (translate_read c.args.command.now) (g.H.Host.state c.args.host.now) (g.H.Host.state c.work.new.host) (g.H.Host.state c.say_stop.new.host)
-    c.in-Err.stop c.in-Err.ensures.stopped c.say_stop.result c.say_stop.ensures
+    c.in-Err.stop c.in-Err.ensures.stopped c.say_stop.result (named c.one.ensures c.say_stop.ensures)
 
 pub returns-in-Ok-clause-gives : goal.returns-in-Ok-clause-gives
 returns-in-Ok-clause-gives g c = gives-in-Ok g c

@@ -6,8 +6,8 @@ use Rattle.simulation_def.specs.Needed.{needed_by}
 use Rattle.cmd_explain.specs.Explained.{ToldIfAny}
 use Rattle.cmd_explain.specs.Telling.{Tells, first_of}
 use Rattle.cmd_explain.proofs.Blocks.{IsFirstSoFar, one_told, all_told, first_step, first_is}
-use Rattle.cmd_explain.proofs.telling.tell_blocks.Goals as goal
-use Rattle.cmd_explain.proofs.telling.tell_blocks.Goals.{After-first_of-first}
+use Rattle.cmd_explain.proofs.telling.tell_each.Goals as goal
+use Rattle.cmd_explain.proofs.telling.tell_each.Goals.{After-first_of-first}
 
 -- the block of the leader
 block : (c : After-first_of-first) → (count : ℕ) × IsBlockAt c.args.sides.now.program.now c.loop-leader.leader-index (get_or c.leaders-leader-items.result.now c.loop-leader.leader-index 0) count

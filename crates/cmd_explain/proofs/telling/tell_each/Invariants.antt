@@ -2,7 +2,7 @@ use Rattle.flow.specs.Solving.{Needs, AreAllNeeds}
 use Rattle.asm86_line_types.specs.Image.{statements}
 use Rattle.simulation_def.specs.Needed.{needed_by}
 use Rattle.cmd_explain.proofs.Blocks.{GoesOn, IsFirstSoFar}
-use Rattle.cmd_explain.proofs.telling.tell_blocks.Given as goal
+use Rattle.cmd_explain.proofs.telling.tell_each.Given as goal
 
 abbrev pub invariant-loop-leader : goal.invariant-loop-leader
 invariant-loop-leader l = record {
