@@ -136,6 +136,34 @@ with_one word first = codes "\t" ++ (word ++ (codes "\t" ++ (first ++ codes "\r\
 abbrev pub with_two : List ℕ → List ℕ → List ℕ → List ℕ
 with_two word first second = codes "\t" ++ (word ++ (codes "\t" ++ (first ++ (codes "," ++ (second ++ codes "\r\n")))))
 
+-- the line of an instruction that computes, and nothing of another
+abbrev pub computation_line : Instr86 → List ℕ
+computation_line (Alu op o) = with_two (alu_text op) (codes "AL") (operand8_text o)
+computation_line (AluNum op n) = with_two (alu_text op) (codes "AL") (byte_text n)
+computation_line OrClCl = with_two (codes "OR") (codes "CL") (codes "CL")
+computation_line (Add16 r q) = with_two (codes "ADD") (reg16_text r) (reg16_text q)
+computation_line (Count8 c o) = with_one (count_text c) (operand8_text o)
+computation_line (Count16 c r) = with_one (count_text c) (reg16_text r)
+computation_line (Rotate8 k r) = with_two (rotate_text k) (reg8_text r) (codes "1")
+computation_line (Rotate16 k r) = with_two (rotate_text k) (reg16_text r) (codes "1")
+computation_line (Not8 r) = with_one (codes "NOT") (reg8_text r)
+computation_line i = []
+
+-- the line of a MOV, and of an instruction that computes
+abbrev pub data_line : Instr86 → List ℕ
+data_line (MovReg8 r o) = with_two (codes "MOV") (reg8_text r) (operand8_text o)
+data_line (MovMem8 p r) = with_two (codes "MOV") (ptr_text p) (reg8_text r)
+data_line (MovAlDirect a) = with_two (codes "MOV") (codes "AL") (direct8_text a)
+data_line (MovDirectAl a) = with_two (codes "MOV") (direct8_text a) (codes "AL")
+data_line (MovNum8 r n) = with_two (codes "MOV") (reg8_text r) (byte_text n)
+data_line (MovNum16 r w) = with_two (codes "MOV") (reg16_text r) (word_text w)
+data_line (MovMemNum p n) = with_two (codes "MOV") (ptr_text p) (byte_text n)
+data_line (MovReg16 r o) = with_two (codes "MOV") (reg16_text r) (operand16_text o)
+data_line (MovDirect16 a r) = with_two (codes "MOV") (direct16_text a) (reg16_text r)
+data_line MovAxDs = with_two (codes "MOV") (codes "AX") (codes "DS")
+data_line MovSsAx = with_two (codes "MOV") (codes "SS") (codes "AX")
+data_line i = computation_line i
+
 -- the line of an instruction; one with a displacement has none, since a text names labels
 abbrev pub instr_line : Instr86 → List ℕ
 instr_line (MovReg8 r o) = with_two (codes "MOV") (reg8_text r) (operand8_text o)

@@ -1,6 +1,6 @@
 // The written line of each statement.
 ghost use Rattle.std.specs.Prelude.{◌≡◌, ◌+◌, ◌≤◌, ◌++◌, codes, length};
-ghost use Rattle.asm86_line_types.specs.Written.{alone, with_one, with_two, label_text, instr_line, written_line};
+ghost use Rattle.asm86_line_types.specs.Written.{alone, with_one, with_two, label_text, computation_line, data_line, instr_line, written_line};
 
 use crate::line::{Label, Stmt86};
 use crate::line_text::LineText;
@@ -61,9 +61,28 @@ fn with_two(word: &[u8], first: &[u8], second: &[u8]) -> LineText
     end(line)
 }
 
-// The line of an instruction.
-fn instr(i: Instr86) -> LineText
-    ensures value { result ≡ instr_line i }
+// The line of an instruction that computes; nothing of another.
+fn computation(i: Instr86) -> LineText
+    ensures value { result ≡ computation_line i }
+    ensures size { length result ≤ 40 }
+{
+    match i {
+        Instr86::Alu(op, operand) => with_two(alu(op), b"AL", operand8(operand)),
+        Instr86::AluNum(op, n) => with_two(alu(op), b"AL", byte(n).as_slice()),
+        Instr86::OrClCl => with_two(b"OR", b"CL", b"CL"),
+        Instr86::Add16(to, from) => with_two(b"ADD", reg16(to), reg16(from)),
+        Instr86::Count8(by, operand) => with_one(count(by), operand8(operand)),
+        Instr86::Count16(by, reg) => with_one(count(by), reg16(reg)),
+        Instr86::Rotate8(by, reg) => with_two(rotate(by), reg8(reg), b"1"),
+        Instr86::Rotate16(by, reg) => with_two(rotate(by), reg16(reg), b"1"),
+        Instr86::Not8(reg) => with_one(b"NOT", reg8(reg)),
+        _ => LineText::empty(),
+    }
+}
+
+// The line of a MOV, or of an instruction that computes; nothing of another.
+fn data(i: Instr86) -> LineText
+    ensures value { result ≡ data_line i }
     ensures size { length result ≤ 40 }
 {
     match i {
@@ -78,19 +97,20 @@ fn instr(i: Instr86) -> LineText
         Instr86::MovDirect16(to, from) => with_two(b"MOV", direct16(to).as_slice(), reg16(from)),
         Instr86::MovAxDs => with_two(b"MOV", b"AX", b"DS"),
         Instr86::MovSsAx => with_two(b"MOV", b"SS", b"AX"),
-        Instr86::Alu(op, operand) => with_two(alu(op), b"AL", operand8(operand)),
-        Instr86::AluNum(op, n) => with_two(alu(op), b"AL", byte(n).as_slice()),
-        Instr86::OrClCl => with_two(b"OR", b"CL", b"CL"),
-        Instr86::Add16(to, from) => with_two(b"ADD", reg16(to), reg16(from)),
-        Instr86::Count8(by, operand) => with_one(count(by), operand8(operand)),
-        Instr86::Count16(by, reg) => with_one(count(by), reg16(reg)),
+        _ => computation(i),
+    }
+}
+
+// The line of an instruction.
+fn instr(i: Instr86) -> LineText
+    ensures value { result ≡ instr_line i }
+    ensures size { length result ≤ 40 }
+{
+    match i {
         Instr86::Push(reg) => with_one(b"PUSH", stacked(reg)),
         Instr86::Pop(reg) => with_one(b"POP", stacked(reg)),
         Instr86::Xchg8(first, second) => with_two(b"XCHG", reg8(first), reg8(second)),
         Instr86::Xchg16(first, second) => with_two(b"XCHG", reg16(first), reg16(second)),
-        Instr86::Rotate8(by, reg) => with_two(rotate(by), reg8(reg), b"1"),
-        Instr86::Rotate16(by, reg) => with_two(rotate(by), reg16(reg), b"1"),
-        Instr86::Not8(reg) => with_one(b"NOT", reg8(reg)),
         Instr86::Daa => alone(b"DAA"),
         Instr86::Sahf => alone(b"SAHF"),
         Instr86::Lahf => alone(b"LAHF"),
@@ -102,8 +122,7 @@ fn instr(i: Instr86) -> LineText
         Instr86::Int224 => with_one(b"INT", b"224"),
         Instr86::InAl(port) => with_two(b"IN", b"AL", byte(port).as_slice()),
         Instr86::OutAl(port) => with_two(b"OUT", byte(port).as_slice(), b"AL"),
-        Instr86::Jcc(_, _) | Instr86::JmpNear(_) | Instr86::JmpShort(_) | Instr86::CallNear(_) =>
-            LineText::empty(),
+        _ => data(i),
     }
 }
 

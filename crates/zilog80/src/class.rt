@@ -13,9 +13,9 @@ use asm80_text::Name80;
 #[derive(Clone, Copy)]
 pub enum Class {
     /// This name alone: it says which instruction it is, and is no operand in Intel's spelling.
-    Is(&'static [u8]),
+    Is(&'static str),
     /// This name in parentheses, likewise.
-    At(&'static [u8]),
+    At(&'static str),
     /// A B C D E H L.
     Register,
     /// (HL).
@@ -50,28 +50,23 @@ pub enum Given {
 
 // Names with those of Intel's spelling.
 
-static REGISTERS: [(&[u8], &[u8]); 7] = [
-    (b"A", b"A"),
-    (b"B", b"B"),
-    (b"C", b"C"),
-    (b"D", b"D"),
-    (b"E", b"E"),
-    (b"H", b"H"),
-    (b"L", b"L"),
+static REGISTERS: [(&str, &str); 7] = [
+    ("A", "A"),
+    ("B", "B"),
+    ("C", "C"),
+    ("D", "D"),
+    ("E", "E"),
+    ("H", "H"),
+    ("L", "L"),
 ];
 
-static MEMORY: [(&[u8], &[u8]); 1] = [(b"HL", b"M")];
+static MEMORY: [(&str, &str); 1] = [("HL", "M")];
 
-static PAIRS: [(&[u8], &[u8]); 4] = [(b"BC", b"B"), (b"DE", b"D"), (b"HL", b"H"), (b"SP", b"SP")];
+static PAIRS: [(&str, &str); 4] = [("BC", "B"), ("DE", "D"), ("HL", "H"), ("SP", "SP")];
 
-static STACK_PAIRS: [(&[u8], &[u8]); 4] = [
-    (b"BC", b"B"),
-    (b"DE", b"D"),
-    (b"HL", b"H"),
-    (b"AF", b"PSW"),
-];
+static STACK_PAIRS: [(&str, &str); 4] = [("BC", "B"), ("DE", "D"), ("HL", "H"), ("AF", "PSW")];
 
-static INDIRECTS: [(&[u8], &[u8]); 2] = [(b"BC", b"B"), (b"DE", b"D")];
+static INDIRECTS: [(&str, &str); 2] = [("BC", "B"), ("DE", "D")];
 
 impl Class {
     /// Whether an operand is of the class.
@@ -104,7 +99,7 @@ impl Class {
         ensures { (a : Operand) → option_map (given_by a) result ≡ of_name (class_of self) name.now }
     {
         match self {
-            Class::Is(exact) => nothing_if(exact == name),
+            Class::Is(exact) => nothing_if(exact.as_bytes() == name),
             Class::Register => renamed(&REGISTERS, name),
             Class::Source => renamed(&REGISTERS, name),
             Class::Pair => renamed(&PAIRS, name),
@@ -117,7 +112,7 @@ impl Class {
         ensures { (a : Operand) → option_map (given_by a) result ≡ of_name_at (class_of self) name.now }
     {
         match self {
-            Class::At(exact) => nothing_if(exact == name),
+            Class::At(exact) => nothing_if(exact.as_bytes() == name),
             Class::Memory => renamed(&MEMORY, name),
             Class::Source => renamed(&MEMORY, name),
             Class::Indirect => renamed(&INDIRECTS, name),
@@ -143,7 +138,7 @@ fn nothing_if(same: bool) -> Option<Given>
 }
 
 // The name of Intel's spelling for a name.
-fn renamed(names: &[(&[u8], &[u8])], name: &[u8]) -> Option<Given>
+fn renamed(names: &[(&str, &str)], name: &[u8]) -> Option<Given>
     requires { are_words (map (λ (x : Bor (List ℕ) × Bor (List ℕ)). x.1.now) names.now) ≡ true }
     ensures { (entries : Names) (a : Operand) → map (λ (x : Bor (List ℕ) × Bor (List ℕ)). (x.0.now, x.1.now)) names.now ≡ entries → option_map (given_by a) result ≡ renamed entries name.now }
 {
@@ -154,9 +149,9 @@ fn renamed(names: &[(&[u8], &[u8])], name: &[u8]) -> Option<Given>
 }
 
 /// What stands beside a name in a table.
-pub fn beside<'a>(table: &[(&'a [u8], &'a [u8])], name: &[u8]) -> Option<&'a [u8]>
+pub fn beside<'a>(table: &[(&'a str, &'a str)], name: &[u8]) -> Option<&'a [u8]>
     ensures { option_copied result ≡ option_map (λ (x : Bor (List ℕ) × Bor (List ℕ)). x.1.now) (find (λ (x : Bor (List ℕ) × Bor (List ℕ)). bytes_eq x.0.now name.now) table.now) }
 {
-    let entry = table.iter().find(|entry| entry.0 == name)?;
-    Some(entry.1)
+    let entry = table.iter().find(|entry| entry.0.as_bytes() == name)?;
+    Some(entry.1.as_bytes())
 }

@@ -1,11 +1,12 @@
-use Rattle.std.proofs.Common.{refl, ap, sym, ◌∙◌}
+use Rattle.std.proofs.Common.{ℕ, List, refl, ap, sym, ◌∙◌}
+use Rattle.std.specs.Str.{bytes_eq}
 use Rattle.zilog80.specs.declared.class.Class.{Class as ReadClass}
 use Rattle.zilog80.specs.Operands.{registers, pairs, stack_pairs, nothing_if, of_name}
 use Rattle.zilog80.specs.Read.{class_of}
 use Rattle.zilog80.proofs.class.Class.of_name.Goals as goal
 
 pub returns-in-Is : goal.returns-in-Is
-returns-in-Is c = λ a. c.nothing_if.ensures a ∙ ap nothing_if c.eq.ensures ∙ ap (λ (k : ReadClass). of_name (class_of k) c.args.name.now) (sym c.in-Is.is)
+returns-in-Is c = λ a. c.nothing_if.ensures a ∙ ap nothing_if (c.eq.ensures ∙ ap (λ (exact : List ℕ). bytes_eq exact c.args.name.now) c.as_bytes.ensures.value) ∙ ap (λ (k : ReadClass). of_name (class_of k) c.args.name.now) (sym c.in-Is.is)
 
 pub returns-in-Register : goal.returns-in-Register
 unfolding registers
