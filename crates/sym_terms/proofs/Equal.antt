@@ -1,6 +1,6 @@
 -- The test of two terms is true exactly where they are equal.
 use Rattle.std.proofs.Common.{◌≡◌, ◌==◌, ◌&&◌, Bool, true, false, refl, sym, ap, ◌∙◌}
-use Rattle.std.proofs.lemmas.Bool.{and_from, and_parts, eqb-true, eq-eqb}
+use Rattle.std.proofs.lemmas.Bool.{and_from, and_parts, eqb-true, eq-eqb, false≢true}
 use Rattle.cells.specs.declared.Part.{Part}
 use Rattle.cells.specs.Places.{same_place}
 use Rattle.cells.proofs.SamePlace.{same_place_is, same_place_refl}
@@ -64,7 +64,7 @@ same_term-true (Code q high) (Code q' high') h =
     let both = and_parts (same_place q q') (same_bool high high') h in
     λ i. Code (same_place_is q q' both.0 i) (same_bool-true high high' both.1 i)
 same_term-true Unknown Unknown h = refl
-same_term-true s t h = absurd (cc)
+same_term-true s t h = absurd (false≢true h)
 
 same_bool_refl : (b : Bool) → same_bool b b ≡ true
 same_bool_refl true = refl
