@@ -26,29 +26,29 @@ has-nothing Cy = refl
 -- a set of one part has no other
 pub only-has : (q x : Part) → has (only q) x ≡ true → q ≡ x
 only-has A A h = refl
-only-has A x h = absurd (cc)
+only-has A x h = absurd (false≢true h)
 only-has B B h = refl
-only-has B x h = absurd (cc)
+only-has B x h = absurd (false≢true h)
 only-has C C h = refl
-only-has C x h = absurd (cc)
+only-has C x h = absurd (false≢true h)
 only-has D D h = refl
-only-has D x h = absurd (cc)
+only-has D x h = absurd (false≢true h)
 only-has E E h = refl
-only-has E x h = absurd (cc)
+only-has E x h = absurd (false≢true h)
 only-has H H h = refl
-only-has H x h = absurd (cc)
+only-has H x h = absurd (false≢true h)
 only-has L L h = refl
-only-has L x h = absurd (cc)
+only-has L x h = absurd (false≢true h)
 only-has S S h = refl
-only-has S x h = absurd (cc)
+only-has S x h = absurd (false≢true h)
 only-has Z Z h = refl
-only-has Z x h = absurd (cc)
+only-has Z x h = absurd (false≢true h)
 only-has Ac Ac h = refl
-only-has Ac x h = absurd (cc)
+only-has Ac x h = absurd (false≢true h)
 only-has P P h = refl
-only-has P x h = absurd (cc)
+only-has P x h = absurd (false≢true h)
 only-has Cy Cy h = refl
-only-has Cy x h = absurd (cc)
+only-has Cy x h = absurd (false≢true h)
 
 -- what a part counts for, in a smaller set and a larger one
 weight-le : (b d : Bool) → (b ≡ true → d ≡ true) → weight b 1 ≤ weight d 1

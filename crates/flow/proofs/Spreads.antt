@@ -1,5 +1,5 @@
 -- Visits of the edges to one node, one after the other.
-use Rattle.std.proofs.Common.{◌≡◌, ◌≢◌, ℕ, ◌+◌, ◌<◌, true, List, [], ◌∷◌, ◌++◌, length, take, get_or, refl, sym, ap, subst, ◌∙◌, inl, inr, ◌⊎◌, ⊎_elim, arith}
+use Rattle.std.proofs.Common.{rules, ◌≡◌, ◌≢◌, ℕ, ◌+◌, ◌<◌, true, List, [], ◌∷◌, ◌++◌, length, take, get_or, refl, le_refl, sym, ap, subst, ◌∙◌, inl, inr, ◌⊎◌, ⊎_elim, arith}
 use Rattle.std.specs.List.{Contains}
 use Rattle.std.proofs.lemmas.Bool.{or_left, or_right, or_cases, cases_eq}
 use Rattle.std.proofs.lemmas.List.{take_more}
@@ -61,3 +61,19 @@ module _ (sources : List ℕ) (passed : Parts) (old mid new : List Vertex) (from
 
 pub spread_more : (sources : List ℕ) (i d : ℕ) (passed : Parts) (old mid new : List Vertex) → i < length sources → IsSpread (take i sources) passed old mid → IsVisited mid (get_or sources i d) passed new → IsSpread (take (i + 1) sources) passed old new
 spread_more sources i d passed old mid new lt s v = subst (λ xs. IsSpread xs passed old new) (sym (take_more sources i d lt)) (spread_push (take i sources) passed old mid new (get_or sources i d) s v)
+
+-- before the first, nothing has changed
+pub spread_none : (passed : Parts) (vs : List Vertex) → IsSpread [] passed vs vs
+spread_none passed vs = record {
+  same_length = refl;
+  defines = λ k. refl;
+  grows = λ k x h. h;
+  passes = λ k x among. absurd (none k among);
+  only = λ k x h. inl h;
+  woken = λ k. inl refl;
+  fewer = le_refl _;
+  cheaper = λ ss. le_refl _;
+}
+  where
+    none : (k : ℕ) → Contains [] k → ⊥
+    none k among = search rules

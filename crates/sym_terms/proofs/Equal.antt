@@ -1,6 +1,6 @@
 -- The test of two terms is true exactly where they are equal.
-use Rattle.std.proofs.Common.{◌≡◌, ◌==◌, Bool, true, false, refl, sym, ap, ◌∙◌}
-use Rattle.std.proofs.lemmas.Bool.{and_from, and_parts, eqb-true, eq-eqb}
+use Rattle.std.proofs.Common.{◌≡◌, ◌==◌, ◌&&◌, Bool, true, false, refl, sym, ap, ◌∙◌}
+use Rattle.std.proofs.lemmas.Bool.{and_from, and_parts, eqb-true, eq-eqb, false≢true}
 use Rattle.cells.specs.declared.Part.{Part}
 use Rattle.cells.specs.Places.{same_place}
 use Rattle.cells.proofs.SamePlace.{same_place_is, same_place_refl}
@@ -27,69 +27,44 @@ same_term-true StartSp StartSp h = refl
 same_term-true (Loaded8 k) (Loaded8 k') h = ap Loaded8 (eqb-true k k' h)
 same_term-true (Loaded16 k) (Loaded16 k') h = ap Loaded16 (eqb-true k k' h)
 same_term-true (Alu op a b c) (Alu op' a' b' c') h =
-    let first = and_parts (op_number op == op_number op') _ h in
-    let rest = and_parts (same_term a a') _ first.1 in
+    let first = and_parts (op_number op == op_number op') (same_term a a' && (same_term b b' && same_term c c')) h in
+    let rest = and_parts (same_term a a') (same_term b b' && same_term c c') first.1 in
     let last = and_parts (same_term b b') (same_term c c') rest.1 in
-    let eo : op ≡ op' = same_op op op' first.0 in
-    let ea : a ≡ a' = same_term-true a a' rest.0 in
-    let eb : b ≡ b' = same_term-true b b' last.0 in
-    let ec : c ≡ c' = same_term-true c c' last.1 in
-    cc
+    λ i. Alu (same_op op op' first.0 i) (same_term-true a a' rest.0 i) (same_term-true b b' last.0 i) (same_term-true c c' last.1 i)
 same_term-true (Flag q r) (Flag q' r') h =
     let both = and_parts (part_number q == part_number q') (same_term r r') h in
-    let eq : q ≡ q' = same_part q q' both.0 in
-    let er : r ≡ r' = same_term-true r r' both.1 in
-    cc
+    λ i. Flag (same_part q q' both.0 i) (same_term-true r r' both.1 i)
 same_term-true (Sum16 a b) (Sum16 a' b') h =
     let both = and_parts (same_term a a') (same_term b b') h in
-    let ea : a ≡ a' = same_term-true a a' both.0 in
-    let eb : b ≡ b' = same_term-true b b' both.1 in
-    cc
+    λ i. Sum16 (same_term-true a a' both.0 i) (same_term-true b b' both.1 i)
 same_term-true (High w) (High w') h = ap High (same_term-true w w' h)
 same_term-true (Low w) (Low w') h = ap Low (same_term-true w w' h)
 same_term-true (Join g l) (Join g' l') h =
     let both = and_parts (same_term g g') (same_term l l') h in
-    let eg : g ≡ g' = same_term-true g g' both.0 in
-    let el : l ≡ l' = same_term-true l l' both.1 in
-    cc
+    λ i. Join (same_term-true g g' both.0 i) (same_term-true l l' both.1 i)
 same_term-true (FlagByte s z ac p cy) (FlagByte s' z' ac' p' cy') h =
-    let h1 = and_parts (same_term s s') _ h in
-    let h2 = and_parts (same_term z z') _ h1.1 in
-    let h3 = and_parts (same_term ac ac') _ h2.1 in
+    let h1 = and_parts (same_term s s') (same_term z z' && (same_term ac ac' && (same_term p p' && same_term cy cy'))) h in
+    let h2 = and_parts (same_term z z') (same_term ac ac' && (same_term p p' && same_term cy cy')) h1.1 in
+    let h3 = and_parts (same_term ac ac') (same_term p p' && same_term cy cy') h2.1 in
     let h4 = and_parts (same_term p p') (same_term cy cy') h3.1 in
-    let es : s ≡ s' = same_term-true s s' h1.0 in
-    let ez : z ≡ z' = same_term-true z z' h2.0 in
-    let ea : ac ≡ ac' = same_term-true ac ac' h3.0 in
-    let ep : p ≡ p' = same_term-true p p' h4.0 in
-    let ec : cy ≡ cy' = same_term-true cy cy' h4.1 in
-    cc
+    λ i. FlagByte (same_term-true s s' h1.0 i) (same_term-true z z' h2.0 i) (same_term-true ac ac' h3.0 i) (same_term-true p p' h4.0 i) (same_term-true cy cy' h4.1 i)
 same_term-true (Bit b q) (Bit b' q') h =
     let both = and_parts (part_number q == part_number q') (same_term b b') h in
-    let eq : q ≡ q' = same_part q q' both.0 in
-    let eb : b ≡ b' = same_term-true b b' both.1 in
-    cc
+    λ i. Bit (same_term-true b b' both.1 i) (same_part q q' both.0 i)
 same_term-true (Turn kind a c) (Turn kind' a' c') h =
-    let first = and_parts (kind == kind') _ h in
+    let first = and_parts (kind == kind') (same_term a a' && same_term c c') h in
     let rest = and_parts (same_term a a') (same_term c c') first.1 in
-    let ek : kind ≡ kind' = eqb-true kind kind' first.0 in
-    let ea : a ≡ a' = same_term-true a a' rest.0 in
-    let ec : c ≡ c' = same_term-true c c' rest.1 in
-    cc
+    λ i. Turn (eqb-true kind kind' first.0 i) (same_term-true a a' rest.0 i) (same_term-true c c' rest.1 i)
 same_term-true (Turned c) (Turned c') h = ap Turned (same_term-true c c' h)
 same_term-true (Adjust a ac cy) (Adjust a' ac' cy') h =
-    let first = and_parts (same_term a a') _ h in
+    let first = and_parts (same_term a a') (same_term ac ac' && same_term cy cy') h in
     let rest = and_parts (same_term ac ac') (same_term cy cy') first.1 in
-    let ea : a ≡ a' = same_term-true a a' first.0 in
-    let eh : ac ≡ ac' = same_term-true ac ac' rest.0 in
-    let ec : cy ≡ cy' = same_term-true cy cy' rest.1 in
-    cc
+    λ i. Adjust (same_term-true a a' first.0 i) (same_term-true ac ac' rest.0 i) (same_term-true cy cy' rest.1 i)
 same_term-true (Code q high) (Code q' high') h =
     let both = and_parts (same_place q q') (same_bool high high') h in
-    let eq : q ≡ q' = same_place_is q q' both.0 in
-    let eh : high ≡ high' = same_bool-true high high' both.1 in
-    cc
+    λ i. Code (same_place_is q q' both.0 i) (same_bool-true high high' both.1 i)
 same_term-true Unknown Unknown h = refl
-same_term-true s t h = absurd (cc)
+same_term-true s t h = absurd (false≢true h)
 
 same_bool_refl : (b : Bool) → same_bool b b ≡ true
 same_bool_refl true = refl

@@ -1,16 +1,18 @@
 -- Heads and their nodes: each gives the other back, and equal terms have equal heads.
-use Rattle.std.proofs.Common.{◌≡◌, ℕ, true, false, List, [], ◌∷◌, take, Some, refl, sym, ap, ◌∙◌}
+use Rattle.std.proofs.Common.{◌≡◌, ℕ, true, false, List, [], ◌∷◌, take, Some, refl, sym, ap, subst, ◌∙◌}
 use Rattle.std.specs.List.{slice_get}
+use Rattle.std.proofs.lemmas.Bool.{false≢true}
 use Rattle.std.proofs.lemmas.Option.{get_or_from_slice_get}
 use Rattle.cells.specs.declared.Place.TheVariants.{At, Exit}
 use Rattle.sym_terms.specs.declared.head.Term.{Term as TermId}
 use Rattle.sym_terms.specs.declared.head.Head.{Head}
 use Rattle.sym_terms.specs.declared.head.Head.TheVariants.{Num as NumHead, Start as StartHead, StartSp as StartSpHead, Loaded8 as Loaded8Head, Loaded16 as Loaded16Head, Alu as AluHead, Flag as FlagHead, Sum16 as Sum16Head, High as HighHead, Low as LowHead, Join as JoinHead, FlagByte as FlagByteHead, Bit as BitHead, Turn as TurnHead, Turned as TurnedHead, Adjust as AdjustHead, Code as CodeHead, Unknown as UnknownHead}
 use Rattle.sym_terms.specs.Numbers.{kind_of}
-use Rattle.sym_terms.specs.Term.{Start, Alu, Flag, Bit, Unknown}
+use Rattle.sym_terms.specs.Term.{Start, Alu, Flag, Sum16, High, Low, Join, FlagByte, Bit, Turn, Turned, Adjust, Unknown, same_term}
 use Rattle.sym_terms.specs.Heads.{operands, is_flag_byte_head, node_of, head_by, number_of_id, term_of}
 use Rattle.sym_terms.specs.Trees.{Entry, Tree, Rest, term_of_entry, tree_at, tree_of_head, flags_with, entry_of, IsTree, AreTrees}
 use Rattle.sym_terms.specs.Forms.{HasRest}
+use Rattle.sym_terms.proofs.Equal.{same_term_refl}
 use Rattle.sym_terms.proofs.Codes.{part_of-part_number, op_of-op_number}
 use Rattle.sym_terms.proofs.Places.{get_from_cut}
 
@@ -74,73 +76,71 @@ same_id es d s t p q e =
 pub same_heads : (es : List Entry) → AreApart es → (h g : Head) → AreTrees es (operands h) → AreTrees es (operands g) → tree_of_head es h ≡ tree_of_head es g → h ≡ g
 same_heads es d (NumHead n) (NumHead n') g g' e =
     let is_n : n ≡ n' = cc in
-    cc
+    λ i. NumHead (is_n i)
 same_heads es d (StartHead part) (StartHead part') g g' e =
     let is_part : part ≡ part' = cc in
-    cc
-same_heads es d StartSpHead StartSpHead g g' e =
-    cc
+    λ i. StartHead (is_part i)
+same_heads es d StartSpHead StartSpHead g g' e = refl
 same_heads es d (Loaded8Head k) (Loaded8Head k') g g' e =
     let is_k : k ≡ k' = cc in
-    cc
+    λ i. Loaded8Head (is_k i)
 same_heads es d (Loaded16Head k) (Loaded16Head k') g g' e =
     let is_k : k ≡ k' = cc in
-    cc
+    λ i. Loaded16Head (is_k i)
 same_heads es d (AluHead op a b c) (AluHead op' a' b' c') g g' e =
     let is_a : a ≡ a' = same_id es d a a' g.0 g'.0 (cc) in
     let is_b : b ≡ b' = same_id es d b b' g.1.0 g'.1.0 (cc) in
     let is_c : c ≡ c' = same_id es d c c' g.1.1.0 g'.1.1.0 (cc) in
     let is_op : op ≡ op' = cc in
-    cc
+    λ i. AluHead (is_op i) (is_a i) (is_b i) (is_c i)
 same_heads es d (FlagHead part r) (FlagHead part' r') g g' e =
     let is_r : r ≡ r' = same_id es d r r' g.0 g'.0 (cc) in
     let is_part : part ≡ part' = cc in
-    cc
+    λ i. FlagHead (is_part i) (is_r i)
 same_heads es d (Sum16Head a b) (Sum16Head a' b') g g' e =
     let is_a : a ≡ a' = same_id es d a a' g.0 g'.0 (cc) in
     let is_b : b ≡ b' = same_id es d b b' g.1.0 g'.1.0 (cc) in
-    cc
+    λ i. Sum16Head (is_a i) (is_b i)
 same_heads es d (HighHead w) (HighHead w') g g' e =
     let is_w : w ≡ w' = same_id es d w w' g.0 g'.0 (cc) in
-    cc
+    λ i. HighHead (is_w i)
 same_heads es d (LowHead w) (LowHead w') g g' e =
     let is_w : w ≡ w' = same_id es d w w' g.0 g'.0 (cc) in
-    cc
+    λ i. LowHead (is_w i)
 same_heads es d (JoinHead h l) (JoinHead h' l') g g' e =
     let is_h : h ≡ h' = same_id es d h h' g.0 g'.0 (cc) in
     let is_l : l ≡ l' = same_id es d l l' g.1.0 g'.1.0 (cc) in
-    cc
+    λ i. JoinHead (is_h i) (is_l i)
 same_heads es d (FlagByteHead s z ac p cy) (FlagByteHead s' z' ac' p' cy') g g' e =
     let is_s : s ≡ s' = same_id es d s s' g.0 g'.0 (cc) in
     let is_z : z ≡ z' = same_id es d z z' g.1.0 g'.1.0 (cc) in
     let is_ac : ac ≡ ac' = same_id es d ac ac' g.1.1.0 g'.1.1.0 (cc) in
     let is_p : p ≡ p' = same_id es d p p' g.1.1.1.0 g'.1.1.1.0 (cc) in
     let is_cy : cy ≡ cy' = same_id es d cy cy' g.1.1.1.1.0 g'.1.1.1.1.0 (cc) in
-    cc
+    λ i. FlagByteHead (is_s i) (is_z i) (is_ac i) (is_p i) (is_cy i)
 same_heads es d (BitHead b part) (BitHead b' part') g g' e =
     let is_b : b ≡ b' = same_id es d b b' g.0 g'.0 (cc) in
     let is_part : part ≡ part' = cc in
-    cc
+    λ i. BitHead (is_b i) (is_part i)
 same_heads es d (TurnHead kind a c) (TurnHead kind' a' c') g g' e =
     let is_a : a ≡ a' = same_id es d a a' g.0 g'.0 (cc) in
     let is_c : c ≡ c' = same_id es d c c' g.1.0 g'.1.0 (cc) in
     let is_kind : kind ≡ kind' = cc in
-    cc
+    λ i. TurnHead (is_kind i) (is_a i) (is_c i)
 same_heads es d (TurnedHead c) (TurnedHead c') g g' e =
     let is_c : c ≡ c' = same_id es d c c' g.0 g'.0 (cc) in
-    cc
+    λ i. TurnedHead (is_c i)
 same_heads es d (AdjustHead a ac cy) (AdjustHead a' ac' cy') g g' e =
     let is_a : a ≡ a' = same_id es d a a' g.0 g'.0 (cc) in
     let is_ac : ac ≡ ac' = same_id es d ac ac' g.1.0 g'.1.0 (cc) in
     let is_cy : cy ≡ cy' = same_id es d cy cy' g.1.1.0 g'.1.1.0 (cc) in
-    cc
+    λ i. AdjustHead (is_a i) (is_ac i) (is_cy i)
 same_heads es d (CodeHead q high) (CodeHead q' high') g g' e =
     let is_q : q ≡ q' = cc in
     let is_high : high ≡ high' = cc in
-    cc
-same_heads es d UnknownHead UnknownHead g g' e =
-    cc
-same_heads es d h g p q e = absurd (cc)
+    λ i. CodeHead (is_q i) (is_high i)
+same_heads es d UnknownHead UnknownHead g g' e = refl
+same_heads es d h g p q e = absurd (false≢true (subst (λ t. same_term (tree_of_head es h) t ≡ true) e (same_term_refl (tree_of_head es h))))
 
 -- what stands in the first entries stands in all
 
@@ -159,44 +159,44 @@ lift_head es k (AluHead op a b c) g =
     let is_a : tree_at (take k es) (number_of_id a) ≡ tree_at es (number_of_id a) = lift_tree_at es k a g.0 in
     let is_b : tree_at (take k es) (number_of_id b) ≡ tree_at es (number_of_id b) = lift_tree_at es k b g.1.0 in
     let is_c : tree_at (take k es) (number_of_id c) ≡ tree_at es (number_of_id c) = lift_tree_at es k c g.1.1.0 in
-    cc
+    λ i. Alu op (is_a i) (is_b i) (is_c i)
 lift_head es k (FlagHead part r) g =
     let is_r : tree_at (take k es) (number_of_id r) ≡ tree_at es (number_of_id r) = lift_tree_at es k r g.0 in
-    cc
+    λ i. Flag part (is_r i)
 lift_head es k (Sum16Head a b) g =
     let is_a : tree_at (take k es) (number_of_id a) ≡ tree_at es (number_of_id a) = lift_tree_at es k a g.0 in
     let is_b : tree_at (take k es) (number_of_id b) ≡ tree_at es (number_of_id b) = lift_tree_at es k b g.1.0 in
-    cc
+    λ i. Sum16 (is_a i) (is_b i)
 lift_head es k (HighHead w) g =
     let is_w : tree_at (take k es) (number_of_id w) ≡ tree_at es (number_of_id w) = lift_tree_at es k w g.0 in
-    cc
+    λ i. High (is_w i)
 lift_head es k (LowHead w) g =
     let is_w : tree_at (take k es) (number_of_id w) ≡ tree_at es (number_of_id w) = lift_tree_at es k w g.0 in
-    cc
+    λ i. Low (is_w i)
 lift_head es k (JoinHead h l) g =
     let is_h : tree_at (take k es) (number_of_id h) ≡ tree_at es (number_of_id h) = lift_tree_at es k h g.0 in
     let is_l : tree_at (take k es) (number_of_id l) ≡ tree_at es (number_of_id l) = lift_tree_at es k l g.1.0 in
-    cc
+    λ i. Join (is_h i) (is_l i)
 lift_head es k (FlagByteHead s z ac p cy) g =
     let is_s : tree_at (take k es) (number_of_id s) ≡ tree_at es (number_of_id s) = lift_tree_at es k s g.0 in
     let is_z : tree_at (take k es) (number_of_id z) ≡ tree_at es (number_of_id z) = lift_tree_at es k z g.1.0 in
     let is_ac : tree_at (take k es) (number_of_id ac) ≡ tree_at es (number_of_id ac) = lift_tree_at es k ac g.1.1.0 in
     let is_p : tree_at (take k es) (number_of_id p) ≡ tree_at es (number_of_id p) = lift_tree_at es k p g.1.1.1.0 in
     let is_cy : tree_at (take k es) (number_of_id cy) ≡ tree_at es (number_of_id cy) = lift_tree_at es k cy g.1.1.1.1.0 in
-    cc
+    λ i. FlagByte (is_s i) (is_z i) (is_ac i) (is_p i) (is_cy i)
 lift_head es k (BitHead b part) g =
     let is_b : tree_at (take k es) (number_of_id b) ≡ tree_at es (number_of_id b) = lift_tree_at es k b g.0 in
-    cc
+    λ i. Bit (is_b i) part
 lift_head es k (TurnHead kind a c) g =
     let is_a : tree_at (take k es) (number_of_id a) ≡ tree_at es (number_of_id a) = lift_tree_at es k a g.0 in
     let is_c : tree_at (take k es) (number_of_id c) ≡ tree_at es (number_of_id c) = lift_tree_at es k c g.1.0 in
-    cc
+    λ i. Turn kind (is_a i) (is_c i)
 lift_head es k (TurnedHead c) g =
     let is_c : tree_at (take k es) (number_of_id c) ≡ tree_at es (number_of_id c) = lift_tree_at es k c g.0 in
-    cc
+    λ i. Turned (is_c i)
 lift_head es k (AdjustHead a ac cy) g =
     let is_a : tree_at (take k es) (number_of_id a) ≡ tree_at es (number_of_id a) = lift_tree_at es k a g.0 in
     let is_ac : tree_at (take k es) (number_of_id ac) ≡ tree_at es (number_of_id ac) = lift_tree_at es k ac g.1.0 in
     let is_cy : tree_at (take k es) (number_of_id cy) ≡ tree_at es (number_of_id cy) = lift_tree_at es k cy g.1.1.0 in
-    cc
+    λ i. Adjust (is_a i) (is_ac i) (is_cy i)
 lift_head es k h g = refl

@@ -15,5 +15,5 @@ pub struct Node {
 pub struct Id(pub u32);
 
 /// How many nodes a pool had.
-#[derive(Clone, Copy, PartialEq, Eq)]
+#[derive(Clone, Copy)]
 pub struct Mark(pub u32);
