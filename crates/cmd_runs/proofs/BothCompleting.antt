@@ -16,6 +16,7 @@ use Rattle.emulator_loop.specs.declared.fault.TalkFault.TheVariants.{Unsaid as U
 use Rattle.emulators.specs.Courses.{course80, course86}
 use Rattle.emulators.specs.Starts.{start_by}
 use Rattle.cmd_arguments.specs.Words.{Both}
+use Rattle.cmd_common.specs.declared.names.InputFile.TheVariants.{First}
 use Rattle.cmd_common.specs.declared.stop.Stop.{Stop}
 use Rattle.cmd_common.specs.declared.stop.Stop.TheVariants.{CodeTooLarge, OutOfMemory}
 use Rattle.cmd_common.specs.Lines.{status_of}
@@ -24,6 +25,7 @@ use Rattle.cmd_common.specs.Files.{input_limit, NoneFailed, FileIsTold}
 use Rattle.cmd_common.specs.OneEnd.{IsOnlyEnd, HasStatus}
 use Rattle.cmd_common.specs.Sources.{SourceStops, of_line as LineStops, of_program as ProgramStops, reading_of, SourceLaw}
 use Rattle.cmd_common.proofs.Told.{told_whole, read_stops, not_unsaid, closes_reads, closes_status, memory_status}
+use Rattle.cmd_runs.specs.Names.{run_names}
 use Rattle.cmd_runs.specs.Supplies.{Given, SupplyIsTold, HasDisk, stop_of_disk, fill_by}
 use Rattle.cmd_runs.specs.Kinds.{NothingToRun, no_file, no_supply, is_refused, no_disk, no_memory as no_room_to_load}
 use Rattle.cmd_runs.specs.Outcomes.{FilesComeTo}
@@ -115,29 +117,29 @@ module _ (c : Both) (law : SourceLaw (reading_of c.zilog)) (disks : DiskLaw) (te
         only_fit source given (came_by (work_both c) m) (fits_by source given h.program lean.lines is lean.text lean.fits)
         (kind.only_made (kind80 (source_of c)) laws disks old new none source given told fed prefix80 h.program h.supply m.left m.end m.line h.start h.mid stands.source h.first h.at)
 
-    unread : (mid : HostState) (stop : Stop) (status : ℕ) → NothingToRun (kind80 (source_of c)) old mid stop → Closes stop mid new status → HasStatus (BothComeTo c source given) status
+    unread : (mid : HostState) (stop : Stop) (status : ℕ) → NothingToRun (kind80 (source_of c)) old mid stop → Closes (run_names c.source c.run) stop mid new status → HasStatus (BothComeTo c source given) status
     unread mid stop status (no_file s) closes =
-        inl (memory_status stop mid new status (read_stops old mid new c.source input_limit source stop none (closes_reads stop mid new status closes) told s) closes)
+        inl (memory_status (run_names c.source c.run) stop mid new status (read_stops old mid new First c.source input_limit source stop none (closes_reads (run_names c.source c.run) stop mid new status closes) told s) closes)
     unread mid stop status (no_supply bytes w s) closes =
-        inl (memory_status stop mid new status (supply_stops old mid new c.run given stop none (closes_reads stop mid new status closes) fed s) closes)
+        inl (memory_status (run_names c.source c.run) stop mid new status (supply_stops old mid new c.run given stop none (closes_reads (run_names c.source c.run) stop mid new status closes) fed s) closes)
     unread mid stop status (is_refused bytes i w with_these same stops) closes =
         let e = told_whole old c.source input_limit source bytes told w in
         let these : SourceStops (reading_of c.zilog) source c.top stop = subst (λ b. SourceStops (reading_of c.zilog) b c.top stop) e stops in
-        status_fit source given status (by_rule source given stop these) (kind.refusal_status (kind80 (source_of c)) laws disks source given stop status these (closes_status stop mid new status closes))
+        status_fit source given status (by_rule source given stop these) (kind.refusal_status (kind80 (source_of c)) laws disks source given stop status these (closes_status (run_names c.source c.run) stop mid new status closes))
     unread mid stop status (no_disk program i n same stops) closes =
         let e = told_whole old c.source input_limit source n.bytes told n.file in
         let whose = told_given old c.run given i fed n.supplied in
         disk_status source given program stops.0 status (subst (λ b. IsSource (reading_of c.zilog) b c.top program) e n.gives) (subst (λ (x : Given). IsDiskFaultOf x.disk stops.0) whose stops.1)
-        (subst (λ s. (status ≡ 5) ⊎ (status ≡ status_of s)) stops.2 (closes_status stop mid new status closes))
-    unread mid _ status no_room_to_load closes = inl (memory_status OutOfMemory mid new status refl closes)
+        (subst (λ s. (status ≡ 5) ⊎ (status ≡ status_of s)) stops.2 (closes_status (run_names c.source c.run) stop mid new status closes))
+    unread mid _ status no_room_to_load closes = inl (memory_status (run_names c.source c.run) OutOfMemory mid new status refl closes)
 
-    unmade : (mid : HostState) (stop : Stop) (status : ℕ) → NeitherToRun c old mid stop → Closes stop mid new status → HasStatus (BothComeTo c source given) status
+    unmade : (mid : HostState) (stop : Stop) (status : ℕ) → NeitherToRun c old mid stop → Closes (run_names c.source c.run) stop mid new status → HasStatus (BothComeTo c source given) status
     unmade mid stop status (unloaded s) closes = unread mid stop status s closes
     unmade mid stop status (no_image program supply l same s) closes =
         let e = told_whole old c.source input_limit source l.named.bytes told l.named.file in
         let whose = told_given old c.run given l.given fed l.named.supplied in
-        large_status source given program supply status stop (subst (λ b. IsSource (reading_of c.zilog) b c.top program) e l.named.gives) (subst (λ x. HasDisk x supply) whose l.devices) s (closes_status stop mid new status closes)
-    unmade mid _ status no_memory closes = inl (memory_status OutOfMemory mid new status refl closes)
+        large_status source given program supply status stop (subst (λ b. IsSource (reading_of c.zilog) b c.top program) e l.named.gives) (subst (λ x. HasDisk x supply) whose l.devices) s (closes_status (run_names c.source c.run) stop mid new status closes)
+    unmade mid _ status no_memory closes = inl (memory_status (run_names c.source c.run) OutOfMemory mid new status refl closes)
 
     both_counted : (mid : HostState) (m : RunsMade) → AreBothMade c old mid m → SameFaults old mid
     both_counted mid m h =

@@ -17,19 +17,19 @@ use Rattle.cmd_runs.specs.Works.{RunsMade, RunWork, came_by, RunsAreKept, WorkSt
 use Rattle.cmd_runs.proofs.Kept.{kept_counted, lost_by_memory, closes_writes}
 
 module _ (w : RunWork) (old new : HostState) (none : NoneFailed old new) (Comes : Result ℕ Stop → Type 0) (counted : (mid : HostState) (m : RunsMade) → w.AreMade old mid m → SameFaults old mid)
-    (uncut : w.AreCutOff old new (Untold CallFailed) → ⊥) (one : (mid : HostState) (m : RunsMade) → w.AreMade old mid m → IsOnlyEnd Comes (came_by w m)) (nothing : (mid : HostState) (stop : Stop) (status : ℕ) → w.HasNothing old mid stop → Closes stop mid new status → HasStatus Comes status) where
-  ended : (kept : HostState) (second : Option ℕ) (came : Result ℕ Stop) (status : ℕ) → IsOnlyEnd Comes came → SameFaults old kept → SaysEnd second came kept new status → HasStatus Comes status
+    (uncut : w.AreCutOff old new (Untold CallFailed) → ⊥) (one : (mid : HostState) (m : RunsMade) → w.AreMade old mid m → IsOnlyEnd Comes (came_by w m)) (nothing : (mid : HostState) (stop : Stop) (status : ℕ) → w.HasNothing old mid stop → Closes w.names stop mid new status → HasStatus Comes status) where
+  ended : (kept : HostState) (second : Option ℕ) (came : Result ℕ Stop) (status : ℕ) → IsOnlyEnd Comes came → SameFaults old kept → SaysEnd w.names second came kept new status → HasStatus Comes status
   ended kept second (Ok steps) _ is same (whole only s counted) = inr (Ok steps, is, refl)
   ended kept second (Ok steps) _ is same (failed s) = absurd (not_unsaid old kept new none same s.cause)
   ended kept second (Ok steps) _ is same (unfinished s) = inl refl
-  ended kept second (Err stop) status is same closes = ⊎_elim (λ s. inl s) (λ s. inr (Err stop, is, s)) (closes_status stop kept new status closes)
+  ended kept second (Err stop) status is same closes = ⊎_elim (λ s. inl s) (λ s. inr (Err stop, is, s)) (closes_status w.names stop kept new status closes)
 
-  halted : (mid : HostState) (stop : Stop) (status : ℕ) → WorkStops w old mid stop → Closes stop mid new status → HasStatus Comes status
+  halted : (mid : HostState) (stop : Stop) (status : ℕ) → WorkStops w old mid stop → Closes w.names stop mid new status → HasStatus Comes status
   halted mid stop status (unloaded only s) closes = nothing mid stop status s closes
-  halted mid _ status (no_memory cut) closes = inl (memory_status OutOfMemory mid new status refl closes)
-  halted mid _ status (no_line m made) closes = inl (memory_status OutOfMemory mid new status refl closes)
+  halted mid _ status (no_memory cut) closes = inl (memory_status w.names OutOfMemory mid new status refl closes)
+  halted mid _ status (no_line m made) closes = inl (memory_status w.names OutOfMemory mid new status refl closes)
   halted mid stop status (unkept l) closes =
-      inl (memory_status stop mid new status (lost_by_memory old l.mid mid new none (counted l.mid l.runs l.made) (closes_writes stop mid new status closes) (kept_disk_name w.out_disk l.runs.end.end) l.runs.left.system.disk stop l.stops) closes)
+      inl (memory_status w.names stop mid new status (lost_by_memory old l.mid mid new none (counted l.mid l.runs l.made) (closes_writes w.names stop mid new status closes) (kept_disk_name w.out_disk l.runs.end.end) l.runs.left.system.disk stop l.stops) closes)
 
   faultless : (kept : HostState) (m : RunsMade) → RunsAreKept w old kept m → SameFaults old kept
   faultless kept m h =

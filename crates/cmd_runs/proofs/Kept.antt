@@ -4,6 +4,7 @@ use Rattle.std.specs.Prelude.{Result, Ok, Err}
 use Rattle.host.specs.Host.{HostState, HasRisen, SameFiles, OnlyFileChanged, SameFaults}
 use Rattle.host.proofs.HostLemmas.{SameFaults-refl}
 use Rattle.bdos_disk.specs.Stored.{Stored}
+use Rattle.cmd_common.specs.Names.{FileNames}
 use Rattle.cmd_common.specs.declared.stop.Stop.{Stop}
 use Rattle.cmd_common.specs.declared.stop.Stop.TheVariants.{OutOfMemory}
 use Rattle.cmd_common.specs.Said.{Closes, said, unsaid}
@@ -69,10 +70,10 @@ module _ (old run mid new : HostState) (none : NoneFailed old new) (same : SameF
 
 -- ---- what is said last
 
-pub closes_writes : (stop : Stop) (old new : HostState) (status : ℕ) → Closes stop old new status → old.write_faults ≤ new.write_faults
-closes_writes stop old new status (said e s) = s.only.writes
-closes_writes stop old new status (unsaid n e s) = s.only.writes
+pub closes_writes : (names : FileNames) (stop : Stop) (old new : HostState) (status : ℕ) → Closes names stop old new status → old.write_faults ≤ new.write_faults
+closes_writes names stop old new status (said e s) = s.only.writes
+closes_writes names stop old new status (unsaid n e s) = s.only.writes
 
-pub ending_files : (second : Option ℕ) (came : Result ℕ Stop) (old new : HostState) (status : ℕ) → SaysEnd second came old new status → SameFiles old new
-ending_files second (Ok steps) old new status e = done_files (steps_line second steps) old new status e
-ending_files second (Err stop) old new status e = closes_files stop old new status e
+pub ending_files : (names : FileNames) (second : Option ℕ) (came : Result ℕ Stop) (old new : HostState) (status : ℕ) → SaysEnd names second came old new status → SameFiles old new
+ending_files names second (Ok steps) old new status e = done_files (steps_line second steps) old new status e
+ending_files names second (Err stop) old new status e = closes_files names stop old new status e

@@ -6,6 +6,7 @@ mod Laws86
 pub mod Leaving
 pub mod Laws80
 pub mod Kept
+pub mod Naming
 pub mod Told
 pub mod Loading
 pub mod Disks

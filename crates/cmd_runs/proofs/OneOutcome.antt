@@ -15,6 +15,7 @@ use Rattle.emulator_loop.specs.declared.fault.TalkFault.TheVariants.{Unsaid as U
 use Rattle.emulator_loop.specs.declared.running.Conversation.{Conversation}
 use Rattle.emulator_loop.specs.declared.running.RunEnd.{RunEnd}
 use Rattle.emulator_loop.specs.Talk.{SeenRun}
+use Rattle.cmd_common.specs.declared.names.InputFile.TheVariants.{First}
 use Rattle.cmd_common.specs.declared.stop.Stop.{Stop}
 use Rattle.cmd_common.specs.declared.stop.Stop.TheVariants.{BadDisk, OutOfMemory}
 use Rattle.cmd_common.specs.Lines.{status_of}
@@ -22,6 +23,7 @@ use Rattle.cmd_common.specs.Said.{Closes}
 use Rattle.cmd_common.specs.Files.{NoneFailed, FileIsTold}
 use Rattle.cmd_common.specs.OneEnd.{IsOnlyEnd, HasStatus}
 use Rattle.cmd_common.proofs.Told.{told_whole, read_stops, not_unsaid, closes_reads, closes_status, memory_status}
+use Rattle.cmd_runs.specs.Names.{run_names}
 use Rattle.cmd_runs.specs.Ends.{came_to}
 use Rattle.cmd_runs.specs.Supplies.{Given, SupplyIsTold, HasDisk, stop_of_disk}
 use Rattle.cmd_runs.specs.Settings.{RunComesTo}
@@ -95,20 +97,20 @@ module _ {Loaded : Type 0} (k : RunKind Loaded) (laws : KindLaws k) (disks : Dis
         (subst (λ x. IsOnlyEnd (FilesComeTo k n.bytes x) (came_to k.options.steps line o)) whose
         (only_run n.bytes stands.given loaded supply left prefix o line start mid n.gives stands.readable stands.devices run at))
 
-    pub nothing_to_run : (mid : HostState) (stop : Stop) (status : ℕ) → NothingToRun k old mid stop → Closes stop mid new status → HasStatus (FilesComeTo k bytes given) status
+    pub nothing_to_run : (mid : HostState) (stop : Stop) (status : ℕ) → NothingToRun k old mid stop → Closes (run_names k.file k.options) stop mid new status → HasStatus (FilesComeTo k bytes given) status
     nothing_to_run mid stop status (no_file s) closes =
-        inl (memory_status stop mid new status (read_stops old mid new k.file k.most bytes stop none (closes_reads stop mid new status closes) told s) closes)
+        inl (memory_status (run_names k.file k.options) stop mid new status (read_stops old mid new First k.file k.most bytes stop none (closes_reads (run_names k.file k.options) stop mid new status closes) told s) closes)
     nothing_to_run mid stop status (no_supply read file s) closes =
-        inl (memory_status stop mid new status (supply_stops old mid new k.options given stop none (closes_reads stop mid new status closes) fed s) closes)
+        inl (memory_status (run_names k.file k.options) stop mid new status (supply_stops old mid new k.options given stop none (closes_reads (run_names k.file k.options) stop mid new status closes) fed s) closes)
     nothing_to_run mid stop status (is_refused read with_these file supplied same is) closes =
         let e = told_whole old k.file k.most bytes read told file in
-        refusal_status bytes given stop status (subst (λ b. k.IsRefused b stop) e is) (closes_status stop mid new status closes)
+        refusal_status bytes given stop status (subst (λ b. k.IsRefused b stop) e is) (closes_status (run_names k.file k.options) stop mid new status closes)
     nothing_to_run mid stop status (no_disk loaded with_these n same stops) closes =
         let e = told_whole old k.file k.most bytes n.bytes told n.file in
         let whose = told_given old k.options given with_these fed n.supplied in
         disk_status bytes given loaded stops.0 status (subst (λ b. k.IsGiven b loaded) e n.gives) (subst (λ (x : Given). IsDiskFaultOf x.disk stops.0) whose stops.1)
-        (subst (λ s. (status ≡ 5) ⊎ (status ≡ status_of s)) stops.2 (closes_status stop mid new status closes))
-    nothing_to_run mid _ status no_memory closes = inl (memory_status OutOfMemory mid new status refl closes)
+        (subst (λ s. (status ≡ 5) ⊎ (status ≡ status_of s)) stops.2 (closes_status (run_names k.file k.options) stop mid new status closes))
+    nothing_to_run mid _ status no_memory closes = inl (memory_status (run_names k.file k.options) OutOfMemory mid new status refl closes)
 
     one_counted : (mid : HostState) (m : RunsMade) → IsRunMade k old mid m → SameFaults old mid
     one_counted mid m h =

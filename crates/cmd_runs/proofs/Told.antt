@@ -1,6 +1,7 @@
 -- What the files of the devices have, where the host tells them and no call of it fails.
 use Rattle.std.proofs.Common.{◌≡◌, ℕ, List, Option, Some, None, sym, ap, ◌∙◌}
 use Rattle.host.specs.Host.{HostState}
+use Rattle.cmd_common.specs.declared.names.InputFile.TheVariants.{Console, Disk, Ports}
 use Rattle.cmd_common.specs.declared.stop.Stop.{Stop}
 use Rattle.cmd_common.specs.declared.stop.Stop.TheVariants.{OutOfMemory}
 use Rattle.cmd_arguments.specs.Words.{RunOptions}
@@ -20,9 +21,9 @@ told_given old run given read t s =
 
 disk_stops : (old mid new : HostState) (name : Option (List ℕ)) (bytes : List ℕ) (stop : Stop) → NoneFailed old new → new.read_faults ≡ mid.read_faults → DiskIsTold old name bytes → DiskFileStops name old mid stop → stop ≡ OutOfMemory
 disk_stops old mid new None bytes stop none e t s = s
-disk_stops old mid new (Some name) bytes stop none e t s = read_stops old mid new name input_limit bytes stop none e t s
+disk_stops old mid new (Some name) bytes stop none e t s = read_stops old mid new Disk name input_limit bytes stop none e t s
 
 pub supply_stops : (old mid new : HostState) (run : RunOptions) (given : Given) (stop : Stop) → NoneFailed old new → new.read_faults ≡ mid.read_faults → SupplyIsTold run old given → SupplyStops run old mid stop → stop ≡ OutOfMemory
-supply_stops old mid new run given stop none e t (no_input s) = input_stops old mid new run.input given.input stop none e t.input s
+supply_stops old mid new run given stop none e t (no_input s) = input_stops old mid new Console run.input given.input stop none e t.input s
 supply_stops old mid new run given stop none e t (no_disk_file input i s) = disk_stops old mid new run.disk given.disk stop none e t.disk s
-supply_stops old mid new run given stop none e t (no_ports input disk i d s) = input_stops old mid new run.ports given.ports stop none e t.ports s
+supply_stops old mid new run given stop none e t (no_ports input disk i d s) = input_stops old mid new Ports run.ports given.ports stop none e t.ports s

@@ -83,10 +83,10 @@ module _ (w : RunWork) where
     begun_halts h = IfErr-weaker r (HaltsFrom w Stood start new) (WorkHalts w old new) (λ halt halts. halts old read) h
 
   -- what the command gives, by what is said then
-  pub gives : (old mid new : HostState) (status : ℕ) (worked : Result Last Halt) → IfOk worked (WorkHasLast w old mid) → IfErr worked (WorkHalts w old mid) → IsClosed worked mid new status → WorkGives w old new status
+  pub gives : (old mid new : HostState) (status : ℕ) (worked : Result Last Halt) → IfOk worked (WorkHasLast w old mid) → IfErr worked (WorkHalts w old mid) → IsClosed w.names worked mid new status → WorkGives w old new status
   gives old mid new status (Ok last) has halts closed =
       ran mid has.made has.kept
-      (subst (λ second. SaysEnd second (came_by w has.made) mid new status) has.second (subst (λ came. SaysEnd last.second came mid new status) has.came closed))
+      (subst (λ second. SaysEnd w.names second (came_by w has.made) mid new status) has.second (subst (λ came. SaysEnd w.names last.second came mid new status) has.came closed))
   gives old mid new status (Err (By stop)) has halts closed = stopped mid stop halts closed
   gives old mid new status (Err (Unsaid fault)) has halts closed =
       unsaid fault closed.1 (subst (λ h. w.AreCutOff old h (Untold fault)) (sym closed.0) halts)
@@ -115,7 +115,7 @@ module _ (w : RunWork) where
     -- what is given changes none but that of the disk
     pub gives_alone : (new : HostState) (status : ℕ) → WorkGives w old new status → DiskAlone w.out_disk old new
     gives_alone new status (ran kept m h says) =
-        alone_then w.out_disk old kept new (kept_alone kept m h) (ending_files m.second (came_by w m) kept new status says)
+        alone_then w.out_disk old kept new (kept_alone kept m h) (ending_files w.names m.second (came_by w m) kept new status says)
     gives_alone new status (unsaid fault e cut) = same_alone w.out_disk old new (stay.cut old new (Untold fault) cut)
     gives_alone new status (stopped mid stop s closes) =
-        alone_then w.out_disk old mid new (stops_alone mid stop s) (closes_files stop mid new status closes)
+        alone_then w.out_disk old mid new (stops_alone mid stop s) (closes_files w.names stop mid new status closes)

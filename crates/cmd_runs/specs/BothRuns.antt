@@ -12,6 +12,7 @@ use Rattle.emulator_loop.specs.declared.fault.TalkFault.{TalkFault}
 use Rattle.emulator_loop.specs.declared.running.Conversation.{Conversation}
 use Rattle.emulator_loop.specs.Talk.{SeenRun}
 use Rattle.cmd_arguments.specs.Words.{Both}
+use Rattle.cmd_runs.specs.Names.{run_names}
 use Rattle.cmd_runs.specs.Settings.{RunSetting, setting86, RunComesTo, IsRunCutOff}
 use Rattle.cmd_runs.specs.Kinds.{HasRead, run_setting}
 use Rattle.cmd_runs.specs.Works.{RunsMade, RunWork}
@@ -85,5 +86,6 @@ work_both c = record {
   AreMade = λ old new m. AreBothMade c old new m;
   AreCutOff = λ old new fault. IsEitherCut c old new fault;
   limit = c.run.steps;
+  names = run_names c.source c.run;
   out_disk = c.run.out_disk;
 }

@@ -2,6 +2,7 @@
 use Rattle.std.specs.Prelude.{◌≡◌, ℕ, List, Option, Result, Ok, Err}
 use Rattle.host.specs.Host.{HostState}
 use Rattle.bdos_disk.specs.Stored.{Stored}
+use Rattle.cmd_common.specs.Names.{FileNames}
 use Rattle.cmd_common.specs.declared.stop.Stop.{Stop}
 use Rattle.cmd_common.specs.declared.stop.Stop.TheVariants.{OutOfMemory}
 use Rattle.cmd_common.specs.Said.{Closes}
@@ -24,7 +25,7 @@ pub data LeaveStops (name : Option (List ℕ)) (disk : List Stored) (old new : H
   unkept : {stop : Stop} → DiskKeepStops name disk old new stop → LeaveStops name disk old new stop
 
 -- what a work came to is said, with its status; nothing more is said after a line that was not
-abbrev pub IsClosed : Result Last Halt → HostState → HostState → ℕ → Type 0
-IsClosed (Ok last) old new status = SaysEnd last.second last.came old new status
-IsClosed (Err (By stop)) old new status = Closes stop old new status
-IsClosed (Err (Unsaid fault)) old new status = (new ≡ old) × (status ≡ unsaid_status fault)
+abbrev pub IsClosed : FileNames → Result Last Halt → HostState → HostState → ℕ → Type 0
+IsClosed names (Ok last) old new status = SaysEnd names last.second last.came old new status
+IsClosed names (Err (By stop)) old new status = Closes names stop old new status
+IsClosed names (Err (Unsaid fault)) old new status = (new ≡ old) × (status ≡ unsaid_status fault)

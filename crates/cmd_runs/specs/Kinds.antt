@@ -6,6 +6,7 @@ use Rattle.bdos_small.specs.Supply.{Supply}
 use Rattle.emulator_loop.specs.declared.running.RunEnd.{RunEnd}
 use Rattle.emulator_loop.specs.Talk.{SeenRun}
 use Rattle.cmd_arguments.specs.Words.{RunOptions}
+use Rattle.cmd_common.specs.declared.names.InputFile.TheVariants.{First}
 use Rattle.cmd_common.specs.declared.stop.Stop.{Stop}
 use Rattle.cmd_common.specs.declared.stop.Stop.TheVariants.{OutOfMemory}
 use Rattle.cmd_common.specs.Files.{IsWholeFile, ReadStops}
@@ -59,7 +60,7 @@ module _ {Loaded : Type 0} (k : RunKind Loaded) where
     -- why there is nothing to run: the file, or what the devices have, was not read, or the file's bytes are refused, or the disk's file
     -- is none, or memory ran out
     pub data NothingToRun (new : HostState) : Stop → Type 0 where
-      no_file : {stop : Stop} → ReadStops k.file k.most old new stop → NothingToRun new stop
+      no_file : {stop : Stop} → ReadStops First k.file k.most old new stop → NothingToRun new stop
       no_supply : {stop : Stop} (bytes : List ℕ) → IsWholeFile old k.file k.most bytes → SupplyStops k.options old new stop → NothingToRun new stop
       is_refused : {stop : Stop} (bytes : List ℕ) (given : Given) → IsWholeFile old k.file k.most bytes → IsSupplied k.options old given → SameFaults old new → k.IsRefused bytes stop → NothingToRun new stop
       no_disk : {stop : Stop} (loaded : Loaded) (given : Given) → IsNamed loaded given → SameFaults old new → DiskStops given.disk stop → NothingToRun new stop

@@ -5,6 +5,7 @@ pub mod BothCompletes
 pub mod Runs86
 pub mod Runs80
 pub mod Ends
+pub mod Names
 pub mod Supplies
 pub mod Keeping
 pub mod Lasts

@@ -10,6 +10,7 @@ use Rattle.bdos_disk.specs.DiskFile.{disk_file}
 use Rattle.bdos_disk.specs.Reading.{IsDiskFaultOf}
 use Rattle.bdos_small.specs.Supply.{Supply, first_supply}
 use Rattle.cmd_arguments.specs.Words.{RunOptions}
+use Rattle.cmd_common.specs.declared.names.InputFile.TheVariants.{Console, Disk, Ports}
 use Rattle.cmd_common.specs.declared.stop.Stop.{Stop}
 use Rattle.cmd_common.specs.declared.stop.Stop.TheVariants.{OutOfMemory, BadDisk}
 use Rattle.cmd_common.specs.Files.{input_limit, IsWholeFile, IsInput, FileIsTold, ReadStops, InputStops, InputIsTold}
@@ -34,7 +35,7 @@ DiskIsTold old (Some name) bytes = FileIsTold old name input_limit bytes
 
 abbrev pub DiskFileStops : Option (List ℕ) → HostState → HostState → Stop → Type 0
 DiskFileStops None old new stop = stop ≡ OutOfMemory
-DiskFileStops (Some name) old new stop = ReadStops name input_limit old new stop
+DiskFileStops (Some name) old new stop = ReadStops Disk name input_limit old new stop
 
 module _ (run : RunOptions) (old : HostState) where
   -- these are the bytes of the files
@@ -45,9 +46,9 @@ module _ (run : RunOptions) (old : HostState) where
 
   -- why there are none: a file was not read, after those before it
   pub data SupplyStops (new : HostState) : Stop → Type 0 where
-    no_input : {stop : Stop} → InputStops run.input old new stop → SupplyStops new stop
+    no_input : {stop : Stop} → InputStops Console run.input old new stop → SupplyStops new stop
     no_disk_file : {stop : Stop} (input : List ℕ) → IsInput old run.input input → DiskFileStops run.disk old new stop → SupplyStops new stop
-    no_ports : {stop : Stop} (input disk : List ℕ) → IsInput old run.input input → IsDiskFile old run.disk disk → InputStops run.ports old new stop → SupplyStops new stop
+    no_ports : {stop : Stop} (input disk : List ℕ) → IsInput old run.input input → IsDiskFile old run.disk disk → InputStops Ports run.ports old new stop → SupplyStops new stop
 
   -- the host tells them, within their limits
   pub record SupplyIsTold (given : Given) : Type 0 where

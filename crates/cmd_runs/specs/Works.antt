@@ -6,6 +6,7 @@ use Rattle.bdos_small.specs.Supply.{Supply}
 use Rattle.emulator_loop.specs.declared.fault.TalkFault.{TalkFault}
 use Rattle.emulator_loop.specs.declared.fault.TalkFault.TheVariants.{Unsaid as Untold, Memory as NoMemory}
 use Rattle.emulator_loop.specs.declared.running.Conversation.{Conversation}
+use Rattle.cmd_common.specs.Names.{FileNames}
 use Rattle.cmd_common.specs.declared.stop.Stop.{Stop}
 use Rattle.cmd_common.specs.declared.stop.Stop.TheVariants.{OutOfMemory}
 use Rattle.cmd_common.specs.Said.{Closes}
@@ -13,6 +14,7 @@ use Rattle.cmd_runs.specs.declared.halt.Halt.{Halt}
 use Rattle.cmd_runs.specs.declared.halt.Halt.TheVariants.{By, Unsaid}
 use Rattle.cmd_runs.specs.declared.last.Last.{Last}
 use Rattle.cmd_runs.specs.Ends.{came_to, unsaid_status}
+use Rattle.cmd_runs.specs.Names.{run_names}
 use Rattle.cmd_runs.specs.Keeping.{kept_disk_name, KeepsDisk, DiskKeepStops}
 use Rattle.cmd_runs.specs.Lasts.{SaysEnd}
 use Rattle.cmd_runs.specs.Settings.{RunComesTo, IsRunCutOff}
@@ -27,12 +29,14 @@ pub record RunsMade : Type 0 where
   pub left : Supply
 
 -- the commands differ in this: why there is nothing to run; that the files were read and the runs made, and came to this; that the files
--- were read and a run was cut off by a fault; the most instructions, and the name of the file for the disk, if there is one
+-- were read and a run was cut off by a fault; the most instructions; the names of the files that are read, and that of the file
+-- for the disk, if there is one
 pub record RunWork : Type 1 where
   pub HasNothing : HostState → HostState → Stop → Type 0
   pub AreMade : HostState → HostState → RunsMade → Type 0
   pub AreCutOff : HostState → HostState → TalkFault → Type 0
   pub limit : ℕ
+  pub names : FileNames
   pub out_disk : Option (List ℕ)
 
 -- the number of instructions that ran, or why the program did not end
@@ -75,9 +79,9 @@ module _ (w : RunWork) (old : HostState) where
   -- what the command gives, by its status: the runs were made, and the line of what they came to is said; or a line of a run was not said,
   -- and then nothing more is; or the command stops before, and the line of the stop is said
   pub data WorkGives (new : HostState) : ℕ → Type 0 where
-    ran : {status : ℕ} (kept : HostState) (m : RunsMade) → RunsAreKept kept m → SaysEnd m.second (came_by w m) kept new status → WorkGives new status
+    ran : {status : ℕ} (kept : HostState) (m : RunsMade) → RunsAreKept kept m → SaysEnd w.names m.second (came_by w m) kept new status → WorkGives new status
     unsaid : {status : ℕ} (fault : HostFault) → status ≡ unsaid_status fault → w.AreCutOff old new (Untold fault) → WorkGives new status
-    stopped : {status : ℕ} (mid : HostState) (stop : Stop) → WorkStops mid stop → Closes stop mid new status → WorkGives new status
+    stopped : {status : ℕ} (mid : HostState) (stop : Stop) → WorkStops mid stop → Closes w.names stop mid new status → WorkGives new status
 
 -- the same of a part of the work: wherever the command began, if this stood there by the host's files, which were then read
 abbrev pub HasLastFrom : RunWork → (HostState → Type 0) → HostState → HostState → Last → Type 0
@@ -113,5 +117,6 @@ work_of_one k = record {
   AreMade = λ old new m. IsRunMade k old new m;
   AreCutOff = λ old new fault. IsRunCut k old new fault;
   limit = k.options.steps;
+  names = run_names k.file k.options;
   out_disk = k.options.out_disk;
 }

@@ -21,7 +21,7 @@ pub struct TwoDevices {
 }
 
 /// The devices of these bytes, and those of the same bytes once more.
-pub fn two_devices<'a>(alloc: Global, supplies: Supplies) -> Result<TwoDevices, Stop<'a>>
+pub fn two_devices(alloc: Global, supplies: Supplies) -> Result<TwoDevices, Stop>
     ensures { MatchResult result
         (λ d. HasDisk (given_of supplies.input.items supplies.disk.items supplies.ports.items) d.first × (d.second ≡ d.first))
         (DiskStops supplies.disk.items) }
@@ -41,11 +41,7 @@ pub struct FilledImage {
 }
 
 /// The image of the program's lean text, and the bytes by the choice.
-pub fn filled_image<'a>(
-    alloc: Global,
-    program: &Program80,
-    choice: u128,
-) -> Result<FilledImage, Stop<'a>>
+pub fn filled_image(alloc: Global, program: &Program80, choice: u128) -> Result<FilledImage, Stop>
     requires { IsProgram program.now }
     ensures { MatchResult result (λ f. HasLean program.now f.image × IsFillBy choice f.fill.items) (LeanStops program.now) }
 {

@@ -7,7 +7,7 @@ use emulators::{Conversation, RunEnd, Why};
 
 /// How many instructions ran, where the last of them ended the program; else why not. The limit is that of the run, and the
 /// line that of the instruction at which an 8080 left the profile.
-pub fn came_to<'a>(ran: Conversation, limit: u32, line: u32) -> Result<u64, Stop<'a>>
+pub fn came_to(ran: Conversation, limit: u32, line: u32) -> Result<u64, Stop>
     ensures { result ≡ came_to limit line ran }
 {
     match ran.end {
@@ -20,7 +20,7 @@ pub fn came_to<'a>(ran: Conversation, limit: u32, line: u32) -> Result<u64, Stop
 }
 
 // Why a machine stopped.
-fn stop_of_why<'a>(why: Why, line: u32) -> Stop<'a>
+fn stop_of_why(why: Why, line: u32) -> Stop
     ensures { result ≡ stop_of_why line why }
 {
     match why {

@@ -8,7 +8,7 @@ use hex_file::{HexFault, HexFile};
 use std::alloc::Global;
 
 /// The HEX file that bytes are, which are let go.
-pub fn hex_of_bytes<'a>(alloc: Global, bytes: Vec<u8>) -> Result<HexFile, Stop<'a>>
+pub fn hex_of_bytes(alloc: Global, bytes: Vec<u8>) -> Result<HexFile, Stop>
     requires { length bytes.items ≤ 2 ^ 31 }
     ensures { MatchResult result (IsHexOf bytes.items) (HexStops bytes.items) }
 {
@@ -19,7 +19,7 @@ pub fn hex_of_bytes<'a>(alloc: Global, bytes: Vec<u8>) -> Result<HexFile, Stop<'
 }
 
 // What it is to the command that bytes are no HEX file.
-fn stop_of_hex<'a>(fault: HexFault) -> Stop<'a>
+fn stop_of_hex(fault: HexFault) -> Stop
     ensures { result ≡ stop_of_hex fault }
 {
     match fault {

@@ -28,12 +28,12 @@ pub fn kept_disk_name<'a>(name: Option<&'a str>, end: RunEnd) -> Option<&'a str>
 }
 
 /// Writes the disk's file under a name, if there is one.
-pub fn keep_disk<'a, H: Host>(
+pub fn keep_disk<H: Host>(
     alloc: Global,
     host: &mut H,
-    name: Option<&'a str>,
+    name: Option<&str>,
     disk: &Disk,
-) -> Result<(), Stop<'a>>
+) -> Result<(), Stop>
     ensures kept { OnOk result (KeepsDisk (option_copied name.entry) disk.now (H.state host.old) (H.state host.new)) }
     ensures stopped { IfErr result (DiskKeepStops (option_copied name.entry) disk.now (H.state host.old) (H.state host.new)) }
 {
@@ -44,12 +44,7 @@ pub fn keep_disk<'a, H: Host>(
 }
 
 // Writes the disk's file under a name. All memory is taken before the file is begun.
-fn write_disk<'a, H: Host>(
-    alloc: Global,
-    host: &mut H,
-    name: &str,
-    disk: &Disk,
-) -> Result<(), Stop<'a>>
+fn write_disk<H: Host>(alloc: Global, host: &mut H, name: &str, disk: &Disk) -> Result<(), Stop>
     ensures kept { OnOk result (HasKeptDisk name.now disk.now (H.state host.old) (H.state host.new)) }
     ensures stopped { IfErr result (DiskWriteStops name.now disk.now (H.state host.old) (H.state host.new)) }
 {

@@ -1,29 +1,31 @@
 // What is said last of runs that were made.
 ghost use Rattle.std.specs.Prelude.{◌≡◌, IfOk};
 ghost use Rattle.std.specs.String.{string_bytes};
-ghost use Rattle.cmd_runs.specs.Lasts.{steps_line, closing_line, IsLastMade, SaysEnd};
+ghost use Rattle.cmd_common.specs.Names.{FileNames, names_read};
+ghost use Rattle.cmd_runs.specs.Lasts.{steps_line, closing_line, NamesNoFile, IsLastMade, SaysEnd};
 
-use cmd_common::{Stop, both_line, ended_line, say_done, say_made};
+use cmd_common::{InputNames, Stop, both_line, ended_line, say_done, say_made};
 use host::Host;
 use std::alloc::{AllocError, Global};
 
 /// What is said last of a command's runs: what the run by which its status goes came to, the number of instructions that ran or why it
 /// stopped; how many instructions of a second machine ran after it, if there was one; and the line.
 #[derive(Drop)]
-pub struct Last<'a> {
-    pub came: Result<u64, Stop<'a>>,
+pub struct Last {
+    pub came: Result<u64, Stop>,
     pub second: Option<u64>,
     pub line: String,
 }
 
-/// What is said last of runs that came to this. Here its memory is taken.
-pub fn last_of<'a>(
+/// What is said last of runs that came to this, whose line names no file. Here its memory is taken.
+pub fn last_of(
     alloc: Global,
-    came: Result<u64, Stop<'a>>,
+    came: Result<u64, Stop>,
     second: Option<u64>,
-) -> Result<Last<'a>, AllocError>
+) -> Result<Last, AllocError>
+    requires { NamesNoFile second came }
     ensures made { IfOk result IsLastMade }
-    ensures came { IfOk result (λ last. last.came ≡ came.entry) }
+    ensures came { IfOk result (λ last. last.came ≡ came) }
     ensures second { IfOk result (λ last. last.second ≡ second) }
 {
     let line = closing_line(alloc, came, second)?;
@@ -33,14 +35,15 @@ pub fn last_of<'a>(
 // Its line.
 fn closing_line(
     alloc: Global,
-    came: Result<u64, Stop<'_>>,
+    came: Result<u64, Stop>,
     second: Option<u64>,
 ) -> Result<String, AllocError>
-    ensures { IfOk result (λ line. string_bytes line ≡ closing_line second came.entry) }
+    requires { NamesNoFile second came }
+    ensures { IfOk result (λ line. (names : FileNames) → string_bytes line ≡ closing_line names second came) }
 {
     match came {
         Ok(steps) => steps_line(alloc, steps, second),
-        Err(stop) => stop.line(alloc),
+        Err(stop) => stop.line(alloc, &InputNames::one("")),
     }
 }
 
@@ -55,12 +58,12 @@ fn steps_line(alloc: Global, steps: u64, second: Option<u64>) -> Result<String, 
 }
 
 /// Says it, and answers the status.
-pub fn say_end<H: Host>(host: &mut H, last: Last<'_>) -> u8
+pub fn say_end<H: Host>(host: &mut H, names: &InputNames<'_>, last: Last) -> u8
     requires { IsLastMade last }
-    ensures { SaysEnd last.entry.second last.entry.came (H.state host.old) (H.state host.new) result }
+    ensures { SaysEnd (names_read names.now) last.second last.came (H.state host.old) (H.state host.new) result }
 {
     match last.came {
         Ok(_) => say_done(host, last.line.as_str()),
-        Err(stop) => say_made(host, stop, last.line.as_str()),
+        Err(stop) => say_made(host, names, stop, last.line.as_str()),
     }
 }

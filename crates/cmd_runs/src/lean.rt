@@ -15,7 +15,7 @@ use templates::{CoreFault, Mode, translate};
 use templates_law::own_texts_are_same;
 
 /// The image of a program's lean text, or that its code is too large. A program's own text assembles where its code fits.
-pub fn lean_image<'a>(alloc: Global, program: &Program80) -> Result<Image86, Stop<'a>>
+pub fn lean_image(alloc: Global, program: &Program80) -> Result<Image86, Stop>
     requires { IsProgram program.now }
     ensures lean { IfOk result (HasLean program.now) }
     ensures stopped { IfErr result (LeanStops program.now) }
@@ -27,7 +27,7 @@ pub fn lean_image<'a>(alloc: Global, program: &Program80) -> Result<Image86, Sto
 }
 
 // The lines of the text, whose code fits.
-fn lines_of<'a>(alloc: Global, program: &Program80) -> Result<Vec<Line86>, Stop<'a>>
+fn lines_of(alloc: Global, program: &Program80) -> Result<Vec<Line86>, Stop>
     ensures text { IfOk result (λ lines. IsText Lean program.now lines.items) }
     ensures fits { IfOk result (λ lines. CodeFits lines.items) }
     ensures few { IfOk result (λ lines. vec_len lines < 2 ^ 20) }
@@ -40,7 +40,7 @@ fn lines_of<'a>(alloc: Global, program: &Program80) -> Result<Vec<Line86>, Stop<
 }
 
 // Why there is no text.
-fn stop_of<'a>(fault: CoreFault) -> Stop<'a>
+fn stop_of(fault: CoreFault) -> Stop
     ensures { (p : Program) → HasNoText Lean p fault → LeanStops p result }
 {
     match fault {

@@ -32,6 +32,7 @@ mod keeping;
 mod last;
 mod lean;
 mod making;
+mod names;
 mod run_both;
 mod run_hex;
 mod run_source;

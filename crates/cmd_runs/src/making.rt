@@ -28,14 +28,14 @@ pub struct Made {
 }
 
 /// Makes both runs, the 8080's first: of the program, and of the image of its lean text.
-pub fn make_runs<'a, H: Host>(
+pub fn make_runs<H: Host>(
     alloc: Global,
     host: &mut H,
-    command: &Both<'a>,
+    command: &Both<'_>,
     program: &Program80,
     text: &FilledImage,
     devices: &mut TwoDevices,
-) -> Result<Made, Halt<'a>>
+) -> Result<Made, Halt>
     requires fill { IsFillBy command.now.choice text.now.fill.items }
     requires second { devices.old.second ≡ devices.old.first }
     ensures made { IfOk result (λ made. (begin : HostState) → HasRead (AreToRun (both_read command.now) begin program.now text.now.image devices.old.first) begin (H.state host.old) → AreBothMade (both_read command.now) begin (H.state host.new) (runs_made made devices.new.first)) }

@@ -14,6 +14,7 @@ ghost use Rattle.cmd_runs.specs.BothCompletes.{BothComplete};
 
 use crate::both_inputs::{FilledImage, TwoDevices, filled_image, two_devices};
 use crate::making::make_runs;
+use crate::names::run_names;
 use crate::{
     Halt, Last, Named, Supplies, came_to, close_work, kept_disk_name, leave_runs, read_program,
 };
@@ -37,11 +38,16 @@ pub fn both<H: Host>(alloc: Global, host: &mut H, command: &Both<'_>) -> u8
     disks_read_back();
     own_texts_are_same();
     let worked = work(alloc, host, command);
-    close_work(alloc, host, worked)
+    close_work(
+        alloc,
+        host,
+        &run_names(command.source, &command.run),
+        worked,
+    )
 }
 
 // The work up to the last line, whose memory is taken before the disk is written.
-fn work<'a, H: Host>(alloc: Global, host: &mut H, command: &Both<'a>) -> Result<Last<'a>, Halt<'a>>
+fn work<H: Host>(alloc: Global, host: &mut H, command: &Both<'_>) -> Result<Last, Halt>
     requires { is_top command.now.top ≡ true }
     ensures made { IfOk result IsLastMade }
     ensures came { IfOk result (WorkHasLast (work_both (both_read command.now)) (H.state host.old) (H.state host.new)) }
@@ -60,13 +66,13 @@ fn work<'a, H: Host>(alloc: Global, host: &mut H, command: &Both<'a>) -> Result<
 }
 
 // The runs of it over devices of what was read.
-fn run_over<'a, H: Host>(
+fn run_over<H: Host>(
     alloc: Global,
     host: &mut H,
-    command: &Both<'a>,
+    command: &Both<'_>,
     program: &Program80,
     supplies: Supplies,
-) -> Result<Last<'a>, Halt<'a>>
+) -> Result<Last, Halt>
     requires { IsProgram program.now }
     ensures made { IfOk result IsLastMade }
     ensures came { IfOk result (HasLastFrom (work_both (both_read command.now)) (λ begin. IsNamed (kind80 (source_of (both_read command.now))) begin program.now (given_of supplies.input.items supplies.disk.items supplies.ports.items)) (H.state host.old) (H.state host.new)) }
@@ -77,13 +83,13 @@ fn run_over<'a, H: Host>(
 }
 
 // The runs of it, and of the image of its lean text.
-fn run_imaged<'a, H: Host>(
+fn run_imaged<H: Host>(
     alloc: Global,
     host: &mut H,
-    command: &Both<'a>,
+    command: &Both<'_>,
     program: &Program80,
     devices: &mut TwoDevices,
-) -> Result<Last<'a>, Halt<'a>>
+) -> Result<Last, Halt>
     requires program { IsProgram program.now }
     requires second { devices.old.second ≡ devices.old.first }
     ensures made { IfOk result IsLastMade }
@@ -95,14 +101,14 @@ fn run_imaged<'a, H: Host>(
 }
 
 // The runs with all that they have, and the disk that the 8080's leaves.
-fn run_equipped<'a, H: Host>(
+fn run_equipped<H: Host>(
     alloc: Global,
     host: &mut H,
-    command: &Both<'a>,
+    command: &Both<'_>,
     program: &Program80,
     text: &FilledImage,
     devices: &mut TwoDevices,
-) -> Result<Last<'a>, Halt<'a>>
+) -> Result<Last, Halt>
     requires fill { IsFillBy command.now.choice text.now.fill.items }
     requires second { devices.old.second ≡ devices.old.first }
     ensures made { IfOk result IsLastMade }

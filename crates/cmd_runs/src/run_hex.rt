@@ -11,12 +11,13 @@ ghost use Rattle.cmd_runs.specs.Outcomes.{RunCompletes};
 ghost use Rattle.cmd_runs.specs.RunsHex.{kind_hex, work_hex};
 
 use crate::hex_inputs::hex_of_bytes;
+use crate::names::run_names;
 use crate::running::run_cells;
 use crate::supplies::{Equipment, equipment_of};
 use crate::{Halt, Last, Supplies, came_to, close_work, kept_disk_name, leave_runs, read_supplies};
 use bdos_disk::disks_read_back;
 use cmd_arguments::RunHex;
-use cmd_common::{SOURCE_LIMIT, read_named};
+use cmd_common::{InputFile, SOURCE_LIMIT, read_named};
 use hex_file::{HexFile, hex_file_has_one_reading};
 use host::Host;
 use i80_bytes::memory_is_fetched;
@@ -32,35 +33,31 @@ pub fn runhex<H: Host>(alloc: Global, host: &mut H, command: &RunHex<'_>) -> u8
     hex_file_has_one_reading();
     disks_read_back();
     let worked = work(alloc, host, command);
-    close_work(alloc, host, worked)
+    close_work(alloc, host, &run_names(command.file, &command.run), worked)
 }
 
 // The work up to the last line, whose memory is taken before the disk is written.
-fn work<'a, H: Host>(
-    alloc: Global,
-    host: &mut H,
-    command: &RunHex<'a>,
-) -> Result<Last<'a>, Halt<'a>>
+fn work<H: Host>(alloc: Global, host: &mut H, command: &RunHex<'_>) -> Result<Last, Halt>
     requires { is_top command.now.top ≡ true }
     ensures made { IfOk result IsLastMade }
     ensures came { IfOk result (WorkHasLast (work_hex (run_hex_read command.now)) (H.state host.old) (H.state host.new)) }
     ensures halted { IfErr result (WorkHalts (work_hex (run_hex_read command.now)) (H.state host.old) (H.state host.new)) }
 {
     memory_is_fetched();
-    let bytes = read_named(alloc, host, command.file, SOURCE_LIMIT)?;
+    let bytes = read_named(alloc, host, InputFile::First, command.file, SOURCE_LIMIT)?;
     let supplies = read_supplies(alloc, host, &command.run)?;
     let hex = hex_of_bytes(alloc, bytes)?;
     run_over(alloc, host, command, &hex, supplies)
 }
 
 // The run of it over the devices of what was read.
-fn run_over<'a, H: Host>(
+fn run_over<H: Host>(
     alloc: Global,
     host: &mut H,
-    command: &RunHex<'a>,
+    command: &RunHex<'_>,
     hex: &HexFile,
     supplies: Supplies,
-) -> Result<Last<'a>, Halt<'a>>
+) -> Result<Last, Halt>
     requires { is_top command.now.top ≡ true }
     ensures made { IfOk result IsLastMade }
     ensures came { IfOk result (HasLastFrom (work_hex (run_hex_read command.now)) (λ begin. CanBeRun (kind_hex (run_hex_read command.now)) begin hex.now (given_of supplies.input.items supplies.disk.items supplies.ports.items)) (H.state host.old) (H.state host.new)) }
@@ -71,13 +68,13 @@ fn run_over<'a, H: Host>(
 }
 
 // The run over these devices, and the disk that it leaves.
-fn run_equipped<'a, H: Host>(
+fn run_equipped<H: Host>(
     alloc: Global,
     host: &mut H,
-    command: &RunHex<'a>,
+    command: &RunHex<'_>,
     hex: &HexFile,
     equipment: &mut Equipment,
-) -> Result<Last<'a>, Halt<'a>>
+) -> Result<Last, Halt>
     requires top { is_top command.now.top ≡ true }
     requires fill { IsFillBy command.now.choice equipment.old.fill.items }
     ensures made { IfOk result IsLastMade }

@@ -13,6 +13,7 @@ ghost use Rattle.cmd_runs.specs.Works.{WorkHasLast, WorkHalts, HasLastFrom, Halt
 ghost use Rattle.cmd_runs.specs.Outcomes.{RunCompletes};
 ghost use Rattle.cmd_runs.specs.Runs80.{words_of, kind80, work80, IsLineAt, IsLineOf};
 
+use crate::names::run_names;
 use crate::{
     Halt, Last, Supplies, came_to, close_work, devices_of, kept_disk_name, leave_runs,
     read_supplies, run_program,
@@ -45,11 +46,16 @@ pub fn run80<H: Host>(alloc: Global, host: &mut H, command: &Run80<'_>) -> u8
     sources_have_one_outcome();
     disks_read_back();
     let worked = work(alloc, host, command);
-    close_work(alloc, host, worked)
+    close_work(
+        alloc,
+        host,
+        &run_names(command.source, &command.run),
+        worked,
+    )
 }
 
 // The work up to the last line, whose memory is taken before the disk is written.
-fn work<'a, H: Host>(alloc: Global, host: &mut H, command: &Run80<'a>) -> Result<Last<'a>, Halt<'a>>
+fn work<H: Host>(alloc: Global, host: &mut H, command: &Run80<'_>) -> Result<Last, Halt>
     requires { is_top command.now.top ≡ true }
     ensures made { IfOk result IsLastMade }
     ensures came { IfOk result (WorkHasLast (work80 (run80_read command.now)) (H.state host.old) (H.state host.new)) }
@@ -68,13 +74,13 @@ fn work<'a, H: Host>(alloc: Global, host: &mut H, command: &Run80<'a>) -> Result
 }
 
 // The run of it over the devices of what was read.
-fn run_over<'a, H: Host>(
+fn run_over<H: Host>(
     alloc: Global,
     host: &mut H,
-    command: &Run80<'a>,
+    command: &Run80<'_>,
     program: &Program80,
     supplies: Supplies,
-) -> Result<Last<'a>, Halt<'a>>
+) -> Result<Last, Halt>
     ensures made { IfOk result IsLastMade }
     ensures came { IfOk result (HasLastFrom (work80 (run80_read command.now)) (λ begin. CanBeRun (kind80 (run80_read command.now)) begin program.now (given_of supplies.input.items supplies.disk.items supplies.ports.items)) (H.state host.old) (H.state host.new)) }
     ensures halted { IfErr result (HaltsFrom (work80 (run80_read command.now)) (λ begin. CanBeRun (kind80 (run80_read command.now)) begin program.now (given_of supplies.input.items supplies.disk.items supplies.ports.items)) (H.state host.old) (H.state host.new)) }
@@ -84,13 +90,13 @@ fn run_over<'a, H: Host>(
 }
 
 // The run over these devices, and the disk that it leaves.
-fn run_equipped<'a, H: Host>(
+fn run_equipped<H: Host>(
     alloc: Global,
     host: &mut H,
-    command: &Run80<'a>,
+    command: &Run80<'_>,
     program: &Program80,
     devices: &mut Devices,
-) -> Result<Last<'a>, Halt<'a>>
+) -> Result<Last, Halt>
     ensures made { IfOk result IsLastMade }
     ensures came { IfOk result (HasLastFrom (work80 (run80_read command.now)) (λ begin. IsToRun (kind80 (run80_read command.now)) begin program.now devices.old) (H.state host.old) (H.state host.new)) }
     ensures halted { IfErr result (HaltsFrom (work80 (run80_read command.now)) (λ begin. IsToRun (kind80 (run80_read command.now)) begin program.now devices.old) (H.state host.old) (H.state host.new)) }
@@ -105,14 +111,14 @@ fn run_equipped<'a, H: Host>(
 
 /// Reads the files, that of the source as its program, in Zilog's spelling or in Intel's, for a top of the program area, a multiple of 100H from 1000H to 0FF00H. That the
 /// source is refused is told once all of them are read.
-pub fn read_program<'a, H: Host>(
+pub fn read_program<H: Host>(
     alloc: Global,
     host: &mut H,
-    name: &'a str,
+    name: &str,
     zilog: bool,
     top: u16,
-    run: &RunOptions<'a>,
-) -> Result<Named, Halt<'a>>
+    run: &RunOptions<'_>,
+) -> Result<Named, Halt>
     requires { is_top top ≡ true }
     ensures only { OnlyReads (H.state host.old) (H.state host.new) }
     ensures named { IfOk result (λ n. IsNamed (kind80 (words_of name.now zilog top (run_options_read run.now))) (H.state host.old) n.program (given_of n.supplies.input.items n.supplies.disk.items n.supplies.ports.items)) }

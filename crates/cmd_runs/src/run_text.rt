@@ -9,6 +9,7 @@ ghost use Rattle.cmd_runs.specs.Works.{WorkHasLast, WorkHalts, HasLastFrom, Halt
 ghost use Rattle.cmd_runs.specs.Outcomes.{RunCompletes};
 ghost use Rattle.cmd_runs.specs.Runs86.{kind86, work86};
 
+use crate::names::run_names;
 use crate::supplies::{Equipment, equipment_of};
 use crate::text_inputs::read_image;
 use crate::{
@@ -17,7 +18,7 @@ use crate::{
 use asm86::{Image86, texts_have_one_image};
 use bdos_disk::disks_read_back;
 use cmd_arguments::Run86;
-use cmd_common::read_text;
+use cmd_common::{InputFile, read_text};
 use host::Host;
 use std::alloc::Global;
 
@@ -31,29 +32,29 @@ pub fn run86<H: Host>(alloc: Global, host: &mut H, command: &Run86<'_>) -> u8
     texts_have_one_image();
     disks_read_back();
     let worked = work(alloc, host, command);
-    close_work(alloc, host, worked)
+    close_work(alloc, host, &run_names(command.text, &command.run), worked)
 }
 
 // The work up to the last line, whose memory is taken before the disk is written.
-fn work<'a, H: Host>(alloc: Global, host: &mut H, command: &Run86<'a>) -> Result<Last<'a>, Halt<'a>>
+fn work<H: Host>(alloc: Global, host: &mut H, command: &Run86<'_>) -> Result<Last, Halt>
     ensures made { IfOk result IsLastMade }
     ensures came { IfOk result (WorkHasLast (work86 (run86_read command.now)) (H.state host.old) (H.state host.new)) }
     ensures halted { IfErr result (WorkHalts (work86 (run86_read command.now)) (H.state host.old) (H.state host.new)) }
 {
-    let text = read_text(alloc, host, command.text)?;
+    let text = read_text(alloc, host, InputFile::First, command.text)?;
     let supplies = read_supplies(alloc, host, &command.run)?;
     let image = read_image(alloc, text)?;
     run_over(alloc, host, command, &image, supplies)
 }
 
 // The run of it over the devices of what was read.
-fn run_over<'a, H: Host>(
+fn run_over<H: Host>(
     alloc: Global,
     host: &mut H,
-    command: &Run86<'a>,
+    command: &Run86<'_>,
     image: &Image86,
     supplies: Supplies,
-) -> Result<Last<'a>, Halt<'a>>
+) -> Result<Last, Halt>
     ensures made { IfOk result IsLastMade }
     ensures came { IfOk result (HasLastFrom (work86 (run86_read command.now)) (λ begin. CanBeRun (kind86 (run86_read command.now)) begin image.now (given_of supplies.input.items supplies.disk.items supplies.ports.items)) (H.state host.old) (H.state host.new)) }
     ensures halted { IfErr result (HaltsFrom (work86 (run86_read command.now)) (λ begin. CanBeRun (kind86 (run86_read command.now)) begin image.now (given_of supplies.input.items supplies.disk.items supplies.ports.items)) (H.state host.old) (H.state host.new)) }
@@ -63,13 +64,13 @@ fn run_over<'a, H: Host>(
 }
 
 // The run over these devices, and the disk that it leaves.
-fn run_equipped<'a, H: Host>(
+fn run_equipped<H: Host>(
     alloc: Global,
     host: &mut H,
-    command: &Run86<'a>,
+    command: &Run86<'_>,
     image: &Image86,
     equipment: &mut Equipment,
-) -> Result<Last<'a>, Halt<'a>>
+) -> Result<Last, Halt>
     requires { IsFillBy command.now.choice equipment.old.fill.items }
     ensures made { IfOk result IsLastMade }
     ensures came { IfOk result (HasLastFrom (work86 (run86_read command.now)) (λ begin. IsToRun (kind86 (run86_read command.now)) begin image.now equipment.old.devices) (H.state host.old) (H.state host.new)) }

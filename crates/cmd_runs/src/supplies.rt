@@ -6,7 +6,7 @@ ghost use Rattle.cmd_runs.specs.Supplies.{given_of, fill_by, IsDiskFile, DiskFil
 
 use bdos_small::{Devices, Disk, DiskFault};
 use cmd_arguments::RunOptions;
-use cmd_common::{Stop, read_input};
+use cmd_common::{InputFile, Stop, read_input};
 use host::Host;
 use std::alloc::{AllocError, Global};
 
@@ -20,28 +20,24 @@ pub struct Supplies {
 
 /// Reads the files that the options of a run name: the console's input, then the disk's file, and then the bytes of the ports, at most
 /// 1,048,576 bytes each. Where an option does not stand, there are none, and the disk has no files.
-pub fn read_supplies<'a, H: Host>(
+pub fn read_supplies<H: Host>(
     alloc: Global,
     host: &mut H,
-    run: &RunOptions<'a>,
-) -> Result<Supplies, Stop<'a>>
+    run: &RunOptions<'_>,
+) -> Result<Supplies, Stop>
     ensures only { OnlyReads (H.state host.old) (H.state host.new) }
     ensures read { IfOk result (λ s. IsSupplied (run_options_read run.now) (H.state host.old) (given_of s.input.items s.disk.items s.ports.items)) }
     ensures counted { OnOk result (SameFaults (H.state host.old) (H.state host.new)) }
     ensures stopped { IfErr result (SupplyStops (run_options_read run.now) (H.state host.old) (H.state host.new)) }
 {
-    let input = read_input(alloc, host, run.input)?;
+    let input = read_input(alloc, host, InputFile::Console, run.input)?;
     let disk = read_disk_file(alloc, host, run.disk)?;
-    let ports = read_input(alloc, host, run.ports)?;
+    let ports = read_input(alloc, host, InputFile::Ports, run.ports)?;
     Ok(Supplies { input, disk, ports })
 }
 
 // Reads the disk's file, which without a name is that of a disk without files.
-fn read_disk_file<'a, H: Host>(
-    alloc: Global,
-    host: &mut H,
-    name: Option<&'a str>,
-) -> Result<Vec<u8>, Stop<'a>>
+fn read_disk_file<H: Host>(alloc: Global, host: &mut H, name: Option<&str>) -> Result<Vec<u8>, Stop>
     ensures only { OnlyReads (H.state host.old) (H.state host.new) }
     ensures read { IfOk result (λ bytes. IsDiskFile (H.state host.old) (option_copied name.entry) bytes.items) }
     ensures counted { OnOk result (SameFaults (H.state host.old) (H.state host.new)) }
@@ -49,12 +45,12 @@ fn read_disk_file<'a, H: Host>(
 {
     match name {
         None => Ok(Disk::empty(alloc).write(alloc)?),
-        Some(name) => read_input(alloc, host, Some(name)),
+        Some(name) => read_input(alloc, host, InputFile::Disk, Some(name)),
     }
 }
 
 /// The devices that were read, or why the disk's file is none.
-pub fn devices_of<'a>(alloc: Global, supplies: Supplies) -> Result<Devices, Stop<'a>>
+pub fn devices_of(alloc: Global, supplies: Supplies) -> Result<Devices, Stop>
     ensures devices { IfOk result (HasDisk (given_of supplies.input.items supplies.disk.items supplies.ports.items)) }
     ensures stopped { IfErr result (DiskStops supplies.disk.items) }
 {
@@ -66,7 +62,7 @@ pub fn devices_of<'a>(alloc: Global, supplies: Supplies) -> Result<Devices, Stop
 }
 
 // Why bytes are not read as a disk.
-fn stop_of_disk<'a>(fault: DiskFault) -> Stop<'a>
+fn stop_of_disk(fault: DiskFault) -> Stop
     ensures { result ≡ stop_of_disk fault }
 {
     match fault {
@@ -93,11 +89,7 @@ pub struct Equipment {
 }
 
 /// The devices of what was read, and the bytes by the choice.
-pub fn equipment_of<'a>(
-    alloc: Global,
-    supplies: Supplies,
-    choice: u128,
-) -> Result<Equipment, Stop<'a>>
+pub fn equipment_of(alloc: Global, supplies: Supplies, choice: u128) -> Result<Equipment, Stop>
     ensures { MatchResult result
         (λ e. HasDisk (given_of supplies.input.items supplies.disk.items supplies.ports.items) e.devices × IsFillBy choice e.fill.items)
         (EquipmentStops supplies.disk.items) }

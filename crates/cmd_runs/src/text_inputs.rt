@@ -13,13 +13,10 @@ use cmd_common::{LoadedText, Stop};
 use std::alloc::Global;
 
 /// The image of a text's lines, which are let go; or why the text has none.
-pub fn read_image<'a>(
-    alloc: Global,
-    text: Result<Vec<Line86>, Stop<'a>>,
-) -> Result<Image86, Stop<'a>>
+pub fn read_image(alloc: Global, text: Result<Vec<Line86>, Stop>) -> Result<Image86, Stop>
     requires order { IfOk text (λ lines. in_order at_start (statements lines.items) ≡ true) }
     requires few { IfOk text (λ lines. length lines.items < 2 ^ 28) }
-    ensures { (bytes : List ℕ) → BytesGiveLines bytes text.entry
+    ensures { (bytes : List ℕ) → BytesGiveLines bytes text
         → MatchResult result (λ image. HasImage bytes image × HasReader image.code) (λ stop. TextIsRefused bytes stop ⊎ (stop ≡ OutOfMemory)) }
 {
     let lines = text?;

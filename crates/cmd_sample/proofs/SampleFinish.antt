@@ -4,6 +4,7 @@ use Rattle.host.specs.declared.HostFault.TheVariants.{Failed, Memory}
 use Rattle.host.specs.Host.{HostState}
 use Rattle.host.proofs.HostLemmas.{SameFaults-trans, risen_on, fault_after}
 use Rattle.cmd_arguments.specs.Words.{Sample}
+use Rattle.cmd_common.specs.Names.{FileNames}
 use Rattle.cmd_common.specs.declared.stop.Stop.{Stop}
 use Rattle.cmd_common.specs.Lines.{memory_line}
 use Rattle.cmd_common.specs.Said.{SaysLast, IsDone, whole, failed, no_memory, Closes, said, unsaid}
@@ -29,12 +30,12 @@ module _ (c : Sample) (old mid new : HostState) where
   memory_end same l = no_room (subst (λ h. SaysLast memory_line h new) same l)
 
   -- the work ended early
-  pub stopped : (stop : Stop) → StopsBy c old mid stop → (status : ℕ) → Closes stop mid new status → SampleGives c old new status
-  stopped _ (stop_no_memory same) status (said e l) = subst (SampleGives c old new) (sym e) (memory_end same l)
-  stopped _ (stop_no_memory same) status (unsaid n e l) = subst (SampleGives c old new) (sym e) (memory_end same l)
-  stopped stop (stop_unwritten w) status closes =
-      write_end old mid new c.output (sample_text c.count) (SampleGives c old new) unwritten no_memory_to_write
-      w.fault w.fails status (subst (λ s. Closes s mid new status) w.is closes)
+  pub stopped : (names : FileNames) (stop : Stop) → StopsBy c old mid stop → (status : ℕ) → Closes names stop mid new status → SampleGives c old new status
+  stopped names _ (stop_no_memory same) status (said e l) = subst (SampleGives c old new) (sym e) (memory_end same l)
+  stopped names _ (stop_no_memory same) status (unsaid n e l) = subst (SampleGives c old new) (sym e) (memory_end same l)
+  stopped names stop (stop_unwritten w) status closes =
+      write_end old mid new c.output (sample_text c.count) names (SampleGives c old new) unwritten no_memory_to_write
+      w.fault w.fails status (subst (λ s. Closes names s mid new status) w.is closes)
 
 -- want of memory aside, only a call that failed gives another status than 0
 pub completes : (c : Sample) (old new : HostState) (status : ℕ) → SampleGives c old new status → Completes c old new status

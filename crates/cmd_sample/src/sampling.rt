@@ -7,7 +7,7 @@ ghost use Rattle.cmd_sample.specs.SampleWork.{Works, StopsBy};
 
 use crate::making::make;
 use cmd_arguments::Sample;
-use cmd_common::{Stop, say_done, say_stop, stop_of_write};
+use cmd_common::{InputNames, Stop, say_done, say_stop, stop_of_write};
 use host::Host;
 use host_files::write_bytes;
 use std::alloc::Global;
@@ -20,13 +20,14 @@ pub fn sample<H: Host>(alloc: Global, host: &mut H, command: &Sample<'_>) -> u8
 {
     match work(alloc, host, command) {
         Ok(line) => say_done(host, line.as_str()),
-        Err(stop) => say_stop(alloc, host, stop),
+        // It reads no file.
+        Err(stop) => say_stop(alloc, host, &InputNames::one(""), stop),
     }
 }
 
 // The work up to the last line, which is the answer where the source was written. All memory is taken before the output is
 // touched.
-fn work<'a, H: Host>(alloc: Global, host: &mut H, command: &Sample<'a>) -> Result<String, Stop<'a>>
+fn work<H: Host>(alloc: Global, host: &mut H, command: &Sample<'_>) -> Result<String, Stop>
     requires { IsCount command.now.count }
     ensures worked { IfOk result (λ line. Works (sample_read command.now) (H.state host.old) (H.state host.new) (string_bytes line)) }
     ensures stopped { IfErr result (StopsBy (sample_read command.now) (H.state host.old) (H.state host.new)) }

@@ -1,4 +1,6 @@
+use Rattle.std.proofs.Common.{subst}
 use Rattle.cmd_arguments.specs.ReadCommands.{run86_read}
+use Rattle.cmd_runs.specs.Finishing.{IsClosed}
 use Rattle.cmd_runs.proofs.Working.{gives, gives_alone}
 use Rattle.cmd_runs.proofs.OneRun.{one_stays}
 use Rattle.cmd_runs.proofs.OneOutcome.{one_completes}
@@ -11,7 +13,8 @@ returns-clause-gives g c =
     let old = g.H.Host.state c.args.host.now in
     let mid = g.H.Host.state c.work-worked.new.host in
     let new = g.H.Host.state c.close_work.new.host in
-    gives (work86 (run86_read c.args.command.now)) old mid new c.close_work.result c.work-worked.result c.work-worked.ensures.came c.work-worked.ensures.halted c.close_work.ensures
+    gives (work86 (run86_read c.args.command.now)) old mid new c.close_work.result c.work-worked.result c.work-worked.ensures.came c.work-worked.ensures.halted
+    (subst (λ names. IsClosed names c.work-worked.result mid new c.close_work.result) c.run_names.ensures c.close_work.ensures)
 
 pub returns-clause-files : goal.returns-clause-files
 returns-clause-files g c =

@@ -1,8 +1,10 @@
-use Rattle.std.proofs.Common.{[], refl, subst}
+use Rattle.std.proofs.Common.{[], refl, subst, sym, None}
 use Rattle.std.specs.Prelude.{option_copied}
 use Rattle.host.specs.Host.{HostState}
 use Rattle.cmd_arguments.specs.ReadCommands.{run86_read}
 use Rattle.cmd_common.proofs.Told.{handed_on}
+use Rattle.cmd_runs.specs.Lasts.{NamesNoFile}
+use Rattle.cmd_runs.proofs.Naming.{names_no_file}
 use Rattle.cmd_runs.specs.Ends.{halt_of_talk}
 use Rattle.cmd_runs.specs.Settings.{setting86, RunComesTo, IsRunCutOff}
 use Rattle.cmd_runs.specs.Kinds.{HasRead, IsToRun, run_setting}
@@ -48,3 +50,6 @@ returns g c =
       came = left_has w (λ begin. IsToRun kind begin image devices) start mid new (one_made kind o 0 left) made came name disk c.came_to-came.ensures c.kept_disk_name-name.ensures c.disk.ensures c.leave_runs.result c.leave_runs.ensures.left;
       halted = left_halts w (λ begin. IsToRun kind begin image devices) start mid new (one_made kind o 0 left) made came name disk c.came_to-came.ensures c.kept_disk_name-name.ensures c.disk.ensures c.leave_runs.result c.leave_runs.ensures.halted;
     }
+
+pub leave_runs-requires : goal.leave_runs-requires
+leave_runs-requires g c = subst (NamesNoFile None) (sym c.came_to-came.ensures) (names_no_file None c.args.command.now.run.steps 0 c.in_ok-ran.ran)

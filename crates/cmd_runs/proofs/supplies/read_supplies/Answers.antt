@@ -1,4 +1,5 @@
 use Rattle.std.specs.Prelude.{option_copied}
+use Rattle.cmd_common.specs.declared.names.InputFile.TheVariants.{Ports}
 use Rattle.std.proofs.lemmas.Result.{err_from_is_err_and}
 use Rattle.host.proofs.HostLemmas.{OnlyReads-trans, SameFaults-trans}
 use Rattle.cmd_runs.specs.Supplies.{no_input, no_disk_file, no_ports}
@@ -31,7 +32,7 @@ returns-in_err-ports-clause-stopped g c =
     let second = c.in_ok-disk.ensures in
     rw (p.1, p.2)
     (no_ports c.in_ok-input.input.items c.in_ok-disk.disk.items first.read (disk_before old mid next first.only first.counted (option_copied c.args.run.now.disk) c.in_ok-disk.disk.items second.read)
-    (input_stops_before old next new (OnlyReads-trans first.only second.only) (SameFaults-trans first.counted second.counted) (option_copied c.args.run.now.ports) c.in_err-ports.field-0.0 c.in_err-ports.ensures.stopped))
+    (input_stops_before old next new (OnlyReads-trans first.only second.only) (SameFaults-trans first.counted second.counted) Ports (option_copied c.args.run.now.ports) c.in_err-ports.field-0.0 c.in_err-ports.ensures.stopped))
 
 pub returns-clause-read : goal.returns-clause-read
 returns-clause-read g c =

@@ -1,6 +1,7 @@
 use Rattle.std.proofs.Common.{subst}
 use Rattle.std.specs.String.{string_bytes}
 use Rattle.cmd_arguments.specs.ReadCommands.{sample_read}
+use Rattle.cmd_common.specs.Names.{names_read}
 use Rattle.cmd_common.specs.Said.{IsDone}
 use Rattle.cmd_sample.specs.Samples.{SampleGives}
 use Rattle.cmd_sample.proofs.SampleFinish.{worked, stopped, completes}
@@ -19,7 +20,7 @@ gives-in-Ok g c =
 gives-in-Err : (g : Over) (c : After-say_stop g) → SampleGives (sample_read c.args.command.now) (g.H.Host.state c.args.host.now) (g.H.Host.state c.say_stop.new.host) c.say_stop.result
 gives-in-Err g c =
     stopped (sample_read c.args.command.now) (g.H.Host.state c.args.host.now) (g.H.Host.state c.work.new.host) (g.H.Host.state c.say_stop.new.host)
-    c.in-Err.stop c.in-Err.ensures.stopped c.say_stop.result c.say_stop.ensures
+    (names_read c.one.result) c.in-Err.stop c.in-Err.ensures.stopped c.say_stop.result c.say_stop.ensures
 
 pub returns-in-Ok-clause-gives : goal.returns-in-Ok-clause-gives
 returns-in-Ok-clause-gives g c = gives-in-Ok g c

@@ -14,8 +14,8 @@ returns-in_err-made-clause-stopped g c =
     handed_on c.from_residual.result OutOfMemory (StopsBy command old old) c.from_residual.ensures.1
     (no_memory refl)
 
-pub returns-clause-stopped : goal.returns-clause-stopped
-returns-clause-stopped g c =
+pub returns-in-Err-clause-stopped : goal.returns-in-Err-clause-stopped
+returns-in-Err-clause-stopped g c =
     let command = sample_read c.args.command.now in
     let old = g.H.Host.state c.args.host.now in
     let new = g.H.Host.state c.write_bytes.new.host in
