@@ -1,11 +1,13 @@
 // The second walk: the operands of instructions, DB and DW.
-ghost use Rattle.std.specs.Prelude.{◌≡◌, ◌||◌, ℕ, List, option_to_list, map, Some, OnOk, IfOk, MatchResult};
+ghost use Rattle.std.specs.Prelude.{◌≡◌, ◌||◌, ℕ, List, not, filter, option_to_list, map, Some, None, OnOk, IfOk, MatchResult};
 ghost use Rattle.base_types.specs.Addresses.{has_address, is_among, IsSetOf};
 ghost use Rattle.asm80_statement_types.specs.declared.stmt.Stmt80.{Stmt80};
 ghost use Rattle.asm80_statement_types.specs.Tree.{Statement, operand_of, statement_of};
 ghost use Rattle.asm80_values.specs.Forms.{IsForm};
 ghost use Rattle.asm80_first_walk.specs.Walked.{IsRowOf as StandsForRow, Stand, IsWalked};
-ghost use Rattle.asm80_source_def.specs.Walk.{WalkRow, row_operation, size_by, rows};
+ghost use Rattle.asm80_source_def.specs.Names.{Name, is_settable};
+ghost use Rattle.asm80_source_def.specs.Walk.{WalkRow, row_operation, size_by, rows, walked};
+ghost use Rattle.asm80_source_def.specs.FirstFaults.{first_fault};
 ghost use Rattle.asm80_source_def.specs.Items.{Setting as Seen, address, is_instruction_op, starts_in};
 ghost use Rattle.asm80_values.specs.Second.{taken_rows, start_of_row, seen_in, names_set, fault_on, IsItemOf, GivesItem, AddsItem, AreItemsOf, AreRefused};
 
@@ -149,10 +151,27 @@ pub fn items_of(
 {
     let Walked { rows, names } = walked;
     let mut names = names.without_settable();
+    items_of_taken(alloc, statements, &rows, &mut names, starts)
+}
+
+// The items of the rows that are taken, by the names that are not of SET, to which those of SET come.
+fn items_of_taken(
+    alloc: Global,
+    statements: &[Stmt80],
+    taken: &[Taken],
+    names: &mut Names,
+    starts: &AddressSet,
+) -> Result<Vec<Item>, AsmFault>
+    requires taken { Stand statements.now taken.now (taken_rows statements.now) }
+    requires accepted { first_fault (rows (map statement_of statements.now)) (walked (map statement_of statements.now)) ≡ None }
+    requires names { names.old ≡ filter (λ (n : Name). not (is_settable n.kind)) (walked (map statement_of statements.now)).names }
+    requires starts { IsSetOf starts.now (starts_in (rows (map statement_of statements.now))) }
+    ensures { MatchResult result (λ v. AreItemsOf statements.now v.items) (λ fault. AreRefused statements.now fault) }
+{
     let mut items = Vec::new(alloc);
-    for row in &rows {
+    for row in taken {
         let statement = &statements[row.statement];
-        add_item(alloc, statement, row, &mut names, starts, &mut items)?;
+        add_item(alloc, statement, row, names, starts, &mut items)?;
     }
     Ok(items)
 }

@@ -1,7 +1,7 @@
 // The image of an ASM-86 text (CP/M-86 Programmer's Guide, "ASM-86").
-ghost use Rattle.std.specs.Prelude.{◌≡◌, ◌^◌, ◌<◌, ◌⊎◌, true, length, MatchResult};
+ghost use Rattle.std.specs.Prelude.{◌≡◌, ◌^◌, ◌<◌, ◌⊎◌, true, length, MatchOption, MatchResult};
 ghost use Rattle.asm86_line_types.specs.Order.{at_start, in_order};
-ghost use Rattle.asm86_line_types.specs.Image.{Assembles, IsImage, image_of, statements, offset_in};
+ghost use Rattle.asm86_line_types.specs.Image.{Assembles, IsDefinedOnce, IsImage, image_of, labels_from, statements, offset_in};
 ghost use Rattle.asm86.specs.declared.fault.ImageFault.{ImageFault};
 ghost use Rattle.asm86.specs.Places.{IsChecked};
 ghost use Rattle.asm86.specs.Refusals.{ImageRefused};
@@ -88,15 +88,28 @@ fn checked_labels(alloc: Global, lines: &[Line86]) -> Result<Offsets, ImageFault
     ensures { MatchResult result (IsChecked lines.now) (λ fault. (fault ≡ ImageFault.Memory) ⊎ ImageRefused lines.now fault) }
 {
     let labels = offsets_of(alloc, lines)?;
-    if let Some(line) = first_undefined(&labels, lines) {
-        return Err(ImageFault::Line(line, TextRule::M4));
+    match refusal(&labels, lines) {
+        Some(fault) => Err(fault),
+        None => Ok(labels),
+    }
+}
+
+// Why a text that defines each of its labels once has no image.
+fn refusal(labels: &Offsets, lines: &[Line86]) -> Option<ImageFault>
+    requires few { length lines.now < 2 ^ 28 }
+    requires found { labels.now ≡ labels_from 0 (statements lines.now) }
+    requires once { IsDefinedOnce (statements lines.now) }
+    ensures { MatchOption result (IsChecked lines.now labels.now) (ImageRefused lines.now) }
+{
+    if let Some(line) = first_undefined(labels, lines) {
+        return Some(ImageFault::Line(line, TextRule::M4));
     }
     let size = code_size(lines);
     if size > MOST_CODE {
-        return Err(ImageFault::CodeTooLarge(size as u32));
+        return Some(ImageFault::CodeTooLarge(size as u32));
     }
-    if let Some(line) = first_short(&labels, lines) {
-        return Err(ImageFault::Short(line));
+    if let Some(line) = first_short(labels, lines) {
+        return Some(ImageFault::Short(line));
     }
-    Ok(labels)
+    None
 }

@@ -1,6 +1,0 @@
-use Rattle.std.proofs.Common.{drop}
-use Rattle.asm80_values.proofs.second_walk.items_of.Given as goal
-use Rattle.asm80_values.proofs.Along.{Along}
-
-abbrev pub invariant-loop-row : goal.invariant-loop-row
-invariant-loop-row l = Along l.statements (drop l.row-index l.row-items) l.names l.items.items
