@@ -146,6 +146,10 @@ then_walks old mid new s j k t (Some end) g w = record {
   enough = λ _. refl;
 }
 
+-- an end at once
+pub ends_here : (pool : Contents) (r : Run) (nodes : ℕ) (tree : Result Outcome Reason) (end : Result End Reason) → IsReady pool r → EndStands pool r tree end → WalksTo pool pool r nodes tree (Some end)
+ends_here pool r nodes tree end h e = record { grows = more pool pool 0 nodes (omega arith) (still pool); terms = h.terms; capacity = h.capacity; gives = e; enough = λ _. refl }
+
 pub walks_more : (old new : Contents) (s : Run) (j k : ℕ) (t : Result Outcome Reason) (end : Option (Result End Reason)) → j ≤ k → WalksTo old new s j t end → WalksTo old new s k t end
 walks_more old new s j k t end le w = record {
   grows = more old new j k le w.grows;

@@ -14,3 +14,7 @@ of_instr {old} {new} {r} {s} {made} e g = subst (λ i. GoesOn old new r s 24 2 (
 -- a bound that leaves room for more
 pub with_room : {old new : Contents} {r s : Run} {made : Option (Unit {0})} {x : Symbolic80} → GoesOn old new r s 20 2 (λ m. as80 m ≡ x) made → GoesOn old new r s 24 2 (λ m. as80 m ≡ x) made
 with_room {old} {new} {r} {s} {made} {x} g = goes_on_as old new r s 20 24 2 2 (λ m. as80 m ≡ x) (λ m. as80 m ≡ x) made (lit≤ tt) (lit≤ tt) g (λ m e. e)
+
+-- and of an equal state
+pub of_state : {old new : Contents} {r s : Run} {made : Option (Unit {0})} {x y : Symbolic80} → x ≡ y → GoesOn old new r s 24 2 (λ m. as80 m ≡ x) made → GoesOn old new r s 24 2 (λ m. as80 m ≡ y) made
+of_state {old} {new} {r} {s} {made} e g = subst (λ z. GoesOn old new r s 24 2 (λ m. as80 m ≡ z) made) e g

@@ -15,3 +15,7 @@ of_instr {old} {new} {r} {s} {made} e g = subst (λ i. GoesOn old new r s 24 2 (
 pub then_lost : {old mid new : Contents} {r s t : Run} {made : Option (Unit {0})} {x : Symbolic86} → GoesOn old mid r s 20 2 (λ m. as86 m ≡ x) (Some tt) → GoesOn mid new s t 4 0 (λ m. as86 m ≡ losing_flags (as86 (machine_of mid s))) made → GoesOn old new r t 24 2 (λ m. as86 m ≡ losing_flags x) made
 then_lost {old} {mid} {new} {r} {s} {t} {made} {x} g h =
     then_goes_on old mid new r s t 20 4 2 0 (λ m. as86 m ≡ x) (λ m. as86 m ≡ losing_flags (as86 (machine_of mid s))) (λ m. as86 m ≡ losing_flags x) made g h (λ m e. e ∙ ap losing_flags g.gives)
+
+-- and of an equal state
+pub of_state : {old new : Contents} {r s : Run} {made : Option (Unit {0})} {x y : Symbolic86} → x ≡ y → GoesOn old new r s 24 2 (λ m. as86 m ≡ x) made → GoesOn old new r s 24 2 (λ m. as86 m ≡ y) made
+of_state {old} {new} {r} {s} {made} e g = subst (λ z. GoesOn old new r s 24 2 (λ m. as86 m ≡ z) made) e g

@@ -1,12 +1,45 @@
-use Rattle.std.proofs.Common.{◌≡◌, ◌∙◌, ◌+◌, ◌-◌, ◌*◌, ◌<◌, ◌≤◌, Some, ap, subst, sym, arith}
-use Rattle.sym_block_def.specs.Walk86.{Instruction, met, walk_by, walk_through}
+use Rattle.std.proofs.Common.{◌≡◌, ◌∙◌, ℕ, zero, suc, ◌+◌, ◌-◌, ◌*◌, ◌<◌, ◌≤◌, List, Some, Err, refl, ap, subst, sym, arith}
+use Rattle.asm86_line_types.specs.declared.line.Stmt86.{Stmt86}
+use Rattle.sym_block_def.specs.declared.reason.Reason.TheVariants.{Form, Length}
+use Rattle.sym_block_def.specs.Symbolic86.{Symbolic86}
+use Rattle.sym_block_def.specs.Walk86.{Surroundings, Instruction, met, walk_by, walk_through}
 use Rattle.sym_micro.specs.Machine.{as86}
 use Rattle.sym_micro.specs.Stands.{machine_of}
 use Rattle.sym_run.specs.declared.ends.Next.{Next}
 use Rattle.sym_run.specs.Around.{surroundings_of}
 use Rattle.sym_run.specs.Ends.{OnTo, Advances, WalksTo}
-use Rattle.sym_run.proofs.Steps.{counted, step_ends, then_walks, walks_more}
+use Rattle.sym_run.proofs.Steps.{counted, ends_here, step_ends, then_walks, walks_more}
 use Rattle.sym_run.proofs.walk.+walk_from.Goals as goal
+
+no_room : (w : Surroundings) (s : Symbolic86) (room : ℕ) (x : Stmt86) (rest : List Stmt86) → room ≡ 0 → Err Length ≡ walk_through w room (Instruction x rest) s
+no_room w s zero x rest h = refl
+no_room w s (suc room) x rest h = absurd (omega arith)
+
+pub returns-in-EndsAt : goal.returns-in-EndsAt
+returns-in-EndsAt t c =
+    let old = c.args.terms.now in
+    let r = c.args.run.now in
+    let start = as86 (machine_of old r) in
+    subst (λ m. WalksTo old old r (24 * c.args.room) (walk_through (surroundings_of c.args.around.now) c.args.room m start) (Some c.end_at.result)) c.in-EndsAt.ensures
+    (ends_here old r (24 * c.args.room) _ c.end_at.result c.requires.ready (c.end_at.ensures old r c.requires.ready))
+
+pub returns-in-Nothing : goal.returns-in-Nothing
+returns-in-Nothing t c =
+    let old = c.args.terms.now in
+    let r = c.args.run.now in
+    let start = as86 (machine_of old r) in
+    subst (λ m. WalksTo old old r (24 * c.args.room) (walk_through (surroundings_of c.args.around.now) c.args.room m start) (Some (Err Form))) c.in-Nothing.ensures
+    (ends_here old r (24 * c.args.room) (Err Form) (Err Form) c.requires.ready refl)
+
+pub returns-then-room-eq0 : goal.returns-then-room-eq0
+returns-then-room-eq0 t c =
+    let old = c.args.terms.now in
+    let r = c.args.run.now in
+    let w = surroundings_of c.args.around.now in
+    let room = c.args.room in
+    let start = as86 (machine_of old r) in
+    let same = no_room w start room c.in-Instruction.stmt c.in-Instruction.rest.now c.if-room-eq0.true ∙ ap (λ m. walk_through w room m start) c.in-Instruction.ensures in
+    subst (λ x. WalksTo old old r (24 * room) x (Some (Err Length))) same (ends_here old r (24 * room) (Err Length) (Err Length) c.requires.ready refl)
 
 pub returns-in-Ends : goal.returns-in-Ends
 returns-in-Ends t c =
