@@ -4,6 +4,8 @@ use Rattle.std.proofs.lemmas.List.Folds.{list_any-append}
 use Rattle.std.specs.List.{list_any}
 use Rattle.base_types.specs.Addresses.{has_address}
 use Rattle.asm86_line_types.specs.declared.line.Stmt86.{Stmt86}
+use Rattle.asm86_line_types.specs.declared.line.Stmt86.TheVariants.{Cseg, Dseg, Org, Rb, Db, Dw, Mark, Run, MovOffset, Jmp, Jmps, Jcc as JccTo, Call, EndText}
+use Rattle.asm86_line_types.specs.declared.line.Value16.{Value16}
 use Rattle.asm86_line_types.specs.Order.{Reading, reading_after, at_start, in_order, ends_text, has_no_statement, may_stand}
 use Rattle.asm86_line_types.proofs.Sorting.{or_swap}
 use Rattle.asm86.specs.declared.order.Order.{Order}
@@ -71,6 +73,29 @@ two_cells order r h = record {
   at = h.at ∙ ap (λ (k : ℕ). min k 0x10000) (omega arith);
   filled = λ a lt. h.filled a lt ∙ or_swap (r.at + 1 == a) (r.at == a) (list_any (λ (b : ℕ). b == a) r.filled);
 }
+
+-- room in the data moves the address, which is kept as 65,536 where it is past memory
+pub room_passed : (at x room w : ℕ) → at ≡ min x 0x10000 → room ≡ w → min (at + room) 0x10000 ≡ min (x + w) 0x10000
+room_passed at x room w is same = omega arith
+
+-- no statement of code moves it
+pub code_stays :
+    (r : Reading) (x : Stmt86) → (x ≡ Cseg → ⊥) → (x ≡ Dseg → ⊥) → ((w : ℕ) → x ≡ Org w → ⊥) → ((w : ℕ) → x ≡ Rb w → ⊥) → ((n : ℕ) → x ≡ Db n → ⊥) → ((v : Value16) → x ≡ Dw v → ⊥) → (x ≡ EndText → ⊥)
+    → reading_after r x ≡ r
+code_stays r Cseg cseg dseg org rb db dw end = absurd (cseg refl)
+code_stays r Dseg cseg dseg org rb db dw end = absurd (dseg refl)
+code_stays r (Org w) cseg dseg org rb db dw end = absurd (org w refl)
+code_stays r (Rb w) cseg dseg org rb db dw end = absurd (rb w refl)
+code_stays r (Db n) cseg dseg org rb db dw end = absurd (db n refl)
+code_stays r (Dw v) cseg dseg org rb db dw end = absurd (dw v refl)
+code_stays r (Mark l) cseg dseg org rb db dw end = refl
+code_stays r (Run i) cseg dseg org rb db dw end = refl
+code_stays r (MovOffset k l) cseg dseg org rb db dw end = refl
+code_stays r (Jmp l) cseg dseg org rb db dw end = refl
+code_stays r (Jmps l) cseg dseg org rb db dw end = refl
+code_stays r (JccTo j l) cseg dseg org rb db dw end = refl
+code_stays r (Call l) cseg dseg org rb db dw end = refl
+code_stays r EndText cseg dseg org rb db dw end = absurd (end refl)
 
 pub at_first : (order : Order) → order.group ≡ Neither → order.code_came ≡ false → order.data_came ≡ false → order.at ≡ 0 → order.is_ended ≡ false → ((a : ℕ) → has_address order.filled a ≡ false) → IsAfter order []
 at_first order g c d a e f = record {

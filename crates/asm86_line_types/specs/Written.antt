@@ -150,19 +150,19 @@ computation_line (Not8 r) = with_one (codes "NOT") (reg8_text r)
 computation_line i = []
 
 -- the line of a MOV, and of an instruction that computes
-abbrev pub data_line : Instr86 → List ℕ
-data_line (MovReg8 r o) = with_two (codes "MOV") (reg8_text r) (operand8_text o)
-data_line (MovMem8 p r) = with_two (codes "MOV") (ptr_text p) (reg8_text r)
-data_line (MovAlDirect a) = with_two (codes "MOV") (codes "AL") (direct8_text a)
-data_line (MovDirectAl a) = with_two (codes "MOV") (direct8_text a) (codes "AL")
-data_line (MovNum8 r n) = with_two (codes "MOV") (reg8_text r) (byte_text n)
-data_line (MovNum16 r w) = with_two (codes "MOV") (reg16_text r) (word_text w)
-data_line (MovMemNum p n) = with_two (codes "MOV") (ptr_text p) (byte_text n)
-data_line (MovReg16 r o) = with_two (codes "MOV") (reg16_text r) (operand16_text o)
-data_line (MovDirect16 a r) = with_two (codes "MOV") (direct16_text a) (reg16_text r)
-data_line MovAxDs = with_two (codes "MOV") (codes "AX") (codes "DS")
-data_line MovSsAx = with_two (codes "MOV") (codes "SS") (codes "AX")
-data_line i = computation_line i
+abbrev pub mov_line : Instr86 → List ℕ
+mov_line (MovReg8 r o) = with_two (codes "MOV") (reg8_text r) (operand8_text o)
+mov_line (MovMem8 p r) = with_two (codes "MOV") (ptr_text p) (reg8_text r)
+mov_line (MovAlDirect a) = with_two (codes "MOV") (codes "AL") (direct8_text a)
+mov_line (MovDirectAl a) = with_two (codes "MOV") (direct8_text a) (codes "AL")
+mov_line (MovNum8 r n) = with_two (codes "MOV") (reg8_text r) (byte_text n)
+mov_line (MovNum16 r w) = with_two (codes "MOV") (reg16_text r) (word_text w)
+mov_line (MovMemNum p n) = with_two (codes "MOV") (ptr_text p) (byte_text n)
+mov_line (MovReg16 r o) = with_two (codes "MOV") (reg16_text r) (operand16_text o)
+mov_line (MovDirect16 a r) = with_two (codes "MOV") (direct16_text a) (reg16_text r)
+mov_line MovAxDs = with_two (codes "MOV") (codes "AX") (codes "DS")
+mov_line MovSsAx = with_two (codes "MOV") (codes "SS") (codes "AX")
+mov_line i = computation_line i
 
 -- the line of an instruction; one with a displacement has none, since a text names labels
 abbrev pub instr_line : Instr86 → List ℕ

@@ -1,6 +1,6 @@
 // The written line of each statement.
 ghost use Rattle.std.specs.Prelude.{◌≡◌, ◌+◌, ◌≤◌, ◌++◌, codes, length};
-ghost use Rattle.asm86_line_types.specs.Written.{alone, with_one, with_two, label_text, computation_line, data_line, instr_line, written_line};
+ghost use Rattle.asm86_line_types.specs.Written.{alone, with_one, with_two, label_text, computation_line, mov_line, instr_line, written_line};
 
 use crate::line::{Label, Stmt86};
 use crate::line_text::LineText;
@@ -81,8 +81,8 @@ fn computation(i: Instr86) -> LineText
 }
 
 // The line of a MOV, or of an instruction that computes; nothing of another.
-fn data(i: Instr86) -> LineText
-    ensures value { result ≡ data_line i }
+fn mov(i: Instr86) -> LineText
+    ensures value { result ≡ mov_line i }
     ensures size { length result ≤ 40 }
 {
     match i {
@@ -122,7 +122,7 @@ fn instr(i: Instr86) -> LineText
         Instr86::Int224 => with_one(b"INT", b"224"),
         Instr86::InAl(port) => with_two(b"IN", b"AL", byte(port).as_slice()),
         Instr86::OutAl(port) => with_two(b"OUT", byte(port).as_slice(), b"AL"),
-        _ => data(i),
+        _ => mov(i),
     }
 }
 

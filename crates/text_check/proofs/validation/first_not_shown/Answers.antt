@@ -1,9 +1,12 @@
-use Rattle.std.proofs.Common.{◌≡◌, ◌∙◌, get_or, sym, ap}
-use Rattle.flow.specs.Blocks.{leaders}
+use Rattle.std.proofs.Common.{◌≡◌, ◌∙◌, [], get_or, sym, ap}
+use Rattle.std.specs.Prelude.{drop}
+use Rattle.flow.specs.Blocks.{blocks, leaders}
+use Rattle.simulation_def.specs.Matches.{blocks_reason}
 use Rattle.simulation_def.specs.Needed.{needed_by}
 use Rattle.block_check.specs.declared.block.Verdict.TheVariants.{Shown}
 use Rattle.text_check.specs.Findings.{HoldsBlock}
 use Rattle.flow.proofs.Indexed.{block_at_index, all_passed}
+use Rattle.std.proofs.lemmas.List.{drop_all}
 use Rattle.text_check.proofs.Walking.{shown_on, not_shown, last_on, last_left, held}
 use Rattle.text_check.proofs.validation.first_not_shown.Goals as goal
 
@@ -36,3 +39,18 @@ returns-clause-work c = λ n b h e.
     let p = c.args.program.now in
     last_left p c.loop-leader.leader-index b (HoldsBlock p c.args.text.now n c.loop-leader.work b)
     (all_passed p c.leaders-leader-items.result.now c.loop-leader.leader-index (c.leaders-leader-items.ensures ∙ ap leaders c.requires.program) c.loop-leader-test.false) (c.loop-leader.invariant.last n b h e)
+
+pub check-requires-clause-leader : goal.check-requires-clause-leader
+check-requires-clause-leader c =
+    let p = c.args.program.now in
+    let ls = c.leaders-leader-items.result.now in
+    let i = c.loop-leader.leader-index in
+    let b = block_at_index p ls i 0 (c.leaders-leader-items.ensures ∙ ap leaders c.requires.program) c.loop-leader-test.true in
+    (c.blocks_cut_the_program.ensures p c.top-top.ensures.program).has_leader (get_or ls i 0) b.0 b.1.block
+
+pub returns-clause-reason : goal.returns-clause-reason
+returns-clause-reason c = λ n h.
+    let p = c.args.program.now in
+    let passed : drop c.loop-leader.leader-index (blocks p) ≡ [] = drop_all c.loop-leader.leader-index (blocks p)
+    (all_passed p c.leaders-leader-items.result.now c.loop-leader.leader-index (c.leaders-leader-items.ensures ∙ ap leaders c.requires.program) c.loop-leader-test.false) in
+    ap (blocks_reason p c.args.text.now (needed_by p n)) (sym passed) ∙ c.loop-leader.invariant.reasons n h
