@@ -14,7 +14,7 @@ use dialogue::{Blocks, Event, Reply, Request, Shape, fits, fits_event, request_o
 use std::alloc::{AllocError, Global};
 
 /// What a step answers. The stops carry the address that comes next, or the function of the call.
-#[derive(Clone, Copy, PartialEq, Eq)]
+#[derive(Clone, Copy)]
 pub enum UntaggedStep {
     /// An instruction ran.
     Ran,
