@@ -34,7 +34,7 @@ fn expression_at<'a>(
     let (mut left, mut rest) = begin_at(alloc, level, tokens)?;
     while let Some((op, after)) = operator_of(level, rest) {
         let (right, more) = expression_at(alloc, level - 1, after)?;
-        left = Expr::Two(op, Box::new(alloc, left)?, Box::new(alloc, right)?);
+        left = binary(alloc, op, left, right)?;
         rest = more;
     }
     Ok((left, rest))
@@ -56,6 +56,13 @@ fn begin_at<'a>(
         3 => inverted_at(alloc, tokens),
         _ => expression_at(alloc, level - 1, tokens),
     }
+}
+
+// Two expressions with an operator between them.
+fn binary(alloc: Global, op: Two, left: Expr, right: Expr) -> Result<Expr, AllocError>
+    ensures { IfOk result (λ x. tree_of x ≡ Tree.Binary op (tree_of left) (tree_of right)) }
+{
+    Ok(Expr::Two(op, Box::new(alloc, left)?, Box::new(alloc, right)?))
 }
 
 // An operand, or an expression in parentheses.

@@ -36,7 +36,7 @@ expression_at-loop-op-smaller t c = omega (arith, spells_shorter c.in_ok-right.e
 
 pub expression_at-loop-op-preserved : goal.expression_at-loop-op-preserved
 expression_at-loop-op-preserved t c = record {
-  chained = rw (c.in_ok-new.ensures.ok, c.in_ok-new-2.ensures.ok) (chain_goes_on _ _ _ _ _ _ _ _ c.loop-op.invariant.chained c.in-Some-operator_of.ensures.0 c.in-Some-operator_of.ensures.1 c.in_ok-right.ensures);
+  chained = rw c.in_ok-left-2.ensures (chain_goes_on _ _ _ _ _ _ _ _ c.loop-op.invariant.chained c.in-Some-operator_of.ensures.0 c.in-Some-operator_of.ensures.1 c.in_ok-right.ensures);
   shorter = omega (arith, spells_shorter c.in_ok-right.ensures.holds, ap length c.in-Some-operator_of.ensures.0);
 }
 
@@ -91,14 +91,9 @@ begin_at-returns-in-3 t c =
     let Given : ℕ → Type 0 = λ level. Gives (Begins level c.args.tokens.now) (EndsInside level) c.inverted_at.result in
     subst Given (sym c.in-3.is) c.inverted_at.ensures
 
-pub expression_at-returns-in_err-new : goal.expression_at-returns-in_err-new
-expression_at-returns-in_err-new t c =
-    let p = err_from_is_err_and c.from_residual-in_err-new.result c.from_residual-in_err-new.ensures.1 in
-    rw (p.1, p.2) tt
-
-pub expression_at-returns-in_err-new-2 : goal.expression_at-returns-in_err-new-2
-expression_at-returns-in_err-new-2 t c =
-    let p = err_from_is_err_and c.from_residual-in_err-new-2.result c.from_residual-in_err-new-2.ensures.1 in
+pub expression_at-returns-in_err-left-2 : goal.expression_at-returns-in_err-left-2
+expression_at-returns-in_err-left-2 t c =
+    let p = err_from_is_err_and c.from_residual-in_err-left-2.result c.from_residual-in_err-left-2.ensures.1 in
     rw (p.1, p.2) tt
 
 pub inverted_at-returns-in_err-inverted : goal.inverted_at-returns-in_err-inverted
