@@ -2,7 +2,7 @@
 use std::alloc::AllocError;
 
 /// Why bytes are not read as a disk.
-#[derive(Clone, Copy, PartialEq, Eq)]
+#[derive(Clone, Copy)]
 pub enum DiskFault {
     /// They are no disk file: the byte at this place, counted from 0, cannot go on, or they end early and this is their number.
     Bad(u32),

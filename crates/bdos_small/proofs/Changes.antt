@@ -1,10 +1,11 @@
 -- What a call that changes the disk comes to.
-use Rattle.std.proofs.Common.{◌≡◌, ◌∙◌, ◌&&◌, ℕ, ◌+◌, ◌<◌, ◌≤◌, List, [], length, nat_le, nat_lt, Some, true, sym, ap}
-use Rattle.std.proofs.lemmas.Bool.{and_from, lt-ltb, le-leb, cond-true}
+use Rattle.std.proofs.Common.{◌≡◌, refl, ◌∙◌, ◌&&◌, ℕ, ◌+◌, ◌<◌, ◌≤◌, List, [], length, nat_le, nat_lt, Some, true, sym, ap}
+use Rattle.std.proofs.lemmas.Bool.{and_from, and_parts, lt-ltb, le-leb, cond-true}
+use Rattle.std.specs.Prelude.{Option, None, is_none}
 use Rattle.dialogue.specs.declared.request.Request.{Request}
 use Rattle.dialogue.specs.declared.request.Reply.{Reply}
 use Rattle.bdos_disk.specs.Stored.{Stored}
-use Rattle.bdos_disk.specs.Names.{name_in_block}
+use Rattle.bdos_disk.specs.Names.{is_file_name, name_in_block}
 use Rattle.bdos_disk.specs.Disks.{file_named, with_file, with_records, written_at, growth, records_in}
 use Rattle.bdos_small.specs.Fcb.{drive_in, extent_in, fields_at, opened_fcb}
 use Rattle.bdos_small.specs.Calls.{fcb_of, reply_writing}
@@ -12,6 +13,16 @@ use Rattle.bdos_small.specs.Files.{Changed, is_free, make_file, file_written, wr
 
 changed : (y z : Reply) (d e : List Stored) → y ≡ z → d ≡ e → ◌≡◌ {A = Changed} (record { reply = y; disk = d }) (record { reply = z; disk = e })
 changed y z d e p q = λ i. record { reply = p i; disk = q i }
+
+no_file : (o : Option Stored) → is_none o ≡ true → o ≡ None
+no_file None e = refl
+no_file (Some f) e = cc
+
+-- a new file may have a name
+pub free_is : (name : List ℕ) (d : List Stored) → is_free name d ≡ true → (is_file_name name ≡ true) × (file_named name d ≡ None)
+free_is name d free =
+    let each = and_parts (is_file_name name) (is_none (file_named name d)) free in
+    (each.0, no_file (file_named name d) each.1)
 
 -- a file was made
 pub made : (d : List Stored) (q : Request) (y : Reply) (new : List Stored) → is_free (name_in_block (fcb_of q)) d ≡ true → length d < 64

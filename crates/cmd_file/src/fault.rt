@@ -6,7 +6,7 @@ use std::alloc::AllocError;
 use thiserror::Error;
 
 /// Why bytes are not read as a command file.
-#[derive(Clone, Copy, Debug, PartialEq, Eq, Drop, Error)]
+#[derive(Clone, Copy, Debug, Drop, Error)]
 pub enum CmdFault {
     /// They are none: the byte at this place, counted from 0, cannot go on, or they end early and this is their number.
     #[error("byte {0}")]

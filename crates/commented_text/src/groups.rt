@@ -69,8 +69,7 @@ fn statement_count(instr: Instr80, lines: &[Line86]) -> usize
     ensures most { result ≤ 5 }
 {
     match instr {
-        Instr80::Inx(_) => sum_count(lines),
-        Instr80::Dcx(_) => sum_count(lines),
+        Instr80::Inx(_) | Instr80::Dcx(_) => sum_count(lines),
         Instr80::Dad(_) if is_lahf(statement_at(lines, 0)) => 5,
         Instr80::Dad(_) if is_rotate(statement_at(lines, 1)) => 4,
         Instr80::Push(StackPair::Psw) => 4,

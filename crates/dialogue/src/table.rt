@@ -9,7 +9,7 @@ use Argument::*;
 use Extent::*;
 
 /// Where a call finds its argument.
-#[derive(Clone, Copy, PartialEq, Eq)]
+#[derive(Clone, Copy)]
 pub enum Argument {
     NoArgument,
     InE,
@@ -27,7 +27,7 @@ pub enum AnswerKind {
 }
 
 /// What a call answers, by its argument.
-#[derive(Clone, Copy, PartialEq, Eq)]
+#[derive(Clone, Copy)]
 pub enum AnswerRule {
     Always(AnswerKind),
     /// A byte where the argument is this one, else nothing.
@@ -35,7 +35,7 @@ pub enum AnswerRule {
 }
 
 /// Memory that a call touches.
-#[derive(Clone, Copy, PartialEq, Eq)]
+#[derive(Clone, Copy)]
 pub enum Extent {
     /// `F(offset, len)`: `len` cells from DE + `offset` up.
     F(u16, u16),

@@ -10,12 +10,13 @@ use Rattle.bdos_small.specs.declared.devices.EventAnswer.{EventAnswer}
 use Rattle.bdos_small.specs.declared.devices.EventAnswer.TheVariants.{Reply as Replies, InputEnded as NoInput, NoDrive as Refuses}
 use Rattle.bdos_small.specs.Supply.{Supply}
 use Rattle.bdos_small.specs.Events.{EventAnswered, event_answer}
-use Rattle.dialogue.specs.Run.{Waiting, Over}
+use Rattle.dialogue.specs.Run.{Waiting, Over, Stopped}
 use Rattle.host.specs.Host.{HostState, said_more, Says}
 use Rattle.host_files.specs.Transfer.{CutsLine}
-use Rattle.emulator_loop.specs.declared.emulator.Turn.TheVariants.{Ran, Asks, Ended}
+use Rattle.emulator_loop.specs.declared.emulator.Why.{Why}
+use Rattle.emulator_loop.specs.declared.emulator.Turn.TheVariants.{Ran, Asks, Ended, Stopped as Stops}
 use Rattle.emulator_loop.specs.declared.running.RunEnd.{RunEnd}
-use Rattle.emulator_loop.specs.declared.running.RunEnd.TheVariants.{Ended as HasEnded, InputEnded, NoDrive}
+use Rattle.emulator_loop.specs.declared.running.RunEnd.TheVariants.{Ended as HasEnded, Stopped as HasStopped, InputEnded, NoDrive}
 use Rattle.emulator_loop.specs.Lines.{prefixed_line}
 use Rattle.dialogue.specs.Replies.{IsReply}
 use Rattle.emulator_loop.specs.Talk.{SeenRun, reply_from, replies_to, refusal_then, refusal_from, end_of_refusal, left_from, left_after}
@@ -103,6 +104,17 @@ module _ (prefix : List ℕ) (before mid : Course) (answered : Event → Reply �
     end = refl;
     leaves = refl;
     says = said ∙ ap (said_more old.said) (event_lines-one prefix End);
+  }
+
+  pub rest_stopped : (why : Why) → IsTurn before mid answered (Stops why) → Rest prefix (HasStopped why) before supply supply old old
+  rest_stopped why h = record {
+    events = [];
+    status = Stopped why;
+    goes = λ t n. h t [] n ∙ ap (standing_so (Stopped why)) (sym (append-nil t.dialogue));
+    none = refl;
+    end = (refl, refl);
+    leaves = refl;
+    says = says_nothing old;
   }
 
   -- faults: before anything is said, in the line of the end, in the line of what is asked, and after it

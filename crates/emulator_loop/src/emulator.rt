@@ -6,7 +6,7 @@ use dialogue::{Event, Reply};
 use std::alloc::{AllocError, Global};
 
 /// Why a machine stopped, and where.
-#[derive(Clone, Copy, PartialEq, Eq)]
+#[derive(Clone, Copy)]
 pub enum Why {
     /// The 8080 left the profile, at the instruction of this place and by this rule.
     Left(Place, Rule),

@@ -3,7 +3,7 @@ use host::HostFault;
 use std::alloc::AllocError;
 
 /// Why a run is cut off.
-#[derive(Clone, Copy, PartialEq, Eq)]
+#[derive(Clone, Copy)]
 pub enum TalkFault {
     /// A line was not said whole, for this fault of the host.
     Unsaid(HostFault),

@@ -16,7 +16,7 @@ use host::Host;
 use std::alloc::{AllocError, Global};
 
 /// What a run over devices comes to.
-#[derive(Clone, Copy, PartialEq, Eq)]
+#[derive(Clone, Copy)]
 pub enum RunEnd {
     /// The program ended.
     Ended,
@@ -32,7 +32,7 @@ pub enum RunEnd {
 
 /// What a run over devices comes to, and how many instructions ran: those that asked and the one that ended the program are counted,
 /// and the step in which the machine stopped is not.
-#[derive(Clone, Copy, PartialEq, Eq)]
+#[derive(Clone, Copy)]
 pub struct Conversation {
     pub end: RunEnd,
     pub steps: u64,

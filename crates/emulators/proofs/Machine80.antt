@@ -8,15 +8,24 @@ use Rattle.dialogue.specs.Run.{Answer, Ran, Asks, Ends, Stops, Stopped}
 use Rattle.asm80_program_types.specs.Program.{Program}
 use Rattle.cpu80_tagged_def.specs.State.{State80}
 use Rattle.cpu80_tagged_def.specs.Step.{step80, replied80, machine80}
-use Rattle.cpu80_tagged.specs.declared.processor.Step80.TheVariants.{Asked, Ended as DidEnd, Left as DidLeave}
+use Rattle.cpu80_tagged.specs.declared.processor.Step80.TheVariants.{Ran as DidRun, Asked, Ended as DidEnd, Left as DidLeave}
 use Rattle.cpu80_tagged.specs.Machine.{IsTaggedStep}
 use Rattle.emulator_loop.specs.declared.emulator.Why.TheVariants.{Left}
-use Rattle.emulator_loop.specs.declared.emulator.Turn.TheVariants.{Asks as HasAsked, Ended, Stopped as HasStopped}
+use Rattle.emulator_loop.specs.declared.emulator.Turn.TheVariants.{Ran as HasRun, Asks as HasAsked, Ended, Stopped as HasStopped}
 use Rattle.emulator_loop.specs.Turns.{Course, IsTurn}
 use Rattle.emulators.specs.Courses.{why80, course80_from}
-use Rattle.emulator_loop.proofs.Turning.{turn_ended, turn_stopped, turn_asked}
+use Rattle.emulator_loop.proofs.Turning.{turn_ran, turn_ended, turn_stopped, turn_asked}
 
 module _ (p : Program) (s t : State80) (answered : Event → Reply → Course) where
+  pub ran80 : IsTaggedStep (step80 p s) DidRun s t → IsTurn (course80_from p s) (course80_from p t) answered HasRun
+  ran80 h past ys n = turn_ran (machine80 p) [] why80 s past ys n t (by (step80 p s) h)
+    where
+      by : (a : Answer State80 Rule) → IsTaggedStep a DidRun s t → a ≡ Ran t
+      by (Ran u) h = ap Ran (sym h.1)
+      by (Asks e u) h = let g = h.0 in cc
+      by Ends h = let g = h.0 in cc
+      by (Stops x) h = let g = h.0 in cc
+
   pub ended80 : IsTaggedStep (step80 p s) DidEnd s t → IsTurn (course80_from p s) (course80_from p t) answered Ended
   ended80 h past ys n = turn_ended (machine80 p) [] why80 s past ys n (by (step80 p s) h)
     where

@@ -1,10 +1,15 @@
 -- What the calls of a host in memory answer, put together.
-use Rattle.std.proofs.Common.{◌≡◌, ℕ, ◌↔◌, Result, Ok, Err, IsOk, IfErr, OnOk, OnErr, refl, ap, sym, subst, ◌∙◌}
+use Rattle.std.proofs.Common.{◌≡◌, ℕ, ◌+◌, ◌<◌, min, arith, ◌↔◌, Result, Ok, Err, IsOk, IfErr, OnOk, OnErr, refl, ap, sym, subst, ◌∙◌}
 use Rattle.std.specs.Prelude.{is_ok}
 use Rattle.std.proofs.lemmas.Bool.{false≢true}
+use Rattle.std.proofs.lemmas.Bool.Decides.{nat_tests}
 use Rattle.host.specs.declared.HostFault.{HostFault}
 use Rattle.host.specs.declared.HostFault.TheVariants.{Failed, Memory}
-use Rattle.host.specs.Host.{failures_after, wants_by}
+use Rattle.host.specs.Host.{one_more, failures_after, wants_by}
+
+-- a count after one more
+pub counted_on : (n r : ℕ) → n < 18446744073709551616 → r ≡ min (n + 1) 18446744073709551615 → r ≡ one_more n
+counted_on n r fits is = grind (arith, nat_tests)
 
 pub at_ok : {T E P : Type 0} (r : Result T E) → IsOk r → OnOk r P → P
 at_ok (Ok x) ok p = p

@@ -9,7 +9,7 @@ use std::alloc::AllocError;
 use thiserror::Error;
 
 /// Why a file was not read.
-#[derive(Clone, Copy, Debug, PartialEq, Eq, Error)]
+#[derive(Clone, Copy, Debug, Error)]
 pub enum FileFault {
     /// There is no such file, or the host could not read it.
     #[error("the file cannot be read")]

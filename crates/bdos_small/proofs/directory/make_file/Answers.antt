@@ -4,7 +4,7 @@ use Rattle.bdos_disk.specs.Disks.{with_file}
 use Rattle.bdos_small.specs.Fcb.{drive_in, extent_in, opened_fcb}
 use Rattle.bdos_small.specs.Calls.{fcb_of, reply_writing}
 use Rattle.bdos_small.specs.Files.{is_free}
-use Rattle.bdos_small.proofs.Changes.{made}
+use Rattle.bdos_small.proofs.Changes.{free_is, made}
 use Rattle.bdos_small.proofs.directory.make_file.Goals as goal
 
 pub returns-clause-answer : goal.returns-clause-answer
@@ -21,3 +21,9 @@ returns-clause-answer c =
     (subst (λ xs. length xs < 64) c.files.ensures.value c.if-files-ge-MOST_FILES.false)
     (c.in_ok-reply.ensures ∙ ap (reply_writing q 0) (c.opened_fcb-opened.ensures ∙ opened))
     (c.in_ok-add.ensures.ok ∙ ap (λ n. with_file (record { name = n; records = [] }) d) name)
+
+pub add-requires-clause-free : goal.add-requires-clause-free
+add-requires-clause-free c = (free_is c.in_block-name.result c.args.disk.now (sym c.if-not-is_free.ensures)).1
+
+pub add-requires-clause-lawful : goal.add-requires-clause-lawful
+add-requires-clause-lawful c = (free_is c.in_block-name.result c.args.disk.now (sym c.if-not-is_free.ensures)).0

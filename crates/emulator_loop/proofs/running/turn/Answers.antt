@@ -4,11 +4,11 @@ use Rattle.std.specs.Prelude.{IsErr}
 use Rattle.std.proofs.lemmas.Bool.{false≢true}
 use Rattle.std.proofs.lemmas.Result.{IfOk-from_err}
 use Rattle.emulator_loop.specs.declared.fault.TalkFault.TheVariants.{Memory}
-use Rattle.emulator_loop.specs.declared.emulator.Turn.TheVariants.{Ran, Asks, Ended}
-use Rattle.emulator_loop.specs.Turns.{IsTurn}
+use Rattle.emulator_loop.specs.declared.emulator.Turn.TheVariants.{Ran, Asks, Ended, Stopped}
+use Rattle.emulator_loop.specs.Turns.{IsTurn, AsksLawfully, MayTurn}
 use Rattle.emulator_loop.specs.Advance.{IsTurnCutOff}
 use Rattle.emulator_loop.proofs.Said.{on_fault}
-use Rattle.emulator_loop.proofs.Advances.{advance_ran, turn_answered, rest_ended, unbegun, end_cut_off, asked_cut_off, asked}
+use Rattle.emulator_loop.proofs.Advances.{advance_ran, turn_answered, rest_ended, rest_stopped, unbegun, end_cut_off, asked_cut_off, asked}
 use Rattle.emulator_loop.proofs.running.turn.Goals as goal
 
 -- an instruction ran
@@ -127,3 +127,22 @@ returns-in_err-answer-in-Asks-clause-done g c = IfOk-from_err c.from_residual-in
 
 pub returns-in_err-answer-in-Asks-clause-ready : goal.returns-in_err-answer-in-Asks-clause-ready
 returns-in_err-answer-in-Asks-clause-ready g c = λ is. absurd (false≢true (subst IsErr is c.from_residual-in_err-answer-in-Asks.ensures.0))
+
+pub answer-requires-clause-waits : goal.answer-requires-clause-waits
+answer-requires-clause-waits g c = subst (MayTurn (g.E.Emulator.runs c.turn.new.self) (g.E.Emulator.waits c.turn.new.self)) c.in-Asks.is c.in_ok-turn.ensures.ready
+
+pub answer-requires-clause-lawful : goal.answer-requires-clause-lawful
+answer-requires-clause-lawful g c = subst AsksLawfully c.in-Asks.is c.in_ok-turn.ensures.lawful
+
+pub returns-in-Ran-clause-ready : goal.returns-in-Ran-clause-ready
+returns-in-Ran-clause-ready g c = λ _. subst (MayTurn (g.E.Emulator.runs c.turn.new.self) (g.E.Emulator.waits c.turn.new.self)) c.in-Ran.is c.in_ok-turn.ensures.ready
+
+pub returns-in-Stopped-clause-done : goal.returns-in-Stopped-clause-done
+returns-in-Stopped-clause-done g c =
+    let before = g.E.Emulator.course c.args.machine.now in
+    let after = g.E.Emulator.course c.turn.new.self in
+    let answered = g.E.Emulator.answered c.turn.new.self in
+    let host = g.H.Host.state c.args.host.now in
+    let why = c.in-Stopped.why in
+    let turned : IsTurn before after answered (Stopped why) = subst (IsTurn before after answered) c.in-Stopped.is c.in_ok-turn.ensures.turn in
+    rest_stopped c.args.prefix.now before after answered c.args.devices.now host host why turned

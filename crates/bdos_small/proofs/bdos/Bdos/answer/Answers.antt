@@ -1,8 +1,8 @@
 use Rattle.std.proofs.Common.{ap, sym, ◌∙◌, arith}
 use Rattle.std.proofs.lemmas.Result.{IfOk-weaker}
 use Rattle.dialogue.specs.Fits.{fits}
-use Rattle.bdos_small.specs.Small.{small_of, with_input, small_answer}
-use Rattle.bdos_small.proofs.ForConsole.{IsConsoles, first_ones, middle_ones, last_ones, by_console}
+use Rattle.bdos_small.specs.Small.{small_of, replying, with_input, small_answer}
+use Rattle.bdos_small.proofs.ForConsole.{IsConsoles, first_ones, middle_ones, last_ones, by_console, by_search, by_record}
 use Rattle.bdos_small.proofs.FileFits.{set_random_fits}
 use Rattle.bdos_small.proofs.bdos.Bdos.answer.Goals as goal
 use Rattle.bdos_small.proofs.bdos.Bdos.answer.Goals.{in_default-via-then-request-lt15, in_default-via-else-request-lt15+else-request-lt24+then-request-lt33, in_default-via-else-request-lt15+else-request-lt24+else-request-lt33+else-request-lt36}
@@ -22,3 +22,11 @@ returns-in_default-clause-answer c =
       | in_default-via-else-request-lt15+else-request-lt24+else-request-lt33+else-request-lt36 w ↦ last_ones q.shape.function (omega arith)
     ] in
     IfOk-weaker c.answer.result _ _ (λ a e. ap (with_input s) e ∙ (sym (by_console s q consoles) ∙ ap (λ t. small_answer t q) c.self.view_is)) c.answer.ensures.answer
+
+pub returns-in-18-clause-answer : goal.returns-in-18-clause-answer
+returns-in-18-clause-answer c =
+    IfOk-weaker c.search_on.result _ _ (λ a e. e ∙ sym (by_search c.args.self.now c.args.request.now c.in-18.is)) c.search_on.ensures.answer
+
+pub returns-in_ok-set_random_record-in-36-clause-answer : goal.returns-in_ok-set_random_record-in-36-clause-answer
+returns-in_ok-set_random_record-in-36-clause-answer c =
+    ap (replying c.args.self.now) c.in_ok-set_random_record-in-36.ensures ∙ sym (by_record c.args.self.now c.args.request.now c.in-36.is)

@@ -1,6 +1,6 @@
-use Rattle.std.proofs.Common.{◌≡◌, ◌≢◌, ◌+◌, [], List, ℕ, drop, sym, ap, ◌∙◌, arith}
+use Rattle.std.proofs.Common.{◌≡◌, ◌≢◌, ◌+◌, [], List, ℕ, ◌≤◌, length, drop, sym, ap, ◌∙◌, arith}
 use Rattle.std.proofs.lemmas.Grind.{common_steps}
-use Rattle.std.proofs.lemmas.List.{drop-drop}
+use Rattle.std.proofs.lemmas.List.{drop-drop, length-drop}
 use Rattle.dialogue.specs.Lawful.{first_byte}
 use Rattle.bdos_small.specs.Console.{line_read, line_left}
 use Rattle.bdos_small.proofs.ConsoleReplies.{line_answer, line_answer_fits}
@@ -25,3 +25,12 @@ returns-clause-fits c =
     let line = c.as_slice.result.now in
     let reads : line ≡ line_read (first_byte q.blocks) c.args.self.now = cc (c.in_ok-bytes.ensures.bytes) in
     line_answer_fits q c.args.self.now line c.args.self.now c.requires.lawful c.requires.line reads c.in_ok-reply.reply (cc (c.in_ok-reply.ensures))
+
+-- what is taken stays within the input
+still_within : (taken used : ℕ) (items left : List ℕ) → left ≡ drop taken items → used ≤ length left → taken ≤ length items → taken + used ≤ length items
+still_within taken used items left is some within = omega (arith, ap length is, length-drop taken items)
+
+pub invariant_of-self : goal.invariant_of-self
+invariant_of-self c =
+    still_within c.self.inside.taken c.in_ok-bytes.field-0.used c.self.inside.input.items c.left-2.result.now
+    (c.left-2.ensures ∙ sym c.self.view_is) c.in_ok-bytes.ensures.within c.self.invariant
