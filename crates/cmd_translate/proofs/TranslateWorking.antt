@@ -1,7 +1,7 @@
 -- What the steps of the work come to.
 use Rattle.std.proofs.Common.{◌≡◌, ℕ, List, Option, refl, sym, ap, ◌∙◌, subst}
 use Rattle.std.specs.Prelude.{Result}
-use Rattle.host.specs.Host.{HostState, OnlyReads, OnlyWrites, SameFaults, Rewrites}
+use Rattle.host.specs.Host.{HostState, OnlyReads, SameFaults}
 use Rattle.host.proofs.HostLemmas.{SameFaults-trans}
 use Rattle.asm86_line_types.specs.declared.line.Line86.{Line86}
 use Rattle.asm80_program_types.specs.Program.{Program}
@@ -17,9 +17,8 @@ use Rattle.templates.specs.Translation.{IsText, CodeFits}
 use Rattle.cmd_common.specs.declared.stop.Stop.{Stop}
 use Rattle.cmd_common.specs.Files.{IsWholeFile, input_limit}
 use Rattle.cmd_common.specs.Sources.{SourceStops, of_line, of_program, reading_of}
-use Rattle.cmd_translate.specs.Translates.{mode_of, line_of_text, Accepts}
-use Rattle.cmd_common.specs.Writing.{WriteStops}
-use Rattle.cmd_translate.specs.TranslateWork.{TextStops, is_large, no_room, WritesOut, Works, StopsBy, refused, too_large, no_memory, unwritten}
+use Rattle.cmd_translate.specs.Translates.{mode_of, Accepts}
+use Rattle.cmd_translate.specs.TranslateWork.{TextStops, is_large, no_room, WritesOut, WritesText, LosesText, no_text, not_written, Works, StopsBy, refused, too_large, no_memory, unwritten}
 use Rattle.cmd_common.proofs.WriteEnds.{writes_behind, fails_behind, wrote}
 
 -- the text of each mode is a text in a style
@@ -42,30 +41,30 @@ module _ (c : Translate) (old mid new : HostState) (bytes : List ℕ) (file : Is
       refused line (OfProgram rule) (record { bytes = bytes; file = file; refused = n }) refl reads counted
 
   -- they are the source of a program that has no text
-  pub text_stop : (p : Program) → IsSource (reading_of c.zilog) bytes c.top p → (stop : Stop) → TextStops (mode_of c.plain) p stop → StopsBy c old mid stop
+  text_stop : (p : Program) → IsSource (reading_of c.zilog) bytes c.top p → (stop : Stop) → TextStops (mode_of c.plain) p stop → StopsBy c old mid stop
   text_stop p source _ (is_large {size = size} l) =
       too_large size (record { program = p; bytes = bytes; file = file; source = source; large = l }) refl reads counted
   text_stop p source _ no_room = no_memory reads
 
-  module _ (p : Program) (lines : List Line86) (source : IsSource (reading_of c.zilog) bytes c.top p) (text_is : IsText (mode_of c.plain) p lines) (fits : CodeFits lines) where
-    module _ (text : List ℕ) (is : IsOutput (kept_of c.comments bytes) p lines text) where
-      abbrev accepts : Accepts c old p lines
-      accepts = record { bytes = bytes; file = file; source = source; text = text_is; fits = fits; out = text; written = is }
+  module _ (p : Program) (source : IsSource (reading_of c.zilog) bytes c.top p) where
+    abbrev accepts : (lines : List Line86) (out : List ℕ) → IsText (mode_of c.plain) p lines → CodeFits lines → IsOutput (kept_of c.comments bytes) p lines out → Accepts c old p lines
+    accepts lines out text fits is = record { bytes = bytes; file = file; source = source; text = text; fits = fits; out = out; written = is }
 
-      -- the writing of the text failed
-      pub write_stop : (stop : Stop) → WriteStops c.output text mid new stop → StopsBy c old new stop
-      write_stop stop w =
-          unwritten p lines accepts
-          (record { fault = w.fault; is = w.is; fails = fails_behind old mid new c.output text w.fault reads w.fails })
+    -- there is no text, or its writing failed
+    pub lost : (stop : Stop) → LosesText (mode_of c.plain) (kept_of c.comments bytes) p c.output mid new stop → StopsBy c old new stop
+    lost stop (no_text same s) = subst (λ h. StopsBy c old h stop) (sym same) (text_stop p source stop s)
+    lost stop (not_written lines out text fits is w) =
+        unwritten p lines (accepts lines out text fits is)
+        (record { fault = w.fault; is = w.is; fails = fails_behind old mid new c.output out w.fault reads w.fails })
 
-      -- the text was written
-      pub works : OnlyWrites mid new c.output → Rewrites mid new c.output text → SameFaults mid new → (line : List ℕ) → line ≡ line_of_text p lines → Works c old new line
-      works only w s line said = record {
-        program = p;
-        lines = lines;
-        accepts = accepts;
-        writes = writes_behind old mid new c.output text reads (wrote c.output text mid new only w);
-        quiet = only.said ∙ reads.said;
-        faults = SameFaults-trans counted s;
-        line = said;
-      }
+    -- the text was written
+    pub works : (line : List ℕ) → WritesText (mode_of c.plain) (kept_of c.comments bytes) p c.output mid new line → Works c old new line
+    works line w = record {
+      program = p;
+      lines = w.lines;
+      accepts = accepts w.lines w.out w.text w.fits w.is;
+      writes = writes_behind old mid new c.output w.out reads (wrote c.output w.out mid new w.only w.written);
+      quiet = w.only.said ∙ reads.said;
+      faults = SameFaults-trans counted w.counted;
+      line = w.line_is;
+    }

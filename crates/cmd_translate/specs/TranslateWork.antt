@@ -1,6 +1,6 @@
 -- What the work of `translate` comes to, before its last line is said.
 use Rattle.std.specs.Prelude.{◌≡◌, ℕ, List, Option, Result, OnOk, IfErr}
-use Rattle.host.specs.Host.{HostState, SameSaid, SameFaults, OnlyReads, Rewrites}
+use Rattle.host.specs.Host.{HostState, SameSaid, SameFaults, OnlyReads, OnlyWrites, Rewrites}
 use Rattle.asm86_line_types.specs.declared.line.Line86.{Line86}
 use Rattle.asm80_program_types.specs.Program.{Program}
 use Rattle.asm80_source_def.specs.Source.{SourceRule}
@@ -12,7 +12,7 @@ use Rattle.cmd_common.specs.declared.stop.Stop.TheVariants.{OutOfMemory, CodeToo
 use Rattle.cmd_common.specs.Files.{IsWholeFile, ReadStops, input_limit}
 use Rattle.cmd_common.specs.Sources.{SourceGives, reading_of, stop_of_rule}
 use Rattle.templates.specs.declared.translation.Mode.{Mode}
-use Rattle.templates.specs.Translation.{IsTooLarge}
+use Rattle.templates.specs.Translation.{IsText, CodeFits, IsTooLarge}
 use Rattle.cmd_common.specs.Writing.{Writes, WriteStops}
 use Rattle.cmd_translate.specs.Translates.{line_of_text, Accepts, Refuses, Exceeds}
 
@@ -34,6 +34,24 @@ pub record WritesOut (kept : Option (List ℕ)) (p : Program) (lines : List Line
   pub is : IsOutput kept p lines out
   pub written : OnOk result (Rewrites old new name out)
   pub stopped : IfErr result (WriteStops name out old new)
+
+module _ (mode : Mode) (kept : Option (List ℕ)) (p : Program) (name : List ℕ) (old new : HostState) where
+  -- what is written for a program's text in a mode, whose code fits, was written to the file of a name; this line says how much it is
+  pub record WritesText (line : List ℕ) : Type 0 where
+    pub lines : List Line86
+    pub text : IsText mode p lines
+    pub fits : CodeFits lines
+    pub out : List ℕ
+    pub is : IsOutput kept p lines out
+    pub only : OnlyWrites old new name
+    pub written : Rewrites old new name out
+    pub counted : SameFaults old new
+    pub line_is : line ≡ line_of_text p lines
+
+  -- or there is no such text, and nothing was done; or it was not written
+  pub data LosesText : Stop → Type 0 where
+    no_text : {stop : Stop} → new ≡ old → TextStops mode p stop → LosesText stop
+    not_written : {stop : Stop} (lines : List Line86) (out : List ℕ) → IsText mode p lines → CodeFits lines → IsOutput kept p lines out → WriteStops name out old new stop → LosesText stop
 
 -- the source was read and the text of its program written; the line says how much it was
 pub record Works (c : Translate) (old new : HostState) (text : List ℕ) : Type 0 where

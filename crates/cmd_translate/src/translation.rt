@@ -11,7 +11,7 @@ ghost use Rattle.templates.specs.Translation.{IsText, CodeFits, HasNoText};
 ghost use Rattle.cmd_arguments.specs.ReadCommands.{translate_read};
 ghost use Rattle.cmd_common.specs.declared.stop.Stop.TheVariants.{OutOfMemory};
 ghost use Rattle.cmd_translate.specs.Translates.{mode_of, line_of_text, TranslateGives, Completes};
-ghost use Rattle.cmd_translate.specs.TranslateWork.{TextStops, ReadsKept, WritesOut, Works, StopsBy};
+ghost use Rattle.cmd_translate.specs.TranslateWork.{TextStops, ReadsKept, WritesOut, WritesText, LosesText, Works, StopsBy};
 
 use asm80_program_types::Program80;
 use asm86_line_types::{Line86, code_size};
@@ -58,11 +58,25 @@ fn work<H: Host>(alloc: Global, host: &mut H, command: &Translate<'_>) -> Result
     ensures worked { IfOk result (λ line. Works (translate_read command.now) (H.state host.old) (H.state host.new) (string_bytes line)) }
     ensures stopped { IfErr result (StopsBy (translate_read command.now) (H.state host.old) (H.state host.new)) }
 {
-    plain_is_a_style();
     let (source, kept) = read_kept(alloc, host, command)?;
     let program = source?;
-    let text = text_of_program(alloc, &program, mode_of(command.plain))?;
-    write_kept(host, command.output, &program, &text.lines, kept.as_deref())?;
+    write_translation(alloc, host, command, &program, kept.as_deref())
+}
+
+// Writes the text of a program as the words ask for it; the answer is the line that says how much it is.
+fn write_translation<H: Host>(
+    alloc: Global,
+    host: &mut H,
+    command: &Translate<'_>,
+    program: &Program80,
+    kept: Option<&[u8]>,
+) -> Result<String, Stop>
+    ensures written { IfOk result (λ line. WritesText (mode_of command.now.plain) (option_map (λ bytes. bytes.now) kept.entry) program.now command.now.output.now (H.state host.old) (H.state host.new) (string_bytes line)) }
+    ensures stopped { IfErr result (LosesText (mode_of command.now.plain) (option_map (λ bytes. bytes.now) kept.entry) program.now command.now.output.now (H.state host.old) (H.state host.new)) }
+{
+    plain_is_a_style();
+    let text = text_of_program(alloc, program, mode_of(command.plain))?;
+    write_kept(host, command.output, program, &text.lines, kept)?;
     Ok(text.line)
 }
 

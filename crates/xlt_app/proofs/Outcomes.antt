@@ -4,6 +4,7 @@ use Rattle.host.specs.Host.{HostState, SameFiles}
 use Rattle.host.proofs.HostLemmas.{OnlyReads-refl}
 use Rattle.asm86_line_types.specs.Image.{image_of}
 use Rattle.cmd_arguments.specs.Words.{Translate, Check, Cmd, Hex80, Command, Translates, Checks, ListsFlags, Runs80, Runs86, RunsBoth, MakesSample, MakesCmd, ShowsCmd, WritesHex, RunsHex, IsCommand, IsNoCommand, Shrink, ShrinksText, ListsLeaves, ExplainsText}
+use Rattle.cmd_common.specs.Names.{FileNames, two_names}
 use Rattle.cmd_common.specs.declared.stop.Stop.TheVariants.{OutOfMemory}
 use Rattle.cmd_common.specs.Said.{IsRefusedWords, SaysLast, Closes, said, unsaid}
 use Rattle.cmd_common.specs.Lines.{memory_line}
@@ -62,7 +63,7 @@ checked_by c old new status (checking.shown mid line h d) e = record {
   reader = h.loads.stands.reader;
   same = h.shown.same;
 }
-checked_by c old new status (checking.stopped mid stop s k) e = absurd (never_0 stop mid new status k e)
+checked_by c old new status (checking.stopped mid stop s k) e = absurd (never_0 (two_names c.source c.text) stop mid new status k e)
 
 module _ (words : List (List ℕ)) (old new : HostState) (status : ℕ) (o : Outcomes words old new status) where
   pub has_headline : (c : Translate) → IsCommand words (Translates c) → status ≡ 0 → Headline c old new
@@ -87,11 +88,11 @@ abbrev pub OneCommand : Type 0
 OneCommand = (words : List (List ℕ)) (c d : Command) → IsCommand words c → IsCommand words d → c ≡ d
 
 -- the line of want of memory was said
-status_of_memory : (old new : HostState) (status : ℕ) → Closes OutOfMemory old new status → status ≡ 5
+status_of_memory : {names : FileNames} (old new : HostState) (status : ℕ) → Closes names OutOfMemory old new status → status ≡ 5
 status_of_memory old new status (said e l) = e
 status_of_memory old new status (unsaid n e l) = e
 
-says_memory : (old new : HostState) (status : ℕ) → Closes OutOfMemory old new status → SaysLast memory_line old new
+says_memory : {names : FileNames} (old new : HostState) (status : ℕ) → Closes names OutOfMemory old new status → SaysLast memory_line old new
 says_memory old new status (said e l) = l
 says_memory old new status (unsaid n e l) = l
 
@@ -120,7 +121,7 @@ module _ (words : List (List ℕ)) (old new : HostState) (status : ℕ) where
 
   -- ---- memory ran out before any command began
 
-  module _ (closes : Closes OutOfMemory old new status) where
+  module _ {names : FileNames} (closes : Closes names OutOfMemory old new status) where
     is_5 : status ≡ 5
     is_5 = status_of_memory old new status closes
 
@@ -137,28 +138,28 @@ module _ (words : List (List ℕ)) (old new : HostState) (status : ℕ) where
       completes = λ none bytes told other. absurd (other is_5);
     }
     wanting (Checks c) = record {
-      gives = checking.stopped old OutOfMemory (checking.unloaded (checking.out_of_memory (OnlyReads-refl old))) closes;
+      gives = checking.stopped old OutOfMemory (checking.unloaded (checking.out_of_memory (OnlyReads-refl old))) (said is_5 says);
       completes = λ none s t a b. inl is_5;
       own = λ none s t a b w. inr is_5;
       files = same;
     }
     wanting (ListsFlags c) = record {
-      gives = files.stopped old OutOfMemory (files.unmade (OnlyReads-refl old) files.no_memory) closes;
+      gives = files.stopped old OutOfMemory (files.unmade (OnlyReads-refl old) files.no_memory) (said is_5 says);
       completes = λ none bytes told other. absurd (other is_5);
       files = same;
     }
     wanting (Runs80 c) = record {
-      gives = running.stopped old OutOfMemory (running.unloaded (OnlyReads-refl old) running_one.no_memory) closes;
+      gives = running.stopped old OutOfMemory (running.unloaded (OnlyReads-refl old) running_one.no_memory) (said is_5 says);
       completes = λ none bytes given told supply. inl is_5;
       files = alone old new c.run.out_disk same;
     }
     wanting (Runs86 c) = record {
-      gives = running.stopped old OutOfMemory (running.unloaded (OnlyReads-refl old) running_one.no_memory) closes;
+      gives = running.stopped old OutOfMemory (running.unloaded (OnlyReads-refl old) running_one.no_memory) (said is_5 says);
       completes = λ none bytes given told supply. inl is_5;
       files = alone old new c.run.out_disk same;
     }
     wanting (RunsBoth c) = record {
-      gives = running.stopped old OutOfMemory (running.unloaded (OnlyReads-refl old) running_both.no_memory) closes;
+      gives = running.stopped old OutOfMemory (running.unloaded (OnlyReads-refl old) running_both.no_memory) (said is_5 says);
       completes = λ none bytes given told supply. inl is_5;
       files = alone old new c.run.out_disk same;
     }
@@ -167,38 +168,38 @@ module _ (words : List (List ℕ)) (old new : HostState) (status : ℕ) where
       completes = λ none other. absurd (other is_5);
     }
     wanting (MakesCmd c) = record {
-      gives = files.stopped old OutOfMemory (files.unmade (OnlyReads-refl old) files.no_memory) closes;
+      gives = files.stopped old OutOfMemory (files.unmade (OnlyReads-refl old) files.no_memory) (said is_5 says);
       completes = λ none bytes told other. absurd (other is_5);
       loads = λ e. absurd (omega (arith, e, is_5));
     }
     wanting (ShowsCmd c) = record {
-      gives = files.stopped old OutOfMemory (files.unmade (OnlyReads-refl old) files.no_memory) closes;
+      gives = files.stopped old OutOfMemory (files.unmade (OnlyReads-refl old) files.no_memory) (said is_5 says);
       completes = λ none bytes told other. absurd (other is_5);
       files = same;
     }
     wanting (WritesHex c) = record {
-      gives = files.stopped old OutOfMemory (files.unmade (OnlyReads-refl old) files.no_memory) closes;
+      gives = files.stopped old OutOfMemory (files.unmade (OnlyReads-refl old) files.no_memory) (said is_5 says);
       completes = λ none bytes told other. absurd (other is_5);
       file = λ e. absurd (omega (arith, e, is_5));
     }
     wanting (RunsHex c) = record {
-      gives = running.stopped old OutOfMemory (running.unloaded (OnlyReads-refl old) running_one.no_memory) closes;
+      gives = running.stopped old OutOfMemory (running.unloaded (OnlyReads-refl old) running_one.no_memory) (said is_5 says);
       completes = λ none bytes given told supply. inl is_5;
       files = alone old new c.run.out_disk same;
     }
     wanting (ShrinksText c) = record {
-      gives = shrinking.stopped old OutOfMemory (shrinking.unloaded (checking.out_of_memory (OnlyReads-refl old))) closes;
+      gives = shrinking.stopped old OutOfMemory (shrinking.unloaded (checking.out_of_memory (OnlyReads-refl old))) (said is_5 says);
       completes = λ none s t a b. inl is_5;
       headline = λ e. absurd (omega (arith, e, is_5));
     }
     wanting (ListsLeaves c) = record {
-      gives = files.stopped old OutOfMemory (files.unmade (OnlyReads-refl old) files.no_memory) closes;
+      gives = files.stopped old OutOfMemory (files.unmade (OnlyReads-refl old) files.no_memory) (said is_5 says);
       completes = λ none bytes told other. absurd (other is_5);
       files = same;
       left = λ e. absurd (omega (arith, e, is_5));
     }
     wanting (ExplainsText c) = record {
-      gives = explaining.stopped old OutOfMemory (checking.out_of_memory (OnlyReads-refl old)) closes;
+      gives = explaining.stopped old OutOfMemory (checking.out_of_memory (OnlyReads-refl old)) (said is_5 says);
       completes = λ none s t a b. inl is_5;
       files = same;
     }

@@ -5,6 +5,7 @@ use Rattle.host.specs.declared.HostFault.{HostFault}
 use Rattle.host.specs.declared.HostFault.TheVariants.{Failed, Memory}
 use Rattle.host.specs.Host.{HostState}
 use Rattle.cmd_arguments.specs.Words.{Translate, Check, Sample, Command, Translates, Checks, ListsFlags, Runs80, Runs86, RunsBoth, MakesSample, MakesCmd, ShowsCmd, WritesHex, RunsHex, Shrink, ShrinksText, ListsLeaves, ExplainsText}
+use Rattle.cmd_common.specs.Names.{FileNames}
 use Rattle.cmd_common.specs.declared.stop.Stop.{Stop}
 use Rattle.cmd_common.specs.declared.stop.Stop.TheVariants.{SourceLine, SourceProgram, ReadFailed, WriteFailed, OutOfMemory, LeftProfile, StepLimit, NotShown, InputEnded, TextLine, ShortJump, NoInstruction, StackSegment, OddCall, BadDisk, NoDrive, CodeTooLarge, FileTooLong, BadCommandFile, BadHex, TooManyStatements}
 use Rattle.cmd_common.specs.Lines.{status_of}
@@ -95,7 +96,7 @@ of_17 = record { number = (17, omega arith, refl); other = λ e. absurd (omega a
 of_stop : (stop : Stop) → IsOfCommand (status_of stop)
 of_stop (SourceLine line rule) = of_1
 of_stop (SourceProgram line rule) = of_1
-of_stop (ReadFailed name) = of_3
+of_stop (ReadFailed file) = of_3
 of_stop WriteFailed = of_4
 of_stop OutOfMemory = of_5
 of_stop (LeftProfile line rule) = of_6
@@ -110,12 +111,12 @@ of_stop (OddCall offset function) = of_11
 of_stop (BadDisk place) = of_12
 of_stop (NoDrive function) = of_12
 of_stop (CodeTooLarge size) = of_13
-of_stop (FileTooLong name) = of_14
+of_stop (FileTooLong file) = of_14
 of_stop (BadCommandFile place) = of_15
 of_stop (BadHex line) = of_16
 of_stop (TooManyStatements count) = of_17
 
-of_closes : (stop : Stop) (old new : HostState) (status : ℕ) → Closes stop old new status → IsOfCommand status
+of_closes : {names : FileNames} (stop : Stop) (old new : HostState) (status : ℕ) → Closes names stop old new status → IsOfCommand status
 of_closes stop old new status (said e s) = subst IsOfCommand (sym e) (of_stop stop)
 of_closes stop old new status (unsaid n e s) = subst IsOfCommand (sym e) of_5
 
@@ -153,12 +154,12 @@ of_explaining c old new status (explaining.explained {at = at} {reason = reason}
 of_explaining c old new _ (explaining.explained mid p lines text l u (explaining.failed s)) = of_4
 of_explaining c old new _ (explaining.explained mid p lines text l u (explaining.no_memory s)) = of_5
 
-of_ending : (second : Option ℕ) (came : Result ℕ Stop) (old new : HostState) (status : ℕ) → SaysEnd second came old new status → IsOfCommand status
-of_ending second (Ok steps) old new status e = of_done (steps_line second steps) old new status e
-of_ending second (Err stop) old new status e = of_closes stop old new status e
+of_ending : (names : FileNames) (second : Option ℕ) (came : Result ℕ Stop) (old new : HostState) (status : ℕ) → SaysEnd names second came old new status → IsOfCommand status
+of_ending names second (Ok steps) old new status e = of_done (steps_line second steps) old new status e
+of_ending names second (Err stop) old new status e = of_closes stop old new status e
 
 of_work : (w : RunWork) (old new : HostState) (status : ℕ) → WorkGives w old new status → IsOfCommand status
-of_work w old new status (running.ran kept m h e) = of_ending m.second (came_by w m) kept new status e
+of_work w old new status (running.ran kept m h e) = of_ending w.names m.second (came_by w m) kept new status e
 of_work w old new status (running.unsaid fault e k) = subst IsOfCommand (sym e) (of_unsaid fault)
 of_work w old new status (running.stopped mid stop s k) = of_closes stop mid new status k
 

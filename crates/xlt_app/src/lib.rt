@@ -24,7 +24,7 @@ ghost use Rattle.xlt_app.specs.Top.{Headline, CheckedHeadline, Outcomes, Command
 
 use cmd_arguments::{Command, read_words, words_are_one_command};
 use cmd_check::check;
-use cmd_common::{Stop, say_stop, words_refused};
+use cmd_common::{InputNames, Stop, say_stop, words_refused};
 use cmd_explain::explain;
 use cmd_lists::{flags, leaves};
 use cmd_makes::{cmd, cmdshow, hex80};
@@ -55,7 +55,7 @@ pub fn xlt<H: Host>(alloc: Global, words: Vec<String>, host: &mut H) -> u8
     match read_words(alloc, words.as_slice()) {
         Ok(Some(command)) => answer(alloc, host, &command),
         Ok(None) => words_refused(host),
-        Err(AllocError) => say_stop(alloc, host, Stop::OutOfMemory),
+        Err(AllocError) => say_stop(alloc, host, &InputNames::one(""), Stop::OutOfMemory),
     }
 }
 
