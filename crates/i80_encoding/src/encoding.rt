@@ -75,6 +75,13 @@ pub fn encode80(i: Instr80) -> Code80
     ensures bytes { result ≡ enc80 i }
     ensures length { length (enc80 i) ≡ length80 i }
 {
+    table_bytes(i)
+}
+
+// The bytes by the table, which has every operand in every place: also those that no instruction may have there.
+fn table_bytes(i: Instr80) -> Code80
+    ensures { result ≡ enc80 i }
+{
     match i {
         Instr80::Nop => Code80::of_one(0x00),
         Instr80::Mov(to, from) => Code80::of_one(0x40 + 8 * operand_code(to) + operand_code(from)),
