@@ -1,10 +1,9 @@
 // What of two outcomes does not agree.
 
-ghost use Rattle.std.specs.Prelude.{◌≡◌};
 ghost use Rattle.sym_terms.specs.Trees.{tree_in, IsGiven};
 ghost use Rattle.sym_micro.specs.Stands.{trees_of_actions, ActionsAreGiven};
 ghost use Rattle.sym_micro.specs.Exits.{tree_of_way, tree_of_exit, WayIsGiven, ExitIsGiven};
-ghost use Rattle.block_explain.specs.Apart.{first_apart, if_apart, first_of, action_terms, way_terms, exit_terms};
+ghost use Rattle.block_explain.specs.Apart.{first_apart, if_apart, first_of, action_terms, way_terms, ways_terms, exit_terms};
 ghost use Rattle.block_explain.specs.Pairs.{AreBothGiven, Finds, ActionsStand, AreActionsGiven, tree_of_one};
 
 use crate::smallest::{TermPair, pair};
@@ -27,23 +26,23 @@ pub fn first_apart(work: &Work, ours: &[Action], theirs: &[Action]) -> ActionPai
 {
     let mut rest = ours;
     let mut partners = theirs;
-    while let Some((one, others)) = rest.split_first() {
-        match partners.split_first() {
-            Some((other, more)) if action_agrees(work, *one, *other) => {
-                rest = others;
-                partners = more;
-            }
-            Some((other, _)) => return action_pair(Some(*one), Some(*other)),
-            None => return action_pair(Some(*one), None),
+    while let (Some((one, others)), Some((other, more))) = (
+        rest.split_first(),
+        partners.split_first(),
+    ) {
+        if !action_agrees(work, *one, *other) {
+            return ActionPair {
+                ours: Some(*one),
+                theirs: Some(*other),
+            };
         }
+        rest = others;
+        partners = more;
     }
-    action_pair(None, partners.first().copied())
-}
-
-fn action_pair(ours: Option<Action>, theirs: Option<Action>) -> ActionPair
-    ensures { result ≡ record { ours = ours; theirs = theirs } }
-{
-    ActionPair { ours, theirs }
+    ActionPair {
+        ours: rest.first().copied(),
+        theirs: partners.first().copied(),
+    }
 }
 
 // Two terms, where they do not agree.
@@ -103,17 +102,27 @@ fn way_terms(work: &Work, one: Way, other: Way) -> Option<TermPair>
     }
 }
 
-// Those of two ways and two others, in their order.
-fn ways_terms(work: &Work, ours: (Way, Way), theirs: (Way, Way)) -> Option<TermPair>
+// Those of two ways and two others, which stand in one order or in the other.
+fn ways_terms(
+    work: &Work,
+    is_one_order: bool,
+    ours: (Way, Way),
+    theirs: (Way, Way),
+) -> Option<TermPair>
     requires where_so { WayIsGiven work.now.terms ours.0 }
     requires otherwise { WayIsGiven work.now.terms ours.1 }
     requires first { WayIsGiven work.now.terms theirs.0 }
     requires second { WayIsGiven work.now.terms theirs.1 }
-    ensures { Finds work.now.terms (first_of (way_terms (tree_of_way work.now.terms ours.0) (tree_of_way work.now.terms theirs.0)) (way_terms (tree_of_way work.now.terms ours.1) (tree_of_way work.now.terms theirs.1))) result }
+    ensures { Finds work.now.terms (ways_terms is_one_order (tree_of_way work.now.terms ours.0) (tree_of_way work.now.terms ours.1) (tree_of_way work.now.terms theirs.0) (tree_of_way work.now.terms theirs.1)) result }
 {
-    match way_terms(work, ours.0, theirs.0) {
+    let (first, second) = if is_one_order {
+        theirs
+    } else {
+        (theirs.1, theirs.0)
+    };
+    match way_terms(work, ours.0, first) {
         Some(pair) => Some(pair),
-        None => way_terms(work, ours.1, theirs.1),
+        None => way_terms(work, ours.1, second),
     }
 }
 
@@ -127,8 +136,7 @@ pub fn exit_terms(work: &Work, one: Exit, other: Exit) -> Option<TermPair>
         (Exit::One(way), Exit::One(partner)) => way_terms(work, way, partner),
         (Exit::Two(f, v, a, b), Exit::Two(g, w, x, y)) => match if_apart(work, f, g) {
             Some(flags) => Some(flags),
-            None if v == w => ways_terms(work, (a, b), (x, y)),
-            None => ways_terms(work, (a, b), (y, x)),
+            None => ways_terms(work, v == w, (a, b), (x, y)),
         },
         _ => None,
     }
