@@ -5,7 +5,7 @@ ghost use Rattle.cmd_runs.specs.Supplies.{given_of, IsFillBy, HasDisk, DiskStops
 ghost use Rattle.cmd_runs.specs.BothLoads.{HasLean, LeanStops};
 
 use crate::lean::lean_image;
-use crate::{Supplies, devices_of, fill_of};
+use crate::supplies::{Supplies, devices_of, fill_of};
 use asm80_program_types::Program80;
 use asm86::Image86;
 use bdos_disk::disks_read_back;

@@ -41,14 +41,7 @@ mod running;
 mod supplies;
 mod text_inputs;
 
-pub use ends::came_to;
-pub use finishing::{close_work, leave_runs};
-pub use halt::Halt;
-pub use keeping::kept_disk_name;
-pub use last::Last;
 pub use run_both::both;
 pub use run_hex::runhex;
-pub use run_source::{Named, line_of, read_program, run80};
+pub use run_source::run80;
 pub use run_text::run86;
-pub use running::{run_image, run_program};
-pub use supplies::{Supplies, devices_of, fill_of, read_supplies};

@@ -11,7 +11,9 @@ ghost use Rattle.cmd_runs.specs.BothRuns.{limit86, AreBothMade, work_both};
 ghost use Rattle.cmd_runs.specs.BothMaking.{runs_made};
 
 use crate::both_inputs::{FilledImage, TwoDevices};
-use crate::{Halt, line_of, run_image, run_program};
+use crate::halt::Halt;
+use crate::run_source::line_of;
+use crate::running::{run_image, run_program};
 use asm80_program_types::Program80;
 use cmd_arguments::Both;
 use dialogue::Page;

@@ -13,11 +13,15 @@ ghost use Rattle.cmd_runs.specs.BothRuns.{work_both};
 ghost use Rattle.cmd_runs.specs.BothCompletes.{BothComplete};
 
 use crate::both_inputs::{FilledImage, TwoDevices, filled_image, two_devices};
+use crate::ends::came_to;
+use crate::finishing::{close_work, leave_runs};
+use crate::halt::Halt;
+use crate::keeping::kept_disk_name;
+use crate::last::Last;
 use crate::making::make_runs;
 use crate::names::run_names;
-use crate::{
-    Halt, Last, Named, Supplies, came_to, close_work, kept_disk_name, leave_runs, read_program,
-};
+use crate::run_source::{Named, read_program};
+use crate::supplies::Supplies;
 use asm80_program_types::Program80;
 use bdos_disk::disks_read_back;
 use cmd_arguments::Both;

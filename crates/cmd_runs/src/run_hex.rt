@@ -10,11 +10,15 @@ ghost use Rattle.cmd_runs.specs.Works.{WorkHasLast, WorkHalts, HasLastFrom, Halt
 ghost use Rattle.cmd_runs.specs.Outcomes.{RunCompletes};
 ghost use Rattle.cmd_runs.specs.RunsHex.{kind_hex, work_hex};
 
+use crate::ends::came_to;
+use crate::finishing::{close_work, leave_runs};
+use crate::halt::Halt;
 use crate::hex_inputs::hex_of_bytes;
+use crate::keeping::kept_disk_name;
+use crate::last::Last;
 use crate::names::run_names;
 use crate::running::run_cells;
-use crate::supplies::{Equipment, equipment_of};
-use crate::{Halt, Last, Supplies, came_to, close_work, kept_disk_name, leave_runs, read_supplies};
+use crate::supplies::{Equipment, Supplies, equipment_of, read_supplies};
 use bdos_disk::disks_read_back;
 use cmd_arguments::RunHex;
 use cmd_common::{InputFile, SOURCE_LIMIT, read_named};

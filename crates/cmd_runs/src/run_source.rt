@@ -13,11 +13,14 @@ ghost use Rattle.cmd_runs.specs.Works.{WorkHasLast, WorkHalts, HasLastFrom, Halt
 ghost use Rattle.cmd_runs.specs.Outcomes.{RunCompletes};
 ghost use Rattle.cmd_runs.specs.Runs80.{words_of, kind80, work80, IsLineAt, IsLineOf};
 
+use crate::ends::came_to;
+use crate::finishing::{close_work, leave_runs};
+use crate::halt::Halt;
+use crate::keeping::kept_disk_name;
+use crate::last::Last;
 use crate::names::run_names;
-use crate::{
-    Halt, Last, Supplies, came_to, close_work, devices_of, kept_disk_name, leave_runs,
-    read_supplies, run_program,
-};
+use crate::running::run_program;
+use crate::supplies::{Supplies, devices_of, read_supplies};
 use asm80_program_types::Program80;
 use bdos_disk::disks_read_back;
 use bdos_small::Devices;

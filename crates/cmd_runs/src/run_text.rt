@@ -9,12 +9,15 @@ ghost use Rattle.cmd_runs.specs.Works.{WorkHasLast, WorkHalts, HasLastFrom, Halt
 ghost use Rattle.cmd_runs.specs.Outcomes.{RunCompletes};
 ghost use Rattle.cmd_runs.specs.Runs86.{kind86, work86};
 
+use crate::ends::came_to;
+use crate::finishing::{close_work, leave_runs};
+use crate::halt::Halt;
+use crate::keeping::kept_disk_name;
+use crate::last::Last;
 use crate::names::run_names;
-use crate::supplies::{Equipment, equipment_of};
+use crate::running::run_image;
+use crate::supplies::{Equipment, Supplies, equipment_of, read_supplies};
 use crate::text_inputs::read_image;
-use crate::{
-    Halt, Last, Supplies, came_to, close_work, kept_disk_name, leave_runs, read_supplies, run_image,
-};
 use asm86::{Image86, texts_have_one_image};
 use bdos_disk::disks_read_back;
 use cmd_arguments::Run86;
