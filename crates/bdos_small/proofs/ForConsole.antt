@@ -1,10 +1,11 @@
 -- The functions that are the console's, and what is answered to one.
-use Rattle.std.proofs.Common.{◌≡◌, ◌≢◌, ◌∙◌, ◌==◌, ℕ, ◌<◌, ◌≤◌, false, refl, ap, arith}
+use Rattle.std.proofs.Common.{◌≡◌, ◌≢◌, ◌∙◌, ◌==◌, ℕ, ◌<◌, ◌≤◌, true, false, refl, ap, arith}
+use Rattle.std.proofs.lemmas.Bool.Decides.{nat_tests}
 use Rattle.std.proofs.lemmas.Bool.{ne_eqb, or_from, cond-true, cond-false}
 use Rattle.dialogue.specs.declared.request.Request.{Request}
 use Rattle.bdos_small.specs.Calls.{takes_fcb}
 use Rattle.bdos_small.specs.Console.{console_answer}
-use Rattle.bdos_small.specs.Small.{Small, replying, with_search, with_input, small_answer}
+use Rattle.bdos_small.specs.Small.{Small, replying, with_search, with_input, fcb_answer, small_answer}
 use Rattle.bdos_small.specs.Files.{search_next, set_random_record}
 
 pub record IsConsoles (f : ℕ) : Type 0 where
@@ -38,6 +39,13 @@ by_console s q h =
     cond-false (takes_fcb f) _ _ h.no_fcb
     ∙ (cond-false (f == 18) _ _ h.no_search
     ∙ cond-false (f == 36) _ _ h.no_record)
+
+-- the functions from 15 to 23 but for 18, and those from 33 to 35, name a file
+takes_them : (f : ℕ) → (f < 15 → ⊥) → f ≢ 18 → (23 < f → f < 33 → ⊥) → (35 < f → ⊥) → takes_fcb f ≡ true
+takes_them f a b d g = grind (arith, nat_tests)
+
+pub by_file : (s : Small) (q : Request) → (q.shape.function < 15 → ⊥) → q.shape.function ≢ 18 → (23 < q.shape.function → q.shape.function < 33 → ⊥) → (35 < q.shape.function → ⊥) → small_answer s q ≡ fcb_answer s q
+by_file s q a b d g = cond-true (takes_fcb q.shape.function) _ _ (takes_them q.shape.function a b d g)
 
 -- what is answered to function 18, and to function 36
 pub by_search : (s : Small) (q : Request) → q.shape.function ≡ 18 → small_answer s q ≡ with_search s (search_next s.disk s.search q)

@@ -2,7 +2,7 @@ use Rattle.std.proofs.Common.{ap, sym, ◌∙◌, arith}
 use Rattle.std.proofs.lemmas.Result.{IfOk-weaker}
 use Rattle.dialogue.specs.Fits.{fits}
 use Rattle.bdos_small.specs.Small.{small_of, replying, with_input, small_answer}
-use Rattle.bdos_small.proofs.ForConsole.{IsConsoles, first_ones, middle_ones, last_ones, by_console, by_search, by_record}
+use Rattle.bdos_small.proofs.ForConsole.{IsConsoles, first_ones, middle_ones, last_ones, by_file, by_console, by_search, by_record}
 use Rattle.bdos_small.proofs.FileFits.{set_random_fits}
 use Rattle.bdos_small.proofs.bdos.Bdos.answer.Goals as goal
 use Rattle.bdos_small.proofs.bdos.Bdos.answer.Goals.{in_default-via-then-request-lt15, in_default-via-else-request-lt15+else-request-lt24+then-request-lt33, in_default-via-else-request-lt15+else-request-lt24+else-request-lt33+else-request-lt36}
@@ -30,3 +30,8 @@ returns-in-18-clause-answer c =
 pub returns-in_ok-set_random_record-in-36-clause-answer : goal.returns-in_ok-set_random_record-in-36-clause-answer
 returns-in_ok-set_random_record-in-36-clause-answer c =
     ap (replying c.args.self.now) c.in_ok-set_random_record-in-36.ensures ∙ sym (by_record c.args.self.now c.args.request.now c.in-36.is)
+
+pub returns-in-15-to-17-clause-answer : goal.returns-in-15-to-17-clause-answer
+returns-in-15-to-17-clause-answer c =
+    let q = c.args.request.now in
+    IfOk-weaker c.of_file.result _ _ (λ a e. e ∙ sym (by_file c.args.self.now q (λ h. omega arith) (λ h. omega arith) (λ h g. grind arith) (λ h. grind arith))) c.of_file.ensures.answer
