@@ -105,9 +105,8 @@ fn operand_at<'a>(alloc: Global, tokens: &'a [Token]) -> Result<(Arg, &'a [Token
 fn text_of(tokens: &[Token]) -> Option<(&[u8], &[Token])>
     ensures { MatchOption result ((bytes : List ℕ) (rest : List Token) → tokens.now ≢ Token.Text bytes ∷ rest) (λ p. tokens.now ≡ Token.Text p.0.now ∷ p.1.now) }
 {
-    let (token, rest) = first(tokens)?;
-    match token {
-        Token::Text(bytes) => Some((bytes.as_slice(), rest)),
+    match tokens {
+        [Token::Text(bytes), rest @ ..] => Some((bytes.as_slice(), rest)),
         _ => None,
     }
 }
@@ -116,9 +115,8 @@ fn text_of(tokens: &[Token]) -> Option<(&[u8], &[Token])>
 fn after_comma(tokens: &[Token]) -> Option<&[Token]>
     ensures { MatchOption result ((rest : List Token) → tokens.now ≢ Token.Comma ∷ rest) (λ rest. tokens.now ≡ Token.Comma ∷ rest.now) }
 {
-    let (token, rest) = first(tokens)?;
-    match token {
-        Token::Comma => Some(rest),
+    match tokens {
+        [Token::Comma, rest @ ..] => Some(rest),
         _ => None,
     }
 }
@@ -127,9 +125,8 @@ fn after_comma(tokens: &[Token]) -> Option<&[Token]>
 fn word_of(tokens: &[Token]) -> Option<(&Name80, &[Token])>
     ensures { MatchOption result ((name : List ℕ) (rest : List Token) → tokens.now ≢ Token.Word name ∷ rest) (λ p. tokens.now ≡ Token.Word p.0.now ∷ p.1.now) }
 {
-    let (token, rest) = first(tokens)?;
-    match token {
-        Token::Word(name) => Some((name, rest)),
+    match tokens {
+        [Token::Word(name), rest @ ..] => Some((name, rest)),
         _ => None,
     }
 }

@@ -226,9 +226,8 @@ pub fn first(tokens: &[Token]) -> Option<(&Token, &[Token])>
 fn after_close(tokens: &[Token]) -> Option<&[Token]>
     ensures { MatchOption result ((rest : List Token) → tokens.now ≢ Token.Close ∷ rest) (λ rest. tokens.now ≡ Token.Close ∷ rest.now) }
 {
-    let (token, rest) = first(tokens)?;
-    match token {
-        Token::Close => Some(rest),
+    match tokens {
+        [Token::Close, rest @ ..] => Some(rest),
         _ => None,
     }
 }

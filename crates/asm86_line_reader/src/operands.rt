@@ -2,27 +2,18 @@
 
 ghost use Rattle.std.specs.Prelude.{◌≡◌, ◌≤◌, ◌∷◌, [], IfOk, MatchOption, length, map, not, option_map};
 ghost use Rattle.std.specs.List.{prefix_len, slice_split};
-ghost use Rattle.asm86_line_reader.specs.Operands.{after_ptr, byte_cell, each, is_closing, is_comma, label_alone, number_alone, operand_in, operands_in, plain_alone, plain_operand, pointer, pointer_alone, word_cell};
+ghost use Rattle.asm86_line_reader.specs.Operands.{byte_cell, each, is_comma, operand_in, operands_in, plain_operand, pointer, word_cell};
 
 use crate::token::{Operand, Token};
-use asm86_line_types::Label;
 use i86::{Ptr, Reg16};
 use std::alloc::{AllocError, Global};
-
-// The first token, and those after it.
-fn first(tokens: &[Token]) -> Option<(Token, &[Token])>
-    ensures { MatchOption result (tokens.now ≡ []) (λ p. tokens.now ≡ p.0 ∷ p.1.now) }
-{
-    let (token, rest) = tokens.split_first()?;
-    Some((*token, rest))
-}
 
 /// The tokens before the first comma and those after it; none where there is no comma.
 pub fn cut(tokens: &[Token]) -> Option<(&[Token], &[Token])>
     ensures { MatchOption result (slice_split is_comma tokens.now ≡ tokens.now ∷ []) (λ p. slice_split is_comma tokens.now ≡ p.0.now ∷ slice_split is_comma p.1.now) }
 {
     let (part, rest) = tokens.split_at(part_len(tokens));
-    let (_, after) = first(rest)?;
+    let (_, after) = rest.split_first()?;
     Some((part, after))
 }
 
@@ -79,25 +70,16 @@ fn each_operand(alloc: Global, parts: &[&[Token]]) -> Result<Option<Vec<Operand>
 pub fn operand_of(tokens: &[Token]) -> Option<Operand>
     ensures { result ≡ operand_in tokens.now }
 {
-    let (token, rest) = first(tokens)?;
-    match token {
-        Token::Byte => byte_cell(after_ptr(rest)?),
-        Token::Word => word_cell(after_ptr(rest)?),
-        Token::Offset => Some(Operand::Offset(label_alone(rest)?)),
-        _ => plain_alone(token, rest),
+    match tokens {
+        [Token::Byte, Token::Ptr, cell @ ..] => byte_cell(cell),
+        [Token::Word, Token::Ptr, cell @ ..] => word_cell(cell),
+        [Token::Offset, Token::Label(label)] => Some(Operand::Offset(*label)),
+        [token] => plain_operand(*token),
+        _ => None,
     }
 }
 
 // An operand of one word or number.
-fn plain_alone(token: Token, rest: &[Token]) -> Option<Operand>
-    ensures { result ≡ plain_alone token rest.now }
-{
-    if !rest.is_empty() {
-        return None;
-    }
-    plain_operand(token)
-}
-
 fn plain_operand(token: Token) -> Option<Operand>
     ensures { result ≡ plain_operand token }
 {
@@ -112,25 +94,13 @@ fn plain_operand(token: Token) -> Option<Operand>
     }
 }
 
-// What stands behind PTR.
-fn after_ptr(tokens: &[Token]) -> Option<&[Token]>
-    ensures { option_map (λ x. x.now) result ≡ after_ptr tokens.now }
-{
-    let (token, rest) = first(tokens)?;
-    match token {
-        Token::Ptr => Some(rest),
-        _ => None,
-    }
-}
-
 // A byte behind `BYTE PTR`.
 fn byte_cell(tokens: &[Token]) -> Option<Operand>
     ensures { result ≡ byte_cell tokens.now }
 {
-    let (token, rest) = first(tokens)?;
-    match token {
-        Token::Dot => Some(Operand::DirectByte(number_alone(rest)?)),
-        Token::Open => Some(Operand::Mem(pointer_alone(rest)?)),
+    match tokens {
+        [Token::Dot, Token::Number(n)] => Some(Operand::DirectByte(*n)),
+        [Token::Open, Token::Reg16(reg), Token::Close] => Some(Operand::Mem(pointer(*reg)?)),
         _ => None,
     }
 }
@@ -139,51 +109,9 @@ fn byte_cell(tokens: &[Token]) -> Option<Operand>
 fn word_cell(tokens: &[Token]) -> Option<Operand>
     ensures { result ≡ word_cell tokens.now }
 {
-    let (token, rest) = first(tokens)?;
-    match token {
-        Token::Dot => Some(Operand::DirectWord(number_alone(rest)?)),
-        _ => None,
-    }
-}
-
-// A number and nothing more.
-fn number_alone(tokens: &[Token]) -> Option<u16>
-    ensures { result ≡ number_alone tokens.now }
-{
     match tokens {
-        [Token::Number(n)] => Some(*n),
+        [Token::Dot, Token::Number(n)] => Some(Operand::DirectWord(*n)),
         _ => None,
-    }
-}
-
-// A label and nothing more.
-fn label_alone(tokens: &[Token]) -> Option<Label>
-    ensures { result ≡ label_alone tokens.now }
-{
-    match tokens {
-        [Token::Label(label)] => Some(*label),
-        _ => None,
-    }
-}
-
-// A register that holds the address of a byte, `]`, and nothing more.
-fn pointer_alone(tokens: &[Token]) -> Option<Ptr>
-    ensures { result ≡ pointer_alone tokens.now }
-{
-    let (token, rest) = first(tokens)?;
-    match token {
-        Token::Reg16(reg) if is_closing(rest) => pointer(reg),
-        _ => None,
-    }
-}
-
-// `]` and nothing more.
-fn is_closing(tokens: &[Token]) -> bool
-    ensures { result ≡ is_closing tokens.now }
-{
-    match tokens {
-        [Token::Close] => true,
-        _ => false,
     }
 }
 

@@ -1,4 +1,5 @@
-use Rattle.std.proofs.Common.{List, All, Bor, ◌∙◌, [], refl, ap, sym, subst, rules, ◌∷◌}
+use Rattle.std.proofs.Common.{List, All, Bor, ◌∙◌, [], refl, ap, sym, subst, ◌∷◌}
+use Rattle.std.proofs.lemmas.Bool.{false≢true}
 use Rattle.std.specs.List.{list_any}
 use Rattle.std.proofs.lemmas.List.{append-nil}
 use Rattle.std.proofs.lemmas.List.Elements.{All-nil, All-push}
@@ -16,18 +17,18 @@ pub returns-then-line-gt-LONGEST_LINE-clause-value : goal.returns-then-line-gt-L
 returns-then-line-gt-LONGEST_LINE-clause-value g c = (refl, refl, long c.if-number-gt-MOST_LINES.false c.if-line-gt-LONGEST_LINE.true)
 
 pub returns-then-is_remark-clause-value : goal.returns-then-is_remark-clause-value
-returns-then-is_remark-clause-value g c = ([], sym (append-nil c.args.found.now.items), remark c.if-number-gt-MOST_LINES.false c.if-line-gt-LONGEST_LINE.false (search rules))
+returns-then-is_remark-clause-value g c = ([], sym (append-nil c.args.found.now.items), remark c.if-number-gt-MOST_LINES.false c.if-line-gt-LONGEST_LINE.false (c.is_remark.ensures.0 c.if-is_remark.true))
 
 pub returns-then-has_bang-clause-value : goal.returns-then-has_bang-clause-value
 returns-then-has_bang-clause-value g c =
     line_from_text g.N.Notation.spelling c.args.number c.args.line.now c.tokens_of.new.tokens.items _ c.in_ok-fault.fault c.args.found.now.items c.read_text.new.found.items c.read_text.result
-    c.if-number-gt-MOST_LINES.false c.if-line-gt-LONGEST_LINE.false (search rules) c.in_ok-fault.ensures.tokens
+    c.if-number-gt-MOST_LINES.false c.if-line-gt-LONGEST_LINE.false (λ remark. false≢true (sym c.if-is_remark.false ∙ c.is_remark.ensures.1 remark)) c.in_ok-fault.ensures.tokens
     (ap targets c.deref-then-has_bang-2.ensures.value ∙ c.in_ok-parts.ensures.parts ∙ ap parts_of c.deref-then-has_bang.ensures.value) c.read_text.ensures.value
 
 pub returns-clause-value : goal.returns-clause-value
 returns-clause-value g c =
     line_from_text g.N.Notation.spelling c.args.number c.args.line.now c.tokens_of.new.tokens.items _ c.in_ok-fault.fault c.args.found.now.items c.read_text-2.new.found.items c.read_text-2.result
-    c.if-number-gt-MOST_LINES.false c.if-line-gt-LONGEST_LINE.false (search rules) c.in_ok-fault.ensures.tokens
+    c.if-number-gt-MOST_LINES.false c.if-line-gt-LONGEST_LINE.false (λ remark. false≢true (sym c.if-is_remark.false ∙ c.is_remark.ensures.1 remark)) c.in_ok-fault.ensures.tokens
     (ap (λ ts. ts ∷ []) c.as_slice.ensures.value ∙ one_part c.tokens_of.new.tokens.items (ap (list_any is_bang) (sym c.deref.ensures.value) ∙ sym c.has_bang.ensures ∙ c.if-has_bang.false)) c.read_text-2.ensures.value
 
 pub read_text-requires-clause-lawful : goal.read_text-requires-clause-lawful
