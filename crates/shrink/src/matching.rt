@@ -109,10 +109,7 @@ fn has_frame(
 {
     cells_are_sorted();
     let image = image_of(alloc, lines)?;
-    match lacks(program, text.statements(), &image) {
-        Some(_) => Ok(false),
-        None => Ok(true),
-    }
+    Ok(lacks(program, text.statements(), &image).is_none())
 }
 
 // The image of lines that have one, so that memory alone can be wanting.
