@@ -8,7 +8,7 @@ use asm80_first_walk::{
 };
 use asm80_source_def::{Meaning, NameKind};
 use asm80_statement_types::{Arg, ReadFault, Stmt80};
-use asm80_values::{Form, Setting, form_of};
+use asm80_values::{Form, FormFault, Setting, form_of};
 use base_types::AddressSet;
 use cells::Cell;
 use std::alloc::{AllocError, Global};
@@ -164,7 +164,8 @@ fn push_made(
             Asked::Columns => push_columns_of(text, &form),
             Asked::Values | Asked::Form => push_form(text, &form),
         },
-        Err(fault) => write!(text, "{fault}"),
+        Err(FormFault::Rule(rule)) => write!(text, "{rule:?}"),
+        Err(FormFault::Memory) => text.push_str("out of memory"),
     }
 }
 
