@@ -135,11 +135,8 @@ fn word_of(tokens: &[Token]) -> Option<(&Name80, &[Token])>
 fn past_number(tokens: &[Token]) -> &[Token]
     ensures { result.now ≡ past_number tokens.now }
 {
-    let Some((token, rest)) = first(tokens) else {
-        return tokens;
-    };
-    match token {
-        Token::Digits(_) => rest,
+    match tokens {
+        [Token::Digits(_), rest @ ..] => rest,
         _ => tokens,
     }
 }
@@ -148,11 +145,8 @@ fn past_number(tokens: &[Token]) -> &[Token]
 fn past_colon(tokens: &[Token]) -> &[Token]
     ensures { result.now ≡ past_colon tokens.now }
 {
-    let Some((token, rest)) = first(tokens) else {
-        return tokens;
-    };
-    match token {
-        Token::Colon => rest,
+    match tokens {
+        [Token::Colon, rest @ ..] => rest,
         _ => tokens,
     }
 }

@@ -152,12 +152,16 @@ fn inverted(alloc: Global, count: usize, e: Expr) -> Result<Expr, AllocError>
 fn term_alone(level: u8, tokens: &[Token]) -> Option<(Expr, &[Token])>
     ensures { IfSome result (λ x. Begins 0 tokens.now (tree_of x.0) x.1.now × Ends level x.1.now) }
 {
-    let (token, rest) = first(tokens)?;
-    if goes_on(level, rest) {
-        return None;
+    match tokens {
+        [token, rest @ ..] => {
+            if goes_on(level, rest) {
+                return None;
+            }
+            let term = term_of(token)?;
+            Some((term, rest))
+        }
+        [] => None,
     }
-    let term = term_of(token)?;
-    Some((term, rest))
 }
 
 // The term that a token is by itself.
@@ -178,11 +182,8 @@ fn term_of(token: &Token) -> Option<Expr>
 fn goes_on(level: u8, tokens: &[Token]) -> bool
     ensures { result ≡ false → Ends level tokens.now }
 {
-    let Some((token, _)) = first(tokens) else {
-        return false;
-    };
-    match token {
-        Token::Op(op) => level_of(*op) <= level,
+    match tokens {
+        [Token::Op(op), ..] => level_of(*op) <= level,
         _ => false,
     }
 }
@@ -202,9 +203,8 @@ fn level_of(op: Two) -> u8
 fn operator_of(level: u8, tokens: &[Token]) -> Option<(Two, &[Token])>
     ensures { MatchOption result (Stops level tokens.now) (λ p. (tokens.now ≡ Token.Op p.0 ∷ p.1.now) × (level_of p.0 ≡ level)) }
 {
-    let (token, rest) = first(tokens)?;
-    match token {
-        Token::Op(op) => {
+    match tokens {
+        [Token::Op(op), rest @ ..] => {
             if level_of(*op) == level {
                 Some((*op, rest))
             } else {

@@ -67,13 +67,15 @@ fn has_reserved_label<N: Notation>(part: &[Token]) -> bool
 fn begins_with_reserved<N: Notation>(tokens: &[Token]) -> bool
     ensures { result ≡ begins_with_reserved N.spelling tokens.now }
 {
-    let Some((token, rest)) = first(tokens) else {
-        return false;
-    };
-    if operates::<N>(token) {
-        begins_with_colon(rest)
-    } else {
-        is_reserved(token)
+    match tokens {
+        [token, rest @ ..] => {
+            if operates::<N>(token) {
+                begins_with_colon(rest)
+            } else {
+                is_reserved(token)
+            }
+        }
+        [] => false,
     }
 }
 
@@ -101,11 +103,8 @@ fn is_reserved(token: &Token) -> bool
 fn begins_with_colon(tokens: &[Token]) -> bool
     ensures { result ≡ begins_with_colon tokens.now }
 {
-    let Some((token, _)) = first(tokens) else {
-        return false;
-    };
-    match token {
-        Token::Colon => true,
+    match tokens {
+        [Token::Colon, ..] => true,
         _ => false,
     }
 }

@@ -4,7 +4,7 @@ ghost use Rattle.asm80_statement_types.specs.Tree.{operand_of};
 ghost use Rattle.asm80_program_types.specs.Program.{IsCoded};
 ghost use Rattle.asm80_values.specs.Settings.{setting_of};
 ghost use Rattle.asm80_source_def.specs.Items.{goal, instruction, word_of};
-ghost use Rattle.asm80_values.specs.Instructions.{register_instruction};
+ghost use Rattle.asm80_values.specs.Instructions.{register_instruction, target_instruction};
 
 use crate::registers::{indirect_of, pair_of, src_of, stack_of};
 use crate::setting::{Setting, byte, code_address, value};
@@ -96,6 +96,20 @@ fn with_register(operation: Operation, arg: &Arg) -> Option<Instr80>
     }
 }
 
+// An instruction with one operand, which is a target, a register or a pair.
+fn with_target(setting: &Setting<'_>, operation: Operation, arg: &Arg) -> Option<Instr80>
+    ensures instr { result ≡ target_instruction (setting_of setting.now) operation (operand_of arg.now) }
+    ensures coded { IfSome result (λ x. IsCoded x) }
+{
+    match operation {
+        Operation::Jmp => Some(Instr80::Jmp(goal(value(setting, arg)))),
+        Operation::Jif(cond) => Some(Instr80::Jif(cond, goal(value(setting, arg)))),
+        Operation::Call => Some(Instr80::Call(goal(value(setting, arg)))),
+        Operation::Cif(cond) => Some(Instr80::Cif(cond, goal(value(setting, arg)))),
+        _ => with_register(operation, arg),
+    }
+}
+
 // An instruction with one operand.
 fn with_one(setting: &Setting<'_>, operation: Operation, arg: &Arg) -> Option<Instr80>
     ensures instr { result ≡ instruction (setting_of setting.now) operation (operand_of arg.now ∷ []) }
@@ -107,14 +121,10 @@ fn with_one(setting: &Setting<'_>, operation: Operation, arg: &Arg) -> Option<In
         Operation::Lhld => Some(Instr80::Lhld(value(setting, arg))),
         Operation::Shld => Some(Instr80::Shld(value(setting, arg))),
         Operation::AluI(op) => Some(Instr80::AluI(op, byte(setting, arg))),
-        Operation::Jmp => Some(Instr80::Jmp(goal(value(setting, arg)))),
-        Operation::Jif(cond) => Some(Instr80::Jif(cond, goal(value(setting, arg)))),
-        Operation::Call => Some(Instr80::Call(goal(value(setting, arg)))),
-        Operation::Cif(cond) => Some(Instr80::Cif(cond, goal(value(setting, arg)))),
         Operation::In => Some(Instr80::In(byte(setting, arg))),
         Operation::Out => Some(Instr80::Out(byte(setting, arg))),
         Operation::Rst => restart(value(setting, arg)),
-        _ => with_register(operation, arg),
+        _ => with_target(setting, operation, arg),
     }
 }
 

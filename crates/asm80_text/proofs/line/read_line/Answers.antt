@@ -1,14 +1,20 @@
-use Rattle.std.proofs.Common.{List, All, Bor, ◌∙◌, [], refl, ap, sym, subst, ◌∷◌}
+use Rattle.std.proofs.Common.{Result, Ok, Err, List, All, Bor, ◌∙◌, [], refl, ap, sym, subst, ◌∷◌}
 use Rattle.std.proofs.lemmas.Bool.{false≢true}
+use Rattle.std.specs.Prelude.{OnOk}
 use Rattle.std.specs.List.{list_any}
 use Rattle.std.proofs.lemmas.List.{append-nil}
 use Rattle.std.proofs.lemmas.List.Elements.{All-nil, All-push}
+use Rattle.asm80_statement_types.specs.declared.fault.ReadFault.{ReadFault}
 use Rattle.asm80_tokens.specs.declared.token.Token.{Token}
 use Rattle.asm80_tokens.specs.Tokens.{IsLawful}
 use Rattle.asm80_text.specs.Line.{is_bang, parts_of, late, long, remark}
 use Rattle.asm80_text.proofs.Once.{line_from_text}
 use Rattle.asm80_text.proofs.Several.{one_part, targets}
 use Rattle.asm80_text.proofs.line.read_line.Goals as goal
+
+on_ok_known : {P : Type 0} (r : Result (Unit {0}) ReadFault) → P → OnOk r P
+on_ok_known (Ok u) known = known
+on_ok_known (Err fault) known = tt
 
 pub returns-then-number-gt-MOST_LINES-clause-value : goal.returns-then-number-gt-MOST_LINES-clause-value
 returns-then-number-gt-MOST_LINES-clause-value g c = (refl, refl, late c.if-number-gt-MOST_LINES.true)
@@ -40,3 +46,15 @@ pub read_text-requires-2-clause-lawful : goal.read_text-requires-2-clause-lawful
 read_text-requires-2-clause-lawful g c =
     let Lawful : Bor (List Token) → Type 0 = λ part. All (IsLawful g.N.Notation.spelling) part.now in
     All-push Lawful [] c.as_slice.result (All-nil Lawful) (subst (All (IsLawful g.N.Notation.spelling)) (sym c.as_slice.ensures.value) c.in_ok-fault.ensures.lawful)
+
+pub returns-then-has_bang-clause-few : goal.returns-then-has_bang-clause-few
+returns-then-has_bang-clause-few g c = on_ok_known c.read_text.result c.if-number-gt-MOST_LINES.false
+
+pub returns-clause-few : goal.returns-clause-few
+returns-clause-few g c = on_ok_known c.read_text-2.result c.if-number-gt-MOST_LINES.false
+
+pub returns-then-has_bang-clause-well_formed : goal.returns-then-has_bang-clause-well_formed
+returns-then-has_bang-clause-well_formed g c = c.read_text.ensures.well_formed
+
+pub returns-clause-well_formed : goal.returns-clause-well_formed
+returns-clause-well_formed g c = c.read_text-2.ensures.well_formed

@@ -1,10 +1,12 @@
-use Rattle.std.proofs.Common.{◌≡◌, ◌==◌, ℕ, [], ◌∷◌, cond, Some, None, sym, ap, ◌∙◌}
-use Rattle.i80.specs.declared.Goal.{Goal}
+use Rattle.std.proofs.Common.{◌≡◌, ◌≢◌, ◌==◌, ℕ, [], ◌∷◌, cond, Some, None, refl, sym, ap, ◌∙◌}
 use Rattle.i80.specs.declared.Instr80.TheVariants as i80
+use Rattle.i80.specs.declared.Op.{Op}
 use Rattle.asm80_statement_types.specs.Tree.{Operand, operand_of}
 use Rattle.asm80_source_def.specs.declared.operation.Operation.{Operation}
-use Rattle.asm80_source_def.specs.Items.{Setting, goal as target, instruction}
+use Rattle.asm80_source_def.specs.declared.operation.Operation.TheVariants as op
+use Rattle.asm80_source_def.specs.Items.{Setting, instruction}
 use Rattle.asm80_values.specs.Settings.{setting_of}
+use Rattle.asm80_values.specs.Instructions.{target_instruction}
 use Rattle.asm80_values.proofs.instruction.with_one.Goals as goal
 
 -- the definition of an operation that is known
@@ -26,18 +28,6 @@ returns-in-Shld-clause-instr c = ap (λ (n : ℕ). Some (i80.Shld n)) c.value-in
 pub returns-in-AluI-clause-instr : goal.returns-in-AluI-clause-instr
 returns-in-AluI-clause-instr c = ap (λ (n : ℕ). Some (i80.AluI c.in-AluI.op n)) c.byte.ensures ∙ of_operation (setting_of c.args.setting.now) (operand_of c.args.arg.now) c.in-AluI.is
 
-pub returns-in-Jmp-clause-instr : goal.returns-in-Jmp-clause-instr
-returns-in-Jmp-clause-instr c = ap (λ (at : Goal). Some (i80.Jmp at)) (c.goal.ensures ∙ ap target c.value-in-Jmp.ensures) ∙ of_operation (setting_of c.args.setting.now) (operand_of c.args.arg.now) c.in-Jmp.is
-
-pub returns-in-Jif-clause-instr : goal.returns-in-Jif-clause-instr
-returns-in-Jif-clause-instr c = ap (λ (at : Goal). Some (i80.Jif c.in-Jif.cond at)) (c.goal-in-Jif.ensures ∙ ap target c.value-in-Jif.ensures) ∙ of_operation (setting_of c.args.setting.now) (operand_of c.args.arg.now) c.in-Jif.is
-
-pub returns-in-Call-clause-instr : goal.returns-in-Call-clause-instr
-returns-in-Call-clause-instr c = ap (λ (at : Goal). Some (i80.Call at)) (c.goal-in-Call.ensures ∙ ap target c.value-in-Call.ensures) ∙ of_operation (setting_of c.args.setting.now) (operand_of c.args.arg.now) c.in-Call.is
-
-pub returns-in-Cif-clause-instr : goal.returns-in-Cif-clause-instr
-returns-in-Cif-clause-instr c = ap (λ (at : Goal). Some (i80.Cif c.in-Cif.cond at)) (c.goal-in-Cif.ensures ∙ ap target c.value-in-Cif.ensures) ∙ of_operation (setting_of c.args.setting.now) (operand_of c.args.arg.now) c.in-Cif.is
-
 pub returns-in-In-clause-instr : goal.returns-in-In-clause-instr
 returns-in-In-clause-instr c = ap (λ (n : ℕ). Some (i80.In n)) c.byte-in-In.ensures ∙ of_operation (setting_of c.args.setting.now) (operand_of c.args.arg.now) c.in-In.is
 
@@ -46,3 +36,64 @@ returns-in-Out-clause-instr c = ap (λ (n : ℕ). Some (i80.Out n)) c.byte-in-Ou
 
 pub returns-in-Rst-clause-instr : goal.returns-in-Rst-clause-instr
 returns-in-Rst-clause-instr c = c.restart.ensures.instr ∙ ap (λ (n : ℕ). cond (n == 0) (Some i80.Rst0) None) c.value-in-Rst.ensures ∙ of_operation (setting_of c.args.setting.now) (operand_of c.args.arg.now) c.in-Rst.is
+
+-- an operation that with_one leaves to with_target
+record IsLeft (o : Operation) : Type 0 where
+  lda : o ≢ op.Lda
+  sta : o ≢ op.Sta
+  lhld : o ≢ op.Lhld
+  shld : o ≢ op.Shld
+  alui : (f : Op) → o ≢ op.AluI f
+  in_ : o ≢ op.In
+  out : o ≢ op.Out
+  rst : o ≢ op.Rst
+
+target_is : (t : Setting) (o : Operation) (a : Operand) → IsLeft o → target_instruction t o a ≡ instruction t o (a ∷ [])
+target_is t op.Org a n = refl
+target_is t op.End a n = refl
+target_is t op.Equ a n = refl
+target_is t op.Set a n = refl
+target_is t op.If a n = refl
+target_is t op.EndIf a n = refl
+target_is t op.Db a n = refl
+target_is t op.Dw a n = refl
+target_is t op.Ds a n = refl
+target_is t (op.Bare i) a n = refl
+target_is t op.Foreign a n = refl
+target_is t op.Mov a n = refl
+target_is t op.Mvi a n = refl
+target_is t op.Lxi a n = refl
+target_is t op.Lda a n = absurd (n.lda refl)
+target_is t op.Sta a n = absurd (n.sta refl)
+target_is t op.Lhld a n = absurd (n.lhld refl)
+target_is t op.Shld a n = absurd (n.shld refl)
+target_is t op.Ldax a n = refl
+target_is t op.Stax a n = refl
+target_is t (op.Alu f) a n = refl
+target_is t (op.AluI f) a n = absurd (n.alui f refl)
+target_is t op.Inr a n = refl
+target_is t op.Dcr a n = refl
+target_is t op.Inx a n = refl
+target_is t op.Dcx a n = refl
+target_is t op.Dad a n = refl
+target_is t op.Push a n = refl
+target_is t op.Pop a n = refl
+target_is t op.Jmp a n = refl
+target_is t (op.Jif f) a n = refl
+target_is t op.Call a n = refl
+target_is t (op.Cif f) a n = refl
+target_is t op.Rst a n = absurd (n.rst refl)
+target_is t op.In a n = absurd (n.in_ refl)
+target_is t op.Out a n = absurd (n.out refl)
+
+pub returns-in_default-clause-instr : goal.returns-in_default-clause-instr
+returns-in_default-clause-instr c = c.with_target.ensures.instr ∙ target_is (setting_of c.args.setting.now) c.args.operation (operand_of c.args.arg.now) (record {
+  lda = c.in_default.not-Lda;
+  sta = c.in_default.not-Sta;
+  lhld = c.in_default.not-Lhld;
+  shld = c.in_default.not-Shld;
+  alui = c.in_default.not-AluI;
+  in_ = c.in_default.not-In;
+  out = c.in_default.not-Out;
+  rst = c.in_default.not-Rst;
+})
