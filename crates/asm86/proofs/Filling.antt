@@ -1,16 +1,18 @@
 -- What is known of the cells while statements are left.
-use Rattle.std.proofs.Common.{◌≡◌, ℕ, ◌+◌, ◌<◌, ◌&&◌, ◌||◌, true, not, List, [], ◌∷◌, ◌++◌, length, drop, get_or, refl, sym, ap, ◌∙◌}
+use Rattle.std.proofs.Common.{◌≡◌, ℕ, ◌+◌, ◌/◌, ◌%◌, ◌<◌, ◌&&◌, ◌||◌, true, not, nat_le, nat_lt, List, [], ◌∷◌, ◌++◌, length, drop, get_or, refl, sym, ap, subst, ◌∙◌, ltb-true, Fits, w16, arith}
 use Rattle.std.proofs.lemmas.List.{drop_more}
 use Rattle.std.proofs.lemmas.List.Sums.{fold-append}
 use Rattle.std.specs.List.{fold}
 use Rattle.std.proofs.lemmas.Bool.{and_parts}
 use Rattle.asm86_line_types.specs.declared.line.Label.{Label}
+use Rattle.asm86_line_types.specs.declared.line.Value16.{Value16}
 use Rattle.asm86_line_types.specs.declared.line.Value16.TheVariants.{Num, Offset}
 use Rattle.asm86_line_types.specs.declared.line.Stmt86.{Stmt86}
 use Rattle.asm86_line_types.specs.declared.line.Stmt86.TheVariants.{Cseg, Dseg, Org, Rb, Db, Dw, Mark, Run, MovOffset, Jmp, Jmps, Jcc, Call, EndText}
 use Rattle.asm86_line_types.specs.declared.line.Line86.{Line86}
-use Rattle.asm86_line_types.specs.Order.{Reading, at_start, may_stand, reading_after, in_order, ends_text, has_no_statement}
+use Rattle.asm86_line_types.specs.Order.{Reading, at_start, in_data, is_free_cell, may_stand, reading_after, in_order, ends_text, has_no_statement}
 use Rattle.asm86_line_types.specs.Image.{statements, put_cell, cells_from}
+use Rattle.asm86.specs.Places.{label_place, word_of_value}
 
 -- the data address after a statement
 abbrev pub address_after : ℕ → Stmt86 → ℕ
@@ -55,6 +57,9 @@ pub record StandsFrom (at : ℕ) (xs : List Stmt86) : Type 0 where
   pub address : reading.at ≡ at
   pub order : in_order reading xs ≡ true
 
+pub stands_first : (at : ℕ) (x : Stmt86) (xs : List Stmt86) → StandsFrom at (x ∷ xs) → (r : Reading) × (r.at ≡ at) × (may_stand r x ≡ true)
+stands_first at x xs h = (h.reading, h.address, (and_parts (may_stand h.reading x) ((not (ends_text x) || has_no_statement xs) && in_order (reading_after h.reading x) xs) h.order).0)
+
 pub stands_rest : (at : ℕ) (x : Stmt86) (xs : List Stmt86) → StandsFrom at (x ∷ xs) → StandsFrom (address_after at x) xs
 stands_rest at x xs h =
     let rest = and_parts (may_stand h.reading x) ((not (ends_text x) || has_no_statement xs) && in_order (reading_after h.reading x) xs) h.order in
@@ -74,3 +79,29 @@ filled_rest off at x xs cells more whole h e =
 -- the statements that are left at a place
 pub left : (lines : List Line86) (i : ℕ) (d : Line86) → i < length lines → statements (drop i lines) ≡ (get_or lines i d).stmt ∷ statements (drop (i + 1) lines)
 left lines i d lt = ap statements (drop_more lines i d lt)
+
+-- the cells of a statement that may stand are within memory
+free_within : (r : Reading) (a : ℕ) → is_free_cell r a ≡ true → Fits w16 a
+free_within r a h = omega (arith, ltb-true a 0x10000 (and_parts (nat_lt a 0x10000) _ (and_parts (nat_le 0x100 a) _ h).1).0)
+
+pub byte_within : (r : Reading) (at n : ℕ) (x : Stmt86) → r.at ≡ at → may_stand r x ≡ true → x ≡ Db n → Fits w16 at
+byte_within r at n x e h is = subst (Fits w16) e (free_within r r.at (and_parts (in_data r.group) (is_free_cell r r.at) (sym (ap (may_stand r) is) ∙ h)).1)
+
+pub word_within : (r : Reading) (at : ℕ) (v : Value16) (x : Stmt86) → r.at ≡ at → may_stand r x ≡ true → x ≡ Dw v → Fits w16 at × Fits w16 (at + 1)
+word_within r at v x e h is =
+    let free = and_parts (is_free_cell r r.at) (is_free_cell r (r.at + 1)) (and_parts (in_data r.group) (is_free_cell r r.at && is_free_cell r (r.at + 1)) (sym (ap (may_stand r) is) ∙ h)).1 in
+    (subst (Fits w16) e (free_within r r.at free.0), subst (λ k. Fits w16 (k + 1)) e (free_within r (r.at + 1) free.1))
+
+-- the two cells of a word
+pub word_put : (labels : List (Label × ℕ)) (at w : ℕ) (v : Value16) (x : Stmt86) (cells one two : List (ℕ × ℕ)) → x ≡ Dw v → w ≡ word_of_value labels v → one ≡ put_cell cells (at, w % 256) → two ≡ put_cell one (at + 1, w / 256)
+    → two ≡ fold put_cell cells (cells_from (label_place labels) at (x ∷ []))
+word_put labels at w (Num n) x cells one two is value low high =
+    high
+    ∙ ap (λ m. put_cell m (at + 1, w / 256)) low
+    ∙ ap (λ k. put_cell (put_cell cells (at, k % 256)) (at + 1, k / 256)) value
+    ∙ ap (λ y. fold put_cell cells (cells_from (label_place labels) at (y ∷ []))) (sym is)
+word_put labels at w (Offset l) x cells one two is value low high =
+    high
+    ∙ ap (λ m. put_cell m (at + 1, w / 256)) low
+    ∙ ap (λ k. put_cell (put_cell cells (at, k % 256)) (at + 1, k / 256)) value
+    ∙ ap (λ y. fold put_cell cells (cells_from (label_place labels) at (y ∷ []))) (sym is)

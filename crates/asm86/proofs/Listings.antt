@@ -2,7 +2,7 @@
 use Rattle.std.proofs.Common.{◌≡◌, ℕ, ◌+◌, ◌<◌, ◌||◌, ◌&&◌, Bool, true, false, not, List, [], ◌∷◌, ◌++◌, take, drop, length, suc, Option, Some, Result, Ok, Err, refl, sym, ap, ◌∙◌, append_assoc}
 use Rattle.std.proofs.Math.Seq.{split_at}
 use Rattle.std.proofs.Math.ListN.{get_or}
-use Rattle.std.proofs.lemmas.List.{map-append}
+use Rattle.std.proofs.lemmas.List.{map-append, take_more}
 use Rattle.std.proofs.lemmas.Result.{err_from_is_err_and}
 use Rattle.std.specs.Result.{IsErrAnd}
 use Rattle.asm86_line_types.specs.declared.line.Line86.{Line86}
@@ -56,6 +56,15 @@ more_fails n i ss d old mid new (Line m rule) e lt h =
 
 pub add_fails : (n i : ℕ) (ss : List Stmt86) (d : Stmt86) (old mid new : Listing) (f : TextFault) (r : Result (Unit {0}) TextFault) → mid.lines.items ≡ old.lines.items ++ lines_of_number n (take i ss) → i < length ss → ListsMore n (get_or ss i d ∷ []) mid new (Err f) → IsErrAnd r (λ e. e ≡ f) → ListsMore n ss old new r
 add_fails n i ss d old mid new f r e lt h p = let q = err_from_is_err_and r p in rw (q.1, q.2) (more_fails n i ss d old mid new f e lt h)
+
+-- one statement more
+pub add_more : (n i : ℕ) (ss : List Stmt86) (d : Stmt86) (start old new : List Line86) → old ≡ start ++ lines_of_number n (take i ss) → i < length ss → new ≡ old ++ lines_of_number n (get_or ss i d ∷ []) → new ≡ start ++ lines_of_number n (take (i + 1) ss)
+add_more n i ss d start old new e lt h =
+    h
+    ∙ ap (λ (t : List Line86). t ++ lines_of_number n (get_or ss i d ∷ [])) e
+    ∙ append_assoc start (lines_of_number n (take i ss)) (lines_of_number n (get_or ss i d ∷ []))
+    ∙ ap (λ (t : List Line86). start ++ t) (sym (numbered-append n (take i ss) (get_or ss i d ∷ [])))
+    ∙ ap (λ (t : List Stmt86). start ++ lines_of_number n t) (sym (take_more ss i d lt))
 
 -- what the exits of a `?` in the reading of a line return
 pub number_fails : (line : List ℕ) (old new : Listing) (f : TextFault) (r : Result (Unit {0}) TextFault) → f ≡ Memory → IsErrAnd r (λ e. e ≡ f) → ListsLine line old new r

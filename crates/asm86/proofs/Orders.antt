@@ -103,3 +103,9 @@ at_first order g c d a e f = record {
   place = record { group = rw g refl; code_came = c; data_came = d; at = a; filled = λ b lt. f b };
   ended = e;
 }
+
+-- END alone ends the text
+pub code_ends_nothing : (x : Stmt86) (ended : Bool) → (x ≡ EndText → ⊥) → ended ≡ (ended || ends_text x)
+code_ends_nothing x true h = refl
+code_ends_nothing EndText false h = absurd (h refl)
+code_ends_nothing _ false h = refl

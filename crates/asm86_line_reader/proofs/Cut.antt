@@ -1,5 +1,5 @@
 -- Tokens that are cut at their first comma, and the operands of one or two parts.
-use Rattle.std.proofs.Common.{◌≡◌, ℕ, suc, ◌+◌, ◌<◌, List, [], ◌∷◌, ◌++◌, true, false, not, eqb, length, take, drop, Option, Some, None, Bor, MatchOption, is_some, option_and_then, Ok, Err, refl, ap, ap₂, sym, ◌∙◌, inl, inr, arith}
+use Rattle.std.proofs.Common.{◌≡◌, ℕ, suc, ◌+◌, ◌<◌, List, [], ◌∷◌, ◌++◌, true, false, not, eqb, length, take, drop, Option, Some, None, Bor, MatchOption, is_some, option_and_then, Err, refl, ap, ap₂, sym, ◌∙◌, inl, inr, arith}
 use Rattle.std.specs.List.{prefix_len, slice_split, onto_first}
 use Rattle.std.proofs.lemmas.Bool.{cases_Bool, eqb-true}
 use Rattle.std.proofs.lemmas.List.{take-append-drop}
@@ -11,7 +11,7 @@ use Rattle.asm86_line_reader.specs.declared.token.Operation.{Operation}
 use Rattle.asm86_line_reader.specs.declared.token.Operand.{Operand}
 use Rattle.asm86_line_reader.specs.Operands.{each, is_comma, operand_in, operands_in}
 use Rattle.asm86_line_reader.specs.Forms.{single}
-use Rattle.asm86_line_reader.specs.Results.{checked, or_m2}
+use Rattle.asm86_line_reader.specs.Results.{checked}
 use Rattle.asm86_line_reader.proofs.Each.{both}
 
 abbrev pub part_len : List Token → ℕ
@@ -105,15 +105,6 @@ pub too_many : (o : Operation) (ts p r q after : List Token) → eqb (length ts)
 too_many o ts p r q after some e more =
     let last : 0 < length (slice_split is_comma after) = omega (arith, length-slice_split is_comma after) in
     ap (option_and_then (single o)) (in_parts ts some ∙ ap (each operand_in) (e ∙ ap (λ parts. p ∷ parts) more)) ∙ many o p q (slice_split is_comma after) last
-
--- what is read of the tokens of an operand
-pub read_none : {X : Type 0} (a : Option X) (rule : TextRule) → Err rule ≡ or_m2 a → (a ≡ None) × (rule ≡ M2)
-read_none None rule e = (refl, cc)
-read_none (Some x) rule e = absurd cc
-
-pub read_some : {X : Type 0} (a : Option X) (x : X) → Ok x ≡ or_m2 a → a ≡ Some x
-read_some None x e = absurd cc
-read_some (Some y) x e = let same : y ≡ x = cc in ap Some same
 
 pub fails_with_m2 : (o : Operation) (ts : List Token) (rule : TextRule) → operands_in ts ≡ None → rule ≡ M2 → Err rule ≡ checked (option_and_then (single o) (operands_in ts))
 fails_with_m2 o ts rule none is = ap Err is ∙ ap (λ os. checked (option_and_then (single o) os)) (sym none)

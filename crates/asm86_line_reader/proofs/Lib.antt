@@ -12,4 +12,3 @@ mod Pieces
 pub mod ReadBack
 mod Tables
 mod WrittenWords
-pub mod Singles

@@ -3,12 +3,12 @@
 ghost use Rattle.std.specs.Prelude.{◌≡◌, IsTrue, is_some, option_and_then};
 ghost use Rattle.std.specs.List.{list_all};
 ghost use Rattle.asm86_line_reader.specs.Forms.{formed, items_of, single};
-ghost use Rattle.asm86_line_reader.specs.Operands.{each, operand_in, operands_in};
-ghost use Rattle.asm86_line_reader.specs.Results.{AnswersLine, all_checked, checked, item_of, or_m2};
+ghost use Rattle.asm86_line_reader.specs.Operands.{each, operands_in};
+ghost use Rattle.asm86_line_reader.specs.Results.{AnswersLine, all_checked, checked, item_of};
 
 use crate::bytes::byte;
 use crate::fault::LineFault;
-use crate::forms::single;
+use crate::forms::{bare, with_one, with_two};
 use crate::operands::{cut, operand_of, operands_of};
 use crate::token::{Operand, Operation, Token};
 use asm86_line_types::{Stmt86, TextRule, Value16};
@@ -45,21 +45,21 @@ fn one(operation: Operation, tokens: &[Token]) -> Result<Stmt86, TextRule>
     ensures { result ≡ checked (option_and_then (single operation) (operands_in tokens.now)) }
 {
     if tokens.is_empty() {
-        return single(operation, &[]);
+        return bare(operation);
     }
     let Some((first, rest)) = cut(tokens) else {
-        return single(operation, &[operand(tokens)?]);
+        return match operand_of(tokens) {
+            Some(operand) => with_one(operation, operand),
+            None => Err(TextRule::M2),
+        };
     };
     if cut(rest).is_some() {
         return Err(TextRule::M2);
     }
-    single(operation, &[operand(first)?, operand(rest)?])
-}
-
-fn operand(tokens: &[Token]) -> Result<Operand, TextRule>
-    ensures { result ≡ or_m2 (operand_in tokens.now) }
-{
-    operand_of(tokens).ok_or(TextRule::M2)
+    match (operand_of(first), operand_of(rest)) {
+        (Some(first), Some(second)) => with_two(operation, first, second),
+        _ => Err(TextRule::M2),
+    }
 }
 
 // The statements of items of a size.

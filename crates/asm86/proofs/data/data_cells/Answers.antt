@@ -3,7 +3,7 @@ use Rattle.std.specs.List.{fold}
 use Rattle.asm86_line_types.specs.declared.line.Stmt86.TheVariants.{Cseg}
 use Rattle.asm86_line_types.specs.Image.{statements, put_cell, cells_from, by_address}
 use Rattle.asm86.specs.Places.{label_place}
-use Rattle.asm86.proofs.Filling.{StandsFrom, stands_rest, filled_rest, left}
+use Rattle.asm86.proofs.Filling.{StandsFrom, stands_first, stands_rest, filled_rest, left}
 use Rattle.asm86.proofs.data.data_cells.Goals as goal
 
 pub loop-line-preserved : goal.loop-line-preserved
@@ -25,3 +25,10 @@ loop-line-preserved c =
           (ap (λ xs. fold put_cell c.loop-line.cells.entries (cells_from off c.loop-line.at xs)) (sym e) ∙ c.loop-line.invariant.cells)
           c.in_ok-at.ensures.cells;
     }
+
+pub put-requires-clause-stands : goal.put-requires-clause-stands
+put-requires-clause-stands c =
+    let lines = c.args.lines.now in
+    let i = c.loop-line.line-index in
+    let e = left lines i (record { line = 0; stmt = Cseg }) c.loop-line-test.true in
+    stands_first c.loop-line.at (get_or lines i (record { line = 0; stmt = Cseg })).stmt (statements (drop (i + 1) lines)) (subst (StandsFrom c.loop-line.at) e c.loop-line.invariant.stands)
