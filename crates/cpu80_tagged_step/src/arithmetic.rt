@@ -6,8 +6,7 @@ ghost use Rattle.base_arithmetic_def.specs.Arithmetic.{as_bit, turned_left, turn
 use crate::area::Area;
 use crate::draft::Draft;
 use crate::numbers::{
-    address_in, adjusted, byte_flags, carry_in, is_excepted, known_flag, number, outcome,
-    outcome_flags,
+    address_in, adjusted, byte_flags, carry_in, is_excepted, number, outcome, outcome_flags,
 };
 use cells::{Cell, Rule};
 use dialogue::join;
@@ -60,8 +59,9 @@ impl Draft<'_> {
         ensures row { IsRow (alu_with (state_of_draft self.old) op cell) result (state_of_draft self.old) (state_of_draft self.new) }
         ensures memory { self.new.memory.now ≡ self.old.memory.now }
     {
-        let x = number(self.registers.a, Rule::P5)?;
-        let y = number(cell, Rule::P5)?;
+        let (Cell::Num(x), Cell::Num(y)) = (self.registers.a, cell) else {
+            return Err(Rule::P5);
+        };
         let carry = carry_in(op, self.flags)?;
         if !matches!(op, Op::Cmp) {
             self.set_a(Cell::Num(outcome(op, x, y, carry)));
@@ -148,9 +148,10 @@ impl Draft<'_> {
     fn pair_number(&self, pair: Pair) -> Result<u16, Rule>
         ensures { result ≡ pair_num (state_of_draft self.now) pair }
     {
-        let high = number(self.high(pair), Rule::P5)?;
-        let low = number(self.low(pair), Rule::P5)?;
-        Ok(join(high, low))
+        match (self.high(pair), self.low(pair)) {
+            (Cell::Num(high), Cell::Num(low)) => Ok(join(high, low)),
+            _ => Err(Rule::P5),
+        }
     }
 
     /// INX adds 1, DCX adds 0FFFFH. No flag changes.
@@ -180,9 +181,12 @@ impl Draft<'_> {
         ensures row { IsRow (daa (state_of_draft self.old)) result (state_of_draft self.old) (state_of_draft self.new) }
         ensures memory { self.new.memory.now ≡ self.old.memory.now }
     {
-        let x = number(self.registers.a, Rule::P5)?;
-        let half = known_flag(self.flags.ac)?;
-        let carry = known_flag(self.flags.cy)?;
+        let Cell::Num(x) = self.registers.a else {
+            return Err(Rule::P5);
+        };
+        let (Some(half), Some(carry)) = (self.flags.ac, self.flags.cy) else {
+            return Err(Rule::P6);
+        };
         if is_excepted(x, half, carry) {
             return Err(Rule::P7);
         }
@@ -207,7 +211,9 @@ impl Draft<'_> {
         ensures row { IsRow (cmc (state_of_draft self.old)) result (state_of_draft self.old) (state_of_draft self.new) }
         ensures memory { self.new.memory.now ≡ self.old.memory.now }
     {
-        let carry = known_flag(self.flags.cy)?;
+        let Some(carry) = self.flags.cy else {
+            return Err(Rule::P6);
+        };
         self.set_cy(!carry);
         Ok(())
     }
@@ -226,7 +232,9 @@ impl Draft<'_> {
         ensures row { IsRow (rlc (state_of_draft self.old)) result (state_of_draft self.old) (state_of_draft self.new) }
         ensures memory { self.new.memory.now ≡ self.old.memory.now }
     {
-        let x = number(self.registers.a, Rule::P5)?;
+        let Cell::Num(x) = self.registers.a else {
+            return Err(Rule::P5);
+        };
         self.turn(left(x, high_bit(x)), high_bit(x));
         Ok(())
     }
@@ -236,7 +244,9 @@ impl Draft<'_> {
         ensures row { IsRow (rrc (state_of_draft self.old)) result (state_of_draft self.old) (state_of_draft self.new) }
         ensures memory { self.new.memory.now ≡ self.old.memory.now }
     {
-        let x = number(self.registers.a, Rule::P5)?;
+        let Cell::Num(x) = self.registers.a else {
+            return Err(Rule::P5);
+        };
         self.turn(right(x, low_bit(x)), low_bit(x));
         Ok(())
     }
@@ -246,8 +256,12 @@ impl Draft<'_> {
         ensures row { IsRow (ral (state_of_draft self.old)) result (state_of_draft self.old) (state_of_draft self.new) }
         ensures memory { self.new.memory.now ≡ self.old.memory.now }
     {
-        let x = number(self.registers.a, Rule::P5)?;
-        let carry = known_flag(self.flags.cy)?;
+        let Cell::Num(x) = self.registers.a else {
+            return Err(Rule::P5);
+        };
+        let Some(carry) = self.flags.cy else {
+            return Err(Rule::P6);
+        };
         self.turn(left(x, carry), high_bit(x));
         Ok(())
     }
@@ -257,8 +271,12 @@ impl Draft<'_> {
         ensures row { IsRow (rar (state_of_draft self.old)) result (state_of_draft self.old) (state_of_draft self.new) }
         ensures memory { self.new.memory.now ≡ self.old.memory.now }
     {
-        let x = number(self.registers.a, Rule::P5)?;
-        let carry = known_flag(self.flags.cy)?;
+        let Cell::Num(x) = self.registers.a else {
+            return Err(Rule::P5);
+        };
+        let Some(carry) = self.flags.cy else {
+            return Err(Rule::P6);
+        };
         self.turn(right(x, carry), low_bit(x));
         Ok(())
     }

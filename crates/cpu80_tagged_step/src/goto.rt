@@ -5,7 +5,6 @@ ghost use Rattle.cpu80_tagged_def.specs.Call.{place_in};
 
 use crate::area::Area;
 use crate::draft::{Draft, Word};
-use crate::numbers::known_flag;
 use crate::turn::{Return, Turn};
 use cells::{Cell, Cond, Place, Rule};
 use i80::Goal;
@@ -21,7 +20,6 @@ pub fn place_named(area: &Area, high: Cell, low: Cell) -> Result<Place, Rule>
 }
 
 impl Draft<'_> {
-    ghost use Rattle.cpu80_tagged_def.specs.Effect.{known};
     ghost use Rattle.cells.specs.Conditions.{holds};
     ghost use Rattle.cpu80_tagged_def.specs.State.{State80};
     ghost use Rattle.cpu80_tagged_def.specs.Call.{popped_return, return_after};
@@ -146,24 +144,18 @@ impl Draft<'_> {
         }
     }
 
-    // Whether a condition holds: P6 where its flag is unknown.
-    fn condition(&self, cond: Cond) -> Result<bool, Rule>
-        ensures { result ≡ known (holds self.now.flags cond) }
-    {
-        known_flag(self.flags.holds(cond))
-    }
-
-    /// A conditional jump.
+    /// A conditional jump: P6 where the flag of its condition is unknown.
     pub fn jump_if(&mut self, area: &Area, cond: Cond, goal: Goal, after: u16) -> Result<Turn, Rule>
         requires { IsFresh self.old }
         ensures answer { answer_of_turn area.now.program.now (state_of_draft self.old) result (state_of_draft self.new) ≡ where_holds area.now.program.now (state_of_draft self.old) after (holds self.old.flags cond) (jump area.now.program.now (state_of_draft self.old) goal) }
         ensures asking { IsAsking area.now.program.now (state_of_draft self.old) (popped_return area.now.program.now (state_of_draft self.old)) result }
         ensures memory { self.new.memory.now ≡ self.old.memory.now }
     {
-        if self.condition(cond)? {
-            return self.jump(area, goal);
+        match self.flags.holds(cond) {
+            Some(true) => self.jump(area, goal),
+            Some(false) => self.go_to(area, after),
+            None => Err(Rule::P6),
         }
-        self.go_to(area, after)
     }
 
     /// A conditional call.
@@ -173,10 +165,11 @@ impl Draft<'_> {
         ensures asking { IsAsking area.now.program.now (state_of_draft self.old) (return_after area.now.program.now (state_of_draft self.old) after) result }
         ensures memory { self.new.memory.now ≡ self.old.memory.now }
     {
-        if self.condition(cond)? {
-            return self.call(area, goal, after);
+        match self.flags.holds(cond) {
+            Some(true) => self.call(area, goal, after),
+            Some(false) => self.go_to(area, after),
+            None => Err(Rule::P6),
         }
-        self.go_to(area, after)
     }
 
     /// A conditional return.
@@ -186,9 +179,10 @@ impl Draft<'_> {
         ensures nothing_asked { AsksNothing result }
         ensures memory { self.new.memory.now ≡ self.old.memory.now }
     {
-        if self.condition(cond)? {
-            return self.go_back(area);
+        match self.flags.holds(cond) {
+            Some(true) => self.go_back(area),
+            Some(false) => self.go_to(area, after),
+            None => Err(Rule::P6),
         }
-        self.go_to(area, after)
     }
 }

@@ -4,7 +4,7 @@ ghost use Rattle.base_arithmetic_def.specs.Arithmetic.{daa_result, daa_carry, da
 ghost use Rattle.cpu80_tagged_def.specs.State.{num_of, num_or};
 ghost use Rattle.cpu80_tagged_def.specs.Memory.{address};
 ghost use Rattle.base_arithmetic_def.specs.Operations.{flags_by, result_of, flags_of};
-ghost use Rattle.cpu80_tagged_def.specs.Effect.{known, carry_for};
+ghost use Rattle.cpu80_tagged_def.specs.Effect.{carry_for};
 
 use cells::{Cell, Flags, Rule};
 use dialogue::join;
@@ -34,28 +34,22 @@ pub fn number(cell: Cell, rule: Rule) -> Result<u8, Rule>
 pub fn address_in(high: Cell, low: Cell) -> Result<u16, Rule>
     ensures { result ≡ address high low }
 {
-    let high = number(high, Rule::P8)?;
-    let low = number(low, Rule::P8)?;
-    Ok(join(high, low))
-}
-
-/// A flag that is read has to be known: P6.
-pub fn known_flag(flag: Option<bool>) -> Result<bool, Rule>
-    ensures { result ≡ known flag }
-{
-    match flag {
-        Some(value) => Ok(value),
-        None => Err(Rule::P6),
+    match (high, low) {
+        (Cell::Num(high), Cell::Num(low)) => Ok(join(high, low)),
+        _ => Err(Rule::P8),
     }
 }
 
-/// The carry that an operation takes: CY for ADC and SBB, else 0.
+/// The carry that an operation takes: CY for ADC and SBB (P6 where it is unknown), else 0.
 pub fn carry_in(op: Op, flags: Flags) -> Result<u8, Rule>
     ensures value { result ≡ carry_for op flags }
     ensures bit { IfOk result (λ c. c ≤ 1) }
 {
     match op {
-        Op::Adc | Op::Sbb => Ok(u8::from(known_flag(flags.cy)?)),
+        Op::Adc | Op::Sbb => match flags.cy {
+            Some(carry) => Ok(u8::from(carry)),
+            None => Err(Rule::P6),
+        },
         Op::Add | Op::Sub | Op::Ana | Op::Xra | Op::Ora | Op::Cmp => Ok(0),
     }
 }

@@ -4,9 +4,8 @@ ghost use Rattle.dialogue.specs.declared.request.Event.TheVariants.{In as AskedI
 
 use crate::area::Area;
 use crate::draft::Draft;
-use crate::numbers::number;
 use crate::turn::{Question, Turn};
-use cells::Rule;
+use cells::{Cell, Rule};
 
 impl Draft<'_> {
     ghost use Rattle.cpu80_tagged_def.specs.Call.{return_after};
@@ -31,7 +30,9 @@ impl Draft<'_> {
         ensures asking { IsAsking area.now.program.now (state_of_draft self.now) (return_after area.now.program.now (state_of_draft self.now) after) result }
     {
         let back = self.return_after(area, after)?;
-        let byte = number(self.registers.a, Rule::P10)?;
+        let Cell::Num(byte) = self.registers.a else {
+            return Err(Rule::P10);
+        };
         Ok(Turn::Asked(Question::Out(port, byte), back))
     }
 }

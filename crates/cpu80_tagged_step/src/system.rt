@@ -6,7 +6,7 @@ use crate::draft::Draft;
 use crate::numbers::number_in;
 use crate::sight::{Sight, is_just_below};
 use crate::turn::{Question, Return, Turn};
-use cells::Rule;
+use cells::{Cell, Rule};
 use dialogue::{Shape, row_of, shape_of};
 
 /// The function that ends a program.
@@ -44,7 +44,7 @@ impl Draft<'_> {
         ensures answer { answer_of_turn area.now.program.now (state_of_draft self.now) result (state_of_draft self.now) ≡ call_system area.now.program.now (state_of_draft self.now) (returns_in back) }
         ensures asking { IsAsking area.now.program.now (state_of_draft self.now) (returns_in back) result }
     {
-        let Some(function) = number_in(self.registers.c) else {
+        let Cell::Num(function) = self.registers.c else {
             return Err(Rule::P9);
         };
         if row_of(function).is_none() {

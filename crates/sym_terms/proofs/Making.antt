@@ -1,12 +1,12 @@
 -- What the makers use of one another.
-use Rattle.std.proofs.Common.{◌≡◌, ℕ, ◌<◌, ◌==◌, ◌&&◌, ◌||◌, not, Bool, true, false, cond, List, [], ◌∷◌, Some, None, refl, sym, ap, ap₂, ◌∙◌, arith}
+use Rattle.std.proofs.Common.{◌≡◌, ℕ, ◌<◌, ◌==◌, ◌&&◌, ◌||◌, not, Bool, true, false, cond, List, [], ◌∷◌, Option, Some, None, refl, sym, ap, ap₂, ◌∙◌, arith}
 use Rattle.std.proofs.lemmas.Bool.{eqb-true, eq-eqb}
 use Rattle.xlt_pool.specs.Contents.{Contents}
 use Rattle.sym_terms.specs.declared.head.Term.{Term as TermId}
 use Rattle.sym_terms.specs.declared.head.Head.{Head}
-use Rattle.sym_terms.specs.declared.head.Head.TheVariants.{Num as NumHead, Alu as AluHead, Flag as FlagHead, Sum16 as Sum16Head, High as HighHead, Low as LowHead, Join as JoinHead, FlagByte as FlagByteHead, Bit as BitHead, Turn as TurnHead, Turned as TurnedHead, Adjust as AdjustHead}
+use Rattle.sym_terms.specs.declared.head.Head.TheVariants.{Num as NumHead, Alu as AluHead, Flag as FlagHead, Sum16 as Sum16Head, High as HighHead, Low as LowHead, Join as JoinHead, FlagByte as FlagByteHead, Bit as BitHead, Turn as TurnHead, Turned as TurnedHead, Adjust as AdjustHead, Unknown as UnknownHead}
 use Rattle.sym_terms.specs.Term.{Term, Num, Sum16, High, Low, Join, FlagByte, is_open, is_word, is_adjusted, same_term, Unknown, Turn, Turned}
-use Rattle.sym_terms.specs.Making.{IsTermMade, regrouped, plus, join, turn, turn_or_turned}
+use Rattle.sym_terms.specs.Making.{IsTermMade, regrouped, plus, sum_of, high, low, join, turn, turn_or_turned}
 use Rattle.sym_terms.specs.Heads.{operands, number_of_id, term_of}
 use Rattle.sym_terms.specs.Trees.{tree_of_head, entries_of, tree_in, StandsFor, IsGiven, AreGiven, PoolGrows, Makes, MakesRest, AreTerms}
 use Rattle.sym_terms.proofs.Equal.{same_term-true, same_term_refl}
@@ -159,3 +159,33 @@ pub gathered_plain : (old : Contents) (h : Head) (n : ℕ) → ((m : ℕ) → h 
 gathered_plain old (NumHead m) n d f = absurd (d m refl)
 gathered_plain old (Sum16Head a b) n d f = absurd (f a b refl)
 gathered_plain old h n d f = refl
+
+-- a half is looked for in a number, in a Join, and where the word is not known
+
+pub high_plain : (held : Contents) (h : Head) → ((m : ℕ) → h ≡ NumHead m → ⊥) → ((a b : TermId) → h ≡ JoinHead a b → ⊥) → ((c : TermId) → h ≡ TurnedHead c → ⊥) → (h ≡ UnknownHead → ⊥) → high (tree_of_head (entries_of held.nodes) h) ≡ High (tree_of_head (entries_of held.nodes) h)
+high_plain held (NumHead m) n j t u = absurd (n m refl)
+high_plain held (JoinHead a b) n j t u = absurd (j a b refl)
+high_plain held (TurnedHead c) n j t u = absurd (t c refl)
+high_plain held UnknownHead n j t u = absurd (u refl)
+high_plain held h n j t u = refl
+
+pub low_plain : (held : Contents) (h : Head) → ((m : ℕ) → h ≡ NumHead m → ⊥) → ((a b : TermId) → h ≡ JoinHead a b → ⊥) → ((c : TermId) → h ≡ TurnedHead c → ⊥) → (h ≡ UnknownHead → ⊥) → low (tree_of_head (entries_of held.nodes) h) ≡ Low (tree_of_head (entries_of held.nodes) h)
+low_plain held (NumHead m) n j t u = absurd (n m refl)
+low_plain held (JoinHead a b) n j t u = absurd (j a b refl)
+low_plain held (TurnedHead c) n j t u = absurd (t c refl)
+low_plain held UnknownHead n j t u = absurd (u refl)
+low_plain held h n j t u = refl
+
+-- a word is added to another that is no number
+
+pub sum_plain : (held : Contents) (a : Term) (h : Head) → ((m : ℕ) → h ≡ NumHead m → ⊥) → sum_of a (tree_of_head (entries_of held.nodes) h) ≡ Sum16 a (tree_of_head (entries_of held.nodes) h)
+sum_plain held a (NumHead m) n = absurd (n m refl)
+sum_plain held a h n = refl
+
+pub makes_more : (old new : Contents) (tree : Term) (made : Option TermId) → Makes old new 1 tree made → Makes old new 2 tree made
+makes_more old new tree made m = record {
+  grows = more old new 1 2 (omega arith) m.grows;
+  gives = m.gives;
+  room = λ h. m.room (omega arith);
+  terms = m.terms;
+}

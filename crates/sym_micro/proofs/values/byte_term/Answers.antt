@@ -1,17 +1,30 @@
-use Rattle.std.proofs.Common.{◌≡◌, ap, sym, Option, Some}
+use Rattle.std.proofs.Common.{◌≡◌, ap, refl, subst, sym, Option, Some}
+use Rattle.i80.specs.declared.Op.{Op}
+use Rattle.i80.specs.declared.Op.TheVariants.{Cmp}
 use Rattle.sym_terms.specs.declared.head.Term.{Term as TermId}
 use Rattle.sym_terms.specs.Making.{half_of}
-use Rattle.sym_terms.specs.Trees.{Makes}
+use Rattle.sym_terms.specs.Trees.{tree_in, IsGiven, Makes}
 use Rattle.xlt_pool.specs.Contents.{Contents}
+use Rattle.sym_block_def.specs.Block80.{a_after}
 use Rattle.sym_micro.specs.declared.micro.ByteValue.{ByteValue}
+use Rattle.sym_micro.specs.declared.micro.ByteValue.TheVariants.{After}
 use Rattle.sym_micro.specs.declared.run.Run.{Run}
 use Rattle.sym_micro.specs.Machine.{byte_value}
-use Rattle.sym_micro.specs.Stands.{machine_of}
+use Rattle.sym_micro.specs.Stands.{RunIsGiven, id_after, machine_of}
 use Rattle.sym_micro.proofs.Ready.{byte_here, byte_tree_here, word_here, word_tree_here, made_already, makes_same}
 use Rattle.sym_micro.proofs.values.byte_term.Goals as goal
 
 of_arm : {value arm : ByteValue} (old new : Contents) (r : Run) (made : Option TermId) → value ≡ arm → Makes old new 1 (byte_value (machine_of old r) arm) made → Makes old new 1 (byte_value (machine_of old r) value) made
 of_arm old new r made is h = makes_same old new _ _ made (ap (byte_value (machine_of old r)) (sym is)) h
+
+-- what A holds after an operation
+after_given : (pool : Contents) (r : Run) (op : Op) → RunIsGiven pool r → IsGiven pool (id_after op r)
+after_given pool r Cmp given = given.held.a
+after_given pool r op given = given.result
+
+after_tree : (pool : Contents) (r : Run) (op : Op) → tree_in pool (id_after op r) ≡ a_after op (tree_in pool r.held.a) (tree_in pool r.result)
+after_tree pool r Cmp = refl
+after_tree pool r op = refl
 
 pub returns-in-Of-clause-made : goal.returns-in-Of-clause-made
 returns-in-Of-clause-made c =
@@ -42,3 +55,23 @@ returns-in-Half-clause-made c =
 
 pub returns-in-Loaded-clause-made : goal.returns-in-Loaded-clause-made
 returns-in-Loaded-clause-made c = of_arm c.args.terms.now c.loaded.new.self c.args.run.now c.loaded.result c.in-Loaded.is c.loaded.ensures
+
+pub returns-in-Result-clause-made : goal.returns-in-Result-clause-made
+returns-in-Result-clause-made c =
+    let old = c.args.terms.now in
+    let r = c.args.run.now in
+    of_arm old old r (Some r.result) c.in-Result.is (made_already old _ r.result c.requires.terms c.requires.given.result refl)
+
+pub returns-in-After-clause-made : goal.returns-in-After-clause-made
+returns-in-After-clause-made c =
+    let old = c.args.terms.now in
+    let r = c.args.run.now in
+    let op = c.in-After.op in
+    let made = made_already old _ (id_after op r) c.requires.terms (after_given old r op c.requires.given) (after_tree old r op) in
+    of_arm old old r (Some c.after.result) c.in-After.is (subst (λ t. Makes old old 1 (byte_value (machine_of old r) (After op)) (Some t)) (sym c.after.ensures) made)
+
+pub returns-in-Turned-clause-made : goal.returns-in-Turned-clause-made
+returns-in-Turned-clause-made c =
+    let old = c.args.terms.now in
+    let r = c.args.run.now in
+    of_arm old old r (Some r.turned) c.in-Turned.is (made_already old _ r.turned c.requires.terms c.requires.given.turned refl)

@@ -35,3 +35,6 @@ flags-requires-clause-cy c = flag_at c.args.self.now c.args.flags 4 _ c.requires
 pub returns : goal.returns
 returns c =
     subst (λ tree. Makes c.args.self.now c.flags.new.self 2 tree c.flags.result) (read_flags c.args.self.now c.args.flags _ (omega arith)) c.flags.ensures
+
+pub flags-requires-clause-terms : goal.flags-requires-clause-terms
+flags-requires-clause-terms c = c.mark-mark.ensures.terms
