@@ -15,17 +15,19 @@ pub const NAMES: &str = "names";
 pub fn asked<'a>(alloc: Global, command: CommandName) -> Result<Command<'a>, AllocError>
     ensures { IfOk result (λ asked_of. app_of asked_of ≡ clap_command command) }
 {
-    let with_names = bare_command(alloc, command).arg(names_argument(alloc))?;
+    let with_names = with_names(alloc, command)?;
     let with_flags = with_options(alloc, with_names, command.flags(), ArgAction::SetTrue)?;
     with_options(alloc, with_flags, command.options(), ArgAction::Set)
 }
 
-fn bare_command<'a>(alloc: Global, command: CommandName) -> Command<'a>
-    ensures { app_of result ≡ bare_command command }
+// The command with its names, before its options.
+fn with_names<'a>(alloc: Global, command: CommandName) -> Result<Command<'a>, AllocError>
+    ensures { IfOk result (λ asked_of. app_of asked_of ≡ with_rule (bare_command command) names_rule) }
 {
     Command::new(alloc, command.word())
         .no_binary_name(true)
         .disable_help_flag(true)
+        .arg(names_argument(alloc))
 }
 
 // The command with options more, of which each does the same: takes a value, or is a flag.

@@ -167,7 +167,10 @@ impl<'a> Names<'a> {
         ensures { files_of result ≡ two_files (names_read self.entry) }
     {
         match self {
-            Names::Two(first, second) => Some((file_name(first)?, file_name(second)?)),
+            Names::Two(first, second) => match (file_name(first), file_name(second)) {
+                (Some(first), Some(second)) => Some((first, second)),
+                _ => None,
+            },
             Names::Zero | Names::One(_) | Names::Three(..) | Names::More => None,
         }
     }
@@ -176,11 +179,12 @@ impl<'a> Names<'a> {
         ensures { three_files_of result ≡ three_files (names_read self.entry) }
     {
         match self {
-            Names::Three(first, second, third) => Some((
-                file_name(first)?,
-                file_name(second)?,
-                file_name(third)?,
-            )),
+            Names::Three(first, second, third) => {
+                match (file_name(first), file_name(second), file_name(third)) {
+                    (Some(first), Some(second), Some(third)) => Some((first, second, third)),
+                    _ => None,
+                }
+            }
             Names::Zero | Names::One(_) | Names::Two(..) | Names::More => None,
         }
     }
@@ -190,7 +194,10 @@ impl<'a> Names<'a> {
         ensures { count_and_file_of result ≡ count_and_file (names_read self.entry) }
     {
         match self {
-            Names::Two(first, second) => Some((count_value(first)?, file_name(second)?)),
+            Names::Two(first, second) => match (count_value(first), file_name(second)) {
+                (Some(count), Some(file)) => Some((count, file)),
+                _ => None,
+            },
             Names::Zero | Names::One(_) | Names::Three(..) | Names::More => None,
         }
     }

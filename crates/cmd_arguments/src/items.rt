@@ -2,8 +2,6 @@
 
 ghost use Rattle.std.specs.Prelude.{◌≡◌, ◌<◌, [], ◌∷◌, IfSome, MatchOption, length, map};
 ghost use Rattle.std.specs.String.{string_bytes};
-ghost use Rattle.std.specs.Str.{bytes_eq};
-ghost use Rattle.cmd_arguments.specs.Items.{end_of_options};
 ghost use Rattle.cmd_arguments.specs.Asked.{has_short, is_short};
 
 /// The first word, and the words behind it.
@@ -12,8 +10,10 @@ pub fn first_word(words: &[String]) -> Option<(&str, &[String])>
         (λ x. map string_bytes words.now ≡ x.0.now ∷ map string_bytes x.1.now) }
     ensures shorter { IfSome result (λ x. length x.1.now < length words.now) }
 {
-    let (word, rest) = words.split_first()?;
-    Some((word.as_str(), rest))
+    match words {
+        [word, rest @ ..] => Some((word.as_str(), rest)),
+        [] => None,
+    }
 }
 
 /// Whether a word of one hyphen and something else stands before the mark, behind which every word is a name.
@@ -25,7 +25,7 @@ pub fn has_short(words: &[String]) -> bool
         let Some((word, others)) = first_word(rest) else {
             return false;
         };
-        if is_mark(word) {
+        if word == "--" {
             return false;
         }
         if is_short(word) {
@@ -33,12 +33,6 @@ pub fn has_short(words: &[String]) -> bool
         }
         rest = others;
     }
-}
-
-fn is_mark(word: &str) -> bool
-    ensures { result ≡ bytes_eq word.now end_of_options }
-{
-    word == "--"
 }
 
 fn is_short(word: &str) -> bool

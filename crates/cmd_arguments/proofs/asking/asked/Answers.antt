@@ -8,10 +8,8 @@ use Rattle.cmd_arguments.proofs.asking.asked.Goals as goal
 pub returns : goal.returns
 returns c =
     let command = c.args.command in
-    let names : app_of c.in_ok-with_names.with_names ≡ with_rule (bare_command command) names_rule =
-    c.in_ok-with_names.ensures.shape c.names_argument.ensures.local ∙ ap₂ with_rule c.bare_command.ensures c.names_argument.ensures.rule in
     let flags : app_of c.in_ok-with_flags.with_flags ≡ fold with_rule (with_rule (bare_command command) names_rule) (map flag_rule (flag_words command)) =
-    c.in_ok-with_flags.ensures ∙ ap₂ (λ a os. fold with_rule a (map flag_rule os)) names c.flags.ensures in
+    c.in_ok-with_flags.ensures ∙ ap₂ (λ a os. fold with_rule a (map flag_rule os)) c.in_ok-with_names.ensures c.flags.ensures in
     IfOk-weaker c.with_options-2.result _ _
     (λ _ is. is ∙ ap₂ (λ a os. fold with_rule a (map option_rule os)) flags c.options.ensures)
     c.with_options-2.ensures

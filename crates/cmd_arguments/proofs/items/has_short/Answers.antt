@@ -5,17 +5,17 @@ use Rattle.cmd_arguments.proofs.items.has_short.Goals as goal
 pub returns-in_default : goal.returns-in_default
 returns-in_default c = sym (rw c.in_default.ensures.first at c.loop-word.invariant)
 
-pub returns-then-is_mark : goal.returns-then-is_mark
-returns-then-is_mark c =
+pub returns-then-eq : goal.returns-then-eq
+returns-then-eq c =
     let front = c.loop-word.invariant ∙ ap has_short c.in-Some.ensures.first in
-    sym (front ∙ rw (sym c.is_mark.ensures ∙ c.if-is_mark.true) refl)
+    sym (front ∙ rw (sym c.eq.ensures ∙ c.if-eq.true) refl)
 
 pub returns-then-is_short : goal.returns-then-is_short
 returns-then-is_short c =
     let front = c.loop-word.invariant ∙ ap has_short c.in-Some.ensures.first in
-    sym (front ∙ rw (sym c.is_mark.ensures ∙ c.if-is_mark.false, sym c.is_short.ensures ∙ c.if-is_short.true) refl)
+    sym (front ∙ rw (sym c.eq.ensures ∙ c.if-eq.false, sym c.is_short.ensures ∙ c.if-is_short.true) refl)
 
 pub loop-word-preserved : goal.loop-word-preserved
 loop-word-preserved c =
     let front = c.loop-word.invariant ∙ ap has_short c.in-Some.ensures.first in
-    front ∙ rw (sym c.is_mark.ensures ∙ c.if-is_mark.false, sym c.is_short.ensures ∙ c.if-is_short.false) refl
+    front ∙ rw (sym c.eq.ensures ∙ c.if-eq.false, sym c.is_short.ensures ∙ c.if-is_short.false) refl
