@@ -27,8 +27,8 @@ use Rattle.cmd_runs.specs.BothRuns.{prefix80, prefix86, limit86, first_setting, 
 use Rattle.cmd_runs.proofs.Agreement.{agrees}
 
 -- the bytes that fill the memory
-pub filled : (choice : ℕ) (items bytes : List ℕ) → items ≡ fill_by choice → length items ≡ 0x10000 → bytes ≡ items → All (λ n. n < 256) bytes → IsFill (fill_by choice)
-filled choice items bytes is size same small = subst IsFill is (record { size = size; bytes = subst (All (λ n. n < 256)) same small })
+pub filled : (choice : ℕ) (bytes : List ℕ) → bytes ≡ fill_by choice → length bytes ≡ 0x10000 → All (λ n. n < 256) bytes → IsFill (fill_by choice)
+filled choice bytes is size small = subst IsFill is (record { size = size; bytes = small })
 
 -- no file changes in the runs
 pub both_stay : (c : Both) → FilesStay (work_both c)

@@ -9,6 +9,7 @@ pub mod Kept
 pub mod Naming
 pub mod Told
 pub mod Loading
+pub mod FilesRead
 pub mod Disks
 mod Settings
 pub mod Working

@@ -3,7 +3,7 @@
 use Rattle.std.proofs.Common.{◌≡◌, ℕ, List, Option, sym, ◌∙◌, subst}
 use Rattle.std.specs.Prelude.{Result, Ok, Err, IfOk, IfErr}
 use Rattle.std.proofs.lemmas.Result.{IfOk-weaker, IfErr-weaker}
-use Rattle.host.specs.Host.{HostState, SameFiles, OnlyReads}
+use Rattle.host.specs.Host.{HostState, SameFiles}
 use Rattle.bdos_disk.specs.Stored.{Stored}
 use Rattle.emulator_loop.specs.declared.fault.TalkFault.{TalkFault}
 use Rattle.emulator_loop.specs.declared.fault.TalkFault.TheVariants.{Unsaid as Untold, Memory as NoMemory}
@@ -20,18 +20,8 @@ use Rattle.cmd_runs.specs.Kinds.{HasRead}
 use Rattle.cmd_runs.specs.Works.{RunsMade, RunWork, came_by, RunsAreKept, WorkStops, unloaded, no_memory, no_line, unkept, WorkHalts, WorkHasLast, HasLastFrom, HaltsFrom, WorkGives, ran, unsaid, stopped}
 use Rattle.cmd_runs.proofs.Kept.{same_alone, alone_after, alone_then, alone_kept, alone_lost, ending_files}
 
--- a halt by another cause
-pub halts_for : (P Q : Stop → Type 0) → ((stop : Stop) → P stop → Q stop) → (halt : Halt) → Halts P halt → Halts Q halt
-halts_for P Q f (By stop) h = f stop h
-halts_for P Q f (Unsaid fault) h = absurd h
-
 module _ (w : RunWork) where
-  -- where there is nothing to run, the command halts
-  pub unloaded_halts : (old new : HostState) (halt : Halt) → OnlyReads old new → Halts (w.HasNothing old new) halt → WorkHalts w old new halt
-  unloaded_halts old new (By stop) only s = unloaded only s
-  unloaded_halts old new (Unsaid fault) only s = absurd s
-
-  -- and where a fault cut a run off
+  -- where a fault cut a run off, the command halts
   pub cut_halts : (old new : HostState) (fault : TalkFault) → w.AreCutOff old new fault → WorkHalts w old new (halt_of_talk fault)
   cut_halts old new (Untold fault) cut = cut
   cut_halts old new NoMemory cut = no_memory cut

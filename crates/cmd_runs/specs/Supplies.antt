@@ -1,6 +1,6 @@
 -- What the devices of a run have to answer with: the bytes of the files that its options name, one file after the other, and the
 -- devices that these make.
-use Rattle.std.specs.Prelude.{◌≡◌, ◌⊎◌, ℕ, ◌%◌, List, [], length, replicate, Option, Some, None}
+use Rattle.std.specs.Prelude.{◌≡◌, ℕ, ◌%◌, List, [], length, replicate, Option, Some, None}
 use Rattle.host.specs.Host.{HostState}
 use Rattle.bdos_disk.specs.declared.fault.DiskFault.{DiskFault}
 use Rattle.bdos_disk.specs.declared.fault.DiskFault.TheVariants.{Bad, Memory}
@@ -78,7 +78,3 @@ fill_by choice = replicate 0x10000 (choice % 256)
 pub record IsFillBy (choice : ℕ) (fill : List ℕ) : Type 0 where
   pub bytes : fill ≡ fill_by choice
   pub size : length fill ≡ 0x10000
-
--- why a run has no devices or no such bytes: the disk's file is none, or memory ran out
-abbrev pub EquipmentStops : List ℕ → Stop → Type 0
-EquipmentStops disk stop = DiskStops disk stop ⊎ (stop ≡ OutOfMemory)

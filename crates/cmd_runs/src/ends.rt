@@ -1,6 +1,6 @@
 // What the end of a run is to a command.
 ghost use Rattle.std.specs.Prelude.{◌≡◌};
-ghost use Rattle.cmd_runs.specs.Ends.{came_to, stop_of_why};
+ghost use Rattle.cmd_runs.specs.Ends.{came_to};
 
 use cmd_common::Stop;
 use emulators::{Conversation, RunEnd, Why};
@@ -12,21 +12,12 @@ pub fn came_to(ran: Conversation, limit: u32, line: u32) -> Result<u64, Stop>
 {
     match ran.end {
         RunEnd::Ended => Ok(ran.steps),
-        RunEnd::Stopped(why) => Err(stop_of_why(why, line)),
+        RunEnd::Stopped(Why::Left(_, rule)) => Err(Stop::LeftProfile(line, rule)),
+        RunEnd::Stopped(Why::NoInstruction(offset)) => Err(Stop::NoInstruction(offset)),
+        RunEnd::Stopped(Why::StackSegment(offset)) => Err(Stop::StackSegment(offset)),
+        RunEnd::Stopped(Why::OddCall(offset, function)) => Err(Stop::OddCall(offset, function)),
         RunEnd::StepLimit => Err(Stop::StepLimit(limit)),
         RunEnd::InputEnded => Err(Stop::InputEnded),
         RunEnd::NoDrive(function) => Err(Stop::NoDrive(function)),
-    }
-}
-
-// Why a machine stopped.
-fn stop_of_why(why: Why, line: u32) -> Stop
-    ensures { result ≡ stop_of_why line why }
-{
-    match why {
-        Why::Left(_, rule) => Stop::LeftProfile(line, rule),
-        Why::NoInstruction(offset) => Stop::NoInstruction(offset),
-        Why::StackSegment(offset) => Stop::StackSegment(offset),
-        Why::OddCall(offset, function) => Stop::OddCall(offset, function),
     }
 }

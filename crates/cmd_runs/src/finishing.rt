@@ -5,12 +5,12 @@ ghost use Rattle.cmd_runs.specs.Ends.{Halts};
 ghost use Rattle.cmd_runs.specs.Lasts.{NamesNoFile, IsLastMade};
 ghost use Rattle.cmd_runs.specs.Finishing.{IsLeft, LeaveStops, IsClosed};
 
-use crate::halt::{Halt, unsaid_status};
+use crate::halt::Halt;
 use crate::keeping::keep_disk;
 use crate::last::{Last, last_of, say_end};
 use bdos_small::Disk;
 use cmd_common::{InputNames, Stop, say_stop};
-use host::Host;
+use host::{Host, HostFault};
 use std::alloc::Global;
 
 /// What is left to do once the runs are made: the memory of the last line is taken, and then the disk is written under a name, if there is
@@ -29,8 +29,10 @@ pub fn leave_runs<H: Host>(
     ensures halted { IfErr result (Halts (LeaveStops (option_copied name.entry) disk.now (H.state host.old) (H.state host.new))) }
 {
     let last = last_of(alloc, came, second)?;
-    keep_disk(alloc, host, name, disk)?;
-    Ok(last)
+    match keep_disk(alloc, host, name, disk) {
+        Ok(()) => Ok(last),
+        Err(stop) => Err(Halt::By(stop)),
+    }
 }
 
 /// Says what a command's work came to, and answers the status.
@@ -46,6 +48,8 @@ pub fn close_work<H: Host>(
     match worked {
         Ok(last) => say_end(host, names, last),
         Err(Halt::By(stop)) => say_stop(alloc, host, names, stop),
-        Err(Halt::Unsaid(fault)) => unsaid_status(fault),
+        // Nothing more is said after a line that was not.
+        Err(Halt::Unsaid(HostFault::Failed)) => 4,
+        Err(Halt::Unsaid(HostFault::Memory)) => 5,
     }
 }

@@ -1,6 +1,5 @@
 // Why a command's run did not come to status 0, and whether a line says so.
 ghost use Rattle.std.specs.Prelude.{◌≡◌};
-ghost use Rattle.cmd_runs.specs.Ends.{unsaid_status};
 
 use cmd_common::Stop;
 use emulators::TalkFault;
@@ -47,15 +46,5 @@ impl From<AllocError> for Halt {
 
     fn from(_error: AllocError) -> Halt {
         Halt::By(Stop::OutOfMemory)
-    }
-}
-
-/// The status where a line of the run was not said whole.
-pub fn unsaid_status(fault: HostFault) -> u8
-    ensures { result ≡ unsaid_status fault }
-{
-    match fault {
-        HostFault::Failed => 4,
-        HostFault::Memory => 5,
     }
 }

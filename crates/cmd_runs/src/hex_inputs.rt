@@ -1,7 +1,7 @@
 // What a HEX file's run has before the run.
-ghost use Rattle.std.specs.Prelude.{◌≡◌, ◌≤◌, ◌^◌, MatchResult, length};
+ghost use Rattle.std.specs.Prelude.{◌≤◌, ◌^◌, MatchResult, length};
 ghost use Rattle.hex_file.specs.HexFile.{IsHexOf};
-ghost use Rattle.cmd_runs.specs.RunsHex.{stop_of_hex, HexStops};
+ghost use Rattle.cmd_runs.specs.RunsHex.{HexStops};
 
 use cmd_common::Stop;
 use hex_file::{HexFault, HexFile};
@@ -14,16 +14,7 @@ pub fn hex_of_bytes(alloc: Global, bytes: Vec<u8>) -> Result<HexFile, Stop>
 {
     match HexFile::read(alloc, bytes.as_slice()) {
         Ok(hex) => Ok(hex),
-        Err(fault) => Err(stop_of_hex(fault)),
-    }
-}
-
-// What it is to the command that bytes are no HEX file.
-fn stop_of_hex(fault: HexFault) -> Stop
-    ensures { result ≡ stop_of_hex fault }
-{
-    match fault {
-        HexFault::Bad(line) => Stop::BadHex(line),
-        HexFault::Memory => Stop::OutOfMemory,
+        Err(HexFault::Bad(line)) => Err(Stop::BadHex(line)),
+        Err(HexFault::Memory) => Err(Stop::OutOfMemory),
     }
 }

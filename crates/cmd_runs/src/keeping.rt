@@ -1,6 +1,6 @@
 // The disk that is left after a run.
 ghost use Rattle.std.specs.Prelude.{◌≡◌, IfErr, OnOk, option_copied};
-ghost use Rattle.cmd_runs.specs.Keeping.{is_disk_kept, kept_disk_name, HasKeptDisk, KeepsDisk, DiskWriteStops, DiskKeepStops};
+ghost use Rattle.cmd_runs.specs.Keeping.{kept_disk_name, HasKeptDisk, KeepsDisk, DiskWriteStops, DiskKeepStops};
 
 use bdos_small::Disk;
 use cmd_common::Stop;
@@ -9,22 +9,16 @@ use host::{Host, HostFault};
 use host_files::write_bytes;
 use std::alloc::Global;
 
-// Whether the disk is written after a run that came to this.
-fn is_disk_kept(end: RunEnd) -> bool
-    ensures { result ≡ is_disk_kept end }
-{
-    match end {
-        RunEnd::Ended | RunEnd::StepLimit | RunEnd::InputEnded => true,
-        RunEnd::Stopped(why) => matches!(why, Why::Left(_, _)),
-        RunEnd::NoDrive(_) => false,
-    }
-}
-
 /// The name of the file for the disk after a run that came to this, if it is written.
 pub fn kept_disk_name<'a>(name: Option<&'a str>, end: RunEnd) -> Option<&'a str>
     ensures { option_copied result ≡ kept_disk_name (option_copied name.entry) end }
 {
-    if is_disk_kept(end) { name } else { None }
+    match end {
+        RunEnd::Ended | RunEnd::StepLimit | RunEnd::InputEnded | RunEnd::Stopped(Why::Left(_, _)) =>
+            name,
+        RunEnd::Stopped(Why::NoInstruction(_) | Why::StackSegment(_) | Why::OddCall(_, _))
+        | RunEnd::NoDrive(_) => None,
+    }
 }
 
 /// Writes the disk's file under a name, if there is one.

@@ -2,7 +2,7 @@
 ghost use Rattle.std.specs.Prelude.{◌≡◌, IfOk};
 ghost use Rattle.std.specs.String.{string_bytes};
 ghost use Rattle.cmd_common.specs.Names.{FileNames, names_read};
-ghost use Rattle.cmd_runs.specs.Lasts.{steps_line, closing_line, NamesNoFile, IsLastMade, SaysEnd};
+ghost use Rattle.cmd_runs.specs.Lasts.{closing_line, NamesNoFile, IsLastMade, SaysEnd};
 
 use cmd_common::{InputNames, Stop, both_line, ended_line, say_done, say_made};
 use host::Host;
@@ -41,19 +41,10 @@ fn closing_line(
     requires { NamesNoFile second came }
     ensures { IfOk result (λ line. (names : FileNames) → string_bytes line ≡ closing_line names second came) }
 {
-    match came {
-        Ok(steps) => steps_line(alloc, steps, second),
-        Err(stop) => stop.line(alloc, &InputNames::one("")),
-    }
-}
-
-// The line of a run that ended.
-fn steps_line(alloc: Global, steps: u64, second: Option<u64>) -> Result<String, AllocError>
-    ensures { IfOk result (λ line. string_bytes line ≡ steps_line second steps) }
-{
-    match second {
-        None => ended_line(alloc, steps),
-        Some(more) => both_line(alloc, steps, more),
+    match (came, second) {
+        (Ok(steps), None) => ended_line(alloc, steps),
+        (Ok(steps), Some(more)) => both_line(alloc, steps, more),
+        (Err(stop), _) => stop.line(alloc, &InputNames::one("")),
     }
 }
 

@@ -1,7 +1,6 @@
 // Both runs, of the program of a source and of the image of its lean text.
 ghost use Rattle.std.specs.Prelude.{◌≡◌, ◌^◌, ◌<◌, ◌≤◌, All, IfOk, IfErr};
 ghost use Rattle.host.specs.Host.{HostState};
-ghost use Rattle.cpu80_tagged_def.specs.Start.{IsPage};
 ghost use Rattle.cmd_arguments.specs.ReadCommands.{both_read};
 ghost use Rattle.cmd_runs.specs.Supplies.{IsFillBy};
 ghost use Rattle.cmd_runs.specs.Kinds.{HasRead};
@@ -10,13 +9,13 @@ ghost use Rattle.cmd_runs.specs.BothLoads.{AreToRun};
 ghost use Rattle.cmd_runs.specs.BothRuns.{limit86, AreBothMade, work_both};
 ghost use Rattle.cmd_runs.specs.BothMaking.{runs_made};
 
-use crate::both_inputs::{FilledImage, TwoDevices};
+use crate::both_inputs::TwoDevices;
 use crate::halt::Halt;
 use crate::run_source::line_of;
 use crate::running::{run_image, run_program};
 use asm80_program_types::Program80;
+use asm86::Image86;
 use cmd_arguments::Both;
-use dialogue::Page;
 use emulators::{Conversation, runs_are_one};
 use host::Host;
 use std::alloc::Global;
@@ -35,18 +34,18 @@ pub fn make_runs<H: Host>(
     host: &mut H,
     command: &Both<'_>,
     program: &Program80,
-    text: &FilledImage,
+    image: &Image86,
+    fill: &[u8],
     devices: &mut TwoDevices,
 ) -> Result<Made, Halt>
-    requires fill { IsFillBy command.now.choice text.now.fill.items }
+    requires fill { IsFillBy command.now.choice fill.now }
     requires second { devices.old.second ≡ devices.old.first }
-    ensures made { IfOk result (λ made. (begin : HostState) → HasRead (AreToRun (both_read command.now) begin program.now text.now.image devices.old.first) begin (H.state host.old) → AreBothMade (both_read command.now) begin (H.state host.new) (runs_made made devices.new.first)) }
-    ensures halted { IfErr result (HaltsFrom (work_both (both_read command.now)) (λ begin. AreToRun (both_read command.now) begin program.now text.now.image devices.old.first) (H.state host.old) (H.state host.new)) }
+    ensures made { IfOk result (λ made. (begin : HostState) → HasRead (AreToRun (both_read command.now) begin program.now image.now devices.old.first) begin (H.state host.old) → AreBothMade (both_read command.now) begin (H.state host.new) (runs_made made devices.new.first)) }
+    ensures halted { IfErr result (HaltsFrom (work_both (both_read command.now)) (λ begin. AreToRun (both_read command.now) begin program.now image.now devices.old.first) (H.state host.old) (H.state host.new)) }
 {
     runs_are_one();
     let page = &command.run.page;
-    let fill = text.fill.as_slice();
-    start_is_in_range(page, fill, command.choice);
+    start_is_in_range(page.bytes(), fill, command.choice);
     let steps = u64::from(command.run.steps);
     let first = run_program(
         alloc,
@@ -62,7 +61,7 @@ pub fn make_runs<H: Host>(
     let second = run_image(
         alloc,
         host,
-        &text.image,
+        image,
         page,
         fill,
         command.choice,
@@ -85,17 +84,9 @@ fn limit86(steps: u64) -> u64
     16 * steps + 16
 }
 
-// A law of what an 8086 starts with: the page is 164 bytes, the fill has bytes, and the choice is below 2^128.
-fn start_is_in_range(page: &Page, fill: &[u8], choice: u128)
-    ensures page { IsPage page.now }
+// A law of what an 8086 starts with: the page and the fill have bytes, and the choice is below 2^128.
+fn start_is_in_range(page: &[u8], fill: &[u8], choice: u128)
+    ensures page { All (λ n. n < 256) page.now }
     ensures fill { All (λ n. n < 256) fill.now }
     ensures choice { choice < 2 ^ 128 }
-{
-    bytes_are_in_range(page.bytes());
-    bytes_are_in_range(fill);
-}
-
-// A law too, of any bytes.
-fn bytes_are_in_range(bytes: &[u8])
-    ensures { All (λ n. n < 256) bytes.now }
 {}

@@ -3,7 +3,7 @@ ghost use Rattle.std.specs.Prelude.{◌≡◌, true, IfOk, IfErr};
 ghost use Rattle.asm80_program_types.specs.Program.{IsProgram, is_top};
 ghost use Rattle.cmd_arguments.specs.ReadCommands.{both_read};
 ghost use Rattle.cmd_runs.specs.Keeping.{DiskAlone};
-ghost use Rattle.cmd_runs.specs.Supplies.{given_of, IsFillBy};
+ghost use Rattle.cmd_runs.specs.Supplies.{given_of};
 ghost use Rattle.cmd_runs.specs.Lasts.{IsLastMade};
 ghost use Rattle.cmd_runs.specs.Kinds.{IsNamed, IsToRun};
 ghost use Rattle.cmd_runs.specs.Runs80.{kind80};
@@ -12,17 +12,19 @@ ghost use Rattle.cmd_runs.specs.BothLoads.{source_of, AreToRun};
 ghost use Rattle.cmd_runs.specs.BothRuns.{work_both};
 ghost use Rattle.cmd_runs.specs.BothCompletes.{BothComplete};
 
-use crate::both_inputs::{FilledImage, TwoDevices, filled_image, two_devices};
+use crate::both_inputs::{TwoDevices, two_devices};
 use crate::ends::came_to;
 use crate::finishing::{close_work, leave_runs};
 use crate::halt::Halt;
 use crate::keeping::kept_disk_name;
 use crate::last::Last;
+use crate::lean::lean_image;
 use crate::making::make_runs;
 use crate::names::run_names;
 use crate::run_source::{Named, read_program};
-use crate::supplies::Supplies;
+use crate::supplies::{Supplies, fill_of};
 use asm80_program_types::Program80;
+use asm86::Image86;
 use bdos_disk::disks_read_back;
 use cmd_arguments::Both;
 use cmd_common::sources_have_one_outcome;
@@ -100,8 +102,8 @@ fn run_imaged<H: Host>(
     ensures came { IfOk result (HasLastFrom (work_both (both_read command.now)) (λ begin. IsToRun (kind80 (source_of (both_read command.now))) begin program.now devices.old.first) (H.state host.old) (H.state host.new)) }
     ensures halted { IfErr result (HaltsFrom (work_both (both_read command.now)) (λ begin. IsToRun (kind80 (source_of (both_read command.now))) begin program.now devices.old.first) (H.state host.old) (H.state host.new)) }
 {
-    let text = filled_image(alloc, program, command.choice)?;
-    run_equipped(alloc, host, command, program, &text, devices)
+    let image = lean_image(alloc, program)?;
+    run_equipped(alloc, host, command, program, &image, devices)
 }
 
 // The runs with all that they have, and the disk that the 8080's leaves.
@@ -110,16 +112,24 @@ fn run_equipped<H: Host>(
     host: &mut H,
     command: &Both<'_>,
     program: &Program80,
-    text: &FilledImage,
+    image: &Image86,
     devices: &mut TwoDevices,
 ) -> Result<Last, Halt>
-    requires fill { IsFillBy command.now.choice text.now.fill.items }
-    requires second { devices.old.second ≡ devices.old.first }
+    requires { devices.old.second ≡ devices.old.first }
     ensures made { IfOk result IsLastMade }
-    ensures came { IfOk result (HasLastFrom (work_both (both_read command.now)) (λ begin. AreToRun (both_read command.now) begin program.now text.now.image devices.old.first) (H.state host.old) (H.state host.new)) }
-    ensures halted { IfErr result (HaltsFrom (work_both (both_read command.now)) (λ begin. AreToRun (both_read command.now) begin program.now text.now.image devices.old.first) (H.state host.old) (H.state host.new)) }
+    ensures came { IfOk result (HasLastFrom (work_both (both_read command.now)) (λ begin. AreToRun (both_read command.now) begin program.now image.now devices.old.first) (H.state host.old) (H.state host.new)) }
+    ensures halted { IfErr result (HaltsFrom (work_both (both_read command.now)) (λ begin. AreToRun (both_read command.now) begin program.now image.now devices.old.first) (H.state host.old) (H.state host.new)) }
 {
-    let made = make_runs(alloc, host, command, program, text, devices)?;
+    let fill = fill_of(alloc, command.choice)?;
+    let made = make_runs(
+        alloc,
+        host,
+        command,
+        program,
+        image,
+        fill.as_slice(),
+        devices,
+    )?;
     let came = came_to(made.first, command.run.steps, made.line);
     let second = Some(made.second.steps);
     let name = kept_disk_name(command.run.out_disk, made.first.end);

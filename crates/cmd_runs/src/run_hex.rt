@@ -3,7 +3,7 @@ ghost use Rattle.std.specs.Prelude.{◌≡◌, true, IfOk, IfErr};
 ghost use Rattle.asm80_program_types.specs.Program.{is_top};
 ghost use Rattle.cmd_arguments.specs.ReadCommands.{run_hex_read};
 ghost use Rattle.cmd_runs.specs.Keeping.{DiskAlone};
-ghost use Rattle.cmd_runs.specs.Supplies.{given_of, IsFillBy};
+ghost use Rattle.cmd_runs.specs.Supplies.{given_of};
 ghost use Rattle.cmd_runs.specs.Lasts.{IsLastMade};
 ghost use Rattle.cmd_runs.specs.Kinds.{IsToRun, CanBeRun};
 ghost use Rattle.cmd_runs.specs.Works.{WorkHasLast, WorkHalts, HasLastFrom, HaltsFrom, WorkGives};
@@ -18,8 +18,9 @@ use crate::keeping::kept_disk_name;
 use crate::last::Last;
 use crate::names::run_names;
 use crate::running::run_cells;
-use crate::supplies::{Equipment, Supplies, equipment_of, read_supplies};
+use crate::supplies::{Supplies, devices_of, fill_of, read_supplies};
 use bdos_disk::disks_read_back;
+use bdos_small::Devices;
 use cmd_arguments::RunHex;
 use cmd_common::{InputFile, SOURCE_LIMIT, read_named};
 use hex_file::{HexFile, hex_file_has_one_reading};
@@ -67,8 +68,8 @@ fn run_over<H: Host>(
     ensures came { IfOk result (HasLastFrom (work_hex (run_hex_read command.now)) (λ begin. CanBeRun (kind_hex (run_hex_read command.now)) begin hex.now (given_of supplies.input.items supplies.disk.items supplies.ports.items)) (H.state host.old) (H.state host.new)) }
     ensures halted { IfErr result (HaltsFrom (work_hex (run_hex_read command.now)) (λ begin. CanBeRun (kind_hex (run_hex_read command.now)) begin hex.now (given_of supplies.input.items supplies.disk.items supplies.ports.items)) (H.state host.old) (H.state host.new)) }
 {
-    let mut equipment = equipment_of(alloc, supplies, command.choice)?;
-    run_equipped(alloc, host, command, hex, &mut equipment)
+    let mut devices = devices_of(alloc, supplies)?;
+    run_equipped(alloc, host, command, hex, &mut devices)
 }
 
 // The run over these devices, and the disk that it leaves.
@@ -77,28 +78,28 @@ fn run_equipped<H: Host>(
     host: &mut H,
     command: &RunHex<'_>,
     hex: &HexFile,
-    equipment: &mut Equipment,
+    devices: &mut Devices,
 ) -> Result<Last, Halt>
-    requires top { is_top command.now.top ≡ true }
-    requires fill { IsFillBy command.now.choice equipment.old.fill.items }
+    requires { is_top command.now.top ≡ true }
     ensures made { IfOk result IsLastMade }
-    ensures came { IfOk result (HasLastFrom (work_hex (run_hex_read command.now)) (λ begin. IsToRun (kind_hex (run_hex_read command.now)) begin hex.now equipment.old.devices) (H.state host.old) (H.state host.new)) }
-    ensures halted { IfErr result (HaltsFrom (work_hex (run_hex_read command.now)) (λ begin. IsToRun (kind_hex (run_hex_read command.now)) begin hex.now equipment.old.devices) (H.state host.old) (H.state host.new)) }
+    ensures came { IfOk result (HasLastFrom (work_hex (run_hex_read command.now)) (λ begin. IsToRun (kind_hex (run_hex_read command.now)) begin hex.now devices.old) (H.state host.old) (H.state host.new)) }
+    ensures halted { IfErr result (HaltsFrom (work_hex (run_hex_read command.now)) (λ begin. IsToRun (kind_hex (run_hex_read command.now)) begin hex.now devices.old) (H.state host.old) (H.state host.new)) }
 {
     let limit = u64::from(command.run.steps);
+    let fill = fill_of(alloc, command.choice)?;
     let ran = run_cells(
         alloc,
         host,
         hex,
         command.top,
         &command.run.page,
-        equipment.fill.as_slice(),
+        fill.as_slice(),
         command.choice,
-        &mut equipment.devices,
+        devices,
         limit,
         b"",
     )?;
     let came = came_to(ran, command.run.steps, 0);
     let name = kept_disk_name(command.run.out_disk, ran.end);
-    leave_runs(alloc, host, came, None, name, equipment.devices.disk())
+    leave_runs(alloc, host, came, None, name, devices.disk())
 }

@@ -3,15 +3,13 @@ ghost use Rattle.std.specs.Prelude.{◌≡◌, ℕ, true, IfOk, IfErr, OnOk};
 ghost use Rattle.host.specs.Host.{SameFaults, OnlyReads};
 ghost use Rattle.asm80_program_types.specs.Program.{is_top};
 ghost use Rattle.cmd_arguments.specs.ReadCommands.{run_options_read, run80_read};
-ghost use Rattle.emulator_loop.specs.declared.running.RunEnd.TheVariants.{Stopped};
-ghost use Rattle.cmd_runs.specs.Ends.{Halts};
 ghost use Rattle.cmd_runs.specs.Keeping.{DiskAlone};
 ghost use Rattle.cmd_runs.specs.Lasts.{IsLastMade};
 ghost use Rattle.cmd_runs.specs.Supplies.{given_of};
 ghost use Rattle.cmd_runs.specs.Kinds.{IsNamed, CanBeRun, IsToRun, NothingToRun};
 ghost use Rattle.cmd_runs.specs.Works.{WorkHasLast, WorkHalts, HasLastFrom, HaltsFrom, WorkGives};
 ghost use Rattle.cmd_runs.specs.Outcomes.{RunCompletes};
-ghost use Rattle.cmd_runs.specs.Runs80.{words_of, kind80, work80, IsLineAt, IsLineOf};
+ghost use Rattle.cmd_runs.specs.Runs80.{words_of, kind80, work80, IsLineOf};
 
 use crate::ends::came_to;
 use crate::finishing::{close_work, leave_runs};
@@ -26,7 +24,7 @@ use bdos_disk::disks_read_back;
 use bdos_small::Devices;
 use cells::Place;
 use cmd_arguments::{Run80, RunOptions};
-use cmd_common::{read_source, sources_have_one_outcome};
+use cmd_common::{Stop, read_source, sources_have_one_outcome};
 use emulators::{RunEnd, Why};
 use host::Host;
 use std::alloc::Global;
@@ -121,17 +119,19 @@ pub fn read_program<H: Host>(
     zilog: bool,
     top: u16,
     run: &RunOptions<'_>,
-) -> Result<Named, Halt>
+) -> Result<Named, Stop>
     requires { is_top top ≡ true }
     ensures only { OnlyReads (H.state host.old) (H.state host.new) }
     ensures named { IfOk result (λ n. IsNamed (kind80 (words_of name.now zilog top (run_options_read run.now))) (H.state host.old) n.program (given_of n.supplies.input.items n.supplies.disk.items n.supplies.ports.items)) }
     ensures counted { OnOk result (SameFaults (H.state host.old) (H.state host.new)) }
-    ensures stopped { IfErr result (Halts (NothingToRun (kind80 (words_of name.now zilog top (run_options_read run.now))) (H.state host.old) (H.state host.new))) }
+    ensures stopped { IfErr result (NothingToRun (kind80 (words_of name.now zilog top (run_options_read run.now))) (H.state host.old) (H.state host.new)) }
 {
     let source = read_source(alloc, host, name, zilog, top)?;
     let supplies = read_supplies(alloc, host, run)?;
-    let program = source?;
-    Ok(Named { program, supplies })
+    match source {
+        Ok(program) => Ok(Named { program, supplies }),
+        Err(stop) => Err(stop),
+    }
 }
 
 /// The line of the instruction at which a run left the profile; 0 where it did not.
@@ -139,27 +139,16 @@ pub fn line_of(program: &Program80, end: RunEnd) -> u32
     ensures { (line : ℕ) → IsLineOf program.now end line → result ≡ line }
 {
     match end {
-        RunEnd::Stopped(why) => line_of_why(program, why),
-        RunEnd::Ended | RunEnd::StepLimit | RunEnd::InputEnded | RunEnd::NoDrive(_) => 0,
-    }
-}
-
-// The same of a machine that stopped.
-fn line_of_why(program: &Program80, why: Why) -> u32
-    ensures { (line : ℕ) → IsLineOf program.now (Stopped why) line → result ≡ line }
-{
-    match why {
-        Why::Left(place, _) => line_at(program, place),
-        Why::NoInstruction(_) | Why::StackSegment(_) | Why::OddCall(_, _) => 0,
-    }
-}
-
-// The line of the instruction at a place.
-fn line_at(program: &Program80, place: Place) -> u32
-    ensures { (line : ℕ) → IsLineAt program.now place line → result ≡ line }
-{
-    match place {
-        Place::At(at) => program.line_at(at).unwrap_or(0),
-        Place::Exit => 0,
+        RunEnd::Stopped(Why::Left(Place::At(at), _)) => program.line_at(at).unwrap_or(0),
+        RunEnd::Stopped(
+            Why::Left(Place::Exit, _)
+            | Why::NoInstruction(_)
+            | Why::StackSegment(_)
+            | Why::OddCall(_, _),
+        )
+        | RunEnd::Ended
+        | RunEnd::StepLimit
+        | RunEnd::InputEnded
+        | RunEnd::NoDrive(_) => 0,
     }
 }

@@ -2,7 +2,7 @@
 ghost use Rattle.std.specs.Prelude.{IfOk, IfErr};
 ghost use Rattle.cmd_arguments.specs.ReadCommands.{run86_read};
 ghost use Rattle.cmd_runs.specs.Keeping.{DiskAlone};
-ghost use Rattle.cmd_runs.specs.Supplies.{given_of, IsFillBy};
+ghost use Rattle.cmd_runs.specs.Supplies.{given_of};
 ghost use Rattle.cmd_runs.specs.Lasts.{IsLastMade};
 ghost use Rattle.cmd_runs.specs.Kinds.{IsToRun, CanBeRun};
 ghost use Rattle.cmd_runs.specs.Works.{WorkHasLast, WorkHalts, HasLastFrom, HaltsFrom, WorkGives};
@@ -16,10 +16,11 @@ use crate::keeping::kept_disk_name;
 use crate::last::Last;
 use crate::names::run_names;
 use crate::running::run_image;
-use crate::supplies::{Equipment, Supplies, equipment_of, read_supplies};
+use crate::supplies::{Supplies, devices_of, fill_of, read_supplies};
 use crate::text_inputs::read_image;
 use asm86::{Image86, texts_have_one_image};
 use bdos_disk::disks_read_back;
+use bdos_small::Devices;
 use cmd_arguments::Run86;
 use cmd_common::{InputFile, read_text};
 use host::Host;
@@ -62,8 +63,8 @@ fn run_over<H: Host>(
     ensures came { IfOk result (HasLastFrom (work86 (run86_read command.now)) (λ begin. CanBeRun (kind86 (run86_read command.now)) begin image.now (given_of supplies.input.items supplies.disk.items supplies.ports.items)) (H.state host.old) (H.state host.new)) }
     ensures halted { IfErr result (HaltsFrom (work86 (run86_read command.now)) (λ begin. CanBeRun (kind86 (run86_read command.now)) begin image.now (given_of supplies.input.items supplies.disk.items supplies.ports.items)) (H.state host.old) (H.state host.new)) }
 {
-    let mut equipment = equipment_of(alloc, supplies, command.choice)?;
-    run_equipped(alloc, host, command, image, &mut equipment)
+    let mut devices = devices_of(alloc, supplies)?;
+    run_equipped(alloc, host, command, image, &mut devices)
 }
 
 // The run over these devices, and the disk that it leaves.
@@ -72,26 +73,26 @@ fn run_equipped<H: Host>(
     host: &mut H,
     command: &Run86<'_>,
     image: &Image86,
-    equipment: &mut Equipment,
+    devices: &mut Devices,
 ) -> Result<Last, Halt>
-    requires { IsFillBy command.now.choice equipment.old.fill.items }
     ensures made { IfOk result IsLastMade }
-    ensures came { IfOk result (HasLastFrom (work86 (run86_read command.now)) (λ begin. IsToRun (kind86 (run86_read command.now)) begin image.now equipment.old.devices) (H.state host.old) (H.state host.new)) }
-    ensures halted { IfErr result (HaltsFrom (work86 (run86_read command.now)) (λ begin. IsToRun (kind86 (run86_read command.now)) begin image.now equipment.old.devices) (H.state host.old) (H.state host.new)) }
+    ensures came { IfOk result (HasLastFrom (work86 (run86_read command.now)) (λ begin. IsToRun (kind86 (run86_read command.now)) begin image.now devices.old) (H.state host.old) (H.state host.new)) }
+    ensures halted { IfErr result (HaltsFrom (work86 (run86_read command.now)) (λ begin. IsToRun (kind86 (run86_read command.now)) begin image.now devices.old) (H.state host.old) (H.state host.new)) }
 {
     let limit = u64::from(command.run.steps);
+    let fill = fill_of(alloc, command.choice)?;
     let ran = run_image(
         alloc,
         host,
         image,
         &command.run.page,
-        equipment.fill.as_slice(),
+        fill.as_slice(),
         command.choice,
-        &mut equipment.devices,
+        devices,
         limit,
         b"",
     )?;
     let came = came_to(ran, command.run.steps, 0);
     let name = kept_disk_name(command.run.out_disk, ran.end);
-    leave_runs(alloc, host, came, None, name, equipment.devices.disk())
+    leave_runs(alloc, host, came, None, name, devices.disk())
 }

@@ -1,8 +1,8 @@
 // What the devices of a run have to answer with, and what fills a memory.
-ghost use Rattle.std.specs.Prelude.{◌≡◌, IfOk, IfErr, OnOk, MatchResult, option_copied, length};
+ghost use Rattle.std.specs.Prelude.{◌≡◌, IfOk, IfErr, OnOk, option_copied, length};
 ghost use Rattle.host.specs.Host.{SameFaults, OnlyReads};
 ghost use Rattle.cmd_arguments.specs.ReadCommands.{run_options_read};
-ghost use Rattle.cmd_runs.specs.Supplies.{given_of, fill_by, IsDiskFile, DiskFileStops, IsSupplied, SupplyStops, HasDisk, stop_of_disk, DiskStops, IsFillBy, EquipmentStops};
+ghost use Rattle.cmd_runs.specs.Supplies.{given_of, fill_by, IsDiskFile, DiskFileStops, IsSupplied, SupplyStops, HasDisk, DiskStops};
 
 use bdos_small::{Devices, Disk, DiskFault};
 use cmd_arguments::RunOptions;
@@ -57,17 +57,8 @@ pub fn devices_of(alloc: Global, supplies: Supplies) -> Result<Devices, Stop>
     let Supplies { input, disk, ports } = supplies;
     match Disk::read(alloc, disk.as_slice()) {
         Ok(disk) => Ok(Devices::new(disk, input, ports)),
-        Err(fault) => Err(stop_of_disk(fault)),
-    }
-}
-
-// Why bytes are not read as a disk.
-fn stop_of_disk(fault: DiskFault) -> Stop
-    ensures { result ≡ stop_of_disk fault }
-{
-    match fault {
-        DiskFault::Bad(place) => Stop::BadDisk(place),
-        DiskFault::Memory => Stop::OutOfMemory,
+        Err(DiskFault::Bad(place)) => Err(Stop::BadDisk(place)),
+        Err(DiskFault::Memory) => Err(Stop::OutOfMemory),
     }
 }
 
@@ -79,22 +70,4 @@ pub fn fill_of(alloc: Global, choice: u128) -> Result<Vec<u8>, AllocError>
     let byte = (choice % 256) as u8;
     let fill = vec![in alloc; byte; 0x1_0000]?;
     Ok(fill)
-}
-
-/// What a run by a choice has besides what runs: the bytes that fill the memory, and the devices.
-#[derive(Drop)]
-pub struct Equipment {
-    pub fill: Vec<u8>,
-    pub devices: Devices,
-}
-
-/// The devices of what was read, and the bytes by the choice.
-pub fn equipment_of(alloc: Global, supplies: Supplies, choice: u128) -> Result<Equipment, Stop>
-    ensures { MatchResult result
-        (λ e. HasDisk (given_of supplies.input.items supplies.disk.items supplies.ports.items) e.devices × IsFillBy choice e.fill.items)
-        (EquipmentStops supplies.disk.items) }
-{
-    let devices = devices_of(alloc, supplies)?;
-    let fill = fill_of(alloc, choice)?;
-    Ok(Equipment { fill, devices })
 }

@@ -17,11 +17,5 @@ returns-in_err-last-clause-halted g c =
     (no_line refl)
 
 -- the disk was not written
-pub returns-in_err-keep_disk-clause-halted : goal.returns-in_err-keep_disk-clause-halted
-returns-in_err-keep_disk-clause-halted g c =
-    let old = g.H.Host.state c.args.host.now in
-    let new = g.H.Host.state c.keep_disk.new.host in
-    let name = option_copied c.args.name in
-    let disk = c.args.disk.now in
-    handed_on c.from_residual-in_err-keep_disk.result (By c.in_err-keep_disk.field-0.0) (Halts (LeaveStops name disk old new)) c.from_residual-in_err-keep_disk.ensures.1
-    (unkept c.in_err-keep_disk.ensures.stopped)
+pub returns-in-Err-clause-halted : goal.returns-in-Err-clause-halted
+returns-in-Err-clause-halted g c = unkept c.in-Err.ensures.stopped

@@ -1,4 +1,5 @@
-use Rattle.std.proofs.Common.{[], ◌∷◌, subst}
+use Rattle.std.proofs.Common.{◌≡◌, ◌<◌, ℕ, List, [], ◌∷◌, length, subst}
+use Rattle.std.specs.Prelude.{All}
 use Rattle.emulators.specs.Starts.{start_by}
 use Rattle.cmd_arguments.specs.ReadCommands.{both_read}
 use Rattle.cmd_common.proofs.Told.{handed_on}
@@ -18,7 +19,7 @@ returns-in_err-first-clause-halted g c =
     let start = g.H.Host.state c.args.host.now in
     let new = g.H.Host.state c.run_program.new.host in
     let program = c.args.program.now in
-    let image = c.args.text.now.image in
+    let image = c.args.image.now in
     let supply = c.args.devices.now.first in
     let fault = c.in_err-first.field-0.0 in
     let cut : IsRunCutOff (first_setting command program) supply fault start new =
@@ -34,7 +35,7 @@ returns-in_err-second-clause-halted g c =
     let mid = g.H.Host.state c.run_program.new.host in
     let new = g.H.Host.state c.run_image.new.host in
     let program = c.args.program.now in
-    let image = c.args.text.now.image in
+    let image = c.args.image.now in
     let supply = c.args.devices.now.first in
     let o = c.in_ok-first.first in
     let left = c.run_program.new.devices in
@@ -51,13 +52,14 @@ returns-clause-made g c = λ begin read.
     let mid = g.H.Host.state c.run_program.new.host in
     let new = g.H.Host.state c.run_image.new.host in
     let program = c.args.program.now in
-    let image = c.args.text.now.image in
+    let image = c.args.image.now in
     let supply = c.args.devices.now.first in
     let o = c.in_ok-first.first in
     let left = c.run_program.new.devices in
     let first : RunComesTo (first_setting command program) supply o left start mid =
     subst (λ n. RunComesTo (setting80 command.run.page program n prefix80) supply o left start mid) c.from-steps.ensures c.in_ok-first.ensures.run in
     let choice = c.args.command.now.choice in
-    both_made command begin start program image supply read mid new o left c.args.devices.now.second c.limit86-limit.result first c.requires.second c.limit86-limit.ensures c.start_is_in_range.ensures.page
-    (filled choice c.args.text.now.fill.items c.as_slice-fill.result.now c.requires.fill.bytes c.requires.fill.size c.as_slice-fill.ensures.value c.start_is_in_range.ensures.fill) c.start_is_in_range.ensures.choice
+    both_made command begin start program image supply read mid new o left c.args.devices.now.second c.limit86-limit.result first c.requires.second c.limit86-limit.ensures
+    (record { size = subst (λ (l : List ℕ). length l ≡ 164) c.bytes.ensures.value c.bytes.ensures.len; bytes = subst (All (λ n. n < 256)) c.bytes.ensures.value c.start_is_in_range.ensures.page })
+    (filled choice c.args.fill.now c.requires.fill.bytes c.requires.fill.size c.start_is_in_range.ensures.fill) c.start_is_in_range.ensures.choice
     (λ fetch. c.runs_are_one.ensures.of_86 fetch image c.args.command.now.run.page (fill_by choice) (start_by choice) (choice ∷ [])) c.line_of-line.result c.line_of-line.ensures c.in_ok-second.second c.run_image.new.devices c.in_ok-second.ensures.run

@@ -1,15 +1,29 @@
 use Rattle.std.proofs.Common.{sym, subst, Some}
 use Rattle.std.specs.Prelude.{option_copied}
 use Rattle.cmd_arguments.specs.ReadCommands.{both_read}
+use Rattle.cmd_common.specs.declared.stop.Stop.TheVariants.{OutOfMemory}
 use Rattle.cmd_common.proofs.Told.{handed_on}
+use Rattle.cmd_runs.specs.declared.halt.Halt.TheVariants.{By}
+use Rattle.cmd_runs.specs.Supplies.{IsFillBy}
 use Rattle.cmd_runs.specs.Lasts.{NamesNoFile}
 use Rattle.cmd_runs.proofs.Naming.{names_no_file}
-use Rattle.cmd_runs.specs.Works.{HaltsFrom}
+use Rattle.cmd_runs.specs.Works.{HaltsFrom, unloaded}
 use Rattle.cmd_runs.proofs.Working.{left_has, left_halts}
-use Rattle.cmd_runs.specs.BothLoads.{AreToRun}
+use Rattle.cmd_runs.specs.BothLoads.{AreToRun, no_memory}
 use Rattle.cmd_runs.specs.BothRuns.{work_both}
 use Rattle.cmd_runs.specs.BothMaking.{runs_made}
 use Rattle.cmd_runs.proofs.run_both.run_equipped.Goals as goal
+
+-- there was no memory for what fills the 8086's
+pub returns-in_err-fill-clause-halted : goal.returns-in_err-fill-clause-halted
+returns-in_err-fill-clause-halted g c =
+    let command = both_read c.args.command.now in
+    let start = g.H.Host.state c.args.host.now in
+    handed_on c.from_residual.result (By OutOfMemory) (HaltsFrom (work_both command) (λ begin. AreToRun command begin c.args.program.now c.args.image.now c.args.devices.now.first) start start) c.from_residual.ensures.1
+    (λ begin read. unloaded read.reads no_memory)
+
+pub make_runs-requires-clause-fill : goal.make_runs-requires-clause-fill
+make_runs-requires-clause-fill g c = subst (IsFillBy c.args.command.now.choice) (sym c.as_slice.ensures.value) (record { bytes = c.in_ok-fill.ensures.items; size = c.in_ok-fill.ensures.len })
 
 -- a run was cut off
 pub returns-in_err-made-clause-halted : goal.returns-in_err-made-clause-halted
@@ -17,10 +31,10 @@ returns-in_err-made-clause-halted g c =
     let command = both_read c.args.command.now in
     let start = g.H.Host.state c.args.host.now in
     let program = c.args.program.now in
-    let image = c.args.text.now.image in
+    let image = c.args.image.now in
     let supply = c.args.devices.now.first in
     let new = g.H.Host.state c.make_runs.new.host in
-    handed_on c.from_residual.result c.in_err-made.field-0.0 (HaltsFrom (work_both command) (λ begin. AreToRun command begin program image supply) start new) c.from_residual.ensures.1 c.in_err-made.ensures.halted
+    handed_on c.from_residual-in_err-made.result c.in_err-made.field-0.0 (HaltsFrom (work_both command) (λ begin. AreToRun command begin program image supply) start new) c.from_residual-in_err-made.ensures.1 c.in_err-made.ensures.halted
 
 pub returns : goal.returns
 returns g c =
@@ -30,7 +44,7 @@ returns g c =
     let mid = g.H.Host.state c.make_runs.new.host in
     let new = g.H.Host.state c.leave_runs.new.host in
     let program = c.args.program.now in
-    let image = c.args.text.now.image in
+    let image = c.args.image.now in
     let supply = c.args.devices.now.first in
     let m = runs_made c.in_ok-made.made c.make_runs.new.devices.first in
     let came = c.came_to-came.result in

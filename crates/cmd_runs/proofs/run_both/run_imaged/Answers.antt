@@ -11,14 +11,14 @@ use Rattle.cmd_runs.specs.BothRuns.{work_both}
 use Rattle.cmd_runs.proofs.run_both.run_imaged.Goals as goal
 
 -- the program has no image
-pub returns-in_err-text-clause-halted : goal.returns-in_err-text-clause-halted
-returns-in_err-text-clause-halted g c =
+pub returns-in_err-image-clause-halted : goal.returns-in_err-image-clause-halted
+returns-in_err-image-clause-halted g c =
     let command = both_read c.args.command.now in
     let program = c.args.program.now in
     let supply = c.args.devices.now.first in
     let start = g.H.Host.state c.args.host.now in
-    handed_on c.from_residual.result (By c.in_err-text.field-0.0) (HaltsFrom (work_both command) (λ begin. IsToRun (kind80 (source_of command)) begin program supply) start start) c.from_residual.ensures.1
-    (λ begin read. unloaded read.reads (no_image program supply read.stands read.counted c.in_err-text.ensures))
+    handed_on c.from_residual.result (By c.in_err-image.field-0.0) (HaltsFrom (work_both command) (λ begin. IsToRun (kind80 (source_of command)) begin program supply) start start) c.from_residual.ensures.1
+    (λ begin read. unloaded read.reads (no_image program supply read.stands read.counted c.in_err-image.ensures.stopped))
 
 pub returns : goal.returns
 returns g c =
@@ -26,8 +26,8 @@ returns g c =
     let program = c.args.program.now in
     let supply = c.args.devices.now.first in
     let start = g.H.Host.state c.args.host.now in
-    let image = c.in_ok-text.text.image in
-    let lean = c.in_ok-text.ensures.0 in
+    let image = c.in_ok-image.image in
+    let lean = c.in_ok-image.ensures.lean in
     let with_image : (begin : HostState) → HasRead (IsToRun (kind80 (source_of command)) begin program supply) begin start → HasRead (AreToRun command begin program image supply) begin start = λ begin read. record {
       stands = record { source = read.stands; lean = lean };
       reads = read.reads;

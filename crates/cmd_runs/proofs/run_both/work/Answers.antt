@@ -1,13 +1,14 @@
 use Rattle.host.specs.Host.{HostState}
 use Rattle.cmd_arguments.specs.ReadCommands.{both_read}
 use Rattle.cmd_common.proofs.Told.{handed_on}
+use Rattle.cmd_runs.specs.declared.halt.Halt.TheVariants.{By}
 use Rattle.cmd_runs.specs.Supplies.{given_of}
-use Rattle.cmd_runs.specs.Kinds.{IsNamed, NothingToRun, HasRead}
+use Rattle.cmd_runs.specs.Kinds.{IsNamed, HasRead}
 use Rattle.cmd_runs.specs.Runs80.{kind80}
-use Rattle.cmd_runs.specs.Works.{WorkHalts}
-use Rattle.cmd_runs.specs.BothLoads.{source_of, NeitherToRun, unloaded}
+use Rattle.cmd_runs.specs.Works.{WorkHalts, unloaded as no_runs}
+use Rattle.cmd_runs.specs.BothLoads.{source_of, unloaded}
 use Rattle.cmd_runs.specs.BothRuns.{work_both}
-use Rattle.cmd_runs.proofs.Working.{halts_for, unloaded_halts, begun_has, begun_halts}
+use Rattle.cmd_runs.proofs.Working.{begun_has, begun_halts}
 use Rattle.cmd_runs.proofs.run_both.work.Goals as goal
 
 pub returns-in_err-named-clause-halted : goal.returns-in_err-named-clause-halted
@@ -16,10 +17,8 @@ returns-in_err-named-clause-halted g c =
     let w = work_both command in
     let old = g.H.Host.state c.args.host.now in
     let new = g.H.Host.state c.read_program.new.host in
-    let halt = c.in_err-named.field-0.0 in
-    handed_on c.from_residual.result halt (WorkHalts w old new) c.from_residual.ensures.1
-    (unloaded_halts w old new halt c.in_err-named.ensures.only
-    (halts_for (NothingToRun (kind80 (source_of command)) old new) (NeitherToRun command old new) (λ stop s. unloaded s) halt c.in_err-named.ensures.stopped))
+    handed_on c.from_residual.result (By c.in_err-named.field-0.0) (WorkHalts w old new) c.from_residual.ensures.1
+    (no_runs c.in_err-named.ensures.only (unloaded c.in_err-named.ensures.stopped))
 
 pub run_over-requires : goal.run_over-requires
 run_over-requires g c = c.in_ok-named.ensures.named.gives.program.program.lawful

@@ -1,23 +1,14 @@
-use Rattle.std.proofs.lemmas.Result.{IfOk-weaker, IfErr-weaker}
 use Rattle.cmd_arguments.specs.ReadCommands.{run_hex_read}
-use Rattle.cmd_common.proofs.Told.{handed_on}
-use Rattle.cmd_runs.specs.declared.halt.Halt.TheVariants.{By}
 use Rattle.cmd_runs.specs.Supplies.{given_of}
-use Rattle.cmd_runs.specs.Kinds.{CanBeRun}
-use Rattle.cmd_runs.specs.Works.{HaltsFrom}
-use Rattle.cmd_runs.specs.RunsHex.{kind_hex, work_hex}
-use Rattle.cmd_runs.proofs.Equipped.{equipment_halts, equipped_to_run}
+use Rattle.cmd_runs.specs.RunsHex.{kind_hex}
+use Rattle.cmd_runs.proofs.Equipped.{devices_halt, equipped_has, equipped_halts}
 use Rattle.cmd_runs.proofs.run_hex.run_over.Goals as goal
 
-pub returns-in_err-equipment-clause-halted : goal.returns-in_err-equipment-clause-halted
-returns-in_err-equipment-clause-halted g c =
-    let command = run_hex_read c.args.command.now in
+pub returns-in_err-devices-clause-halted : goal.returns-in_err-devices-clause-halted
+returns-in_err-devices-clause-halted g c =
     let s = c.args.supplies in
-    let given = given_of s.input.items s.disk.items s.ports.items in
-    let start = g.H.Host.state c.args.host.now in
-    let stop = c.in_err-equipment.field-0.0 in
-    handed_on c.from_residual.result (By stop) (HaltsFrom (work_hex command) (λ begin. CanBeRun (kind_hex command) begin c.args.hex.now given) start start) c.from_residual.ensures.1
-    (λ begin read. equipment_halts (kind_hex command) begin start c.args.hex.now given read stop c.in_err-equipment.ensures)
+    devices_halt (kind_hex (run_hex_read c.args.command.now)) c.args.hex.now (given_of s.input.items s.disk.items s.ports.items) (g.H.Host.state c.args.host.now)
+    c.from_residual.result c.in_err-devices.field-0.0 c.from_residual.ensures.1 c.in_err-devices.ensures.stopped
 
 pub returns : goal.returns
 returns g c =
@@ -25,11 +16,12 @@ returns g c =
     let s = c.args.supplies in
     let given = given_of s.input.items s.disk.items s.ports.items in
     let start = g.H.Host.state c.args.host.now in
-    let devices = c.in_ok-equipment.equipment.devices in
-    let has = c.in_ok-equipment.ensures.0 in
+    let new = g.H.Host.state c.run_equipped.new.host in
+    let devices = c.in_ok-devices.devices in
+    let has = c.in_ok-devices.ensures.devices in
     let r = c.run_equipped.result in
     record {
       made = c.run_equipped.ensures.made;
-      came = IfOk-weaker r _ _ (λ last has_last begin read. has_last begin (equipped_to_run kind begin start c.args.hex.now given read devices has)) c.run_equipped.ensures.came;
-      halted = IfErr-weaker r _ _ (λ halt halts begin read. halts begin (equipped_to_run kind begin start c.args.hex.now given read devices has)) c.run_equipped.ensures.halted;
+      came = equipped_has kind c.args.hex.now given start new devices has r c.run_equipped.ensures.came;
+      halted = equipped_halts kind c.args.hex.now given start new devices has r c.run_equipped.ensures.halted;
     }

@@ -2,13 +2,11 @@ use Rattle.std.proofs.Common.{subst}
 use Rattle.host.proofs.HostLemmas.{OnlyReads-trans, SameFaults-trans}
 use Rattle.cmd_arguments.specs.ReadCommands.{run_options_read}
 use Rattle.cmd_arguments.specs.Words.{Run80}
-use Rattle.cmd_runs.specs.declared.halt.Halt.TheVariants.{By}
-use Rattle.cmd_runs.specs.Ends.{Halts}
 use Rattle.cmd_runs.specs.Supplies.{given_of}
 use Rattle.cmd_common.specs.Sources.{SourceGives, reading_of}
+use Rattle.cmd_common.proofs.Told.{handed_on}
 use Rattle.cmd_runs.specs.Kinds.{NothingToRun, no_file, no_supply, is_refused}
 use Rattle.cmd_runs.specs.Runs80.{words_of, kind80}
-use Rattle.cmd_common.proofs.Told.{handed_on}
 use Rattle.cmd_runs.proofs.Loading.{supply_before, supply_stops_before}
 use Rattle.cmd_runs.proofs.run_source.read_program.Goals as goal
 
@@ -17,7 +15,7 @@ returns-in_err-source-clause-stopped g c =
     let command : Run80 = words_of c.args.name.now c.args.zilog c.args.top (run_options_read c.args.run.now) in
     let old = g.H.Host.state c.args.host.now in
     let new = g.H.Host.state c.read_source.new.host in
-    handed_on c.from_residual.result (By c.in_err-source.field-0.0) (Halts (NothingToRun (kind80 command) old new)) c.from_residual.ensures.1
+    handed_on c.from_residual.result c.in_err-source.field-0.0 (NothingToRun (kind80 command) old new) c.from_residual.ensures.1
     (no_file c.in_err-source.ensures.stopped)
 
 pub returns-in_err-supplies-clause-stopped : goal.returns-in_err-supplies-clause-stopped
@@ -27,31 +25,28 @@ returns-in_err-supplies-clause-stopped g c =
     let mid = g.H.Host.state c.read_source.new.host in
     let new = g.H.Host.state c.read_supplies.new.host in
     let first = c.in_ok-source.ensures in
-    handed_on c.from_residual-in_err-supplies.result (By c.in_err-supplies.field-0.0) (Halts (NothingToRun (kind80 command) old new)) c.from_residual-in_err-supplies.ensures.1
+    handed_on c.from_residual-in_err-supplies.result c.in_err-supplies.field-0.0 (NothingToRun (kind80 command) old new) c.from_residual-in_err-supplies.ensures.1
     (no_supply first.read.bytes first.read.file (supply_stops_before old mid new first.only first.counted command.run c.in_err-supplies.field-0.0 c.in_err-supplies.ensures.stopped))
 
 -- the source is refused, and the other files were read
-pub returns-in_err-program-clause-stopped : goal.returns-in_err-program-clause-stopped
-returns-in_err-program-clause-stopped g c =
+pub returns-in-Err-clause-stopped : goal.returns-in-Err-clause-stopped
+returns-in-Err-clause-stopped g c =
     let command : Run80 = words_of c.args.name.now c.args.zilog c.args.top (run_options_read c.args.run.now) in
     let old = g.H.Host.state c.args.host.now in
     let mid = g.H.Host.state c.read_source.new.host in
-    let new = g.H.Host.state c.read_supplies.new.host in
     let first = c.in_ok-source.ensures in
     let second = c.in_ok-supplies.ensures in
     let s = c.in_ok-supplies.supplies in
     let given = given_of s.input.items s.disk.items s.ports.items in
-    handed_on c.from_residual-in_err-program.result (By c.in_err-program.field-0.0) (Halts (NothingToRun (kind80 command) old new)) c.from_residual-in_err-program.ensures.1
-    (is_refused first.read.bytes given first.read.file (supply_before old mid new first.only first.counted command.run given second.read)
+    is_refused first.read.bytes given first.read.file (supply_before old mid (g.H.Host.state c.read_supplies.new.host) first.only first.counted command.run given second.read)
     (SameFaults-trans first.counted second.counted)
-    (subst (SourceGives (reading_of command.zilog) first.read.bytes command.top) c.in_err-program.was first.read.gives))
+    (subst (SourceGives (reading_of command.zilog) first.read.bytes command.top) c.in-Err.is first.read.gives)
 
-pub returns-clause-named : goal.returns-clause-named
-returns-clause-named g c =
+pub returns-in-Ok-clause-named : goal.returns-in-Ok-clause-named
+returns-in-Ok-clause-named g c =
     let command : Run80 = words_of c.args.name.now c.args.zilog c.args.top (run_options_read c.args.run.now) in
     let old = g.H.Host.state c.args.host.now in
     let mid = g.H.Host.state c.read_source.new.host in
-    let new = g.H.Host.state c.read_supplies.new.host in
     let first = c.in_ok-source.ensures in
     let second = c.in_ok-supplies.ensures in
     let s = c.in_ok-supplies.supplies in
@@ -59,18 +54,18 @@ returns-clause-named g c =
     record {
       bytes = first.read.bytes;
       file = first.read.file;
-      gives = subst (SourceGives (reading_of command.zilog) first.read.bytes command.top) c.in_ok-program.was first.read.gives;
-      supplied = supply_before old mid new first.only first.counted command.run given second.read;
+      gives = subst (SourceGives (reading_of command.zilog) first.read.bytes command.top) c.in-Ok.is first.read.gives;
+      supplied = supply_before old mid (g.H.Host.state c.read_supplies.new.host) first.only first.counted command.run given second.read;
     }
 
 pub returns-in_err-supplies-clause-only : goal.returns-in_err-supplies-clause-only
 returns-in_err-supplies-clause-only g c = OnlyReads-trans c.in_ok-source.ensures.only c.in_err-supplies.ensures.only
 
-pub returns-in_err-program-clause-only : goal.returns-in_err-program-clause-only
-returns-in_err-program-clause-only g c = OnlyReads-trans c.in_ok-source.ensures.only c.in_ok-supplies.ensures.only
+pub returns-in-Err-clause-only : goal.returns-in-Err-clause-only
+returns-in-Err-clause-only g c = OnlyReads-trans c.in_ok-source.ensures.only c.in_ok-supplies.ensures.only
 
-pub returns-clause-only : goal.returns-clause-only
-returns-clause-only g c = OnlyReads-trans c.in_ok-source.ensures.only c.in_ok-supplies.ensures.only
+pub returns-in-Ok-clause-only : goal.returns-in-Ok-clause-only
+returns-in-Ok-clause-only g c = OnlyReads-trans c.in_ok-source.ensures.only c.in_ok-supplies.ensures.only
 
-pub returns-clause-counted : goal.returns-clause-counted
-returns-clause-counted g c = SameFaults-trans c.in_ok-source.ensures.counted c.in_ok-supplies.ensures.counted
+pub returns-in-Ok-clause-counted : goal.returns-in-Ok-clause-counted
+returns-in-Ok-clause-counted g c = SameFaults-trans c.in_ok-source.ensures.counted c.in_ok-supplies.ensures.counted

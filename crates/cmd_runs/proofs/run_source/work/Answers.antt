@@ -1,21 +1,17 @@
 use Rattle.host.specs.Host.{HostState}
 use Rattle.cmd_arguments.specs.ReadCommands.{run80_read}
-use Rattle.cmd_common.proofs.Told.{handed_on}
 use Rattle.cmd_runs.specs.Supplies.{given_of}
 use Rattle.cmd_runs.specs.Kinds.{HasRead, CanBeRun}
-use Rattle.cmd_runs.specs.Works.{WorkHalts}
 use Rattle.cmd_runs.specs.Runs80.{kind80, work80}
-use Rattle.cmd_runs.proofs.Working.{unloaded_halts, begun_has, begun_halts}
+use Rattle.cmd_runs.proofs.FilesRead.{nothing_halts}
+use Rattle.cmd_runs.proofs.Working.{begun_has, begun_halts}
 use Rattle.cmd_runs.proofs.run_source.work.Goals as goal
 
 pub returns-in_err-named-clause-halted : goal.returns-in_err-named-clause-halted
 returns-in_err-named-clause-halted g c =
-    let w = work80 (run80_read c.args.command.now) in
-    let old = g.H.Host.state c.args.host.now in
-    let new = g.H.Host.state c.read_program.new.host in
-    let halt = c.in_err-named.field-0.0 in
-    handed_on c.from_residual.result halt (WorkHalts w old new) c.from_residual.ensures.1
-    (unloaded_halts w old new halt c.in_err-named.ensures.only c.in_err-named.ensures.stopped)
+    let e = c.in_err-named.ensures in
+    nothing_halts (kind80 (run80_read c.args.command.now)) (g.H.Host.state c.args.host.now) (g.H.Host.state c.read_program.new.host)
+    c.from_residual.result c.in_err-named.field-0.0 c.from_residual.ensures.1 e.only e.stopped
 
 pub returns : goal.returns
 returns g c =
