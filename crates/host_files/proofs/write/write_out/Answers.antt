@@ -1,11 +1,12 @@
 use Rattle.std.proofs.Common.{◌≡◌, [], ◌++◌, drop, ap, ◌∙◌, ◌+◌, inl, arith}
 use Rattle.std.proofs.lemmas.Result.{IfErr-weaker, on_ok_weaker, on_err_weaker}
 use Rattle.std.proofs.lemmas.List.{drop_all}
-use Rattle.host.specs.Host.{WriteFault}
+use Rattle.host.specs.Host.{WriteFault, Rewrites, SameFaults}
 use Rattle.host.proofs.HostLemmas.{OnlyWrites-trans, SameFaults-refl, SameFaults-trans, fault_after, handed_on}
 use Rattle.asm86_line_types.specs.declared.line.Line86.{Line86}
 use Rattle.asm86_line_types.specs.declared.line.Stmt86.TheVariants.{Cseg}
 use Rattle.asm86_line_types.specs.Written.{written_text}
+use Rattle.host_files.specs.Transfer.{IsBeforeOrPart}
 use Rattle.host_files.proofs.Fills.{on_ok, on_err}
 use Rattle.host_files.proofs.Waits.{Waits, Waits-none, Waits-more, Waits-fault, Waits-line, Waits-done}
 use Rattle.host_files.proofs.write.write_out.Goals as goal
@@ -15,14 +16,20 @@ abbrev any_line : Line86
 any_line = record { line = 0; stmt = Cseg }
 
 -- a fault at a line
-pub returns-in_err-add-clause-fault : goal.returns-in_err-add-clause-fault
-returns-in_err-add-clause-fault g c =
+pub returns-in_err-add : goal.returns-in_err-add
+returns-in_err-add g c =
     let lines = c.args.lines.now in
     let i = c.loop-line.line-index in
     let piece = c.loop-line.waiting in
     let line = c.as_slice.result.now in
     let waits = Waits-line piece line lines i any_line c.loop-line-test.true (c.as_slice.ensures.value ∙ c.write_line.ensures.value) c.loop-line.invariant.waits in
-    on_err c.from_residual-in_err-add.result (Waits-fault (g.H.Host.state c.add.new.host) (piece ++ line) (written_text (drop (i + 1) lines)) waits c.in_err-add.ensures.fault)
+    record {
+      only = OnlyWrites-trans c.loop-line.invariant.only c.add.ensures.only;
+      ok = on_ok (Rewrites (g.H.Host.state c.args.host.now) (g.H.Host.state c.add.new.host) c.args.name.now (written_text c.args.lines.now)) c.from_residual-in_err-add.result c.from_residual-in_err-add.ensures.0;
+      counted = on_ok (SameFaults (g.H.Host.state c.args.host.now) (g.H.Host.state c.add.new.host)) c.from_residual-in_err-add.result c.from_residual-in_err-add.ensures.0;
+      fault = on_err c.from_residual-in_err-add.result (Waits-fault (g.H.Host.state c.add.new.host) (piece ++ line) (written_text (drop (i + 1) lines)) waits c.in_err-add.ensures.fault);
+      failed = handed_on (g.H.Host.state c.args.host.now) (g.H.Host.state c.loop-line.host) (g.H.Host.state c.add.new.host) c.from_residual-in_err-add.result c.in_err-add.field-0.0 c.from_residual-in_err-add.ensures.1 c.loop-line.invariant.counted c.in_err-add.ensures.failed;
+    }
 
 -- one more line
 pub loop-line-preserved : goal.loop-line-preserved
@@ -41,38 +48,35 @@ loop-line-preserved g c =
     }
 
 -- a fault at the last piece
-pub returns-clause-fault : goal.returns-clause-fault
-returns-clause-fault g c =
+-- the last piece was appended
+pub returns : goal.returns
+returns g c =
     let rest = written_text (drop c.loop-line.line-index c.args.lines.now) in
     let piece = c.as_slice-2.result.now in
     let waits : Waits (g.H.Host.state c.args.host.now) (g.H.Host.state c.loop-line.host) c.args.name.now (written_text c.args.lines.now) (piece ++ rest) = rw c.as_slice-2.ensures c.loop-line.invariant.waits in
-    on_err_weaker c.append_all.result (Waits-fault (g.H.Host.state c.append_all.new.host) piece rest waits) c.append_all.ensures.fault
-
-pub returns-in_err-add-clause-failed : goal.returns-in_err-add-clause-failed
-returns-in_err-add-clause-failed g c =
-    handed_on (g.H.Host.state c.args.host.now) (g.H.Host.state c.loop-line.host) (g.H.Host.state c.add.new.host) c.from_residual-in_err-add.result c.in_err-add.field-0.0 c.from_residual-in_err-add.ensures.1 c.loop-line.invariant.counted c.in_err-add.ensures.failed
-
-pub returns-clause-failed : goal.returns-clause-failed
-returns-clause-failed g c =
+    let ended : rest ≡ [] = ap written_text (drop_all c.loop-line.line-index c.args.lines.now c.loop-line-test.false) in
     let old = g.H.Host.state c.args.host.now in
     let mid = g.H.Host.state c.loop-line.host in
     let new = g.H.Host.state c.append_all.new.host in
-    IfErr-weaker c.append_all.result (WriteFault mid new) (WriteFault old new) (λ fault h. fault_after old mid new fault c.loop-line.invariant.counted h) c.append_all.ensures.failed
+    record {
+      only = OnlyWrites-trans c.loop-line.invariant.only c.append_all.ensures.only;
+      ok = on_ok_weaker c.append_all.result (Waits-done (g.H.Host.state c.append_all.new.host) piece rest waits ended) c.append_all.ensures.ok;
+      counted = on_ok_weaker c.append_all.result (SameFaults-trans c.loop-line.invariant.counted) c.append_all.ensures.counted;
+      fault = on_err_weaker c.append_all.result (Waits-fault (g.H.Host.state c.append_all.new.host) piece rest waits) c.append_all.ensures.fault;
+      failed = IfErr-weaker c.append_all.result (WriteFault mid new) (WriteFault old new) (λ fault h. fault_after old mid new fault c.loop-line.invariant.counted h) c.append_all.ensures.failed;
+    }
 
 -- the file could not be made empty
-pub returns-in_err-begin-clause-ok : goal.returns-in_err-begin-clause-ok
-returns-in_err-begin-clause-ok g c = on_ok _ c.from_residual.result c.from_residual.ensures.0
-
-pub returns-in_err-begin-clause-counted : goal.returns-in_err-begin-clause-counted
-returns-in_err-begin-clause-counted g c = on_ok _ c.from_residual.result c.from_residual.ensures.0
-
-pub returns-in_err-begin-clause-fault : goal.returns-in_err-begin-clause-fault
-returns-in_err-begin-clause-fault g c = on_err c.from_residual.result (inl (c.in_err-begin.ensures.fault.files c.args.name.now))
-
-pub returns-in_err-begin-clause-failed : goal.returns-in_err-begin-clause-failed
-returns-in_err-begin-clause-failed g c =
+pub returns-in_err-begin : goal.returns-in_err-begin
+returns-in_err-begin g c =
     let old = g.H.Host.state c.args.host.now in
-    handed_on old old (g.H.Host.state c.begin.new.self) c.from_residual.result c.in_err-begin.field-0.0 c.from_residual.ensures.1 (SameFaults-refl old) c.in_err-begin.ensures.failed
+    record {
+      only = c.begin.ensures.only;
+      ok = on_ok (Rewrites (g.H.Host.state c.args.host.now) (g.H.Host.state c.begin.new.self) c.args.name.now (written_text c.args.lines.now)) c.from_residual.result c.from_residual.ensures.0;
+      counted = on_ok (SameFaults (g.H.Host.state c.args.host.now) (g.H.Host.state c.begin.new.self)) c.from_residual.result c.from_residual.ensures.0;
+      fault = on_err {P = IsBeforeOrPart (g.H.Host.state c.args.host.now) (g.H.Host.state c.begin.new.self) c.args.name.now (written_text c.args.lines.now)} c.from_residual.result (inl (c.in_err-begin.ensures.fault.files c.args.name.now));
+      failed = handed_on old old (g.H.Host.state c.begin.new.self) c.from_residual.result c.in_err-begin.field-0.0 c.from_residual.ensures.1 (SameFaults-refl old) c.in_err-begin.ensures.failed;
+    }
 
 -- nothing waits yet
 pub loop-line-init : goal.loop-line-init
@@ -82,28 +86,3 @@ loop-line-init g c = record {
   counted = c.in_ok-begin.ensures.counted;
   waits = Waits-none c.in_ok-begin.ensures.empty c.new-waiting.ensures;
 }
-
-pub returns-in_err-add-clause-only : goal.returns-in_err-add-clause-only
-returns-in_err-add-clause-only g c = OnlyWrites-trans c.loop-line.invariant.only c.add.ensures.only
-
-pub returns-in_err-add-clause-ok : goal.returns-in_err-add-clause-ok
-returns-in_err-add-clause-ok g c = on_ok _ c.from_residual-in_err-add.result c.from_residual-in_err-add.ensures.0
-
-pub returns-in_err-add-clause-counted : goal.returns-in_err-add-clause-counted
-returns-in_err-add-clause-counted g c = on_ok _ c.from_residual-in_err-add.result c.from_residual-in_err-add.ensures.0
-
-pub returns-clause-only : goal.returns-clause-only
-returns-clause-only g c = OnlyWrites-trans c.loop-line.invariant.only c.append_all.ensures.only
-
--- the last piece was appended
-pub returns-clause-ok : goal.returns-clause-ok
-returns-clause-ok g c =
-    let rest = written_text (drop c.loop-line.line-index c.args.lines.now) in
-    let piece = c.as_slice-2.result.now in
-    let waits : Waits (g.H.Host.state c.args.host.now) (g.H.Host.state c.loop-line.host) c.args.name.now (written_text c.args.lines.now) (piece ++ rest) = rw c.as_slice-2.ensures c.loop-line.invariant.waits in
-    let ended : rest ≡ [] = ap written_text (drop_all c.loop-line.line-index c.args.lines.now c.loop-line-test.false) in
-    on_ok_weaker c.append_all.result (Waits-done (g.H.Host.state c.append_all.new.host) piece rest waits ended) c.append_all.ensures.ok
-
-pub returns-clause-counted : goal.returns-clause-counted
-returns-clause-counted g c =
-    on_ok_weaker c.append_all.result (SameFaults-trans c.loop-line.invariant.counted) c.append_all.ensures.counted
