@@ -35,7 +35,7 @@ pub fn read_text<H: Host>(
         reader: Text86::new(alloc)?,
     };
     read_named_into(host, file, name, TEXT_LIMIT, &mut text)?;
-    Ok(text.lines()?)
+    text.lines()
 }
 
 // The lines of a text, as far as its file was read. Of its bytes only the line that is not complete yet is kept.
@@ -63,20 +63,20 @@ impl Sink for TextLines {
 
 impl TextLines {
     ghost use Rattle.asm86.specs.Reader.{AfterText};
+    ghost use Rattle.cmd_common.specs.declared.stop.Stop.TheVariants.{OutOfMemory};
     ghost use Rattle.cmd_common.specs.Texts.{BytesGiveLines};
 
     // The lines of the whole text, or the first rule that one of them breaks.
-    fn lines(self) -> Result<Result<Vec<Line86>, Stop>, AllocError>
+    fn lines(self) -> Result<Result<Vec<Line86>, Stop>, Stop>
         ensures read { IfOk result (λ outcome. (bytes : List ℕ) → AfterText bytes self.reader → BytesGiveLines bytes outcome) }
         ensures in_order { IfOk result (λ outcome. IfOk outcome (λ lines. in_order at_start (statements lines.items) ≡ true)) }
         ensures few { IfOk result (λ outcome. IfOk outcome (λ lines. length lines.items < 2 ^ 28)) }
+        ensures stopped { IfErr result (λ stop. stop ≡ OutOfMemory) }
     {
         match self.reader.finish() {
             Ok(lines) => Ok(Ok(lines)),
-            Err(fault) => match fault {
-                TextFault::Line(line, rule) => Ok(Err(Stop::TextLine(line, rule))),
-                TextFault::Memory => Err(AllocError),
-            },
+            Err(TextFault::Line(line, rule)) => Ok(Err(Stop::TextLine(line, rule))),
+            Err(TextFault::Memory) => Err(Stop::OutOfMemory),
         }
     }
 }
