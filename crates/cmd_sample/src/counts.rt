@@ -1,7 +1,7 @@
 // How much there is of what a made source has.
-ghost use Rattle.std.specs.Prelude.{◌≡◌, ◌++◌, IfOk};
+ghost use Rattle.std.specs.Prelude.{◌≡◌, IfOk};
 ghost use Rattle.std.specs.String.{string_bytes};
-ghost use Rattle.cmd_sample.specs.SampleReport.{sample_line, source_part, program_part, text_part};
+ghost use Rattle.cmd_sample.specs.SampleReport.{sample_line};
 ghost use Rattle.cmd_sample.specs.SampleWork.{counts_read};
 
 use std::alloc::{AllocError, Global};
@@ -24,53 +24,17 @@ impl Counts {
     pub fn line(self, alloc: Global) -> Result<String, AllocError>
         ensures { IfOk result (λ line. string_bytes line ≡ sample_line (counts_read self)) }
     {
-        let source = self.source_part(alloc)?;
-        let program = self.program_part(alloc)?;
-        let text = self.text_part(alloc)?;
-        joined(alloc, source.as_str(), program.as_str(), text.as_str())
-    }
-
-    // What the source has.
-    fn source_part(self, alloc: Global) -> Result<String, AllocError>
-        ensures { IfOk result (λ part. string_bytes part ≡ source_part (counts_read self)) }
-    {
         let Counts {
             routines,
             lines,
-            ..
-        } = self;
-        format!(in alloc; "sample {routines}: {lines} lines, ")
-    }
-
-    // What its program has.
-    fn program_part(self, alloc: Global) -> Result<String, AllocError>
-        ensures { IfOk result (λ part. string_bytes part ≡ program_part (counts_read self)) }
-    {
-        let Counts {
             instructions,
             cells,
-            ..
-        } = self;
-        format!(in alloc; "{instructions} instructions, {cells} data bytes, ")
-    }
-
-    // What the lean text has.
-    fn text_part(self, alloc: Global) -> Result<String, AllocError>
-        ensures { IfOk result (λ part. string_bytes part ≡ text_part (counts_read self)) }
-    {
-        let Counts {
             code,
             saved,
             sums,
-            ..
         } = self;
-        format!(in alloc; "{code} code bytes, saves {saved} of {sums}\n")
+        format!(in alloc;
+            "sample {routines}: {lines} lines, {instructions} instructions, {cells} data bytes, {code} code bytes, saves {saved} of {sums}\n"
+        )
     }
-}
-
-// Three parts of a line.
-fn joined(alloc: Global, first: &str, second: &str, third: &str) -> Result<String, AllocError>
-    ensures { IfOk result (λ line. string_bytes line ≡ first.now ++ (second.now ++ third.now)) }
-{
-    format!(in alloc; "{first}{second}{third}")
 }
