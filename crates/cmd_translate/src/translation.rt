@@ -2,12 +2,12 @@
 ghost use Rattle.std.specs.Prelude.{◌≡◌, ◌^◌, ◌<◌, true, IfOk, IfErr, OnOk, length, vec_len, option_map};
 ghost use Rattle.std.specs.String.{string_bytes};
 ghost use Rattle.host.specs.Host.{SameFaults, OnlyReads, OnlyWrites};
-ghost use Rattle.asm80_program_types.specs.Program.{Program, is_top};
+ghost use Rattle.asm80_program_types.specs.Program.{is_top};
 ghost use Rattle.templates.specs.Style.{Style, styled};
 ghost use Rattle.cmd_common.specs.declared.names.InputFile.TheVariants.{First};
 ghost use Rattle.cmd_common.specs.Files.{ReadStops, input_limit};
 ghost use Rattle.templates.specs.declared.translation.Mode.{Mode};
-ghost use Rattle.templates.specs.Translation.{IsText, CodeFits, HasNoText};
+ghost use Rattle.templates.specs.Translation.{IsText, CodeFits};
 ghost use Rattle.cmd_arguments.specs.ReadCommands.{translate_read};
 ghost use Rattle.cmd_common.specs.declared.stop.Stop.TheVariants.{OutOfMemory};
 ghost use Rattle.cmd_translate.specs.Translates.{mode_of, line_of_text, TranslateGives, Completes};
@@ -92,10 +92,26 @@ fn read_kept<H: Host>(
     ensures counted { OnOk result (SameFaults (H.state host.old) (H.state host.new)) }
     ensures stopped { IfErr result (ReadStops First command.now.input.now input_limit (H.state host.old) (H.state host.new)) }
 {
-    if !command.comments {
-        let source = read_source(alloc, host, command.input, command.zilog, command.top)?;
-        return Ok((source, None));
+    if command.comments {
+        return read_with_bytes(alloc, host, command);
     }
+    let source = read_source(alloc, host, command.input, command.zilog, command.top)?;
+    Ok((source, None))
+}
+
+// The same where they are: the bytes are kept whole.
+fn read_with_bytes<H: Host>(
+    alloc: Global,
+    host: &mut H,
+    command: &Translate<'_>,
+) -> Result<(Result<Program80, Stop>, Option<Vec<u8>>), Stop>
+    requires top { is_top command.now.top ≡ true }
+    requires kept { command.now.comments ≡ true }
+    ensures only { OnlyReads (H.state host.old) (H.state host.new) }
+    ensures read { IfOk result (λ r. ReadsKept (translate_read command.now) (H.state host.old) r.0 (option_map (λ v. v.items) r.1)) }
+    ensures counted { OnOk result (SameFaults (H.state host.old) (H.state host.new)) }
+    ensures stopped { IfErr result (ReadStops First command.now.input.now input_limit (H.state host.old) (H.state host.new)) }
+{
     let bytes = read_named(alloc, host, InputFile::First, command.input, SOURCE_LIMIT)?;
     let source = program_of_bytes(alloc, &bytes, command.zilog, command.top)?;
     Ok((source, Some(bytes)))
@@ -150,17 +166,8 @@ fn lines_of(alloc: Global, program: &Program80, mode: Mode) -> Result<Vec<Line86
 {
     match templates::translate(alloc, program, mode) {
         Ok(lines) => Ok(lines),
-        Err(fault) => Err(stop_of(fault)),
-    }
-}
-
-// Why there is no text.
-fn stop_of(fault: CoreFault) -> Stop
-    ensures { (mode : Mode) (p : Program) → HasNoText mode p fault → TextStops mode p result }
-{
-    match fault {
-        CoreFault::CodeTooLarge(size) => Stop::CodeTooLarge(size),
-        CoreFault::Memory => Stop::OutOfMemory,
+        Err(CoreFault::CodeTooLarge(size)) => Err(Stop::CodeTooLarge(size)),
+        Err(CoreFault::Memory) => Err(Stop::OutOfMemory),
     }
 }
 
