@@ -1,5 +1,6 @@
 use Rattle.std.proofs.Common.{◌≡◌, ◌<◌, ℕ, List, [], ◌∷◌, length, subst}
 use Rattle.std.specs.Prelude.{All}
+use Rattle.std.proofs.lemmas.Result.{IfOk-from_err}
 use Rattle.emulators.specs.Starts.{start_by}
 use Rattle.cmd_arguments.specs.ReadCommands.{both_read}
 use Rattle.cmd_common.proofs.Told.{handed_on}
@@ -13,8 +14,8 @@ use Rattle.cmd_runs.proofs.BothMade.{filled, first_halts, second_halts, both_mad
 use Rattle.cmd_runs.proofs.making.make_runs.Goals as goal
 
 -- a fault cut the 8080's run off
-pub returns-in_err-first-clause-halted : goal.returns-in_err-first-clause-halted
-returns-in_err-first-clause-halted g c =
+pub returns-in_err-first : goal.returns-in_err-first
+returns-in_err-first g c =
     let command = both_read c.args.command.now in
     let start = g.H.Host.state c.args.host.now in
     let new = g.H.Host.state c.run_program.new.host in
@@ -24,12 +25,15 @@ returns-in_err-first-clause-halted g c =
     let fault = c.in_err-first.field-0.0 in
     let cut : IsRunCutOff (first_setting command program) supply fault start new =
     subst (λ n. IsRunCutOff (setting80 command.run.page program n prefix80) supply fault start new) c.from-steps.ensures c.in_err-first.ensures.cut in
-    handed_on c.from_residual.result (halt_of_talk fault) (HaltsFrom (work_both command) (λ begin. AreToRun command begin program image supply) start new) c.from_residual.ensures.1
-    (λ begin read. first_halts command begin start program image supply read new fault cut)
+    record {
+      made = IfOk-from_err c.from_residual.result _ c.from_residual.ensures.0;
+      halted = handed_on c.from_residual.result (halt_of_talk fault) (HaltsFrom (work_both command) (λ begin. AreToRun command begin program image supply) start new) c.from_residual.ensures.1
+          (λ begin read. first_halts command begin start program image supply read new fault cut);
+    }
 
 -- a fault cut the 8086's run off
-pub returns-in_err-second-clause-halted : goal.returns-in_err-second-clause-halted
-returns-in_err-second-clause-halted g c =
+pub returns-in_err-second : goal.returns-in_err-second
+returns-in_err-second g c =
     let command = both_read c.args.command.now in
     let start = g.H.Host.state c.args.host.now in
     let mid = g.H.Host.state c.run_program.new.host in
@@ -42,8 +46,11 @@ returns-in_err-second-clause-halted g c =
     let first : RunComesTo (first_setting command program) supply o left start mid =
     subst (λ n. RunComesTo (setting80 command.run.page program n prefix80) supply o left start mid) c.from-steps.ensures c.in_ok-first.ensures.run in
     let fault = c.in_err-second.field-0.0 in
-    handed_on c.from_residual-in_err-second.result (halt_of_talk fault) (HaltsFrom (work_both command) (λ begin. AreToRun command begin program image supply) start new) c.from_residual-in_err-second.ensures.1
-    (λ begin read. second_halts command begin start program image supply read mid new o left c.args.devices.now.second c.limit86-limit.result first c.requires.second c.limit86-limit.ensures fault c.in_err-second.ensures.cut)
+    record {
+      made = IfOk-from_err c.from_residual-in_err-second.result _ c.from_residual-in_err-second.ensures.0;
+      halted = handed_on c.from_residual-in_err-second.result (halt_of_talk fault) (HaltsFrom (work_both command) (λ begin. AreToRun command begin program image supply) start new) c.from_residual-in_err-second.ensures.1
+          (λ begin read. second_halts command begin start program image supply read mid new o left c.args.devices.now.second c.limit86-limit.result first c.requires.second c.limit86-limit.ensures fault c.in_err-second.ensures.cut);
+    }
 
 pub returns-clause-made : goal.returns-clause-made
 returns-clause-made g c = λ begin read.

@@ -1,5 +1,6 @@
 use Rattle.std.proofs.Common.{sym, subst, Some}
 use Rattle.std.specs.Prelude.{option_copied}
+use Rattle.std.proofs.lemmas.Result.{IfOk-from_err}
 use Rattle.cmd_arguments.specs.ReadCommands.{both_read}
 use Rattle.cmd_common.specs.declared.stop.Stop.TheVariants.{OutOfMemory}
 use Rattle.cmd_common.proofs.Told.{handed_on}
@@ -15,26 +16,34 @@ use Rattle.cmd_runs.specs.BothMaking.{runs_made}
 use Rattle.cmd_runs.proofs.run_both.run_equipped.Goals as goal
 
 -- there was no memory for what fills the 8086's
-pub returns-in_err-fill-clause-halted : goal.returns-in_err-fill-clause-halted
-returns-in_err-fill-clause-halted g c =
+pub returns-in_err-fill : goal.returns-in_err-fill
+returns-in_err-fill g c =
     let command = both_read c.args.command.now in
     let start = g.H.Host.state c.args.host.now in
-    handed_on c.from_residual.result (By OutOfMemory) (HaltsFrom (work_both command) (λ begin. AreToRun command begin c.args.program.now c.args.image.now c.args.devices.now.first) start start) c.from_residual.ensures.1
-    (λ begin read. unloaded read.reads no_memory)
+    record {
+      made = IfOk-from_err c.from_residual.result _ c.from_residual.ensures.0;
+      came = IfOk-from_err c.from_residual.result _ c.from_residual.ensures.0;
+      halted = handed_on c.from_residual.result (By OutOfMemory) (HaltsFrom (work_both command) (λ begin. AreToRun command begin c.args.program.now c.args.image.now c.args.devices.now.first) start start) c.from_residual.ensures.1
+          (λ begin read. unloaded read.reads no_memory);
+    }
 
 pub make_runs-requires-clause-fill : goal.make_runs-requires-clause-fill
 make_runs-requires-clause-fill g c = subst (IsFillBy c.args.command.now.choice) (sym c.as_slice.ensures.value) (record { bytes = c.in_ok-fill.ensures.items; size = c.in_ok-fill.ensures.len })
 
 -- a run was cut off
-pub returns-in_err-made-clause-halted : goal.returns-in_err-made-clause-halted
-returns-in_err-made-clause-halted g c =
+pub returns-in_err-made : goal.returns-in_err-made
+returns-in_err-made g c =
     let command = both_read c.args.command.now in
     let start = g.H.Host.state c.args.host.now in
     let program = c.args.program.now in
     let image = c.args.image.now in
     let supply = c.args.devices.now.first in
     let new = g.H.Host.state c.make_runs.new.host in
-    handed_on c.from_residual-in_err-made.result c.in_err-made.field-0.0 (HaltsFrom (work_both command) (λ begin. AreToRun command begin program image supply) start new) c.from_residual-in_err-made.ensures.1 c.in_err-made.ensures.halted
+    record {
+      made = IfOk-from_err c.from_residual-in_err-made.result _ c.from_residual-in_err-made.ensures.0;
+      came = IfOk-from_err c.from_residual-in_err-made.result _ c.from_residual-in_err-made.ensures.0;
+      halted = handed_on c.from_residual-in_err-made.result c.in_err-made.field-0.0 (HaltsFrom (work_both command) (λ begin. AreToRun command begin program image supply) start new) c.from_residual-in_err-made.ensures.1 c.in_err-made.ensures.halted;
+    }
 
 pub returns : goal.returns
 returns g c =

@@ -1,4 +1,4 @@
-use Rattle.std.proofs.lemmas.Result.{IfOk-weaker, IfErr-weaker}
+use Rattle.std.proofs.lemmas.Result.{IfOk-weaker, IfErr-weaker, IfOk-from_err}
 use Rattle.host.specs.Host.{HostState}
 use Rattle.cmd_arguments.specs.ReadCommands.{both_read}
 use Rattle.cmd_common.proofs.Told.{handed_on}
@@ -11,14 +11,18 @@ use Rattle.cmd_runs.specs.BothRuns.{work_both}
 use Rattle.cmd_runs.proofs.run_both.run_imaged.Goals as goal
 
 -- the program has no image
-pub returns-in_err-image-clause-halted : goal.returns-in_err-image-clause-halted
-returns-in_err-image-clause-halted g c =
+pub returns-in_err-image : goal.returns-in_err-image
+returns-in_err-image g c =
     let command = both_read c.args.command.now in
     let program = c.args.program.now in
     let supply = c.args.devices.now.first in
     let start = g.H.Host.state c.args.host.now in
-    handed_on c.from_residual.result (By c.in_err-image.field-0.0) (HaltsFrom (work_both command) (λ begin. IsToRun (kind80 (source_of command)) begin program supply) start start) c.from_residual.ensures.1
-    (λ begin read. unloaded read.reads (no_image program supply read.stands read.counted c.in_err-image.ensures.stopped))
+    record {
+      made = IfOk-from_err c.from_residual.result _ c.from_residual.ensures.0;
+      came = IfOk-from_err c.from_residual.result _ c.from_residual.ensures.0;
+      halted = handed_on c.from_residual.result (By c.in_err-image.field-0.0) (HaltsFrom (work_both command) (λ begin. IsToRun (kind80 (source_of command)) begin program supply) start start) c.from_residual.ensures.1
+          (λ begin read. unloaded read.reads (no_image program supply read.stands read.counted c.in_err-image.ensures.stopped));
+    }
 
 pub returns : goal.returns
 returns g c =

@@ -1,4 +1,4 @@
-use Rattle.std.proofs.lemmas.Result.{IfOk-weaker, IfErr-weaker}
+use Rattle.std.proofs.lemmas.Result.{IfOk-weaker, IfErr-weaker, IfOk-from_err}
 use Rattle.host.specs.Host.{HostState}
 use Rattle.cmd_arguments.specs.ReadCommands.{both_read}
 use Rattle.cmd_common.proofs.Told.{handed_on}
@@ -12,15 +12,19 @@ use Rattle.cmd_runs.specs.BothRuns.{work_both}
 use Rattle.cmd_runs.proofs.run_both.run_over.Goals as goal
 
 -- the disk's file is none
-pub returns-in_err-devices-clause-halted : goal.returns-in_err-devices-clause-halted
-returns-in_err-devices-clause-halted g c =
+pub returns-in_err-devices : goal.returns-in_err-devices
+returns-in_err-devices g c =
     let command = both_read c.args.command.now in
     let program = c.args.program.now in
     let s = c.args.supplies in
     let given = given_of s.input.items s.disk.items s.ports.items in
     let start = g.H.Host.state c.args.host.now in
-    handed_on c.from_residual.result (By c.in_err-devices.field-0.0) (HaltsFrom (work_both command) (λ begin. IsNamed (kind80 (source_of command)) begin program given) start start) c.from_residual.ensures.1
-    (λ begin read. unloaded read.reads (no_source (no_disk program given read.stands read.counted c.in_err-devices.ensures)))
+    record {
+      made = IfOk-from_err c.from_residual.result _ c.from_residual.ensures.0;
+      came = IfOk-from_err c.from_residual.result _ c.from_residual.ensures.0;
+      halted = handed_on c.from_residual.result (By c.in_err-devices.field-0.0) (HaltsFrom (work_both command) (λ begin. IsNamed (kind80 (source_of command)) begin program given) start start) c.from_residual.ensures.1
+          (λ begin read. unloaded read.reads (no_source (no_disk program given read.stands read.counted c.in_err-devices.ensures)));
+    }
 
 pub returns : goal.returns
 returns g c =

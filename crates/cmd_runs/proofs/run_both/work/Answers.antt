@@ -1,3 +1,4 @@
+use Rattle.std.proofs.lemmas.Result.{IfOk-from_err}
 use Rattle.host.specs.Host.{HostState}
 use Rattle.cmd_arguments.specs.ReadCommands.{both_read}
 use Rattle.cmd_common.proofs.Told.{handed_on}
@@ -11,14 +12,18 @@ use Rattle.cmd_runs.specs.BothRuns.{work_both}
 use Rattle.cmd_runs.proofs.Working.{begun_has, begun_halts}
 use Rattle.cmd_runs.proofs.run_both.work.Goals as goal
 
-pub returns-in_err-named-clause-halted : goal.returns-in_err-named-clause-halted
-returns-in_err-named-clause-halted g c =
+pub returns-in_err-named : goal.returns-in_err-named
+returns-in_err-named g c =
     let command = both_read c.args.command.now in
     let w = work_both command in
     let old = g.H.Host.state c.args.host.now in
     let new = g.H.Host.state c.read_program.new.host in
-    handed_on c.from_residual.result (By c.in_err-named.field-0.0) (WorkHalts w old new) c.from_residual.ensures.1
-    (no_runs c.in_err-named.ensures.only (unloaded c.in_err-named.ensures.stopped))
+    record {
+      made = IfOk-from_err c.from_residual.result _ c.from_residual.ensures.0;
+      came = IfOk-from_err c.from_residual.result _ c.from_residual.ensures.0;
+      halted = handed_on c.from_residual.result (By c.in_err-named.field-0.0) (WorkHalts w old new) c.from_residual.ensures.1
+          (no_runs c.in_err-named.ensures.only (unloaded c.in_err-named.ensures.stopped));
+    }
 
 pub run_over-requires : goal.run_over-requires
 run_over-requires g c = c.in_ok-named.ensures.named.gives.program.program.lawful

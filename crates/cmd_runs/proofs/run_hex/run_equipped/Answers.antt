@@ -1,5 +1,6 @@
 use Rattle.std.proofs.Common.{refl, subst, sym, None}
 use Rattle.std.specs.Prelude.{option_copied}
+use Rattle.std.proofs.lemmas.Result.{IfOk-from_err}
 use Rattle.cmd_arguments.specs.ReadCommands.{run_hex_read}
 use Rattle.cmd_runs.specs.Lasts.{NamesNoFile}
 use Rattle.cmd_runs.specs.RunsHex.{kind_hex}
@@ -7,16 +8,24 @@ use Rattle.cmd_runs.proofs.Naming.{names_no_file}
 use Rattle.cmd_runs.proofs.OneRun.{fill_halts, ran_halts, ran_has, left_halted}
 use Rattle.cmd_runs.proofs.run_hex.run_equipped.Goals as goal
 
-pub returns-in_err-fill-clause-halted : goal.returns-in_err-fill-clause-halted
-returns-in_err-fill-clause-halted g c =
-    fill_halts (kind_hex (run_hex_read c.args.command.now)) (g.H.Host.state c.args.host.now) c.args.hex.now c.args.devices.now c.from_residual.result c.from_residual.ensures.1
+pub returns-in_err-fill : goal.returns-in_err-fill
+returns-in_err-fill g c =
+    record {
+      made = IfOk-from_err c.from_residual.result _ c.from_residual.ensures.0;
+      came = IfOk-from_err c.from_residual.result _ c.from_residual.ensures.0;
+      halted = fill_halts (kind_hex (run_hex_read c.args.command.now)) (g.H.Host.state c.args.host.now) c.args.hex.now c.args.devices.now c.from_residual.result c.from_residual.ensures.1;
+    }
 
-pub returns-in_err-ran-clause-halted : goal.returns-in_err-ran-clause-halted
-returns-in_err-ran-clause-halted g c =
+pub returns-in_err-ran : goal.returns-in_err-ran
+returns-in_err-ran g c =
     let start = g.H.Host.state c.args.host.now in
     let new = g.H.Host.state c.run_cells.new.host in
-    ran_halts (kind_hex (run_hex_read c.args.command.now)) start c.args.hex.now c.args.devices.now new c.from-limit.result c.from-limit.ensures
-    c.from_residual-in_err-ran.result c.in_err-ran.field-0.0 c.from_residual-in_err-ran.ensures.1 c.in_err-ran.ensures.cut
+    record {
+      made = IfOk-from_err c.from_residual-in_err-ran.result _ c.from_residual-in_err-ran.ensures.0;
+      came = IfOk-from_err c.from_residual-in_err-ran.result _ c.from_residual-in_err-ran.ensures.0;
+      halted = ran_halts (kind_hex (run_hex_read c.args.command.now)) start c.args.hex.now c.args.devices.now new c.from-limit.result c.from-limit.ensures
+          c.from_residual-in_err-ran.result c.in_err-ran.field-0.0 c.from_residual-in_err-ran.ensures.1 c.in_err-ran.ensures.cut;
+    }
 
 pub returns : goal.returns
 returns g c =

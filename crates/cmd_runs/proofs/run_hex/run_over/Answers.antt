@@ -1,14 +1,19 @@
+use Rattle.std.proofs.lemmas.Result.{IfOk-from_err}
 use Rattle.cmd_arguments.specs.ReadCommands.{run_hex_read}
 use Rattle.cmd_runs.specs.Supplies.{given_of}
 use Rattle.cmd_runs.specs.RunsHex.{kind_hex}
 use Rattle.cmd_runs.proofs.Equipped.{devices_halt, equipped_has, equipped_halts}
 use Rattle.cmd_runs.proofs.run_hex.run_over.Goals as goal
 
-pub returns-in_err-devices-clause-halted : goal.returns-in_err-devices-clause-halted
-returns-in_err-devices-clause-halted g c =
+pub returns-in_err-devices : goal.returns-in_err-devices
+returns-in_err-devices g c =
     let s = c.args.supplies in
-    devices_halt (kind_hex (run_hex_read c.args.command.now)) c.args.hex.now (given_of s.input.items s.disk.items s.ports.items) (g.H.Host.state c.args.host.now)
-    c.from_residual.result c.in_err-devices.field-0.0 c.from_residual.ensures.1 c.in_err-devices.ensures.stopped
+    record {
+      made = IfOk-from_err c.from_residual.result _ c.from_residual.ensures.0;
+      came = IfOk-from_err c.from_residual.result _ c.from_residual.ensures.0;
+      halted = devices_halt (kind_hex (run_hex_read c.args.command.now)) c.args.hex.now (given_of s.input.items s.disk.items s.ports.items) (g.H.Host.state c.args.host.now)
+          c.from_residual.result c.in_err-devices.field-0.0 c.from_residual.ensures.1 c.in_err-devices.ensures.stopped;
+    }
 
 pub returns : goal.returns
 returns g c =

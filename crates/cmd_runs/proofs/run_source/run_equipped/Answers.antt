@@ -1,5 +1,6 @@
 use Rattle.std.proofs.Common.{[], subst, sym, None}
 use Rattle.std.specs.Prelude.{option_copied}
+use Rattle.std.proofs.lemmas.Result.{IfOk-from_err}
 use Rattle.cmd_arguments.specs.ReadCommands.{run80_read}
 use Rattle.cmd_runs.specs.Lasts.{NamesNoFile}
 use Rattle.cmd_runs.specs.Runs80.{kind80}
@@ -8,12 +9,16 @@ use Rattle.cmd_runs.proofs.OneRun.{ran_halts, ran_has, left_halted}
 use Rattle.cmd_runs.proofs.Leaving.{line_stands}
 use Rattle.cmd_runs.proofs.run_source.run_equipped.Goals as goal
 
-pub returns-in_err-ran-clause-halted : goal.returns-in_err-ran-clause-halted
-returns-in_err-ran-clause-halted g c =
+pub returns-in_err-ran : goal.returns-in_err-ran
+returns-in_err-ran g c =
     let start = g.H.Host.state c.args.host.now in
     let new = g.H.Host.state c.run_program.new.host in
-    ran_halts (kind80 (run80_read c.args.command.now)) start c.args.program.now c.args.devices.now new c.from-limit.result c.from-limit.ensures
-    c.from_residual.result c.in_err-ran.field-0.0 c.from_residual.ensures.1 c.in_err-ran.ensures.cut
+    record {
+      made = IfOk-from_err c.from_residual.result _ c.from_residual.ensures.0;
+      came = IfOk-from_err c.from_residual.result _ c.from_residual.ensures.0;
+      halted = ran_halts (kind80 (run80_read c.args.command.now)) start c.args.program.now c.args.devices.now new c.from-limit.result c.from-limit.ensures
+          c.from_residual.result c.in_err-ran.field-0.0 c.from_residual.ensures.1 c.in_err-ran.ensures.cut;
+    }
 
 pub returns : goal.returns
 returns g c =

@@ -1,3 +1,4 @@
+use Rattle.std.proofs.lemmas.Result.{IfOk-from_err}
 use Rattle.host.specs.Host.{HostState}
 use Rattle.cmd_arguments.specs.ReadCommands.{run80_read}
 use Rattle.cmd_runs.specs.Supplies.{given_of}
@@ -7,11 +8,15 @@ use Rattle.cmd_runs.proofs.FilesRead.{nothing_halts}
 use Rattle.cmd_runs.proofs.Working.{begun_has, begun_halts}
 use Rattle.cmd_runs.proofs.run_source.work.Goals as goal
 
-pub returns-in_err-named-clause-halted : goal.returns-in_err-named-clause-halted
-returns-in_err-named-clause-halted g c =
+pub returns-in_err-named : goal.returns-in_err-named
+returns-in_err-named g c =
     let e = c.in_err-named.ensures in
-    nothing_halts (kind80 (run80_read c.args.command.now)) (g.H.Host.state c.args.host.now) (g.H.Host.state c.read_program.new.host)
-    c.from_residual.result c.in_err-named.field-0.0 c.from_residual.ensures.1 e.only e.stopped
+    record {
+      made = IfOk-from_err c.from_residual.result _ c.from_residual.ensures.0;
+      came = IfOk-from_err c.from_residual.result _ c.from_residual.ensures.0;
+      halted = nothing_halts (kind80 (run80_read c.args.command.now)) (g.H.Host.state c.args.host.now) (g.H.Host.state c.read_program.new.host)
+          c.from_residual.result c.in_err-named.field-0.0 c.from_residual.ensures.1 e.only e.stopped;
+    }
 
 pub returns : goal.returns
 returns g c =
