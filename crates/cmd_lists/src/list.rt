@@ -60,6 +60,8 @@ fn work<L: Listed, H: Host>(
     ensures stopped { IfErr result (MakeStops (list_kind L.are_lines (listing_read command.now)) (H.state host.old) (H.state host.new)) }
 {
     let source = read_source(alloc, host, command.source, command.zilog, command.top)?;
-    let program = source?;
-    Ok(L::lines(alloc, &program)?)
+    match source {
+        Ok(program) => Ok(L::lines(alloc, &program)?),
+        Err(stop) => Err(stop),
+    }
 }
