@@ -11,44 +11,18 @@ pub fn binary(op: Two, a: u16, b: u16) -> Option<u16>
 {
     match op {
         Two::Mul => Some(a.wrapping_mul(b)),
-        Two::Div => quotient(a, b),
-        Two::Mod => remainder(a, b),
-        Two::Shl => Some(shifted_left(a, b)),
-        Two::Shr => Some(shifted_right(a, b)),
+        Two::Div if b != 0 => Some(a / b),
+        Two::Mod if b != 0 => Some(a % b),
+        Two::Div | Two::Mod => None,
+        Two::Shl if b < 16 => Some(a.wrapping_shl(u32::from(b))),
+        Two::Shr if b < 16 => Some(a >> b),
+        Two::Shl | Two::Shr => Some(0),
         Two::Add => Some(a.wrapping_add(b)),
         Two::Sub => Some(a.wrapping_sub(b)),
         Two::And => Some(a & b),
         Two::Or => Some(a | b),
         Two::Xor => Some(a ^ b),
     }
-}
-
-fn quotient(a: u16, b: u16) -> Option<u16>
-    ensures { result ≡ binary Two.Div a b }
-{
-    if b == 0 { None } else { Some(a / b) }
-}
-
-fn remainder(a: u16, b: u16) -> Option<u16>
-    ensures { result ≡ binary Two.Mod a b }
-{
-    if b == 0 { None } else { Some(a % b) }
-}
-
-fn shifted_left(a: u16, b: u16) -> u16
-    ensures { Some result ≡ binary Two.Shl a b }
-{
-    if b < 16 {
-        a.wrapping_shl(u32::from(b))
-    } else {
-        0
-    }
-}
-
-fn shifted_right(a: u16, b: u16) -> u16
-    ensures { Some result ≡ binary Two.Shr a b }
-{
-    if b < 16 { a >> b } else { 0 }
 }
 
 /// NOT.

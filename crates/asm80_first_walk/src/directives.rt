@@ -1,26 +1,21 @@
 //! Directives: their operand, the label of a statement, and what they break.
 
-ghost use Rattle.std.specs.Prelude.{◌≡◌, ◌≢◌, ◌+◌, ◌%◌, ◌∷◌, [], map, MatchOption, option_map};
+ghost use Rattle.std.specs.Prelude.{◌≡◌, map};
 ghost use Rattle.std.specs.List.{list_any};
 ghost use Rattle.asm80_statement_types.specs.declared.arg.Arg.{Arg};
-ghost use Rattle.asm80_statement_types.specs.Tree.{Operand, operand_of, Statement, statement_of};
+ghost use Rattle.asm80_statement_types.specs.Tree.{operand_of, Statement, statement_of};
 ghost use Rattle.asm80_first_walk.specs.Scopes.{scope_of};
 ghost use Rattle.asm80_source_def.specs.Values.{operand_has_unknown, operand_divides_by_zero};
-ghost use Rattle.asm80_source_def.specs.Walk.{Walk, operation_in, operand_meaning, directive_meaning, label_meaning_by, kind_of_label, address_by, is_end_directive, is_endif, is_true, or_at, size_by};
+ghost use Rattle.asm80_source_def.specs.Walk.{Walk, operation_in, operand_meaning, directive_meaning, label_meaning_by, kind_of_label, address_by, is_end_directive, is_endif, is_true};
 ghost use Rattle.asm80_source_def.specs.FirstFaults.{is_one_value, breaks_v5};
 ghost use Rattle.asm80_first_walk.specs.State.{rule_of_values, is_evaluated};
 
 use crate::operations::operation_of;
 use crate::size::size_of;
+use crate::values::UNKNOWN;
 use crate::{Scope, is_no_value, meaning_of, operand_divides_by_zero, operand_has_unknown};
 use asm80_source_def::{AsmRule, Meaning, NameKind, Operation};
 use asm80_statement_types::{Arg, Stmt80};
-
-/// What a fault hides.
-const UNKNOWN: Meaning = Meaning {
-    value: None,
-    is_place: false,
-};
 
 /// The operation of a statement.
 pub fn operation_in(statement: &Stmt80) -> Option<Operation>
@@ -30,24 +25,13 @@ pub fn operation_in(statement: &Stmt80) -> Option<Operation>
     operation_of(name.as_slice())
 }
 
-// The operand of a statement that has one alone.
-fn one_operand(args: &[Arg]) -> Option<&Arg>
-    ensures { MatchOption result ((a : Operand) → map operand_of args.now ≢ a ∷ []) (λ a. map operand_of args.now ≡ operand_of a.now ∷ []) }
-{
-    let (arg, rest) = args.split_first()?;
-    if rest.is_empty() { Some(arg) } else { None }
-}
-
 /// What the one operand of a directive stands for.
 pub fn operand_meaning(scope: &Scope<'_>, args: &[Arg]) -> Meaning
     ensures { result ≡ operand_meaning (scope_of scope.now) (map operand_of args.now) }
 {
-    let Some(arg) = one_operand(args) else {
-        return UNKNOWN;
-    };
-    match arg {
-        Arg::Text(_) => UNKNOWN,
-        Arg::Value(e) => meaning_of(scope, e),
+    match args {
+        [Arg::Value(e)] => meaning_of(scope, e),
+        _ => UNKNOWN,
     }
 }
 
@@ -94,29 +78,17 @@ pub fn label_meaning(at: u16, operation: Option<Operation>, meaning: Meaning) ->
 pub fn address_after(at: u16, operation: Option<Operation>, meaning: Meaning, args: &[Arg]) -> u16
     ensures { (w : Walk) (s : Statement) → w.at ≡ at → directive_meaning w s ≡ meaning → s.args ≡ map operand_of args.now → result ≡ address_by w s operation }
 {
-    let next = next_address(at, operation, args);
+    let next = at.wrapping_add(size_of(operation, args));
     let Some(operation) = operation else {
         return next;
     };
     match operation {
         Operation::Org => meaning.value.unwrap_or(at),
-        Operation::Ds => address_after_space(at, meaning.value),
+        Operation::Ds => match meaning.value {
+            Some(count) => at.wrapping_add(count),
+            None => at,
+        },
         _ => next,
-    }
-}
-
-fn next_address(at: u16, operation: Option<Operation>, args: &[Arg]) -> u16
-    ensures { (w : Walk) (s : Statement) → w.at ≡ at → s.args ≡ map operand_of args.now → result ≡ (w.at + size_by s operation) % 0x10000 }
-{
-    at.wrapping_add(size_of(operation, args))
-}
-
-fn address_after_space(at: u16, count: Option<u16>) -> u16
-    ensures { result ≡ or_at at (option_map (λ n. (at + n) % 0x10000) count) }
-{
-    match count {
-        Some(n) => at.wrapping_add(n),
-        None => at,
     }
 }
 
@@ -162,9 +134,9 @@ pub fn is_endif(operation: Option<Operation>) -> bool
 fn is_one_value(args: &[Arg]) -> bool
     ensures { result ≡ is_one_value (map operand_of args.now) }
 {
-    match one_operand(args) {
-        Some(arg) => !is_no_value(arg),
-        None => false,
+    match args {
+        [arg] => !is_no_value(arg),
+        _ => false,
     }
 }
 

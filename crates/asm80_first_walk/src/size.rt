@@ -1,6 +1,6 @@
 //! How many cells statements fill.
 
-ghost use Rattle.std.specs.Prelude.{◌≡◌, ◌*◌, ◌%◌, length, map, sum_by};
+ghost use Rattle.std.specs.Prelude.{◌≡◌, ◌%◌, map, sum_by};
 ghost use Rattle.asm80_statement_types.specs.Tree.{operand_of, Statement};
 ghost use Rattle.asm80_source_def.specs.Operations.{operand_kinds};
 ghost use Rattle.asm80_source_def.specs.Walk.{bytes_of_item, size_by, size_of_kinds};
@@ -17,7 +17,8 @@ pub fn size_of(operation: Option<Operation>, args: &[Arg]) -> u16
     };
     match operation {
         Operation::Db => size_of_bytes(args),
-        Operation::Dw => size_of_words(args),
+        // (an item of DW has two bytes)
+        Operation::Dw => ((args.len() % 0x1_0000) as u16).wrapping_mul(2),
         _ => size_of_instruction(operation),
     }
 }
@@ -40,13 +41,6 @@ fn size_of_item(arg: &Arg) -> u16
         Arg::Text(bytes) => (bytes.as_slice().len() % 0x1_0000) as u16,
         Arg::Value(_) => 1,
     }
-}
-
-// The bytes of the items of a DW.
-fn size_of_words(args: &[Arg]) -> u16
-    ensures { result ≡ (2 * length args.now) % 0x10000 }
-{
-    ((args.len() % 0x1_0000) as u16).wrapping_mul(2)
 }
 
 // The bytes of an instruction; a directive has none.

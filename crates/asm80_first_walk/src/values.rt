@@ -1,19 +1,25 @@
 //! The values of expressions.
 
-ghost use Rattle.std.specs.Prelude.{◌≡◌, ◌||◌, false, cond, is_none, option_and_then, option_to_list};
+ghost use Rattle.std.specs.Prelude.{◌≡◌, false, cond, is_none};
 ghost use Rattle.std.specs.List.{list_any};
 ghost use Rattle.asm80_statement_types.specs.Tree.{tree_of};
 ghost use Rattle.asm80_statement_types.specs.Words.{is_register};
 ghost use Rattle.base_types.specs.Addresses.{has_address};
 ghost use Rattle.asm80_first_walk.specs.Scopes.{scope_of};
-ghost use Rattle.asm80_source_def.specs.Values.{meaning_of_name, value_of_tree, has_register, has_undefined, divides, divides_by_zero, is_zero_divisor, place_of_name, places_in, places_inside, place_alone};
-ghost use Rattle.asm80_source_def.specs.Walk.{meaning_in, meaning_of, or_unknown};
+ghost use Rattle.asm80_source_def.specs.Values.{meaning_of_name, value_of_tree, has_register, has_undefined, divides, divides_by_zero, place_of_name, places_in, places_inside, place_alone};
+ghost use Rattle.asm80_source_def.specs.Walk.{meaning_in, meaning_of};
 
 use crate::arithmetic::{binary, divides, inverted, negated};
 use crate::scope::Scope;
 use asm80_source_def::Meaning;
 use asm80_statement_types::{Expr, Name80, is_register};
 use base_types::AddressSet;
+
+/// What a fault hides.
+pub const UNKNOWN: Meaning = Meaning {
+    value: None,
+    is_place: false,
+};
 
 // What a name stands for; a register's name is no value.
 fn meaning_of_name(scope: &Scope<'_>, name: &Name80) -> Option<Meaning>
@@ -25,13 +31,6 @@ fn meaning_of_name(scope: &Scope<'_>, name: &Name80) -> Option<Meaning>
     scope.names.meaning(name)
 }
 
-// The number of a name.
-fn number_of_name(scope: &Scope<'_>, name: &Name80) -> Option<u16>
-    ensures { result ≡ option_and_then (λ m. m.value) (meaning_of_name (scope_of scope.now) name.now) }
-{
-    meaning_of_name(scope, name)?.value
-}
-
 /// The value of an expression; None where a fault hides it.
 pub fn number_of(scope: &Scope<'_>, e: &Expr) -> Option<u16>
     ensures { result ≡ value_of_tree (scope_of scope.now) (tree_of e.now) }
@@ -39,7 +38,7 @@ pub fn number_of(scope: &Scope<'_>, e: &Expr) -> Option<u16>
     match e {
         Expr::Num(n) => Some(*n),
         Expr::Here => Some(scope.here),
-        Expr::Name(name) => number_of_name(scope, name),
+        Expr::Name(name) => meaning_of_name(scope, name)?.value,
         Expr::Not(inside) => Some(inverted(number_of(scope, inside)?)),
         Expr::Neg(inside) => Some(negated(number_of(scope, inside)?)),
         Expr::Two(op, a, b) => {
@@ -91,17 +90,8 @@ pub fn divides_by_zero(scope: &Scope<'_>, e: &Expr) -> bool
         Expr::Two(op, a, b) => {
             divides_by_zero(scope, a)
                 || divides_by_zero(scope, b)
-                || divides(*op) && is_zero(number_of(scope, b))
+                || divides(*op) && matches!(number_of(scope, b), Some(0))
         }
-    }
-}
-
-fn is_zero(number: Option<u16>) -> bool
-    ensures { result ≡ is_zero_divisor number }
-{
-    match number {
-        Some(n) => n == 0,
-        None => false,
     }
 }
 
@@ -128,15 +118,6 @@ pub fn place_alone(scope: &Scope<'_>, e: &Expr) -> Option<u16>
     }
 }
 
-fn is_address(set: &AddressSet, place: Option<u16>) -> bool
-    ensures { result ≡ list_any (has_address set.now) (option_to_list place) }
-{
-    match place {
-        Some(at) => set.contains(at),
-        None => false,
-    }
-}
-
 // Whether the address of some place name or `$` in an expression is in a set.
 fn has_place_in(scope: &Scope<'_>, e: &Expr, set: &AddressSet) -> bool
     ensures { result ≡ list_any (has_address set.now) (places_in (scope_of scope.now) (tree_of e.now)) }
@@ -144,7 +125,10 @@ fn has_place_in(scope: &Scope<'_>, e: &Expr, set: &AddressSet) -> bool
     match e {
         Expr::Num(_) => false,
         Expr::Here => set.contains(scope.here),
-        Expr::Name(name) => is_address(set, place_of_name(scope, name)),
+        Expr::Name(name) => match place_of_name(scope, name) {
+            Some(at) => set.contains(at),
+            None => false,
+        },
         Expr::Not(inside) | Expr::Neg(inside) => has_place_in(scope, inside, set),
         Expr::Two(_, a, b) => has_place_in(scope, a, set) || has_place_in(scope, b, set),
     }
@@ -169,20 +153,10 @@ pub fn meaning_of(scope: &Scope<'_>, e: &Expr) -> Meaning
             value: Some(scope.here),
             is_place: true,
         },
-        Expr::Name(name) => or_unknown(meaning_of_name(scope, name)),
+        Expr::Name(name) => meaning_of_name(scope, name).unwrap_or(UNKNOWN),
         _ => Meaning {
             value: number_of(scope, e),
             is_place: false,
         },
     }
-}
-
-// A meaning, or what a fault hides.
-fn or_unknown(meaning: Option<Meaning>) -> Meaning
-    ensures { result ≡ or_unknown meaning }
-{
-    meaning.unwrap_or(Meaning {
-        value: None,
-        is_place: false,
-    })
 }

@@ -1,5 +1,5 @@
 -- Operands with their kinds, one more at the front.
-use Rattle.std.proofs.Common.{◌≡◌, ℕ, Option, None, Some, ◌||◌, ◌&&◌, Bool, true, false, List, ◌∷◌, map, zip, refl, sym, ap, ◌∙◌}
+use Rattle.std.proofs.Common.{◌≡◌, ℕ, Option, None, Some, ◌||◌, ◌&&◌, Bool, true, false, List, [], ◌∷◌, length, map, zip, refl, sym, ap, ◌∙◌}
 use Rattle.std.specs.List.{list_any}
 use Rattle.asm80_statement_types.specs.declared.arg.Arg.{Arg}
 use Rattle.asm80_statement_types.specs.Tree.{Operand, operand_of}
@@ -34,6 +34,17 @@ module _ (kinds : List Kind) (args : List Arg) (k : Kind) (ks : List Kind) (a : 
 
   pub value_same : (test : Operand → Bool) (rest : Bool) → false ≡ is_value_kind k → rest ≡ values_break test (zip ks (map operand_of others)) → rest ≡ values_break test (zip kinds (map operand_of args))
   value_same test rest is later = any_same (λ (y : Kind × Operand). is_value_kind y.0 && test y.1) rest (ap (λ (b : Bool). b && test (operand_of a)) (sym is)) later
+
+-- no operand has one of no kinds
+pub any_none : (test : Kind × Operand → Bool) (kinds : List Kind) (args : List Arg) → length kinds ≡ 0 → false ≡ list_any test (zip kinds (map operand_of args))
+any_none test [] args none = refl
+any_none test (k ∷ kinds) args none = absurd cc
+
+-- nor is there one of no operands
+pub any_of_none : (test : Kind × Operand → Bool) (kinds : List Kind) (args : List Arg) → length args ≡ 0 → false ≡ list_any test (zip kinds (map operand_of args))
+any_of_none test [] [] none = refl
+any_of_none test (k ∷ kinds) [] none = refl
+any_of_none test kinds (a ∷ args) none = absurd cc
 
 pub item_more :
     (args : List Arg) (a : Arg) (others : List Arg) → args ≡ a ∷ others

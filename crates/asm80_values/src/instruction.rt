@@ -82,16 +82,16 @@ fn with_register(operation: Operation, arg: &Arg) -> Option<Instr80>
     ensures coded { IfSome result (λ x. IsCoded x) }
 {
     match operation {
-        Operation::Ldax => Some(Instr80::Ldax(indirect_of(arg)?)),
-        Operation::Stax => Some(Instr80::Stax(indirect_of(arg)?)),
+        Operation::Ldax => indirect_of(arg).map(Instr80::Ldax),
+        Operation::Stax => indirect_of(arg).map(Instr80::Stax),
         Operation::Alu(op) => Some(Instr80::Alu(op, src_of(arg)?)),
-        Operation::Inr => Some(Instr80::Inr(src_of(arg)?)),
-        Operation::Dcr => Some(Instr80::Dcr(src_of(arg)?)),
-        Operation::Inx => Some(Instr80::Inx(pair_of(arg)?)),
-        Operation::Dcx => Some(Instr80::Dcx(pair_of(arg)?)),
-        Operation::Dad => Some(Instr80::Dad(pair_of(arg)?)),
-        Operation::Push => Some(Instr80::Push(stack_of(arg)?)),
-        Operation::Pop => Some(Instr80::Pop(stack_of(arg)?)),
+        Operation::Inr => src_of(arg).map(Instr80::Inr),
+        Operation::Dcr => src_of(arg).map(Instr80::Dcr),
+        Operation::Inx => pair_of(arg).map(Instr80::Inx),
+        Operation::Dcx => pair_of(arg).map(Instr80::Dcx),
+        Operation::Dad => pair_of(arg).map(Instr80::Dad),
+        Operation::Push => stack_of(arg).map(Instr80::Push),
+        Operation::Pop => stack_of(arg).map(Instr80::Pop),
         _ => None,
     }
 }

@@ -1,5 +1,5 @@
 // The rules of the layout and of this project's profile that operands break: S1, S2, S4 and S5.
-ghost use Rattle.std.specs.Prelude.{◌≡◌, ◌==◌, ◌||◌, not, false, Some, map, zip};
+ghost use Rattle.std.specs.Prelude.{◌≡◌, false, Some, map, zip};
 ghost use Rattle.std.specs.List.{list_any};
 ghost use Rattle.asm80_statement_types.specs.Tree.{operand_of};
 ghost use Rattle.asm80_values.specs.Settings.{setting_of};
@@ -31,15 +31,12 @@ fn misses(setting: &Setting<'_>, kind: Kind, arg: &Arg) -> bool
     ensures { result ≡ misses_by (setting_of setting.now) kind (operand_of arg.now) }
 {
     match kind {
-        Kind::Target => is_no_target(setting, value(setting, arg)),
+        Kind::Target => {
+            let at = value(setting, arg);
+            !(setting.starts.contains(at) || at == 0 || at == 5)
+        }
         _ => false,
     }
-}
-
-fn is_no_target(setting: &Setting<'_>, at: u16) -> bool
-    ensures { result ≡ not ((setting_of setting.now).is_start at || (at == 0 || at == 5)) }
-{
-    !(setting.starts.contains(at) || at == 0 || at == 5)
 }
 
 // S4: whether the address of an instruction stands in a larger expression, where a byte, a word or the address of a cell is

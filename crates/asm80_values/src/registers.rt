@@ -11,17 +11,7 @@ fn register_name(arg: &Arg) -> Option<&[u8]>
     ensures { option_map (λ name. name.now) result ≡ register_name (operand_of arg.now) }
 {
     match arg {
-        Arg::Text(_) => None,
-        Arg::Value(e) => name_alone(e),
-    }
-}
-
-// The name that an expression is.
-fn name_alone(e: &Expr) -> Option<&[u8]>
-    ensures { option_map (λ name. name.now) result ≡ register_name (Rattle.asm80_statement_types.specs.Tree.Whole (Rattle.asm80_statement_types.specs.Tree.tree_of e.now)) }
-{
-    match e {
-        Expr::Name(name) => Some(name.as_slice()),
+        Arg::Value(Expr::Name(name)) => Some(name.as_slice()),
         _ => None,
     }
 }

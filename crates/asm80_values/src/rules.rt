@@ -5,7 +5,7 @@ ghost use Rattle.asm80_statement_types.specs.Tree.{operand_of};
 ghost use Rattle.asm80_first_walk.specs.Scopes.{scope_of};
 ghost use Rattle.asm80_source_def.specs.declared.rule.AsmRule.TheVariants.{V1, V3, V4};
 ghost use Rattle.asm80_source_def.specs.FirstFaults.{rule_if};
-ghost use Rattle.asm80_source_def.specs.Operands.{is_value_kind, values_break, is_of_kind, are_of_kinds, moves_memory, fits_byte, fits_kind, is_unfit, rule_of_instruction, is_no_byte_item, item_is_unfit, rule_of_bytes, rule_of_words, rule_of_operands};
+ghost use Rattle.asm80_source_def.specs.Operands.{is_value_kind, values_break, is_of_kind, are_of_kinds, moves_memory, fits_byte, is_unfit, rule_of_instruction, is_no_byte_item, item_is_unfit, rule_of_bytes, rule_of_words, rule_of_operands};
 ghost use Rattle.asm80_source_def.specs.Values.{is_no_value, operand_has_unknown, operand_divides_by_zero};
 
 use crate::kinds::{is_value_kind, kinds_of};
@@ -55,28 +55,20 @@ fn is_byte(n: u16) -> bool
     matches!(n.to_be_bytes()[0], 0 | 0xFF)
 }
 
-// Whether an operand of a kind may have this value.
-fn fits_kind(kind: Kind, n: u16) -> bool
-    ensures { result ≡ fits_kind kind n }
-{
-    match kind {
-        Kind::Byte => is_byte(n),
-        Kind::Restart => n <= 7,
-        _ => true,
-    }
-}
-
 // V3: whether the value of an operand does not fit.
 fn is_unfit(scope: &Scope<'_>, kind: Kind, arg: &Arg) -> bool
     ensures { result ≡ is_unfit (scope_of scope.now) (kind, operand_of arg.now) }
 {
     match kind {
-        Kind::Byte | Kind::Restart => {}
-        _ => return false,
-    }
-    match operand_number(scope, arg) {
-        Some(n) => !fits_kind(kind, n),
-        None => false,
+        Kind::Byte => match operand_number(scope, arg) {
+            Some(n) => !is_byte(n),
+            None => false,
+        },
+        Kind::Restart => match operand_number(scope, arg) {
+            Some(n) => n > 7,
+            None => false,
+        },
+        _ => false,
     }
 }
 

@@ -1,5 +1,5 @@
 -- Sets of parts, by their members.
-use Rattle.std.proofs.Common.{◌≡◌, ◌≢◌, ℕ, ◌+◌, ◌<◌, ◌≤◌, Bool, true, false, ◌||◌, ◌&&◌, List, ◌∷◌, get_or, drop, refl, sym, ap, ◌∙◌, ⊎_elim, arith}
+use Rattle.std.proofs.Common.{◌≡◌, ◌≢◌, ℕ, ◌+◌, ◌<◌, ◌≤◌, Bool, true, false, ◌||◌, ◌&&◌, List, ◌∷◌, get_or, drop, drop_of_length-le, refl, sym, ap, ◌∙◌, ⊎_elim, arith}
 use Rattle.std.proofs.lemmas.List.{drop_more}
 use Rattle.std.proofs.lemmas.Bool.{false≢true, cases_lt}
 use mathlib.Core.Bool.{or-false}
@@ -152,3 +152,26 @@ left-step x left left' k m d i t lt is before =
     left-more x (get_or all_parts i d) left left' k m (drop (i + 1) all_parts) is
     ∙ ap (left_of x left k m) (sym (drop_more all_parts i d lt))
     ∙ before
+
+-- before the first part all are left, and after the last none
+pub left-first : (x : Part) (left k m : Parts) → left ≡ nothing → left_of x left k m all_parts ≡ is_left k m x
+left-first x left k m e = ap (λ l. left_of x l k m all_parts) e ∙ by_part x
+  where
+    by_part : (y : Part) → left_of y nothing k m all_parts ≡ is_left k m y
+    by_part A = refl
+    by_part B = refl
+    by_part C = refl
+    by_part D = refl
+    by_part E = refl
+    by_part H = refl
+    by_part L = refl
+    by_part S = refl
+    by_part Z = refl
+    by_part Ac = refl
+    by_part P = refl
+    by_part Cy = refl
+
+pub left-last : (x : Part) (left k m : Parts) (i : ℕ) (t : Bool) → 12 ≤ i → left_of x left k m (drop i all_parts) ≡ t → has left x ≡ t
+left-last x left k m i t le before =
+    let none : (has (these (drop i all_parts)) x && is_left k m x) ≡ false = ap (λ qs. has (these qs) x && is_left k m x) (drop_of_length-le all_parts le) ∙ ap (λ b. b && is_left k m x) (has-nothing x) in
+    sym (or-false (has left x)) ∙ ap (λ b. has left x || b) (sym none) ∙ before

@@ -1,4 +1,4 @@
-use Rattle.std.proofs.Common.{◌≡◌, ◌∙◌, ◌+◌, ◌%◌, refl, Option, Some, None}
+use Rattle.std.proofs.Common.{◌≡◌, ◌∙◌, ◌+◌, ◌%◌, refl, Option, Some, None, arith}
 use Rattle.asm80_statement_types.specs.Tree.{Statement}
 use Rattle.asm80_source_def.specs.declared.operation.Operation.{Operation}
 use Rattle.asm80_source_def.specs.declared.operation.Operation.TheVariants.{Org, Ds}
@@ -17,7 +17,7 @@ plain_none : (w : Walk) (s : Statement) (found : Option Operation) → found ≡
 plain_none w s found e = rw e refl
 
 pub returns-in_default : goal.returns-in_default
-returns-in_default c = λ w s a m k. c.next_address-next.ensures w s a k ∙ plain_none w s c.args.operation c.in_default.is
+returns-in_default c = λ w s a m k. omega (arith, a, c.size_of.ensures s k) ∙ plain_none w s c.args.operation c.in_default.is
 
 pub returns-in_default-operation : goal.returns-in_default-operation
-returns-in_default-operation c = λ w s a m k. c.next_address-next.ensures w s a k ∙ plain_some w s c.args.operation c.in-Some.operation c.in-Some.is c.in_default-operation.not-Org c.in_default-operation.not-Ds
+returns-in_default-operation c = λ w s a m k. omega (arith, a, c.size_of.ensures s k) ∙ plain_some w s c.args.operation c.in-Some.operation c.in-Some.is c.in_default-operation.not-Org c.in_default-operation.not-Ds

@@ -2,7 +2,7 @@ use Rattle.std.proofs.Common.{◌≡◌, ◌||◌, Bool, sym, ap, ◌∙◌}
 use Rattle.asm80_statement_types.specs.Tree.{operand_of}
 use Rattle.asm80_source_def.specs.Layout.{misses, computes, loads_code}
 use Rattle.asm80_values.specs.Settings.{setting_of}
-use Rattle.asm80_values.proofs.ByKind.{any_more, any_same, no_stray}
+use Rattle.asm80_values.proofs.ByKind.{any_more, any_same, any_of_none, no_stray}
 use Rattle.asm80_values.proofs.profile.+strays_among.Goals as goal
 use Rattle.asm80_values.proofs.profile.+strays_among.Goals.{then-misses, else-misses, then-computes, else-computes}
 
@@ -64,3 +64,12 @@ returns-else-loads_code-clause-computes t c =
 pub returns-else-loads_code-clause-loads_code : goal.returns-else-loads_code-clause-loads_code
 returns-else-loads_code-clause-loads_code t c =
     any_more c.args.kinds.now c.args.args.now _ _ _ _ c.in-Some-Some.ensures.cases.0 c.in-Some-Some.ensures'.cases.0 (loads_code (setting_of c.args.setting.now)) _ _ _ (ap (λ (b : Bool). b || c.strays_among-rest.result.loads_code) (sym c.if-loads_code.false)) c.loads_code.ensures c.strays_among-rest.ensures.loads_code
+
+pub returns-in_default-clause-misses : goal.returns-in_default-clause-misses
+returns-in_default-clause-misses t c = any_of_none (misses (setting_of c.args.setting.now)) c.args.kinds.now c.args.args.now c.in_default.ensures'.cases
+
+pub returns-in_default-clause-computes : goal.returns-in_default-clause-computes
+returns-in_default-clause-computes t c = any_of_none (computes (setting_of c.args.setting.now)) c.args.kinds.now c.args.args.now c.in_default.ensures'.cases
+
+pub returns-in_default-clause-loads_code : goal.returns-in_default-clause-loads_code
+returns-in_default-clause-loads_code t c = any_of_none (loads_code (setting_of c.args.setting.now)) c.args.kinds.now c.args.args.now c.in_default.ensures'.cases

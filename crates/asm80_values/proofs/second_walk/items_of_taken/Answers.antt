@@ -1,4 +1,5 @@
-use Rattle.std.proofs.Common.{List, [], sym, subst, arith}
+use Rattle.std.proofs.Common.{◌<◌, List, [], length, get_or, false, None, sym, subst, arith}
+use Rattle.asm80_first_walk.specs.declared.walked.Taken.{Taken}
 use Rattle.std.proofs.lemmas.Result.{err_from_is_err_and}
 use Rattle.asm80_source_def.specs.Names.{Name}
 use Rattle.asm80_values.specs.declared.item.Item.{Item}
@@ -27,3 +28,9 @@ loop-row-preserved c =
 
 pub returns : goal.returns
 returns c = index_end c.args.statements.now _ c.loop-row.row-index _ _ (omega arith) c.loop-row.invariant
+
+pub offset_bounds-statements-row : goal.offset_bounds-statements-row
+offset_bounds-statements-row c =
+    let none : Taken = record { statement = 0; at = 0; operation = None; meaning = record { value = None; is_place = false } } in
+    let within : (get_or c.args.taken.now c.loop-row.row-index none).statement < length c.args.statements.now = index_within c.args.statements.now c.args.taken.now c.loop-row.row-index none c.loop-row.names c.loop-row.items.items c.loop-row-test.true c.loop-row.invariant in
+    omega arith

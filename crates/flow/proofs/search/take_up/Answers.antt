@@ -55,3 +55,16 @@ returns-clause-cost g c =
     let fewer = fewer_visits c.args.sources.now c.args.vertices.now c.spread.new.vertices c.args.at taken.0 (spread_at c.args.sources.now c.args.vertices.now c.spread.new.vertices c.of.result.now c.args.at c.index-vertices-at.result read c.of.ensures c.spread.ensures.spread) taken.1 in
     let visits : length c.of.result.now ≡ length (row c.args.sources.now c.args.at) = ap length c.of.ensures in
     omega (arith, fewer, visits, c.spread.ensures.step)
+
+pub offset_bounds-vertices-at : goal.offset_bounds-vertices-at
+offset_bounds-vertices-at g c =
+    let within : c.args.at < length c.args.vertices.now = (shorter_queue c.args.vertices.now c.args.work.now.items (vec_capacity c.args.work.now) c.args.at (woken (vertex c.args.vertices.now c.args.at)) c.requires.queue refl).0 in
+    omega arith
+
+pub offset_bounds-vertices-at-2 : goal.offset_bounds-vertices-at-2
+offset_bounds-vertices-at-2 g c =
+    let within : c.args.at < length c.args.vertices.now = (shorter_queue c.args.vertices.now c.args.work.now.items (vec_capacity c.args.work.now) c.args.at (woken (vertex c.args.vertices.now c.args.at)) c.requires.queue refl).0 in
+    omega arith
+
+pub returns-clause-queue : goal.returns-clause-queue
+returns-clause-queue g c = c.spread.ensures.queue
