@@ -1,4 +1,5 @@
 pub mod Area
+pub mod Conditional
 pub mod Draft
 pub mod Row
 pub mod Sight

@@ -35,13 +35,10 @@ pub returns-in-Lda-clause-row : goal.returns-in-Lda-clause-row
 returns-in-Lda-clause-row c = of_variant c.args.area.now.program.now (state_of_draft c.args.self.now) _ _ c.load.result (state_of_draft c.load.new.self) c.in-Lda.is c.load.ensures.row
 
 pub returns-in-Sta-clause-row : goal.returns-in-Sta-clause-row
-returns-in-Sta-clause-row c = of_variant c.args.area.now.program.now (state_of_draft c.args.self.now) _ _ c.store.result (state_of_draft c.store.new.self) c.in-Sta.is c.store.ensures.row
+returns-in-Sta-clause-row c = of_variant c.args.area.now.program.now (state_of_draft c.args.self.now) _ _ c.write_cell.result (state_of_draft c.write_cell.new.self) c.in-Sta.is c.write_cell.ensures.row
 
 pub returns-in-Lhld-clause-row : goal.returns-in-Lhld-clause-row
 returns-in-Lhld-clause-row c = of_variant c.args.area.now.program.now (state_of_draft c.args.self.now) _ _ c.load_pair.result (state_of_draft c.load_pair.new.self) c.in-Lhld.is c.load_pair.ensures.row
-
-pub returns-in-Shld-clause-row : goal.returns-in-Shld-clause-row
-returns-in-Shld-clause-row c = of_variant c.args.area.now.program.now (state_of_draft c.args.self.now) _ _ c.store_pair.result (state_of_draft c.store_pair.new.self) c.in-Shld.is c.store_pair.ensures.row
 
 pub returns-in-Ldax-clause-row : goal.returns-in-Ldax-clause-row
 returns-in-Ldax-clause-row c = of_variant c.args.area.now.program.now (state_of_draft c.args.self.now) _ _ c.load_at.result (state_of_draft c.load_at.new.self) c.in-Ldax.is c.load_at.ensures.row
