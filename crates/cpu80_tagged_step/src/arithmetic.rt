@@ -29,7 +29,8 @@ fn right(value: u8, bit: bool) -> u8
 impl Draft<'_> {
     ghost use Rattle.cells.specs.declared.Cell.TheVariants.{Num};
     ghost use Rattle.cpu80_tagged_def.specs.State.{with_a, with_cy};
-    ghost use Rattle.cpu80_tagged_def.specs.Effect.{alu, alu_with, counted, inr, dcr, pair_num, add_to_pair, dad, daa, cma, cmc, rlc, rrc, ral, rar};
+    ghost use Rattle.cpu80_tagged_def.specs.Effect.{alu, alu_with, counted, pair_num, add_to_pair, dad, daa, cma, cmc, rlc, rrc, ral, rar};
+    ghost use Rattle.cpu80_tagged_step.specs.Counting.{count_by};
     ghost use Rattle.cpu80_tagged_step.specs.Row.{IsRow};
     ghost use Rattle.cpu80_tagged_step.specs.Draft.{IsFresh, state_of_draft};
 
@@ -80,32 +81,17 @@ impl Draft<'_> {
         }
     }
 
-    /// INR. CY is kept.
-    pub fn count_up(&mut self, area: &Area, on: Src) -> Result<(), Rule>
+    /// INR by ADD, DCR by SUB: an operation on the operand and 1, which keeps CY.
+    pub fn count(&mut self, area: &Area, op: Op, on: Src) -> Result<(), Rule>
         requires { IsFresh self.old }
-        ensures row { IsRow (inr area.now.program.now (state_of_draft self.old) on) result (state_of_draft self.old) (state_of_draft self.new) }
+        ensures row { IsRow (count_by area.now.program.now (state_of_draft self.old) op on) result (state_of_draft self.old) (state_of_draft self.new) }
         ensures memory { self.new.memory.now ≡ self.old.memory.now }
     {
         let x = self.counted(area, on)?;
-        self.put_into(area, on, Cell::Num(outcome(Op::Add, x, 1, 0)))?;
+        self.put_into(area, on, Cell::Num(outcome(op, x, 1, 0)))?;
         self.flags = Flags {
             cy: self.flags.cy,
-            ..outcome_flags(Op::Add, x, 1, 0)
-        };
-        Ok(())
-    }
-
-    /// DCR. CY is kept.
-    pub fn count_down(&mut self, area: &Area, on: Src) -> Result<(), Rule>
-        requires { IsFresh self.old }
-        ensures row { IsRow (dcr area.now.program.now (state_of_draft self.old) on) result (state_of_draft self.old) (state_of_draft self.new) }
-        ensures memory { self.new.memory.now ≡ self.old.memory.now }
-    {
-        let x = self.counted(area, on)?;
-        self.put_into(area, on, Cell::Num(outcome(Op::Sub, x, 1, 0)))?;
-        self.flags = Flags {
-            cy: self.flags.cy,
-            ..outcome_flags(Op::Sub, x, 1, 0)
+            ..outcome_flags(op, x, 1, 0)
         };
         Ok(())
     }

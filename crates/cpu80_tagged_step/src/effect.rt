@@ -4,7 +4,7 @@ ghost use Rattle.std.specs.Prelude.{◌≡◌};
 use crate::area::Area;
 use crate::draft::Draft;
 use cells::{Cell, Rule};
-use i80::{Instr80, Pair};
+use i80::{Instr80, Op, Pair};
 
 impl Draft<'_> {
     ghost use Rattle.cpu80_tagged_def.specs.Effect.{effect};
@@ -34,8 +34,8 @@ impl Draft<'_> {
             Instr80::Sphl => self.set_sp(),
             Instr80::Alu(op, from) => self.operate(area, op, from),
             Instr80::AluI(op, n) => self.operate_on(op, Cell::Num(n)),
-            Instr80::Inr(on) => self.count_up(area, on),
-            Instr80::Dcr(on) => self.count_down(area, on),
+            Instr80::Inr(on) => self.count(area, Op::Add, on),
+            Instr80::Dcr(on) => self.count(area, Op::Sub, on),
             Instr80::Inx(pair) => self.add_to_pair(pair, 1),
             Instr80::Dcx(pair) => self.add_to_pair(pair, 0xFFFF),
             Instr80::Dad(pair) => self.add_pair(pair),
