@@ -2,7 +2,8 @@
 // instructions", "Register pair instructions", "Rotate accumulator instructions").
 ghost use Rattle.std.specs.Prelude.{◌≡◌, ◌≤◌, Some, None};
 ghost use Rattle.base_arithmetic_def.specs.Arithmetic.{as_bit, turned_left, turned_right};
-ghost use Rattle.cpu80_untagged_def.specs.Effect.{carry_for, alu, inr, dcr, add_to_pair, dad, daa, turned};
+ghost use Rattle.cpu80_untagged_def.specs.Effect.{carry_for, alu, add_to_pair, dad, daa, turned};
+ghost use Rattle.cpu80_untagged.specs.Counting.{count_by};
 ghost use Rattle.cpu80_untagged.specs.State.{untagged_flags, untagged_state};
 
 use crate::flags::FlagBits;
@@ -50,27 +51,15 @@ impl Processor {
         self.flags = FlagBits::settled(outcome_flags(op, a, byte, carry), choice);
     }
 
-    /// INR. CY is kept.
-    pub fn count_up(&mut self, on: Src, choice: u128)
-        ensures { untagged_state self.new ≡ inr (untagged_state self.old) on choice }
+    /// INR by ADD, DCR by SUB: an operation on the operand and 1, which keeps CY.
+    pub fn count(&mut self, op: Op, on: Src, choice: u128)
+        ensures { untagged_state self.new ≡ count_by (untagged_state self.old) op on choice }
     {
         let byte = self.source(on);
-        self.put_into(on, outcome(Op::Add, byte, 1, 0));
+        self.put_into(on, outcome(op, byte, 1, 0));
         self.flags = FlagBits {
             cy: self.flags.cy,
-            ..FlagBits::settled(outcome_flags(Op::Add, byte, 1, 0), choice)
-        };
-    }
-
-    /// DCR. CY is kept.
-    pub fn count_down(&mut self, on: Src, choice: u128)
-        ensures { untagged_state self.new ≡ dcr (untagged_state self.old) on choice }
-    {
-        let byte = self.source(on);
-        self.put_into(on, outcome(Op::Sub, byte, 1, 0));
-        self.flags = FlagBits {
-            cy: self.flags.cy,
-            ..FlagBits::settled(outcome_flags(Op::Sub, byte, 1, 0), choice)
+            ..FlagBits::settled(outcome_flags(op, byte, 1, 0), choice)
         };
     }
 

@@ -5,7 +5,7 @@ ghost use Rattle.cpu80_untagged.specs.State.{untagged_state};
 
 use crate::arithmetic::{left, right};
 use crate::processor::Processor;
-use i80::{Instr80, Pair, Word};
+use i80::{Instr80, Op, Pair, Word};
 
 impl Processor {
     /// What an instruction does, but for the place that comes next: jumps, calls, returns and ports do nothing here.
@@ -35,8 +35,8 @@ impl Processor {
             Instr80::Sphl => self.sp = self.pair(Pair::H),
             Instr80::Alu(op, from) => self.operate(op, self.source(from), choice),
             Instr80::AluI(op, byte) => self.operate(op, byte, choice),
-            Instr80::Inr(on) => self.count_up(on, choice),
-            Instr80::Dcr(on) => self.count_down(on, choice),
+            Instr80::Inr(on) => self.count(Op::Add, on, choice),
+            Instr80::Dcr(on) => self.count(Op::Sub, on, choice),
             Instr80::Inx(pair) => self.add_to_pair(pair, 1),
             Instr80::Dcx(pair) => self.add_to_pair(pair, 0xFFFF),
             Instr80::Dad(pair) => self.add_pair(pair),
