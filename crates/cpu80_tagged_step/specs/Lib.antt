@@ -1,4 +1,6 @@
 pub mod Area
+pub mod Conditional
+pub mod Counting
 pub mod Draft
 pub mod Row
 pub mod Sight

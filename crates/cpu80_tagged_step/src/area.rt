@@ -3,12 +3,11 @@ ghost use Rattle.std.specs.Prelude.{◌≡◌, ◌+◌, ◌≤◌, IfSome, IsTru
 ghost use Rattle.i80.specs.Columns.{is_well_formed, length80};
 ghost use Rattle.asm80_program_types.specs.Program.{instr_at, is_start};
 ghost use Rattle.cpu80_tagged_def.specs.Memory.{is_closed, may_write};
-ghost use Rattle.cpu80_tagged_def.specs.Call.{is_place, place_if};
 ghost use Rattle.cpu80_tagged_step.specs.Area.{HasUses};
 ghost use Rattle.cpu80_tagged_step.specs.Row.{tested};
 
 use asm80_program_types::Program80;
-use cells::{Place, Rule};
+use cells::Rule;
 use i80::Instr80;
 
 /// What a program makes of a cell. A closed cell is neither read nor written; that of a start is closed, and the first of an
@@ -21,20 +20,13 @@ pub enum CellUse {
 }
 
 impl CellUse {
-    ghost use Rattle.cpu80_tagged_step.specs.Area.{is_closed_use, is_start_use};
+    ghost use Rattle.cpu80_tagged_step.specs.Area.{is_closed_use};
 
     /// Whether the cell is closed.
     pub fn is_closed(self) -> bool
         ensures { result ≡ is_closed_use self }
     {
         !matches!(self, CellUse::Open)
-    }
-
-    /// Whether an instruction starts at the cell.
-    pub fn is_start(self) -> bool
-        ensures { result ≡ is_start_use self }
-    {
-        matches!(self, CellUse::Start)
     }
 }
 
@@ -60,17 +52,7 @@ impl Area<'_> {
     pub fn is_start(&self, at: u16) -> bool
         ensures { result ≡ is_start self.now.program.now at }
     {
-        self.uses[at as usize].is_start()
-    }
-
-    /// A place that a program may go to: an instruction, or the end. P1 where it is neither.
-    pub fn checked_place(&self, place: Place) -> Result<Place, Rule>
-        ensures { result ≡ place_if (is_place self.now.program.now place) place }
-    {
-        match place {
-            Place::At(at) if !self.is_start(at) => Err(Rule::P1),
-            _ => Ok(place),
-        }
+        matches!(self.uses[at as usize], CellUse::Start)
     }
 
     /// Whether a cell is closed.

@@ -1,16 +1,16 @@
 // Arithmetic (8080 Assembly Language Programming Manual, "Register or memory to accumulator instructions", "Single register
 // instructions", "Register pair instructions", "Rotate accumulator instructions"). It is of numbers alone.
 ghost use Rattle.std.specs.Prelude.{◌≡◌};
-ghost use Rattle.base_arithmetic_def.specs.Arithmetic.{as_bit, turned_left, turned_right, bit7, bit0};
+ghost use Rattle.base_arithmetic_def.specs.Arithmetic.{as_bit, turned_left, turned_right};
 
 use crate::area::Area;
-use crate::draft::Draft;
+use crate::draft::{Draft, Word};
 use crate::numbers::{
     address_in, adjusted, byte_flags, carry_in, is_excepted, number, outcome, outcome_flags,
 };
-use cells::{Cell, Rule};
+use cells::{Cell, Flags, Rule};
 use dialogue::join;
-use i80::{Op, Pair, Reg, Src};
+use i80::{Op, Pair, Src};
 
 // A byte rotated left; the bit comes in at the right.
 fn left(value: u8, bit: bool) -> u8
@@ -26,33 +26,13 @@ fn right(value: u8, bit: bool) -> u8
     value / 2 + 128 * u8::from(bit)
 }
 
-fn high_bit(value: u8) -> bool
-    ensures { result ≡ bit7 value }
-{
-    value > 127
-}
-
-fn low_bit(value: u8) -> bool
-    ensures { result ≡ bit0 value }
-{
-    value % 2 == 1
-}
-
 impl Draft<'_> {
     ghost use Rattle.cells.specs.declared.Cell.TheVariants.{Num};
     ghost use Rattle.cpu80_tagged_def.specs.State.{with_a, with_cy};
-    ghost use Rattle.cpu80_tagged_def.specs.Effect.{alu, alu_with, cleared, counted, counted_up, counted_down, inr, dcr, pair_num, add_to_pair, dad, daa, cma, cmc, rlc, rrc, ral, rar};
+    ghost use Rattle.cpu80_tagged_def.specs.Effect.{alu, alu_with, counted, pair_num, add_to_pair, dad, daa, cma, cmc, rlc, rrc, ral, rar};
+    ghost use Rattle.cpu80_tagged_step.specs.Counting.{count_by};
     ghost use Rattle.cpu80_tagged_step.specs.Row.{IsRow};
     ghost use Rattle.cpu80_tagged_step.specs.Draft.{IsFresh, state_of_draft};
-
-    // A becomes 0, whatever it held.
-    fn clear_a(&mut self)
-        ensures state { state_of_draft self.new ≡ cleared (state_of_draft self.old) }
-        ensures memory { self.new.memory.now ≡ self.old.memory.now }
-    {
-        self.set_a(Cell::Num(0));
-        self.set_flags(byte_flags(0, None, Some(false)));
-    }
 
     /// An operation on A and a cell; CMP keeps A.
     pub fn operate_on(&mut self, op: Op, cell: Cell) -> Result<(), Rule>
@@ -64,9 +44,9 @@ impl Draft<'_> {
         };
         let carry = carry_in(op, self.flags)?;
         if !matches!(op, Op::Cmp) {
-            self.set_a(Cell::Num(outcome(op, x, y, carry)));
+            self.registers.a = Cell::Num(outcome(op, x, y, carry));
         }
-        self.set_flags(outcome_flags(op, x, y, carry));
+        self.flags = outcome_flags(op, x, y, carry);
         Ok(())
     }
 
@@ -77,7 +57,8 @@ impl Draft<'_> {
         ensures memory { self.new.memory.now ≡ self.old.memory.now }
     {
         if op.gives_zero(from) {
-            self.clear_a();
+            self.registers.a = Cell::Num(0);
+            self.flags = byte_flags(0, None, Some(false));
             return Ok(());
         }
         let cell = self.source(area, from)?;
@@ -100,47 +81,18 @@ impl Draft<'_> {
         }
     }
 
-    // The flags of a count up; CY is kept.
-    fn set_counted_up(&mut self, x: u8)
-        ensures state { state_of_draft self.new ≡ counted_up (state_of_draft self.old) x }
-        ensures memory { self.new.memory.now ≡ self.old.memory.now }
-    {
-        let mut flags = outcome_flags(Op::Add, x, 1, 0);
-        flags.cy = self.flags.cy;
-        self.set_flags(flags);
-    }
-
-    // The flags of a count down; CY is kept.
-    fn set_counted_down(&mut self, x: u8)
-        ensures state { state_of_draft self.new ≡ counted_down (state_of_draft self.old) x }
-        ensures memory { self.new.memory.now ≡ self.old.memory.now }
-    {
-        let mut flags = outcome_flags(Op::Sub, x, 1, 0);
-        flags.cy = self.flags.cy;
-        self.set_flags(flags);
-    }
-
-    /// INR.
-    pub fn count_up(&mut self, area: &Area, on: Src) -> Result<(), Rule>
+    /// INR by ADD, DCR by SUB: an operation on the operand and 1, which keeps CY.
+    pub fn count(&mut self, area: &Area, op: Op, on: Src) -> Result<(), Rule>
         requires { IsFresh self.old }
-        ensures row { IsRow (inr area.now.program.now (state_of_draft self.old) on) result (state_of_draft self.old) (state_of_draft self.new) }
+        ensures row { IsRow (count_by area.now.program.now (state_of_draft self.old) op on) result (state_of_draft self.old) (state_of_draft self.new) }
         ensures memory { self.new.memory.now ≡ self.old.memory.now }
     {
         let x = self.counted(area, on)?;
-        self.put_into(area, on, Cell::Num(outcome(Op::Add, x, 1, 0)))?;
-        self.set_counted_up(x);
-        Ok(())
-    }
-
-    /// DCR.
-    pub fn count_down(&mut self, area: &Area, on: Src) -> Result<(), Rule>
-        requires { IsFresh self.old }
-        ensures row { IsRow (dcr area.now.program.now (state_of_draft self.old) on) result (state_of_draft self.old) (state_of_draft self.new) }
-        ensures memory { self.new.memory.now ≡ self.old.memory.now }
-    {
-        let x = self.counted(area, on)?;
-        self.put_into(area, on, Cell::Num(outcome(Op::Sub, x, 1, 0)))?;
-        self.set_counted_down(x);
+        self.put_into(area, on, Cell::Num(outcome(op, x, 1, 0)))?;
+        self.flags = Flags {
+            cy: self.flags.cy,
+            ..outcome_flags(op, x, 1, 0)
+        };
         Ok(())
     }
 
@@ -148,8 +100,11 @@ impl Draft<'_> {
     fn pair_number(&self, pair: Pair) -> Result<u16, Rule>
         ensures { result ≡ pair_num (state_of_draft self.now) pair }
     {
-        match (self.high(pair), self.low(pair)) {
-            (Cell::Num(high), Cell::Num(low)) => Ok(join(high, low)),
+        match self.pair(pair) {
+            Word {
+                high: Cell::Num(high),
+                low: Cell::Num(low),
+            } => Ok(join(high, low)),
             _ => Err(Rule::P5),
         }
     }
@@ -172,7 +127,7 @@ impl Draft<'_> {
         let x = self.pair_number(Pair::H)?;
         let y = self.pair_number(pair)?;
         self.set_pair(Pair::H, x.wrapping_add(y));
-        self.set_cy(u32::from(x) + u32::from(y) > 0xFFFF);
+        self.flags.cy = Some(u32::from(x) + u32::from(y) > 0xFFFF);
         Ok(())
     }
 
@@ -191,8 +146,8 @@ impl Draft<'_> {
             return Err(Rule::P7);
         }
         let (value, carry) = adjusted(x, half, carry);
-        self.set_a(Cell::Num(value));
-        self.set_flags(byte_flags(value, None, Some(carry)));
+        self.registers.a = Cell::Num(value);
+        self.flags = byte_flags(value, None, Some(carry));
         Ok(())
     }
 
@@ -202,7 +157,7 @@ impl Draft<'_> {
         ensures memory { self.new.memory.now ≡ self.old.memory.now }
     {
         let x = number(self.registers.a, Rule::P5)?;
-        self.set_a(Cell::Num(255 - x));
+        self.registers.a = Cell::Num(255 - x);
         Ok(())
     }
 
@@ -214,7 +169,7 @@ impl Draft<'_> {
         let Some(carry) = self.flags.cy else {
             return Err(Rule::P6);
         };
-        self.set_cy(!carry);
+        self.flags.cy = Some(!carry);
         Ok(())
     }
 
@@ -223,8 +178,8 @@ impl Draft<'_> {
         ensures state { state_of_draft self.new ≡ with_cy (with_a (state_of_draft self.old) (Num value)) out }
         ensures memory { self.new.memory.now ≡ self.old.memory.now }
     {
-        self.set_a(Cell::Num(value));
-        self.set_cy(out);
+        self.registers.a = Cell::Num(value);
+        self.flags.cy = Some(out);
     }
 
     /// RLC.
@@ -235,7 +190,7 @@ impl Draft<'_> {
         let Cell::Num(x) = self.registers.a else {
             return Err(Rule::P5);
         };
-        self.turn(left(x, high_bit(x)), high_bit(x));
+        self.turn(left(x, x > 127), x > 127);
         Ok(())
     }
 
@@ -247,7 +202,7 @@ impl Draft<'_> {
         let Cell::Num(x) = self.registers.a else {
             return Err(Rule::P5);
         };
-        self.turn(right(x, low_bit(x)), low_bit(x));
+        self.turn(right(x, x % 2 == 1), x % 2 == 1);
         Ok(())
     }
 
@@ -262,7 +217,7 @@ impl Draft<'_> {
         let Some(carry) = self.flags.cy else {
             return Err(Rule::P6);
         };
-        self.turn(left(x, carry), high_bit(x));
+        self.turn(left(x, carry), x > 127);
         Ok(())
     }
 
@@ -277,7 +232,7 @@ impl Draft<'_> {
         let Some(carry) = self.flags.cy else {
             return Err(Rule::P6);
         };
-        self.turn(right(x, carry), low_bit(x));
+        self.turn(right(x, carry), x % 2 == 1);
         Ok(())
     }
 }

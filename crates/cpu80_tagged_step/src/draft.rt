@@ -38,7 +38,7 @@ pub struct Draft<'a> {
 }
 
 impl Draft<'_> {
-    ghost use Rattle.cpu80_tagged_def.specs.State.{with_bc, with_de, with_hl, with_num, with_a, with_flags, with_cy};
+    ghost use Rattle.cpu80_tagged_def.specs.State.{high_of, low_of, with_bc, with_de, with_hl, with_num};
     ghost use Rattle.cpu80_tagged_def.specs.Memory.{read_at, write_at, read_word, write_word};
     ghost use Rattle.cpu80_tagged_step.specs.Row.{IsRow, halves_in};
     ghost use Rattle.cpu80_tagged_step.specs.Draft.{IsFresh, state_of_draft};
@@ -94,44 +94,21 @@ impl Draft<'_> {
         Ok(())
     }
 
-    /// The cells of BC.
-    pub fn bc(&self) -> Word
-        ensures high { result.high ≡ self.now.registers.b }
-        ensures low { result.low ≡ self.now.registers.c }
+    /// The cells of a pair; those of SP are numbers.
+    pub fn pair(&self, pair: Pair) -> Word
+        ensures high { result.high ≡ high_of (state_of_draft self.now) pair }
+        ensures low { result.low ≡ low_of (state_of_draft self.now) pair }
     {
-        Word {
-            high: self.registers.b,
-            low: self.registers.c,
-        }
-    }
-
-    /// The cells of DE.
-    pub fn de(&self) -> Word
-        ensures high { result.high ≡ self.now.registers.d }
-        ensures low { result.low ≡ self.now.registers.e }
-    {
-        Word {
-            high: self.registers.d,
-            low: self.registers.e,
-        }
-    }
-
-    /// The cells of HL.
-    pub fn hl(&self) -> Word
-        ensures high { result.high ≡ self.now.registers.h }
-        ensures low { result.low ≡ self.now.registers.l }
-    {
-        Word {
-            high: self.registers.h,
-            low: self.registers.l,
-        }
-    }
-
-    pub fn set_a(&mut self, cell: Cell)
-        ensures state { state_of_draft self.new ≡ with_a (state_of_draft self.old) cell }
-        ensures memory { self.new.memory.now ≡ self.old.memory.now }
-    {
-        self.registers.a = cell;
+        let (high, low) = match pair {
+            Pair::B => (self.registers.b, self.registers.c),
+            Pair::D => (self.registers.d, self.registers.e),
+            Pair::H => (self.registers.h, self.registers.l),
+            Pair::Sp => (
+                Cell::Num((self.sp / 256) as u8),
+                Cell::Num((self.sp % 256) as u8),
+            ),
+        };
+        Word { high, low }
     }
 
     pub fn set_bc(&mut self, word: Word)
@@ -173,19 +150,5 @@ impl Draft<'_> {
             Pair::H => self.set_hl(word),
             Pair::Sp => self.sp = number,
         }
-    }
-
-    pub fn set_flags(&mut self, flags: Flags)
-        ensures state { state_of_draft self.new ≡ with_flags (state_of_draft self.old) flags }
-        ensures memory { self.new.memory.now ≡ self.old.memory.now }
-    {
-        self.flags = flags;
-    }
-
-    pub fn set_cy(&mut self, cy: bool)
-        ensures state { state_of_draft self.new ≡ with_cy (state_of_draft self.old) cy }
-        ensures memory { self.new.memory.now ≡ self.old.memory.now }
-    {
-        self.flags.cy = Some(cy);
     }
 }

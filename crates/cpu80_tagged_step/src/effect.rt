@@ -4,7 +4,7 @@ ghost use Rattle.std.specs.Prelude.{◌≡◌};
 use crate::area::Area;
 use crate::draft::Draft;
 use cells::{Cell, Rule};
-use i80::Instr80;
+use i80::{Instr80, Op, Pair};
 
 impl Draft<'_> {
     ghost use Rattle.cpu80_tagged_def.specs.Effect.{effect};
@@ -24,9 +24,9 @@ impl Draft<'_> {
             Instr80::Mvi(to, n) => self.put_into(area, to, Cell::Num(n)),
             Instr80::Lxi(pair, word) => Ok(self.load_immediate(pair, word)),
             Instr80::Lda(at) => self.load(area, at),
-            Instr80::Sta(at) => self.store(area, at),
+            Instr80::Sta(at) => self.write_cell(area, at, self.registers.a),
             Instr80::Lhld(at) => self.load_pair(area, at),
-            Instr80::Shld(at) => self.store_pair(area, at),
+            Instr80::Shld(at) => self.write_word(area, at, self.pair(Pair::H)),
             Instr80::Ldax(pair) => self.load_at(area, pair),
             Instr80::Stax(pair) => self.store_at(area, pair),
             Instr80::Xchg => Ok(self.exchange()),
@@ -34,14 +34,17 @@ impl Draft<'_> {
             Instr80::Sphl => self.set_sp(),
             Instr80::Alu(op, from) => self.operate(area, op, from),
             Instr80::AluI(op, n) => self.operate_on(op, Cell::Num(n)),
-            Instr80::Inr(on) => self.count_up(area, on),
-            Instr80::Dcr(on) => self.count_down(area, on),
+            Instr80::Inr(on) => self.count(area, Op::Add, on),
+            Instr80::Dcr(on) => self.count(area, Op::Sub, on),
             Instr80::Inx(pair) => self.add_to_pair(pair, 1),
             Instr80::Dcx(pair) => self.add_to_pair(pair, 0xFFFF),
             Instr80::Dad(pair) => self.add_pair(pair),
             Instr80::Daa => self.adjust(),
             Instr80::Cma => self.invert(),
-            Instr80::Stc => Ok(self.set_cy(true)),
+            Instr80::Stc => {
+                self.flags.cy = Some(true);
+                Ok(())
+            }
             Instr80::Cmc => self.invert_cy(),
             Instr80::Rlc => self.rotate_left(),
             Instr80::Rrc => self.rotate_right(),

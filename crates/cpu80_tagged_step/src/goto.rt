@@ -6,7 +6,7 @@ ghost use Rattle.cpu80_tagged_def.specs.Call.{place_in};
 use crate::area::Area;
 use crate::draft::{Draft, Word};
 use crate::turn::{Return, Turn};
-use cells::{Cell, Cond, Place, Rule};
+use cells::{Cell, Place, Rule};
 use i80::Goal;
 
 /// The place that two cells name, the high and the low half of one code address: P1 where they name none.
@@ -14,16 +14,18 @@ pub fn place_named(area: &Area, high: Cell, low: Cell) -> Result<Place, Rule>
     ensures { result ≡ place_in area.now.program.now high low }
 {
     match (high, low) {
-        (Cell::Hi(place), Cell::Lo(other)) if place.is_same(other) => area.checked_place(place),
+        (Cell::Hi(Place::Exit), Cell::Lo(Place::Exit)) => Ok(Place::Exit),
+        (Cell::Hi(Place::At(at)), Cell::Lo(Place::At(same))) if at == same && area.is_start(at) => {
+            Ok(Place::At(at))
+        }
         _ => Err(Rule::P1),
     }
 }
 
 impl Draft<'_> {
-    ghost use Rattle.cells.specs.Conditions.{holds};
     ghost use Rattle.cpu80_tagged_def.specs.State.{State80};
     ghost use Rattle.cpu80_tagged_def.specs.Call.{popped_return, return_after};
-    ghost use Rattle.cpu80_tagged_def.specs.Step.{go_to, go_back, leave_to, jump, call, where_holds};
+    ghost use Rattle.cpu80_tagged_def.specs.Step.{go_to, go_back, leave_to, jump, call};
     ghost use Rattle.cpu80_tagged_step.specs.Draft.{IsFresh, state_of_draft};
     ghost use Rattle.cpu80_tagged_step.specs.Turn.{IsAsking, AsksNothing, answer_of_turn, returns_in};
 
@@ -141,48 +143,6 @@ impl Draft<'_> {
             Goal::At(at) => self.enter(area, at, after),
             Goal::Boot => Ok(Turn::Ended),
             Goal::Bdos => self.call_system(area, self.return_after(area, after)),
-        }
-    }
-
-    /// A conditional jump: P6 where the flag of its condition is unknown.
-    pub fn jump_if(&mut self, area: &Area, cond: Cond, goal: Goal, after: u16) -> Result<Turn, Rule>
-        requires { IsFresh self.old }
-        ensures answer { answer_of_turn area.now.program.now (state_of_draft self.old) result (state_of_draft self.new) ≡ where_holds area.now.program.now (state_of_draft self.old) after (holds self.old.flags cond) (jump area.now.program.now (state_of_draft self.old) goal) }
-        ensures asking { IsAsking area.now.program.now (state_of_draft self.old) (popped_return area.now.program.now (state_of_draft self.old)) result }
-        ensures memory { self.new.memory.now ≡ self.old.memory.now }
-    {
-        match self.flags.holds(cond) {
-            Some(true) => self.jump(area, goal),
-            Some(false) => self.go_to(area, after),
-            None => Err(Rule::P6),
-        }
-    }
-
-    /// A conditional call.
-    pub fn call_if(&mut self, area: &Area, cond: Cond, goal: Goal, after: u16) -> Result<Turn, Rule>
-        requires { IsFresh self.old }
-        ensures answer { answer_of_turn area.now.program.now (state_of_draft self.old) result (state_of_draft self.new) ≡ where_holds area.now.program.now (state_of_draft self.old) after (holds self.old.flags cond) (call area.now.program.now (state_of_draft self.old) after goal) }
-        ensures asking { IsAsking area.now.program.now (state_of_draft self.old) (return_after area.now.program.now (state_of_draft self.old) after) result }
-        ensures memory { self.new.memory.now ≡ self.old.memory.now }
-    {
-        match self.flags.holds(cond) {
-            Some(true) => self.call(area, goal, after),
-            Some(false) => self.go_to(area, after),
-            None => Err(Rule::P6),
-        }
-    }
-
-    /// A conditional return.
-    pub fn return_if(&mut self, area: &Area, cond: Cond, after: u16) -> Result<Turn, Rule>
-        requires { IsFresh self.old }
-        ensures answer { answer_of_turn area.now.program.now (state_of_draft self.old) result (state_of_draft self.new) ≡ where_holds area.now.program.now (state_of_draft self.old) after (holds self.old.flags cond) (go_back (state_of_draft self.old) (popped_return area.now.program.now (state_of_draft self.old))) }
-        ensures nothing_asked { AsksNothing result }
-        ensures memory { self.new.memory.now ≡ self.old.memory.now }
-    {
-        match self.flags.holds(cond) {
-            Some(true) => self.go_back(area),
-            Some(false) => self.go_to(area, after),
-            None => Err(Rule::P6),
         }
     }
 }

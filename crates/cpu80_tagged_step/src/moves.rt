@@ -9,44 +9,11 @@ use cells::{Cell, Place, Rule};
 use i80::{Pair, Src, Word as Immediate};
 
 impl Draft<'_> {
-    ghost use Rattle.i80.specs.declared.Instr80.TheVariants.{Mov, Shld, Ldax, Stax};
+    ghost use Rattle.i80.specs.declared.Instr80.TheVariants.{Mov, Ldax, Stax};
     ghost use Rattle.i80.specs.declared.Word.TheVariants.{Code};
-    ghost use Rattle.cpu80_tagged_def.specs.State.{high_of, low_of};
-    ghost use Rattle.cpu80_tagged_def.specs.Memory.{address};
-    ghost use Rattle.cpu80_tagged_def.specs.Effect.{source, into, effect, lxi, lda, sta, lhld, xchg, xthl, sphl};
+    ghost use Rattle.cpu80_tagged_def.specs.Effect.{source, into, effect, lxi, lda, lhld, xchg, xthl, sphl};
     ghost use Rattle.cpu80_tagged_step.specs.Row.{IsRow};
     ghost use Rattle.cpu80_tagged_step.specs.Draft.{IsFresh, state_of_draft};
-
-    /// The high cell of a pair; that of SP is a number.
-    pub fn high(&self, pair: Pair) -> Cell
-        ensures { result ≡ high_of (state_of_draft self.now) pair }
-    {
-        match pair {
-            Pair::B => self.registers.b,
-            Pair::D => self.registers.d,
-            Pair::H => self.registers.h,
-            Pair::Sp => Cell::Num((self.sp / 256) as u8),
-        }
-    }
-
-    /// The low cell of a pair.
-    pub fn low(&self, pair: Pair) -> Cell
-        ensures { result ≡ low_of (state_of_draft self.now) pair }
-    {
-        match pair {
-            Pair::B => self.registers.c,
-            Pair::D => self.registers.e,
-            Pair::H => self.registers.l,
-            Pair::Sp => Cell::Num((self.sp % 256) as u8),
-        }
-    }
-
-    // The address in HL.
-    fn at_hl(&self) -> Result<u16, Rule>
-        ensures { result ≡ address self.now.registers.h self.now.registers.l }
-    {
-        address_in(self.registers.h, self.registers.l)
-    }
 
     /// The cell of a register or of M.
     pub fn source(&self, area: &Area, from: Src) -> Result<Cell, Rule>
@@ -56,7 +23,7 @@ impl Draft<'_> {
         match from {
             Src::Reg(register) => Ok(self.registers.get(register)),
             Src::Mem => {
-                let at = self.at_hl()?;
+                let at = address_in(self.registers.h, self.registers.l)?;
                 self.read(area, at)
             }
         }
@@ -74,7 +41,7 @@ impl Draft<'_> {
                 Ok(())
             }
             Src::Mem => {
-                let at = self.at_hl()?;
+                let at = address_in(self.registers.h, self.registers.l)?;
                 self.write_cell(area, at, cell)
             }
         }
@@ -124,18 +91,8 @@ impl Draft<'_> {
         ensures row { IsRow (lda area.now.program.now (state_of_draft self.old) at) result (state_of_draft self.old) (state_of_draft self.new) }
         ensures memory { self.new.memory.now ≡ self.old.memory.now }
     {
-        let cell = self.read(area, at)?;
-        self.set_a(cell);
+        self.registers.a = self.read(area, at)?;
         Ok(())
-    }
-
-    /// STA.
-    pub fn store(&mut self, area: &Area, at: u16) -> Result<(), Rule>
-        requires { IsFresh self.old }
-        ensures row { IsRow (sta area.now.program.now (state_of_draft self.old) at) result (state_of_draft self.old) (state_of_draft self.new) }
-        ensures memory { self.new.memory.now ≡ self.old.memory.now }
-    {
-        self.write_cell(area, at, self.registers.a)
     }
 
     /// LHLD.
@@ -149,23 +106,14 @@ impl Draft<'_> {
         Ok(())
     }
 
-    /// SHLD.
-    pub fn store_pair(&mut self, area: &Area, at: u16) -> Result<(), Rule>
-        requires { IsFresh self.old }
-        ensures row { IsRow (effect area.now.program.now (state_of_draft self.old) (Shld at)) result (state_of_draft self.old) (state_of_draft self.new) }
-        ensures memory { self.new.memory.now ≡ self.old.memory.now }
-    {
-        let word = self.hl();
-        self.write_word(area, at, word)
-    }
-
     /// LDAX.
     pub fn load_at(&mut self, area: &Area, pair: Pair) -> Result<(), Rule>
         requires { IsFresh self.old }
         ensures row { IsRow (effect area.now.program.now (state_of_draft self.old) (Ldax pair)) result (state_of_draft self.old) (state_of_draft self.new) }
         ensures memory { self.new.memory.now ≡ self.old.memory.now }
     {
-        let at = address_in(self.high(pair), self.low(pair))?;
+        let word = self.pair(pair);
+        let at = address_in(word.high, word.low)?;
         self.load(area, at)
     }
 
@@ -175,8 +123,9 @@ impl Draft<'_> {
         ensures row { IsRow (effect area.now.program.now (state_of_draft self.old) (Stax pair)) result (state_of_draft self.old) (state_of_draft self.new) }
         ensures memory { self.new.memory.now ≡ self.old.memory.now }
     {
-        let at = address_in(self.high(pair), self.low(pair))?;
-        self.store(area, at)
+        let word = self.pair(pair);
+        let at = address_in(word.high, word.low)?;
+        self.write_cell(area, at, self.registers.a)
     }
 
     /// XCHG.
@@ -184,8 +133,8 @@ impl Draft<'_> {
         ensures state { state_of_draft self.new ≡ xchg (state_of_draft self.old) }
         ensures memory { self.new.memory.now ≡ self.old.memory.now }
     {
-        let hl = self.hl();
-        let de = self.de();
+        let hl = self.pair(Pair::H);
+        let de = self.pair(Pair::D);
         self.set_hl(de);
         self.set_de(hl);
     }
@@ -196,10 +145,8 @@ impl Draft<'_> {
         ensures row { IsRow (xthl area.now.program.now (state_of_draft self.old)) result (state_of_draft self.old) (state_of_draft self.new) }
         ensures memory { self.new.memory.now ≡ self.old.memory.now }
     {
-        let sp = self.sp;
-        let word = self.read_word(area, sp)?;
-        let hl = self.hl();
-        self.write_word(area, sp, hl)?;
+        let word = self.read_word(area, self.sp)?;
+        self.write_word(area, self.sp, self.pair(Pair::H))?;
         self.set_hl(word);
         Ok(())
     }
@@ -209,8 +156,7 @@ impl Draft<'_> {
         ensures row { IsRow (sphl (state_of_draft self.old)) result (state_of_draft self.old) (state_of_draft self.new) }
         ensures memory { self.new.memory.now ≡ self.old.memory.now }
     {
-        let at = self.at_hl()?;
-        self.sp = at;
+        self.sp = address_in(self.registers.h, self.registers.l)?;
         Ok(())
     }
 }

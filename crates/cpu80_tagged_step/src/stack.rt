@@ -5,7 +5,7 @@ ghost use Rattle.base_arithmetic_def.specs.Operations.{flags_in};
 use crate::area::Area;
 use crate::draft::{Draft, Word};
 use cells::{Cell, Flags, Rule};
-use i80::StackPair;
+use i80::{Pair, StackPair};
 
 // The flags that POP PSW takes from a cell.
 fn flags_of_cell(cell: Cell) -> Flags
@@ -19,8 +19,8 @@ fn flags_of_cell(cell: Cell) -> Flags
 }
 
 impl Draft<'_> {
-    ghost use Rattle.cpu80_tagged_def.specs.Effect.{push, push_pair, popped, pop_pair};
-    ghost use Rattle.cpu80_tagged_step.specs.Row.{IsRow, halves_of};
+    ghost use Rattle.cpu80_tagged_def.specs.Effect.{push, push_pair, pop_pair};
+    ghost use Rattle.cpu80_tagged_step.specs.Row.{IsRow};
     ghost use Rattle.cpu80_tagged_step.specs.Draft.{IsFresh, state_of_draft};
 
     /// Two cells onto the stack, which grows down: the high one at SP-1, the low one at SP-2.
@@ -42,31 +42,15 @@ impl Draft<'_> {
         ensures memory { self.new.memory.now ≡ self.old.memory.now }
     {
         let word = match pair {
-            StackPair::B => self.bc(),
-            StackPair::D => self.de(),
-            StackPair::H => self.hl(),
+            StackPair::B => self.pair(Pair::B),
+            StackPair::D => self.pair(Pair::D),
+            StackPair::H => self.pair(Pair::H),
             StackPair::Psw => Word {
                 high: self.registers.a,
                 low: Cell::Psw(self.flags),
             },
         };
         self.push(area, word)
-    }
-
-    // A popped word into its pair.
-    fn take_popped(&mut self, pair: StackPair, word: Word)
-        ensures state { state_of_draft self.new ≡ popped (state_of_draft self.old) pair (halves_of word) }
-        ensures memory { self.new.memory.now ≡ self.old.memory.now }
-    {
-        match pair {
-            StackPair::B => self.set_bc(word),
-            StackPair::D => self.set_de(word),
-            StackPair::H => self.set_hl(word),
-            StackPair::Psw => {
-                self.set_a(word.high);
-                self.set_flags(flags_of_cell(word.low));
-            }
-        }
     }
 
     /// POP.
@@ -77,7 +61,15 @@ impl Draft<'_> {
     {
         let word = self.read_word(area, self.sp)?;
         self.sp = self.sp.wrapping_add(2);
-        self.take_popped(pair, word);
+        match pair {
+            StackPair::B => self.set_bc(word),
+            StackPair::D => self.set_de(word),
+            StackPair::H => self.set_hl(word),
+            StackPair::Psw => {
+                self.registers.a = word.high;
+                self.flags = flags_of_cell(word.low);
+            }
+        }
         Ok(())
     }
 }

@@ -3,3 +3,4 @@ pub mod Back
 pub mod Standing
 pub mod Plain
 pub mod Histories
+pub mod Counting

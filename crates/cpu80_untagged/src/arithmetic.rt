@@ -1,8 +1,9 @@
 // Arithmetic (8080 Assembly Language Programming Manual, "Register or memory to accumulator instructions", "Single register
 // instructions", "Register pair instructions", "Rotate accumulator instructions").
 ghost use Rattle.std.specs.Prelude.{◌≡◌, ◌≤◌, Some, None};
-ghost use Rattle.base_arithmetic_def.specs.Arithmetic.{as_bit, turned_left, turned_right, bit7, bit0};
-ghost use Rattle.cpu80_untagged_def.specs.Effect.{carry_for, alu, counted_up, counted_down, inr, dcr, add_to_pair, dad, daa, turned};
+ghost use Rattle.base_arithmetic_def.specs.Arithmetic.{as_bit, turned_left, turned_right};
+ghost use Rattle.cpu80_untagged_def.specs.Effect.{carry_for, alu, add_to_pair, dad, daa, turned};
+ghost use Rattle.cpu80_untagged.specs.Counting.{count_by};
 ghost use Rattle.cpu80_untagged.specs.State.{untagged_flags, untagged_state};
 
 use crate::flags::FlagBits;
@@ -36,20 +37,6 @@ pub fn right(value: u8, flag: bool) -> u8
     value / 2 + 128 * u8::from(flag)
 }
 
-/// Bit 7 of a byte.
-pub fn high_bit(value: u8) -> bool
-    ensures { result ≡ bit7 value }
-{
-    value > 127
-}
-
-/// Bit 0 of a byte.
-pub fn low_bit(value: u8) -> bool
-    ensures { result ≡ bit0 value }
-{
-    value % 2 == 1
-}
-
 impl Processor {
     /// An operation on A and a byte; CMP keeps A.
     pub fn operate(&mut self, op: Op, byte: u8, choice: u128)
@@ -59,45 +46,21 @@ impl Processor {
         let carry = carry_for(op, self.flags);
         match op {
             Op::Cmp => {}
-            _ => self.set_a(outcome(op, a, byte, carry)),
+            _ => self.registers.a = outcome(op, a, byte, carry),
         }
-        self.set_flags(FlagBits::settled(outcome_flags(op, a, byte, carry), choice));
+        self.flags = FlagBits::settled(outcome_flags(op, a, byte, carry), choice);
     }
 
-    // The flags of a count up of a byte; CY is kept.
-    fn set_counted_up(&mut self, byte: u8, choice: u128)
-        ensures { untagged_state self.new ≡ counted_up (untagged_state self.old) byte choice }
-    {
-        let mut flags = outcome_flags(Op::Add, byte, 1, 0);
-        flags.cy = Some(self.flags.cy);
-        self.set_flags(FlagBits::settled(flags, choice));
-    }
-
-    // The flags of a count down of a byte; CY is kept.
-    fn set_counted_down(&mut self, byte: u8, choice: u128)
-        ensures { untagged_state self.new ≡ counted_down (untagged_state self.old) byte choice }
-    {
-        let mut flags = outcome_flags(Op::Sub, byte, 1, 0);
-        flags.cy = Some(self.flags.cy);
-        self.set_flags(FlagBits::settled(flags, choice));
-    }
-
-    /// INR.
-    pub fn count_up(&mut self, on: Src, choice: u128)
-        ensures { untagged_state self.new ≡ inr (untagged_state self.old) on choice }
+    /// INR by ADD, DCR by SUB: an operation on the operand and 1, which keeps CY.
+    pub fn count(&mut self, op: Op, on: Src, choice: u128)
+        ensures { untagged_state self.new ≡ count_by (untagged_state self.old) op on choice }
     {
         let byte = self.source(on);
-        self.put_into(on, outcome(Op::Add, byte, 1, 0));
-        self.set_counted_up(byte, choice);
-    }
-
-    /// DCR.
-    pub fn count_down(&mut self, on: Src, choice: u128)
-        ensures { untagged_state self.new ≡ dcr (untagged_state self.old) on choice }
-    {
-        let byte = self.source(on);
-        self.put_into(on, outcome(Op::Sub, byte, 1, 0));
-        self.set_counted_down(byte, choice);
+        self.put_into(on, outcome(op, byte, 1, 0));
+        self.flags = FlagBits {
+            cy: self.flags.cy,
+            ..FlagBits::settled(outcome_flags(op, byte, 1, 0), choice)
+        };
     }
 
     /// INX adds 1, DCX adds 0FFFFH. No flag changes.
@@ -115,7 +78,7 @@ impl Processor {
         let x = self.pair(Pair::H);
         let y = self.pair(pair);
         self.set_pair(Pair::H, x.wrapping_add(y));
-        self.set_cy(u32::from(x) + u32::from(y) > 0xFFFF);
+        self.flags.cy = u32::from(x) + u32::from(y) > 0xFFFF;
     }
 
     /// DAA: where the processors may differ, A is bits 0 to 7 of the choice, and S, Z, AC, P and CY are bits 8 to 12.
@@ -125,20 +88,20 @@ impl Processor {
         let a = self.registers.a;
         let FlagBits { ac, cy, .. } = self.flags;
         if is_excepted(a, ac, cy) {
-            self.set_a(choice_byte(choice, 0));
-            self.set_flags(FlagBits::of_choice(choice, 8));
+            self.registers.a = choice_byte(choice, 0);
+            self.flags = FlagBits::of_choice(choice, 8);
             return;
         }
         let (value, carry) = adjusted(a, ac, cy);
-        self.set_a(value);
-        self.set_flags(FlagBits::settled(byte_flags(value, None, Some(carry)), choice));
+        self.registers.a = value;
+        self.flags = FlagBits::settled(byte_flags(value, None, Some(carry)), choice);
     }
 
     /// A rotated byte in A, and the bit that went out in CY.
     pub fn turn(&mut self, value: u8, out: bool)
         ensures { untagged_state self.new ≡ turned (untagged_state self.old) value out }
     {
-        self.set_a(value);
-        self.set_cy(out);
+        self.registers.a = value;
+        self.flags.cy = out;
     }
 }

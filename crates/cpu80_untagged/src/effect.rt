@@ -3,10 +3,9 @@ ghost use Rattle.std.specs.Prelude.{◌≡◌};
 ghost use Rattle.cpu80_untagged_def.specs.Effect.{effect};
 ghost use Rattle.cpu80_untagged.specs.State.{untagged_state};
 
-use crate::arithmetic::{high_bit, left, low_bit, right};
-use crate::moves::word_of;
+use crate::arithmetic::{left, right};
 use crate::processor::Processor;
-use i80::{Instr80, Pair};
+use i80::{Instr80, Op, Pair, Word};
 
 impl Processor {
     /// What an instruction does, but for the place that comes next: jumps, calls, returns and ports do nothing here.
@@ -18,31 +17,37 @@ impl Processor {
         match instr {
             Instr80::Mov(to, from) => self.put_into(to, self.source(from)),
             Instr80::Mvi(to, byte) => self.put_into(to, byte),
-            Instr80::Lxi(pair, word) => self.set_pair(pair, word_of(word)),
-            Instr80::Lda(at) => self.load_a(at),
-            Instr80::Sta(at) => self.store(at, a),
+            Instr80::Lxi(pair, Word::Num(word) | Word::Code(word)) => self.set_pair(pair, word),
+            Instr80::Lda(at) => self.registers.a = self.memory.get(at),
+            Instr80::Sta(at) => self.memory.set(at, a),
             Instr80::Lhld(at) => self.load_hl(at),
-            Instr80::Shld(at) => self.store_hl(at),
-            Instr80::Ldax(pair) => self.load_a(self.pair(pair)),
-            Instr80::Stax(pair) => self.store(self.pair(pair), a),
+            Instr80::Shld(at) => self.memory.set_word(at, self.registers.h, self.registers.l),
+            Instr80::Ldax(pair) => {
+                let at = self.pair(pair);
+                self.registers.a = self.memory.get(at);
+            }
+            Instr80::Stax(pair) => {
+                let at = self.pair(pair);
+                self.memory.set(at, a);
+            }
             Instr80::Xchg => self.exchange(),
             Instr80::Xthl => self.exchange_top(),
             Instr80::Sphl => self.sp = self.pair(Pair::H),
             Instr80::Alu(op, from) => self.operate(op, self.source(from), choice),
             Instr80::AluI(op, byte) => self.operate(op, byte, choice),
-            Instr80::Inr(on) => self.count_up(on, choice),
-            Instr80::Dcr(on) => self.count_down(on, choice),
+            Instr80::Inr(on) => self.count(Op::Add, on, choice),
+            Instr80::Dcr(on) => self.count(Op::Sub, on, choice),
             Instr80::Inx(pair) => self.add_to_pair(pair, 1),
             Instr80::Dcx(pair) => self.add_to_pair(pair, 0xFFFF),
             Instr80::Dad(pair) => self.add_pair(pair),
             Instr80::Daa => self.adjust(choice),
-            Instr80::Cma => self.set_a(255 - a),
-            Instr80::Stc => self.set_cy(true),
-            Instr80::Cmc => self.set_cy(!carry),
-            Instr80::Rlc => self.turn(left(a, high_bit(a)), high_bit(a)),
-            Instr80::Rrc => self.turn(right(a, low_bit(a)), low_bit(a)),
-            Instr80::Ral => self.turn(left(a, carry), high_bit(a)),
-            Instr80::Rar => self.turn(right(a, carry), low_bit(a)),
+            Instr80::Cma => self.registers.a = 255 - a,
+            Instr80::Stc => self.flags.cy = true,
+            Instr80::Cmc => self.flags.cy = !carry,
+            Instr80::Rlc => self.turn(left(a, a > 127), a > 127),
+            Instr80::Rrc => self.turn(right(a, a % 2 == 1), a % 2 == 1),
+            Instr80::Ral => self.turn(left(a, carry), a > 127),
+            Instr80::Rar => self.turn(right(a, carry), a % 2 == 1),
             Instr80::Push(pair) => self.push_pair(pair, choice),
             Instr80::Pop(pair) => self.pop_pair(pair),
             Instr80::Nop

@@ -12,7 +12,6 @@ impl Untagged80 {
     ghost use Rattle.std.specs.Prelude.{Option, Some, ◌/◌, ◌%◌};
     ghost use Rattle.cells.specs.declared.Place.TheVariants.{At};
     ghost use Rattle.cpu80_untagged_def.specs.Call.{call_system, popped_return, Return};
-    ghost use Rattle.cpu80_untagged_def.specs.State.{pair_word};
     ghost use Rattle.cpu80_untagged_def.specs.Effect.{push, effect};
     ghost use Rattle.dialogue.specs.Run.{Ends};
     ghost use Rattle.dialogue.specs.Calls.{settled, IsOpen};
@@ -69,17 +68,6 @@ impl Untagged80 {
     {
         let at = self.processor.memory.word(self.processor.sp);
         self.leave_to(self.processor.sp.wrapping_add(2), at)
-    }
-
-    // PCHL.
-    fn pchl(&mut self) -> UntaggedStep
-        requires { self.old.pending ≡ Pending.Nothing }
-        ensures step { (status_of result, standing self.new) ≡ settled (untagged_state self.old.processor) (leave_to (untagged_state self.old.processor) (untagged_state self.old.processor).sp (pair_word (untagged_state self.old.processor) Pair.H)) }
-        ensures said { IsOpen (status_of result) (standing self.new).said }
-        ensures kept { (back : Option Return) → Keeps back (untagged_state self.old.processor) (untagged_state self.new.processor) self.new.pending }
-    {
-        let at = self.processor.pair(Pair::H);
-        self.leave_to(self.processor.sp, at)
     }
 
     // A call of the system, which goes on at `back` after its reply. Function 0 ends the program.
@@ -183,7 +171,10 @@ impl Untagged80 {
         ensures kept { Keeps (goes_on_at (untagged_state self.old.processor) next instr) (untagged_state self.old.processor) (untagged_state self.new.processor) self.new.pending }
     {
         match instr {
-            Instr80::Pchl => self.pchl(),
+            Instr80::Pchl => {
+                let at = self.processor.pair(Pair::H);
+                self.leave_to(self.processor.sp, at)
+            }
             Instr80::Jmp(goal) => self.jump(goal),
             Instr80::Jif(condition, goal) => {
                 if self.processor.flags.holds(condition) {

@@ -1,8 +1,8 @@
 // The processor: what an instruction reads and writes.
 ghost use Rattle.std.specs.Prelude.{◌≡◌};
-ghost use Rattle.cpu80_untagged_def.specs.State.{pair_word, with_word, with_hl, with_a, with_flags, with_cy};
-ghost use Rattle.cpu80_untagged_def.specs.Effect.{source, into, store};
-ghost use Rattle.cpu80_untagged.specs.State.{untagged_flags, untagged_state};
+ghost use Rattle.cpu80_untagged_def.specs.State.{pair_word, with_word, with_hl};
+ghost use Rattle.cpu80_untagged_def.specs.Effect.{source, into};
+ghost use Rattle.cpu80_untagged.specs.State.{untagged_state};
 
 use crate::flags::FlagBits;
 use crate::memory::Memory;
@@ -67,34 +67,6 @@ impl Processor {
         self.registers.l = low;
     }
 
-    /// Writes A.
-    pub fn set_a(&mut self, byte: u8)
-        ensures { untagged_state self.new ≡ with_a (untagged_state self.old) byte }
-    {
-        self.registers.a = byte;
-    }
-
-    /// Writes all flags.
-    pub fn set_flags(&mut self, flags: FlagBits)
-        ensures { untagged_state self.new ≡ with_flags (untagged_state self.old) (untagged_flags flags) }
-    {
-        self.flags = flags;
-    }
-
-    /// Writes CY alone.
-    pub fn set_cy(&mut self, carry: bool)
-        ensures { untagged_state self.new ≡ with_cy (untagged_state self.old) carry }
-    {
-        self.flags.cy = carry;
-    }
-
-    /// Writes the byte at an address.
-    pub fn store(&mut self, at: u16, byte: u8)
-        ensures { untagged_state self.new ≡ store (untagged_state self.old) at byte }
-    {
-        self.memory.set(at, byte);
-    }
-
     /// The byte of a register or of M.
     pub fn source(&self, from: Src) -> u8
         ensures { result ≡ source (untagged_state self.now) from }
@@ -113,7 +85,7 @@ impl Processor {
             Src::Reg(register) => self.registers.set(register, byte),
             Src::Mem => {
                 let at = self.pair(Pair::H);
-                self.store(at, byte);
+                self.memory.set(at, byte);
             }
         }
     }

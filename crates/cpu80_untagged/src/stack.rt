@@ -1,6 +1,6 @@
 // The stack (8080 Assembly Language Programming Manual, "PUSH", "POP").
 ghost use Rattle.std.specs.Prelude.{◌≡◌};
-ghost use Rattle.cpu80_untagged_def.specs.Effect.{push, push_pair, popped, pop_pair};
+ghost use Rattle.cpu80_untagged_def.specs.Effect.{push, push_pair, pop_pair};
 ghost use Rattle.cpu80_untagged.specs.State.{untagged_state};
 
 use crate::flags::FlagBits;
@@ -29,10 +29,13 @@ impl Processor {
         }
     }
 
-    // Two bytes into a pair, or into A and the flags.
-    fn set_popped(&mut self, pair: StackPair, high: u8, low: u8)
-        ensures { untagged_state self.new ≡ popped (untagged_state self.old) pair high low }
+    /// POP: SP goes up by 2, and wraps.
+    pub fn pop_pair(&mut self, pair: StackPair)
+        ensures { untagged_state self.new ≡ pop_pair (untagged_state self.old) pair }
     {
+        let low = self.memory.get(self.sp);
+        let high = self.memory.get(self.sp.wrapping_add(1));
+        self.sp = self.sp.wrapping_add(2);
         match pair {
             StackPair::B => {
                 self.registers.b = high;
@@ -44,19 +47,9 @@ impl Processor {
             }
             StackPair::H => self.set_hl(high, low),
             StackPair::Psw => {
-                self.set_a(high);
-                self.set_flags(FlagBits::of_byte(low));
+                self.registers.a = high;
+                self.flags = FlagBits::of_byte(low);
             }
         }
-    }
-
-    /// POP: SP goes up by 2, and wraps.
-    pub fn pop_pair(&mut self, pair: StackPair)
-        ensures { untagged_state self.new ≡ pop_pair (untagged_state self.old) pair }
-    {
-        let low = self.memory.get(self.sp);
-        let high = self.memory.get(self.sp.wrapping_add(1));
-        self.sp = self.sp.wrapping_add(2);
-        self.set_popped(pair, high, low);
     }
 }

@@ -2,7 +2,7 @@
 ghost use Rattle.std.specs.Prelude.{◌≡◌, true, MatchOption};
 ghost use Rattle.dialogue.specs.Run.{Stops};
 ghost use Rattle.dialogue.specs.Fits.{fits};
-ghost use Rattle.cpu80_untagged_def.specs.Call.{OddCall, ask, shape_in, place_of_return, popped_return, after_reply};
+ghost use Rattle.cpu80_untagged_def.specs.Call.{OddCall, ask, shape_in, popped_return, after_reply};
 ghost use Rattle.cpu80_untagged.specs.State.{untagged_state};
 ghost use Rattle.cpu80_untagged.specs.Back.{back_of, IsUntaggedCall};
 
@@ -19,23 +19,16 @@ pub struct Return {
     pub sp: u16,
 }
 
-// The place at an address that a jump to 5 returns to: at address 0 the program ends.
-fn place_of(at: u16) -> Place
-    ensures { result ≡ place_of_return at }
-{
-    match at {
-        0 => Place::Exit,
-        _ => Place::At(at),
-    }
-}
-
 impl Processor {
-    /// The return that a jump to 5 pops.
+    /// The return that a jump to 5 pops: at address 0 the program ends.
     pub fn popped_return(&self) -> Return
         ensures { back_of result ≡ popped_return (untagged_state self.now) }
     {
         Return {
-            place: place_of(self.memory.word(self.sp)),
+            place: match self.memory.word(self.sp) {
+                0 => Place::Exit,
+                at => Place::At(at),
+            },
             sp: self.sp.wrapping_add(2),
         }
     }

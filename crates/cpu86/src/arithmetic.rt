@@ -1,11 +1,11 @@
 // Results and flags of the operations (Intel 8086 Family User's Manual, "Instruction set").
 ghost use Rattle.std.specs.Prelude.{◌≡◌, ◌+◌, ◌*◌, ◌/◌, ◌%◌, ◌≤◌};
-ghost use Rattle.base_arithmetic_def.specs.Arithmetic.{sum8, carry8, carry4, difference8, borrow8, borrow4, as_bit, turned_left, turned_right, daa_adds_6, daa_low, daa_carry, daa_result, daa_excepted};
-ghost use Rattle.cpu86_def.specs.Flags.{flags_by, alu_result, alu_flags, count8_result, count8_flags, count16_result, count16_flags, add16_flags, rotate8_result, rotate8_carry, rotate16_result, rotate16_carry, daa_al, daa_flags};
+ghost use Rattle.base_arithmetic_def.specs.Arithmetic.{sum8, carry8, carry4, difference8, borrow8, borrow4, as_bit, turned_left, turned_right, daa_adds_6, daa_carry, daa_result, daa_excepted};
+ghost use Rattle.cpu86_def.specs.Flags.{flags_by, alu_result, alu_flags, count8_result, count8_flags, count16_result, count16_flags, add16_flags, rotate8_result, rotate8_carry, rotate16_result, rotate16_carry};
 ghost use Rattle.cpu86.specs.State.{flags_of_86};
 
 use crate::flags::Flags;
-use dialogue::{choice_bit, choice_byte};
+use dialogue::choice_bit;
 use i86::{AluOp, Count, Rotate};
 
 /// The result of an operation on AL; ADC and SBB take the carry.
@@ -209,60 +209,32 @@ fn turn_word_right(value: u16, carry: bool) -> u16
     value / 2 + 0x8000 * u16::from(carry)
 }
 
-/// AL after DAA; at the excepted values it is bits 0 to 7 of the choice.
-pub fn daa_al(al: u8, flags: Flags, choice: u128) -> u8
-    ensures { result ≡ daa_al al (flags_of_86 flags) choice }
+/// A byte after decimal adjustment, and the carry.
+pub fn adjusted(al: u8, half: bool, carry: bool) -> (u8, bool)
+    ensures value { result.0 ≡ daa_result al half carry }
+    ensures carry { result.1 ≡ daa_carry al half carry }
 {
-    if daa_excepted(al, flags.af, flags.cf) {
-        choice_byte(choice, 0)
-    } else {
-        daa_result(al, flags.af, flags.cf)
+    let mut sum = u16::from(al);
+    if adds_6(al, half) {
+        sum += 6;
     }
-}
-
-/// The flags after DAA; at the excepted values they are bits 8 to 12 of the choice.
-pub fn daa_flags(al: u8, flags: Flags, choice: u128) -> Flags
-    ensures { flags_of_86 result ≡ daa_flags al (flags_of_86 flags) choice }
-{
-    if daa_excepted(al, flags.af, flags.cf) {
-        Flags::of_choice(choice, 8)
-    } else {
-        Flags::of_byte(
-            daa_result(al, flags.af, flags.cf),
-            daa_adds_6(al, flags.af),
-            daa_carry(al, flags.af, flags.cf),
-        )
+    let carry = sum / 16 > 9 || carry;
+    if carry {
+        sum += 0x60;
     }
+    ((sum % 256) as u8, carry)
 }
 
-fn daa_excepted(al: u8, half: bool, carry: bool) -> bool
-    ensures { result ≡ daa_excepted al half carry }
-{
-    al >= 0xFA || (al >= 0x9A && al <= 0x9F && half && !carry)
-}
-
-fn daa_adds_6(al: u8, half: bool) -> bool
+/// Whether decimal adjustment adds 6 to the low digit.
+pub fn adds_6(al: u8, half: bool) -> bool
     ensures { result ≡ daa_adds_6 al half }
 {
     al % 16 > 9 || half
 }
 
-// AL after the low digit's adjustment; it may pass 255.
-fn daa_low(al: u8, half: bool) -> u16
-    ensures is { result ≡ daa_low al half }
-    ensures small { result ≤ 261 }
+/// Where the two processors' manuals leave decimal adjustment open, or differ.
+pub fn is_excepted(al: u8, half: bool, carry: bool) -> bool
+    ensures { result ≡ daa_excepted al half carry }
 {
-    u16::from(al) + 6 * u16::from(daa_adds_6(al, half))
-}
-
-fn daa_carry(al: u8, half: bool, carry: bool) -> bool
-    ensures { result ≡ daa_carry al half carry }
-{
-    daa_low(al, half) / 16 > 9 || carry
-}
-
-fn daa_result(al: u8, half: bool, carry: bool) -> u8
-    ensures { result ≡ daa_result al half carry }
-{
-    ((daa_low(al, half) + 0x60 * u16::from(daa_carry(al, half, carry))) % 256) as u8
+    al >= 0xFA || (0x9A..=0x9F).contains(&al) && half && !carry
 }

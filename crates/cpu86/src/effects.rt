@@ -6,10 +6,13 @@ ghost use Rattle.cpu86_def.specs.State.{push, with16};
 ghost use Rattle.cpu86_def.specs.Effect.{alu_al, or_cl, count8, count16, add16, xchg8, xchg16, rotate8, rotate16, daa, popped, with_pop, distance, jump_by, effect};
 
 use crate::arithmetic::{
-    add16_flags, alu_flags, alu_result, count8_flags, count8_result, count16_flags, count16_result,
-    daa_al, daa_flags, rotate8_carry, rotate8_result, rotate16_carry, rotate16_result,
+    add16_flags, adds_6, adjusted, alu_flags, alu_result, count8_flags, count8_result,
+    count16_flags, count16_result, is_excepted, rotate8_carry, rotate8_result, rotate16_carry,
+    rotate16_result,
 };
+use crate::flags::Flags;
 use crate::processor::Processor;
+use dialogue::choice_byte;
 use i86::{AluOp, Count, Instr86, Jump, Operand8, Reg8, Reg16, Rotate, StackReg};
 
 impl Processor {
@@ -21,9 +24,9 @@ impl Processor {
         let carry = self.flags.cf;
         match op {
             AluOp::Cmp => {}
-            _ => self.set8(Reg8::Al, alu_result(op, al, byte, carry)),
+            _ => self.registers.al = alu_result(op, al, byte, carry),
         }
-        self.set_flags(alu_flags(op, al, byte, carry, choice));
+        self.flags = alu_flags(op, al, byte, carry, choice);
     }
 
     /// `OR CL,CL`.
@@ -32,8 +35,8 @@ impl Processor {
     {
         let cl = self.registers.cl;
         let carry = self.flags.cf;
-        self.set8(Reg8::Cl, alu_result(AluOp::Or, cl, cl, carry));
-        self.set_flags(alu_flags(AluOp::Or, cl, cl, carry, choice));
+        self.registers.cl = alu_result(AluOp::Or, cl, cl, carry);
+        self.flags = alu_flags(AluOp::Or, cl, cl, carry, choice);
     }
 
     /// INC or DEC of a byte.
@@ -43,7 +46,7 @@ impl Processor {
         let byte = self.operand8(operand);
         let carry = self.flags.cf;
         self.set_operand8(operand, count8_result(count, byte));
-        self.set_flags(count8_flags(count, byte, carry));
+        self.flags = count8_flags(count, byte, carry);
     }
 
     /// INC or DEC of a word register.
@@ -53,7 +56,7 @@ impl Processor {
         let word = self.reg16(reg);
         let carry = self.flags.cf;
         self.set16(reg, count16_result(count, word));
-        self.set_flags(count16_flags(count, word, carry));
+        self.flags = count16_flags(count, word, carry);
     }
 
     /// ADD of two word registers.
@@ -63,7 +66,7 @@ impl Processor {
         let x = self.reg16(to);
         let y = self.reg16(from);
         self.set16(to, x.wrapping_add(y));
-        self.set_flags(add16_flags(x, y));
+        self.flags = add16_flags(x, y);
     }
 
     /// XCHG of two byte registers.
@@ -93,7 +96,7 @@ impl Processor {
         let byte = self.reg8(reg);
         let carry = self.flags.cf;
         self.set8(reg, rotate8_result(rotate, byte, carry));
-        self.set_carry(rotate8_carry(rotate, byte));
+        self.flags.cf = rotate8_carry(rotate, byte);
     }
 
     /// A rotation of a word register by one bit, which changes CF alone of the flags.
@@ -103,17 +106,23 @@ impl Processor {
         let word = self.reg16(reg);
         let carry = self.flags.cf;
         self.set16(reg, rotate16_result(rotate, word, carry));
-        self.set_carry(rotate16_carry(rotate, word));
+        self.flags.cf = rotate16_carry(rotate, word);
     }
 
-    /// Decimal adjustment of AL.
+    /// Decimal adjustment of AL. At the excepted values AL is bits 0 to 7 of the choice, and the flags are bits 8 to 12.
     pub fn daa(&mut self, choice: u128)
         ensures { state_of_86 self.new ≡ daa (state_of_86 self.old) choice }
     {
         let al = self.registers.al;
-        let flags = self.flags;
-        self.set8(Reg8::Al, daa_al(al, flags, choice));
-        self.set_flags(daa_flags(al, flags, choice));
+        let Flags { af, cf, .. } = self.flags;
+        if is_excepted(al, af, cf) {
+            self.registers.al = choice_byte(choice, 0);
+            self.flags = Flags::of_choice(choice, 8);
+            return;
+        }
+        let (value, carry) = adjusted(al, af, cf);
+        self.registers.al = value;
+        self.flags = Flags::of_byte(value, adds_6(al, af), carry);
     }
 
     /// POP into a register.
@@ -124,19 +133,12 @@ impl Processor {
         self.set16(word_register(reg), word);
     }
 
-    /// A jump by a distance from the next instruction.
-    pub fn jump_by(&mut self, distance: u16)
-        ensures { state_of_86 self.new ≡ jump_by (state_of_86 self.old) distance }
-    {
-        self.ip = self.ip.wrapping_add(distance);
-    }
-
     /// A conditional jump.
     pub fn jump_if(&mut self, jump: Jump, displacement: u8)
         ensures { state_of_86 self.new ≡ effect (Instr86.Jcc jump displacement) (state_of_86 self.old) 0 }
     {
         if self.flags.holds(jump) {
-            self.jump_by(distance(displacement));
+            self.ip = self.ip.wrapping_add(distance(displacement));
         }
     }
 
@@ -145,7 +147,7 @@ impl Processor {
         ensures { state_of_86 self.new ≡ jump_by (push (state_of_86 self.old) (state_of_86 self.old).ip) distance }
     {
         self.push(self.ip);
-        self.jump_by(distance);
+        self.ip = self.ip.wrapping_add(distance);
     }
 }
 

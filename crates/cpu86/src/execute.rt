@@ -6,7 +6,7 @@ ghost use Rattle.cpu86_def.specs.Effect.{effect};
 use crate::effects::{distance, word_register};
 use crate::flags::Flags;
 use crate::processor::Processor;
-use i86::{Instr86, Operand8, Reg8, Reg16};
+use i86::{Instr86, Operand8, Reg16};
 
 impl Processor {
     /// What an instruction does, where `ip` has the offset of the next one. INT 224, IN and OUT do nothing here: what they ask is
@@ -17,8 +17,8 @@ impl Processor {
         match instr {
             Instr86::MovReg8(to, from) => self.set8(to, self.operand8(from)),
             Instr86::MovMem8(ptr, from) => self.set_operand8(Operand8::Mem(ptr), self.reg8(from)),
-            Instr86::MovAlDirect(at) => self.set8(Reg8::Al, self.byte(at)),
-            Instr86::MovDirectAl(at) => self.set_byte(at, self.registers.al),
+            Instr86::MovAlDirect(at) => self.registers.al = self.memory.get(at),
+            Instr86::MovDirectAl(at) => self.memory.set(at, self.registers.al),
             Instr86::MovNum8(to, byte) => self.set8(to, byte),
             Instr86::MovNum16(to, word) => self.set16(to, word),
             Instr86::MovMemNum(ptr, byte) => self.set_operand8(Operand8::Mem(ptr), byte),
@@ -40,13 +40,15 @@ impl Processor {
             Instr86::Rotate16(rotate, reg) => self.rotate16(rotate, reg),
             Instr86::Not8(reg) => self.set8(reg, 255 - self.reg8(reg)),
             Instr86::Daa => self.daa(choice),
-            Instr86::Sahf => self.set_flags(Flags::of_flag_byte(self.registers.ah)),
-            Instr86::Lahf => self.set8(Reg8::Ah, self.flags.flag_byte(choice)),
-            Instr86::Cmc => self.set_carry(!self.flags.cf),
-            Instr86::Stc => self.set_carry(true),
+            Instr86::Sahf => self.flags = Flags::of_flag_byte(self.registers.ah),
+            Instr86::Lahf => self.registers.ah = self.flags.flag_byte(choice),
+            Instr86::Cmc => self.flags.cf = !self.flags.cf,
+            Instr86::Stc => self.flags.cf = true,
             Instr86::Jcc(jump, displacement) => self.jump_if(jump, displacement),
-            Instr86::JmpNear(by) => self.jump_by(by),
-            Instr86::JmpShort(displacement) => self.jump_by(distance(displacement)),
+            Instr86::JmpNear(by) => self.ip = self.ip.wrapping_add(by),
+            Instr86::JmpShort(displacement) => self.ip = self
+                .ip
+                .wrapping_add(distance(displacement)),
             Instr86::JmpBx => self.ip = self.reg16(Reg16::Bx),
             Instr86::CallNear(by) => self.call(by),
             Instr86::Ret => self.ip = self.pop(),

@@ -1,9 +1,9 @@
 // The processor: what an instruction reads and writes.
 ghost use Rattle.std.specs.Prelude.{◌≡◌};
-ghost use Rattle.cpu86.specs.State.{state_of_86, flags_of_86, with_mem};
+ghost use Rattle.cpu86.specs.State.{state_of_86, with_mem};
 ghost use Rattle.dialogue.specs.ByteMemory.{put};
 ghost use Rattle.cpu86_def.specs.State.{reg8, reg16, with16, pointed, operand8, with_operand8, operand16, push, put_word};
-ghost use Rattle.cpu86_def.specs.Effect.{set8, with_flags, with_cf, popped, with_pop};
+ghost use Rattle.cpu86_def.specs.Effect.{set8, popped, with_pop};
 
 use crate::flags::Flags;
 use crate::memory::Memory;
@@ -92,13 +92,6 @@ impl Processor {
         }
     }
 
-    /// Reads the byte at an address.
-    pub fn byte(&self, at: u16) -> u8
-        ensures { result ≡ (state_of_86 self.now).mem at }
-    {
-        self.memory.get(at)
-    }
-
     /// Writes the byte at an address.
     pub fn set_byte(&mut self, at: u16, byte: u8)
         ensures { state_of_86 self.new ≡ with_mem (state_of_86 self.old) (put (state_of_86 self.old).mem at byte) }
@@ -119,7 +112,7 @@ impl Processor {
     {
         match operand {
             Operand8::Reg(reg) => self.reg8(reg),
-            Operand8::Mem(ptr) => self.byte(self.pointed(ptr)),
+            Operand8::Mem(ptr) => self.memory.get(self.pointed(ptr)),
         }
     }
 
@@ -131,7 +124,7 @@ impl Processor {
             Operand8::Reg(reg) => self.set8(reg, byte),
             Operand8::Mem(ptr) => {
                 let at = self.pointed(ptr);
-                self.set_byte(at, byte);
+                self.memory.set(at, byte);
             }
         }
     }
@@ -144,20 +137,6 @@ impl Processor {
             Operand16::Reg(reg) => self.reg16(reg),
             Operand16::Direct(at) => self.memory.word(at),
         }
-    }
-
-    /// Writes all flags.
-    pub fn set_flags(&mut self, flags: Flags)
-        ensures { state_of_86 self.new ≡ with_flags (state_of_86 self.old) (flags_of_86 flags) }
-    {
-        self.flags = flags;
-    }
-
-    /// Writes CF alone.
-    pub fn set_carry(&mut self, carry: bool)
-        ensures { state_of_86 self.new ≡ with_cf (state_of_86 self.old) carry }
-    {
-        self.flags.cf = carry;
     }
 
     /// Pushes a word: SP goes down by 2 first, and wraps.

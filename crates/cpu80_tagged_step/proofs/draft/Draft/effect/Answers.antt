@@ -35,13 +35,10 @@ pub returns-in-Lda-clause-row : goal.returns-in-Lda-clause-row
 returns-in-Lda-clause-row c = of_variant c.args.area.now.program.now (state_of_draft c.args.self.now) _ _ c.load.result (state_of_draft c.load.new.self) c.in-Lda.is c.load.ensures.row
 
 pub returns-in-Sta-clause-row : goal.returns-in-Sta-clause-row
-returns-in-Sta-clause-row c = of_variant c.args.area.now.program.now (state_of_draft c.args.self.now) _ _ c.store.result (state_of_draft c.store.new.self) c.in-Sta.is c.store.ensures.row
+returns-in-Sta-clause-row c = of_variant c.args.area.now.program.now (state_of_draft c.args.self.now) _ _ c.write_cell.result (state_of_draft c.write_cell.new.self) c.in-Sta.is c.write_cell.ensures.row
 
 pub returns-in-Lhld-clause-row : goal.returns-in-Lhld-clause-row
 returns-in-Lhld-clause-row c = of_variant c.args.area.now.program.now (state_of_draft c.args.self.now) _ _ c.load_pair.result (state_of_draft c.load_pair.new.self) c.in-Lhld.is c.load_pair.ensures.row
-
-pub returns-in-Shld-clause-row : goal.returns-in-Shld-clause-row
-returns-in-Shld-clause-row c = of_variant c.args.area.now.program.now (state_of_draft c.args.self.now) _ _ c.store_pair.result (state_of_draft c.store_pair.new.self) c.in-Shld.is c.store_pair.ensures.row
 
 pub returns-in-Ldax-clause-row : goal.returns-in-Ldax-clause-row
 returns-in-Ldax-clause-row c = of_variant c.args.area.now.program.now (state_of_draft c.args.self.now) _ _ c.load_at.result (state_of_draft c.load_at.new.self) c.in-Ldax.is c.load_at.ensures.row
@@ -62,10 +59,10 @@ pub returns-in-AluI-clause-row : goal.returns-in-AluI-clause-row
 returns-in-AluI-clause-row c = of_variant c.args.area.now.program.now (state_of_draft c.args.self.now) _ _ c.operate_on.result (state_of_draft c.operate_on.new.self) c.in-AluI.is c.operate_on.ensures.row
 
 pub returns-in-Inr-clause-row : goal.returns-in-Inr-clause-row
-returns-in-Inr-clause-row c = of_variant c.args.area.now.program.now (state_of_draft c.args.self.now) _ _ c.count_up.result (state_of_draft c.count_up.new.self) c.in-Inr.is c.count_up.ensures.row
+returns-in-Inr-clause-row c = of_variant c.args.area.now.program.now (state_of_draft c.args.self.now) _ _ c.count.result (state_of_draft c.count.new.self) c.in-Inr.is c.count.ensures.row
 
 pub returns-in-Dcr-clause-row : goal.returns-in-Dcr-clause-row
-returns-in-Dcr-clause-row c = of_variant c.args.area.now.program.now (state_of_draft c.args.self.now) _ _ c.count_down.result (state_of_draft c.count_down.new.self) c.in-Dcr.is c.count_down.ensures.row
+returns-in-Dcr-clause-row c = of_variant c.args.area.now.program.now (state_of_draft c.args.self.now) _ _ c.count-in-Dcr.result (state_of_draft c.count-in-Dcr.new.self) c.in-Dcr.is c.count-in-Dcr.ensures.row
 
 pub returns-in-Inx-clause-row : goal.returns-in-Inx-clause-row
 returns-in-Inx-clause-row c = of_variant c.args.area.now.program.now (state_of_draft c.args.self.now) _ _ c.add_to_pair.result (state_of_draft c.add_to_pair.new.self) c.in-Inx.is c.add_to_pair.ensures.row
