@@ -87,21 +87,36 @@ free_within r a h = omega (arith, ltb-true a 0x10000 (and_parts (nat_lt a 0x1000
 pub byte_within : (r : Reading) (at n : ℕ) (x : Stmt86) → r.at ≡ at → may_stand r x ≡ true → x ≡ Db n → Fits w16 at
 byte_within r at n x e h is = subst (Fits w16) e (free_within r r.at (and_parts (in_data r.group) (is_free_cell r r.at) (sym (ap (may_stand r) is) ∙ h)).1)
 
-pub word_within : (r : Reading) (at : ℕ) (v : Value16) (x : Stmt86) → r.at ≡ at → may_stand r x ≡ true → x ≡ Dw v → Fits w16 at × Fits w16 (at + 1)
+pub word_within : (r : Reading) (at : ℕ) (v : Value16) (x : Stmt86) → r.at ≡ at → may_stand r x ≡ true → x ≡ Dw v → at + 1 < 0x10000
 word_within r at v x e h is =
     let free = and_parts (is_free_cell r r.at) (is_free_cell r (r.at + 1)) (and_parts (in_data r.group) (is_free_cell r r.at && is_free_cell r (r.at + 1)) (sym (ap (may_stand r) is) ∙ h)).1 in
-    (subst (Fits w16) e (free_within r r.at free.0), subst (λ k. Fits w16 (k + 1)) e (free_within r (r.at + 1) free.1))
+    subst (λ k. k + 1 < 0x10000) e (omega (arith, free_within r (r.at + 1) free.1))
 
 -- the two cells of a word
-pub word_put : (labels : List (Label × ℕ)) (at w : ℕ) (v : Value16) (x : Stmt86) (cells one two : List (ℕ × ℕ)) → x ≡ Dw v → w ≡ word_of_value labels v → one ≡ put_cell cells (at, w % 256) → two ≡ put_cell one (at + 1, w / 256)
-    → two ≡ fold put_cell cells (cells_from (label_place labels) at (x ∷ []))
-word_put labels at w (Num n) x cells one two is value low high =
-    high
-    ∙ ap (λ m. put_cell m (at + 1, w / 256)) low
+pub word_put : (labels : List (Label × ℕ)) (at w : ℕ) (v : Value16) (x : Stmt86) (cells put : List (ℕ × ℕ)) → x ≡ Dw v → w ≡ word_of_value labels v → put ≡ put_cell (put_cell cells (at, w % 256)) (at + 1, w / 256)
+    → put ≡ fold put_cell cells (cells_from (label_place labels) at (x ∷ []))
+word_put labels at w (Num n) x cells put is value both =
+    both
     ∙ ap (λ k. put_cell (put_cell cells (at, k % 256)) (at + 1, k / 256)) value
     ∙ ap (λ y. fold put_cell cells (cells_from (label_place labels) at (y ∷ []))) (sym is)
-word_put labels at w (Offset l) x cells one two is value low high =
-    high
-    ∙ ap (λ m. put_cell m (at + 1, w / 256)) low
+word_put labels at w (Offset l) x cells put is value both =
+    both
     ∙ ap (λ k. put_cell (put_cell cells (at, k % 256)) (at + 1, k / 256)) value
     ∙ ap (λ y. fold put_cell cells (cells_from (label_place labels) at (y ∷ []))) (sym is)
+
+-- a statement that is no cell and moves to no other address
+pub stays : (off : Label → ℕ) (at : ℕ) (x : Stmt86) → (x ≡ Dseg → ⊥) → ((w : ℕ) → x ≡ Org w → ⊥) → ((w : ℕ) → x ≡ Rb w → ⊥) → ((n : ℕ) → x ≡ Db n → ⊥) → ((v : Value16) → x ≡ Dw v → ⊥) → (at ≡ address_after at x) × (cells_from off at (x ∷ []) ≡ [])
+stays off at Cseg dseg org rb db dw = (refl, refl)
+stays off at Dseg dseg org rb db dw = absurd (dseg refl)
+stays off at (Org w) dseg org rb db dw = absurd (org w refl)
+stays off at (Rb w) dseg org rb db dw = absurd (rb w refl)
+stays off at (Db n) dseg org rb db dw = absurd (db n refl)
+stays off at (Dw v) dseg org rb db dw = absurd (dw v refl)
+stays off at (Mark k) dseg org rb db dw = (refl, refl)
+stays off at (Run i) dseg org rb db dw = (refl, refl)
+stays off at (MovOffset q k) dseg org rb db dw = (refl, refl)
+stays off at (Jmp k) dseg org rb db dw = (refl, refl)
+stays off at (Jmps k) dseg org rb db dw = (refl, refl)
+stays off at (Jcc j k) dseg org rb db dw = (refl, refl)
+stays off at (Call k) dseg org rb db dw = (refl, refl)
+stays off at EndText dseg org rb db dw = (refl, refl)

@@ -1,7 +1,7 @@
 // The bytes of the code.
 ghost use Rattle.std.specs.Prelude.{◌≡◌, ◌+◌, ◌%◌, ◌<◌, ◌++◌, length, MatchOption, IfOk, OnOk};
 ghost use Rattle.asm86_line_types.specs.declared.line.Label.{Label};
-ghost use Rattle.asm86_line_types.specs.Image.{statements, short_reaches, jump_reaches, AllReach};
+ghost use Rattle.asm86_line_types.specs.Image.{statements, short_reaches, AllReach};
 ghost use Rattle.asm86_line_types.specs.Layout.{size_of, sizes_of, bytes_at, instr_of, code_from, distance16};
 ghost use Rattle.asm86.specs.Places.{label_place};
 ghost use Rattle.asm86.specs.Refusals.{IsFirstToBreak};
@@ -36,18 +36,13 @@ fn does_reach(offsets: &Offsets, at: usize, stmt: Stmt86) -> bool
     ensures { result ≡ short_reaches (label_place offsets.now) at stmt }
 {
     match stmt {
-        Stmt86::Jmps(label) | Stmt86::Jcc(_, label) => is_near(at + 2, offsets.place(label)),
+        Stmt86::Jmps(label) | Stmt86::Jcc(_, label) => {
+            let from = at + 2;
+            let to = offsets.place(label);
+            from <= to + 128 && to <= from + 127
+        }
         _ => true,
     }
-}
-
-// Whether a short jump from one place to another reaches.
-fn is_near(from: usize, to: usize) -> bool
-    requires from { from < 0x20000 }
-    requires to { to < 0x10000 }
-    ensures { result ≡ jump_reaches from to }
-{
-    from <= to + 128 && to <= from + 127
 }
 
 /// The bytes of the statements, one behind the other.

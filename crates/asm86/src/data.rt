@@ -1,5 +1,5 @@
 // The data cells.
-ghost use Rattle.std.specs.Prelude.{◌≡◌, ◌+◌, ◌^◌, ◌<◌, ◌≤◌, true, [], ◌∷◌, length, IfOk, IfErr, OnOk};
+ghost use Rattle.std.specs.Prelude.{◌≡◌, ◌+◌, ◌/◌, ◌%◌, ◌^◌, ◌<◌, ◌≤◌, true, [], ◌∷◌, length, IfOk, IfErr, OnOk};
 ghost use Rattle.std.specs.List.{fold};
 ghost use Rattle.asm86_line_types.specs.declared.line.Label.{Label};
 ghost use Rattle.asm86_line_types.specs.Order.{Reading, at_start, may_stand, reading_after, in_order};
@@ -63,13 +63,22 @@ fn put(
             Ok(at + 1)
         }
         Stmt86::Dw(value) => {
-            let word = word_of(offsets, value);
-            cells.insert(at as u16, (word % 256) as u8)?;
-            cells.insert((at + 1) as u16, (word / 256) as u8)?;
+            put_word(cells, at, word_of(offsets, value))?;
             Ok(at + 2)
         }
         _ => Ok(at),
     }
+}
+
+// The two cells of a word, the low byte first.
+fn put_word(cells: &mut BTreeMap<u16, u8>, at: usize, word: usize) -> Result<(), AllocError>
+    requires within { at + 1 < 0x10000 }
+    requires small { word < 0x10000 }
+    ensures { OnOk result (cells.new.entries ≡ put_cell (put_cell cells.old.entries (at, word % 256)) (at + 1, word / 256)) }
+{
+    cells.insert(at as u16, (word % 256) as u8)?;
+    cells.insert((at + 1) as u16, (word / 256) as u8)?;
+    Ok(())
 }
 
 // The word that a DW holds.

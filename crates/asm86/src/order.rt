@@ -65,18 +65,11 @@ impl Order {
         ensures verdict { (xs : List Stmt86) → IsAfter self.old xs → result ≡ in_order at_start (xs ++ stmt ∷ []) }
         ensures moves { (xs : List Stmt86) → IsAfter self.old xs → IsTrue result → IsAfter self.new (xs ++ stmt ∷ []) }
     {
-        if !self.may_follow(stmt) {
+        if self.is_ended || !self.may_stand(stmt) {
             return false;
         }
         self.move_past(stmt);
         true
-    }
-
-    // Whether a statement may stand next.
-    fn may_follow(&self, stmt: Stmt86) -> bool
-        ensures { (xs : List Stmt86) → IsAfter self.now xs → result ≡ in_order at_start (xs ++ stmt ∷ []) }
-    {
-        !self.is_ended && self.may_stand(stmt)
     }
 
     // Whether a statement may stand here, where END has not come.

@@ -96,14 +96,8 @@ impl Text86 {
     fn is_at_line(&self) -> bool
         ensures { result ≡ true → ((is_some self.now.fault || has_end self.now.lines) ≡ false) × (self.now.held ≡ Some []) }
     {
-        !self.is_done() && self.holds_nothing()
-    }
-
-    fn holds_nothing(&self) -> bool
-        ensures { result ≡ true → self.now.held ≡ Some [] }
-    {
         match self.held.line() {
-            Some(line) => line.is_empty(),
+            Some(line) => line.is_empty() && !self.is_done(),
             None => false,
         }
     }

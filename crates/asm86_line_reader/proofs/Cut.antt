@@ -1,8 +1,8 @@
 -- Tokens that are cut at their first comma, and the operands of one or two parts.
-use Rattle.std.proofs.Common.{◌≡◌, ℕ, suc, ◌+◌, ◌<◌, List, [], ◌∷◌, ◌++◌, true, false, not, eqb, length, take, drop, Option, Some, None, Bor, MatchOption, is_some, option_and_then, Err, refl, ap, ap₂, sym, ◌∙◌, inl, inr, arith}
+use Rattle.std.proofs.Common.{◌≡◌, ℕ, suc, ◌+◌, ◌-◌, ◌<◌, ◌≤◌, List, [], ◌∷◌, ◌++◌, true, false, not, eqb, length, get_or, take, drop, Option, Some, None, Bor, MatchOption, is_some, option_and_then, Err, refl, ap, ap₂, sym, ◌∙◌, inl, inr, arith}
 use Rattle.std.specs.List.{prefix_len, slice_split, onto_first}
 use Rattle.std.proofs.lemmas.Bool.{cases_Bool, eqb-true}
-use Rattle.std.proofs.lemmas.List.{take-append-drop}
+use Rattle.std.proofs.lemmas.List.{take_all, take-append-drop}
 use Rattle.std.proofs.lemmas.List.Splits.{length-slice_split}
 use Rattle.asm86_line_types.specs.declared.line.TextRule.{TextRule}
 use Rattle.asm86_line_types.specs.declared.line.TextRule.TheVariants.{M2}
@@ -121,3 +121,12 @@ more_than_two o ts p r (Some x) some e m is = ap checked (sym (too_many o ts p r
 pub just_two : (r : List Token) (found : Option (Bor (List Token) × Bor (List Token))) → MatchOption found (slice_split is_comma r ≡ r ∷ []) (λ x. slice_split is_comma r ≡ x.0.now ∷ slice_split is_comma x.1.now) → is_some found ≡ false → slice_split is_comma r ≡ r ∷ []
 just_two r None m is = m
 just_two r (Some x) m is = absurd cc
+
+-- a slice by its first element and the others
+pub front_of : {A : Type 0} (xs : List A) (d : A) → 1 ≤ length xs → xs ≡ get_or xs 0 d ∷ take (length xs - 1) (drop 1 xs)
+front_of [] d h = absurd (omega (arith, h))
+front_of (x ∷ xs) d h = ap (λ k. x ∷ k) (sym (take_all (length (x ∷ xs) - 1) xs (omega arith)))
+
+pub empty : {A : Type 0} (xs : List A) → length xs < 1 → xs ≡ []
+empty [] h = refl
+empty (x ∷ xs) h = absurd (omega (arith, h))

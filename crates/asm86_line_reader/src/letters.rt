@@ -1,6 +1,6 @@
 //! The bytes of a line.
 
-ghost use Rattle.std.specs.Prelude.{◌≡◌, ◌≤◌, ◌∷◌, [], IfOk, MatchOption, length, map, not};
+ghost use Rattle.std.specs.Prelude.{◌≡◌, ◌≤◌, IfOk, length, map, not};
 ghost use Rattle.std.specs.List.{list_all};
 ghost use Rattle.asm86_line_reader.specs.Letters.{inside_len, is_blank, is_inside, is_lower, sign_of, upper};
 
@@ -18,13 +18,7 @@ pub fn has_no_lower(line: &[u8]) -> bool
 pub fn in_capitals(alloc: Global, line: &[u8]) -> Result<Vec<u8>, AllocError>
     ensures { IfOk result (λ v. v.items ≡ map upper line.now) }
 {
-    line.iter().map(|b| upper(*b)).collect(alloc)
-}
-
-fn upper(b: u8) -> u8
-    ensures { result ≡ upper b }
-{
-    b.to_ascii_uppercase()
+    line.iter().map(|b| b.to_ascii_uppercase()).collect(alloc)
 }
 
 pub fn is_blank(b: u8) -> bool
@@ -60,12 +54,4 @@ pub fn sign_of(b: u8) -> Option<Token>
         b']' => Some(Token::Close),
         _ => None,
     }
-}
-
-/// The first byte, and those after it.
-pub fn first_byte(bytes: &[u8]) -> Option<(u8, &[u8])>
-    ensures { MatchOption result (bytes.now ≡ []) (λ p. bytes.now ≡ p.0 ∷ p.1.now) }
-{
-    let (b, rest) = bytes.split_first()?;
-    Some((*b, rest))
 }

@@ -6,7 +6,6 @@ ghost use Rattle.asm86_line_types.specs.declared.line.Label.{Label};
 ghost use Rattle.asm86_line_types.specs.declared.line.Stmt86.{Stmt86};
 ghost use Rattle.asm86_line_types.specs.declared.line.TextRule.{TextRule};
 ghost use Rattle.asm86_line_types.specs.Written.{written_line};
-ghost use Rattle.asm86_line_reader.specs.declared.token.Operation.{Operation};
 ghost use Rattle.asm86_line_reader.specs.declared.token.Token.{Token};
 ghost use Rattle.asm86_line_reader.specs.Letters.{upper};
 ghost use Rattle.asm86_line_reader.specs.Forms.{body_of, names_labels, statements_of};
@@ -17,7 +16,7 @@ ghost use Rattle.asm86_line_reader.specs.Results.{AnswersLine, all_checked};
 use crate::fault::LineFault;
 use crate::items::formed;
 use crate::letters::{has_no_lower, in_capitals};
-use crate::token::{Operation, Token};
+use crate::token::Token;
 use crate::tokens::tokens_of;
 use asm86_line_types::{Label, Stmt86, TextRule};
 use std::alloc::Global;
@@ -91,21 +90,9 @@ fn marked(tokens: &[Token]) -> Option<(Label, &[Token])>
 fn body_of(alloc: Global, tokens: &[Token]) -> Result<Vec<Stmt86>, LineFault>
     ensures { AnswersLine (λ r. r ≡ all_checked (body_of tokens.now)) result }
 {
-    if tokens.is_empty() {
-        return Ok(Vec::new(alloc));
-    }
-    let Some((operation, rest)) = operation_of(tokens) else {
-        return Err(LineFault::Rule(TextRule::M2));
-    };
-    formed(alloc, operation, rest)
-}
-
-// The operation at the front, and the tokens after it.
-fn operation_of(tokens: &[Token]) -> Option<(Operation, &[Token])>
-    ensures { MatchOption result ((o : Operation) (rest : List Token) → tokens.now ≢ Token.Operation o ∷ rest) (λ p. tokens.now ≡ Token.Operation p.0 ∷ p.1.now) }
-{
     match tokens {
-        [Token::Operation(operation), rest @ ..] => Some((*operation, rest)),
-        _ => None,
+        [] => Ok(Vec::new(alloc)),
+        [Token::Operation(operation), rest @ ..] => formed(alloc, *operation, rest),
+        _ => Err(LineFault::Rule(TextRule::M2)),
     }
 }

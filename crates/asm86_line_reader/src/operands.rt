@@ -12,9 +12,10 @@ use std::alloc::{AllocError, Global};
 pub fn cut(tokens: &[Token]) -> Option<(&[Token], &[Token])>
     ensures { MatchOption result (slice_split is_comma tokens.now ≡ tokens.now ∷ []) (λ p. slice_split is_comma tokens.now ≡ p.0.now ∷ slice_split is_comma p.1.now) }
 {
-    let (part, rest) = tokens.split_at(part_len(tokens));
-    let (_, after) = rest.split_first()?;
-    Some((part, after))
+    match tokens.split_at(part_len(tokens)) {
+        (part, [_, after @ ..]) => Some((part, after)),
+        _ => None,
+    }
 }
 
 // How many tokens at the front stand before a comma.

@@ -4,7 +4,7 @@ ghost use Rattle.std.specs.Prelude.{◌≡◌, ◌<◌, IfOk, IfSome, length, op
 ghost use Rattle.asm86_line_reader.specs.Results.{LexesTo};
 ghost use Rattle.asm86_line_reader.specs.Tokens.{token_at};
 
-use crate::letters::{first_byte, inside_len, is_blank, is_inside, sign_of};
+use crate::letters::{inside_len, is_blank, is_inside, sign_of};
 use crate::token::Token;
 use crate::words::word_token;
 use std::alloc::{AllocError, Global};
@@ -15,11 +15,11 @@ pub fn tokens_of(alloc: Global, line: &[u8]) -> Result<Option<Vec<Token>>, Alloc
 {
     let mut tokens = Vec::new(alloc);
     let mut rest = line;
-    while let Some((b, after)) = first_byte(rest) {
-        if b == b';' {
+    while let [b, after @ ..] = rest {
+        if *b == b';' {
             return Ok(Some(tokens));
         }
-        if is_blank(b) {
+        if is_blank(*b) {
             rest = after;
             continue;
         }
@@ -38,11 +38,15 @@ fn token_at(bytes: &[u8]) -> Option<(Token, &[u8])>
     ensures value { option_map (λ p. (p.0, p.1.now)) result ≡ token_at bytes.now }
     ensures shorter { IfSome result (λ p. length p.1.now < length bytes.now) }
 {
-    let (b, rest) = first_byte(bytes)?;
-    if is_inside(b) {
-        let (word, behind) = bytes.split_at(inside_len(bytes));
-        Some((word_token(word)?, behind))
-    } else {
-        Some((sign_of(b)?, rest))
+    match bytes {
+        [b, rest @ ..] => {
+            if is_inside(*b) {
+                let (word, behind) = bytes.split_at(inside_len(bytes));
+                Some((word_token(word)?, behind))
+            } else {
+                Some((sign_of(*b)?, rest))
+            }
+        }
+        [] => None,
     }
 }

@@ -1,8 +1,6 @@
 //! Words.
 
-ghost use Rattle.std.specs.Prelude.{◌≡◌, ◌++◌, map, option_map};
-ghost use Rattle.std.specs.List.{find};
-ghost use Rattle.std.specs.Str.{bytes_eq};
+ghost use Rattle.std.specs.Prelude.{◌≡◌, ◌++◌, map};
 ghost use Rattle.asm86_line_reader.specs.Listed.{listed_token};
 ghost use Rattle.asm86_line_reader.specs.Words.{lettered, word_in_table, name_token, instruction_words, numbered_label, others, word_token};
 
@@ -164,27 +162,20 @@ fn listed_in(lists: &[Words<'_>], word: &[u8]) -> Option<Token>
 fn look(table: &[(&str, Token)], word: &[u8]) -> Option<Token>
     ensures { result ≡ word_in_table (map (λ e. (e.0.now, e.1)) table.now) word.now }
 {
-    match entry(table, word) {
+    match table.iter().find(|e| e.0.as_bytes() == word) {
         Some((_, token)) => Some(*token),
         None => None,
     }
-}
-
-fn entry<'a>(table: &'a [(&'a str, Token)], word: &[u8]) -> Option<&'a (&'a str, Token)>
-    ensures { option_map (λ e. e.now) result ≡ find (λ e. bytes_eq e.0.now word.now) table.now }
-{
-    table.iter().find(|e| e.0.as_bytes() == word)
 }
 
 // The label that L, K or U with four hexadecimal digits is.
 fn numbered(word: &[u8]) -> Option<Label>
     ensures { result ≡ numbered_label word.now }
 {
-    let (letter, digits) = word.split_first()?;
-    if digits.len() != 4 {
-        return None;
+    match word {
+        [letter, digits @ ..] if digits.len() == 4 => lettered(*letter, value_in(16, digits)?),
+        _ => None,
     }
-    lettered(*letter, value_in(16, digits)?)
 }
 
 fn lettered(letter: u8, number: u16) -> Option<Label>

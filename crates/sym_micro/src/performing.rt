@@ -79,16 +79,6 @@ fn give_five_flags(terms: &mut Terms, run: &mut Run, value: FlagValue) -> Option
     give_flag(terms, run, FlagSlot::Cy, value)
 }
 
-fn give_flags(terms: &mut Terms, run: &mut Run, flags: FlagSet, value: FlagValue) -> Option<()>
-    requires { IsReady terms.old run.old }
-    ensures { GoesOn terms.old terms.new run.old run.new (weight (Micro.Flags flags value)) 0 (λ m. m ≡ given_flags (machine_of terms.old run.old) flags value) result }
-{
-    match flags {
-        FlagSet::All => give_five_flags(terms, run, value),
-        FlagSet::AllButCy => give_four_flags(terms, run, value),
-    }
-}
-
 // Two bytes are given the halves of a word.
 fn put_halves(
     terms: &mut Terms,
@@ -268,7 +258,10 @@ fn perform_one(terms: &mut Terms, run: &mut Run, step: Micro) -> Option<()>
         Micro::Byte(slot, value) => give_byte(terms, run, slot, value),
         Micro::Word(slot, value) => give_word(terms, run, slot, value),
         Micro::Flag(slot, value) => give_flag(terms, run, slot, value),
-        Micro::Flags(flags, value) => give_flags(terms, run, flags, value),
+        Micro::Flags(flags, value) => match flags {
+            FlagSet::All => give_five_flags(terms, run, value),
+            FlagSet::AllButCy => give_four_flags(terms, run, value),
+        },
         Micro::Put(wide, from) => put(terms, run, wide, from),
         Micro::Sum(slot, a, b) => give_sum(terms, run, slot, a, b),
         Micro::FlagByte(slot) => give_flag_byte(terms, run, slot),

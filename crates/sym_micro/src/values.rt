@@ -108,10 +108,10 @@ fn word_86_term(terms: &mut Terms, run: &Run, reg: Reg16) -> Option<Term>
 {
     match reg {
         Reg16::Ax => terms.join(run.ah, run.held.a),
-        Reg16::Cx => terms.join(run.held.b, run.held.c),
-        Reg16::Dx => terms.join(run.held.d, run.held.e),
-        Reg16::Bx => terms.join(run.held.h, run.held.l),
-        Reg16::Sp => Some(run.sp),
+        Reg16::Cx => pair_term(terms, run, Pair::B),
+        Reg16::Dx => pair_term(terms, run, Pair::D),
+        Reg16::Bx => pair_term(terms, run, Pair::H),
+        Reg16::Sp => pair_term(terms, run, Pair::Sp),
         Reg16::Si => Some(run.si),
     }
 }

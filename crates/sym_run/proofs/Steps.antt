@@ -118,6 +118,15 @@ counted w (suc n) x rest s h =
     let one_less : n ≡ suc n - 1 = omega arith in
     subst (λ k. walk_through w (suc n) (Instruction x rest) s ≡ walk_by w k (λ t xs. walk_through w k (met w xs) t) rest s x) one_less refl
 
+pub step_missing : (old new : Contents) (r s : Run) (nodes : ℕ) (tree : OnTo → Result Outcome Reason) (t : Result Outcome Reason) → 24 ≤ nodes → Advances old new r s tree None → WalksTo old new s nodes t None
+step_missing old new r s nodes tree t le a = record {
+  grows = more old new 24 nodes le a.grows;
+  terms = a.terms;
+  capacity = a.capacity;
+  gives = a.gives;
+  enough = λ q. a.enough (omega arith);
+}
+
 pub step_ends : (old new : Contents) (r s : Run) (nodes : ℕ) (tree : OnTo → Result Outcome Reason) (on : OnTo) (end : Result End Reason) → 24 ≤ nodes → Advances old new r s tree (Some (EndsSo end)) → WalksTo old new s nodes (tree on) (Some end)
 step_ends old new r s nodes tree on end le a = record {
   grows = more old new 24 nodes le a.grows;

@@ -33,12 +33,8 @@ id_of_five f Ac = f.ac
 id_of_five f P = f.p
 id_of_five f part = f.cy
 
--- a word of two bytes, and one that was rotated
+-- a word of two bytes
 pub record IsJoin (pool : Contents) (s h l : TermId) : Type 0 where
   pub high : IsA is_byte pool h
   pub low : IsA is_byte pool l
   pub is : tree_in pool s ≡ Join (tree_in pool h) (tree_in pool l)
-
-pub record IsTurnedId (pool : Contents) (s c : TermId) : Type 0 where
-  pub carry : IsA is_bit pool c
-  pub is : tree_in pool s ≡ Turned (tree_in pool c)

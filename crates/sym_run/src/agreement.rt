@@ -2,13 +2,12 @@
 
 ghost use Rattle.std.specs.Prelude.{◌≡◌, ◌==◌, ◌&&◌, ◌||◌, true, false};
 ghost use Rattle.cells.specs.declared.Part.TheVariants.{S, Z, Ac, P, Cy};
-ghost use Rattle.sym_terms.specs.Numbers.{part_number};
 ghost use Rattle.sym_terms.specs.Term.{Bit, Unknown, same_term, is_bit, is_byte, is_flag};
 ghost use Rattle.sym_terms.specs.Making.{bit};
 ghost use Rattle.sym_terms.specs.Trees.{tree_in, IsGiven, IsA};
 ghost use Rattle.block_check_def.specs.Agree.{agrees};
 ghost use Rattle.sym_run.specs.Seen.{tree_of_seen, SeenIsGiven};
-ghost use Rattle.sym_run.specs.Five.{is_byte_of_flags, is_put_together, id_of_five, FiveAre, IsJoin, IsTurnedId};
+ghost use Rattle.sym_run.specs.Five.{is_byte_of_flags, is_put_together, id_of_five, FiveAre, IsJoin};
 
 use crate::known::{Five, flags_of, knows_bit, knows_byte, knows_five};
 use crate::seen::{Seen, half_of, is, is_unknown, same};
@@ -23,7 +22,10 @@ pub fn agree(terms: &Terms, s: Term, t: Term) -> bool
 {
     match terms.head(s) {
         Head::Join(high, low) => agree_join(terms, s, high, low, t),
-        Head::Turned(carry) => agree_turned(terms, s, carry, t),
+        Head::Turned(carry) => {
+            let knows = knows_bit(terms, carry);
+            same(terms, s, t) && knows
+        }
         Head::FlagByte(..) => agree_plain(terms, s, Seen::Of(t)),
         Head::Unknown => true,
         _ => agree_known(terms, s, t),
@@ -56,16 +58,6 @@ fn agree_join(terms: &Terms, s: Term, high: Term, low: Term, t: Term) -> bool
     let first = agree_byte(terms, high, half_of(terms, t, true));
     let second = agree_byte(terms, low, half_of(terms, t, false));
     same(terms, s, t) && knows || first && second
-}
-
-fn agree_turned(terms: &Terms, s: Term, carry: Term, t: Term) -> bool
-    requires s { IsGiven terms.now s }
-    requires t { IsGiven terms.now t }
-    requires turned { IsTurnedId terms.now s carry }
-    ensures { result ≡ agrees (tree_in terms.now s) (tree_in terms.now t) }
-{
-    let knows = knows_bit(terms, carry);
-    same(terms, s, t) && knows
 }
 
 // A byte, which is no Join and no Turned.
@@ -181,13 +173,7 @@ fn is_bit_at(terms: &Terms, flag: Term, part: Part, seen: Seen) -> bool
     ensures { result ≡ same_term (tree_in terms.now flag) (Bit (tree_of_seen terms.now seen) part) }
 {
     match terms.head(flag) {
-        Head::Bit(byte, other) => same_part(other, part) && is(terms, byte, seen),
+        Head::Bit(byte, other) => other as u16 == part as u16 && is(terms, byte, seen),
         _ => false,
     }
-}
-
-fn same_part(p: Part, q: Part) -> bool
-    ensures { result ≡ (part_number p == part_number q) }
-{
-    p as u16 == q as u16
 }

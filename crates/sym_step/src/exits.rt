@@ -50,19 +50,10 @@ fn call(program: &Program80, next: u16, goal: Goal) -> Way
     ensures { (pool : Contents) → WayIs pool (call program.now next goal) result }
 {
     match goal {
-        Goal::At(target) => call_instr(program, next, target),
+        Goal::At(target) if starts(program, next) => Way::Call(Place::At(target), Place::At(next)),
+        Goal::At(_) => Way::Leave,
         Goal::Boot => Way::Boot,
         Goal::Bdos => Way::Sys(Place::At(next)),
-    }
-}
-
-fn call_instr(program: &Program80, next: u16, target: u16) -> Way
-    ensures { (pool : Contents) → WayIs pool (call program.now next (Goal.At target)) result }
-{
-    if starts(program, next) {
-        Way::Call(Place::At(target), Place::At(next))
-    } else {
-        Way::Leave
     }
 }
 

@@ -1,12 +1,13 @@
 -- What the makers use of one another.
-use Rattle.std.proofs.Common.{◌≡◌, ℕ, ◌<◌, ◌==◌, ◌&&◌, ◌||◌, not, Bool, true, false, cond, List, [], ◌∷◌, Option, Some, None, refl, sym, ap, ap₂, ◌∙◌, arith}
+use Rattle.std.proofs.Common.{◌≡◌, ℕ, ◌<◌, ◌==◌, ◌&&◌, ◌||◌, not, Bool, true, false, cond, List, [], ◌∷◌, Option, Some, None, refl, sym, ap, ap₂, ◌∙◌, inl, inr, ◌⊎◌, arith}
 use Rattle.std.proofs.lemmas.Bool.{eqb-true, eq-eqb}
+use Rattle.cells.specs.declared.Part.{Part}
 use Rattle.xlt_pool.specs.Contents.{Contents}
 use Rattle.sym_terms.specs.declared.head.Term.{Term as TermId}
 use Rattle.sym_terms.specs.declared.head.Head.{Head}
 use Rattle.sym_terms.specs.declared.head.Head.TheVariants.{Num as NumHead, Alu as AluHead, Flag as FlagHead, Sum16 as Sum16Head, High as HighHead, Low as LowHead, Join as JoinHead, FlagByte as FlagByteHead, Bit as BitHead, Turn as TurnHead, Turned as TurnedHead, Adjust as AdjustHead, Unknown as UnknownHead}
-use Rattle.sym_terms.specs.Term.{Term, Num, Sum16, High, Low, Join, FlagByte, is_open, is_word, is_adjusted, same_term, Unknown, Turn, Turned}
-use Rattle.sym_terms.specs.Making.{IsTermMade, regrouped, plus, sum_of, high, low, join, turn, turn_or_turned}
+use Rattle.sym_terms.specs.Term.{Term, Num, Sum16, High, Low, Join, FlagByte, Bit, is_open, is_word, is_adjusted, same_term, Unknown, Turn, Turned}
+use Rattle.sym_terms.specs.Making.{IsTermMade, regrouped, plus, sum_of, high, low, join, bit, turn, turn_or_turned}
 use Rattle.sym_terms.specs.Heads.{operands, number_of_id, term_of}
 use Rattle.sym_terms.specs.Trees.{tree_of_head, entries_of, tree_in, StandsFor, IsGiven, AreGiven, PoolGrows, Makes, MakesRest, AreTerms}
 use Rattle.sym_terms.proofs.Equal.{same_term-true, same_term_refl}
@@ -176,6 +177,15 @@ low_plain held (TurnedHead c) n j t u = absurd (t c refl)
 low_plain held UnknownHead n j t u = absurd (u refl)
 low_plain held h n j t u = refl
 
+-- nor of a Turned or an Unknown, of which nothing is known
+pub high_open : (held : Contents) (h : Head) → ((c : TermId) × (h ≡ TurnedHead c)) ⊎ (h ≡ UnknownHead) → high (tree_of_head (entries_of held.nodes) h) ≡ Unknown
+high_open held h (inl e) = ap (λ x. high (tree_of_head (entries_of held.nodes) x)) e.1
+high_open held h (inr e) = ap (λ x. high (tree_of_head (entries_of held.nodes) x)) e
+
+pub low_open : (held : Contents) (h : Head) → ((c : TermId) × (h ≡ TurnedHead c)) ⊎ (h ≡ UnknownHead) → low (tree_of_head (entries_of held.nodes) h) ≡ Unknown
+low_open held h (inl e) = ap (λ x. low (tree_of_head (entries_of held.nodes) x)) e.1
+low_open held h (inr e) = ap (λ x. low (tree_of_head (entries_of held.nodes) x)) e
+
 -- a word is added to another that is no number
 
 pub sum_plain : (held : Contents) (a : Term) (h : Head) → ((m : ℕ) → h ≡ NumHead m → ⊥) → sum_of a (tree_of_head (entries_of held.nodes) h) ≡ Sum16 a (tree_of_head (entries_of held.nodes) h)
@@ -189,3 +199,23 @@ makes_more old new tree made m = record {
   room = λ h. m.room (omega arith);
   terms = m.terms;
 }
+
+-- halves that are no two numbers, and no high and low half
+pub join_number : (held : Contents) (n : ℕ) (l : Head) → ((m : ℕ) → l ≡ NumHead m → ⊥) → join (Num n) (tree_of_head (entries_of held.nodes) l) ≡ Join (Num n) (tree_of_head (entries_of held.nodes) l)
+join_number held n (NumHead m) h = absurd (h m refl)
+join_number held n l h = refl
+
+pub join_high : (held : Contents) (w : Term) (l : Head) → ((a : TermId) → l ≡ LowHead a → ⊥) → join (High w) (tree_of_head (entries_of held.nodes) l) ≡ Join (High w) (tree_of_head (entries_of held.nodes) l)
+join_high held w (LowHead a) h = absurd (h a refl)
+join_high held w l h = refl
+
+pub join_plain : (held : Contents) (high : Head) (l : Term) → ((m : ℕ) → high ≡ NumHead m → ⊥) → ((a : TermId) → high ≡ HighHead a → ⊥) → join (tree_of_head (entries_of held.nodes) high) l ≡ Join (tree_of_head (entries_of held.nodes) high) l
+join_plain held (NumHead m) l n h = absurd (n m refl)
+join_plain held (HighHead a) l n h = absurd (h a refl)
+join_plain held x l n h = refl
+
+-- a bit is looked for in a FlagByte, and where the byte is not known
+pub bit_plain : (held : Contents) (h : Head) (part : Part) → ((s z ac p cy : TermId) → h ≡ FlagByteHead s z ac p cy → ⊥) → (h ≡ UnknownHead → ⊥) → bit (tree_of_head (entries_of held.nodes) h) part ≡ Bit (tree_of_head (entries_of held.nodes) h) part
+bit_plain held (FlagByteHead s z ac p cy) part f u = absurd (f s z ac p cy refl)
+bit_plain held UnknownHead part f u = absurd (u refl)
+bit_plain held h part f u = refl

@@ -1,15 +1,24 @@
-use Rattle.asm86.proofs.Filling.{byte_within, word_within, word_put}
+use Rattle.std.proofs.Common.{ap, sym}
+use Rattle.std.specs.List.{fold}
+use Rattle.asm86_line_types.specs.Image.{put_cell}
+use Rattle.asm86.specs.Places.{label_place}
+use Rattle.asm86.proofs.Filling.{byte_within, word_within, word_put, stays}
 use Rattle.asm86.proofs.data.put.Goals as goal
 
 pub overflow_cast-at : goal.overflow_cast-at
 overflow_cast-at c = let r = c.requires.stands in byte_within r.0 c.args.at c.in-Db.byte c.args.stmt r.1 r.2 c.in-Db.is
 
-pub overflow_cast-at-in-Dw : goal.overflow_cast-at-in-Dw
-overflow_cast-at-in-Dw c = let r = c.requires.stands in (word_within r.0 c.args.at c.in-Dw.value c.args.stmt r.1 r.2 c.in-Dw.is).0
+pub put_word-requires-clause-within : goal.put_word-requires-clause-within
+put_word-requires-clause-within c = let r = c.requires.stands in word_within r.0 c.args.at c.in-Dw.value c.args.stmt r.1 r.2 c.in-Dw.is
 
-pub overflow_cast-at-in-Dw-2 : goal.overflow_cast-at-in-Dw-2
-overflow_cast-at-in-Dw-2 c = let r = c.requires.stands in (word_within r.0 c.args.at c.in-Dw.value c.args.stmt r.1 r.2 c.in-Dw.is).1
+pub returns-in_ok-put_word-in-Dw-clause-cells : goal.returns-in_ok-put_word-in-Dw-clause-cells
+returns-in_ok-put_word-in-Dw-clause-cells c =
+    word_put c.args.offsets.now c.args.at c.word_of.result c.in-Dw.value c.args.stmt c.args.cells.now.entries c.put_word.new.cells.entries c.in-Dw.is c.word_of.ensures.word c.in_ok-put_word-in-Dw.ensures
 
-pub returns-in_ok-insert-in-Dw-2-clause-cells : goal.returns-in_ok-insert-in-Dw-2-clause-cells
-returns-in_ok-insert-in-Dw-2-clause-cells c =
-    word_put c.args.offsets.now c.args.at c.word_of-word.result c.in-Dw.value c.args.stmt _ _ _ c.in-Dw.is c.word_of-word.ensures.word c.in_ok-insert-in-Dw.ensures.entries c.in_ok-insert-in-Dw-2.ensures.entries
+pub returns-in_default-clause-next : goal.returns-in_default-clause-next
+returns-in_default-clause-next c = let n = c.in_default in (stays (label_place c.args.offsets.now) c.args.at c.args.stmt n.not-Dseg n.not-Org n.not-Rb n.not-Db n.not-Dw).0
+
+pub returns-in_default-clause-cells : goal.returns-in_default-clause-cells
+returns-in_default-clause-cells c =
+    let n = c.in_default in
+    ap (fold put_cell c.args.cells.now.entries) (sym (stays (label_place c.args.offsets.now) c.args.at c.args.stmt n.not-Dseg n.not-Org n.not-Rb n.not-Db n.not-Dw).1)

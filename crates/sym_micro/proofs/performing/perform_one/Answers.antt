@@ -1,8 +1,9 @@
 -- What each arm calls ensures it of the arm's micro-operation, which saves a long search.
-use Rattle.std.proofs.Common.{◌≡◌, ap, ap₂, subst, sym, Option}
+use Rattle.std.proofs.Common.{◌≡◌, ◌∙◌, ap, ap₂, subst, sym, Option}
 use Rattle.xlt_pool.specs.Contents.{Contents}
 use Rattle.sym_block_def.specs.Outcome.{Action, Load8, Load16, Store8, Store16}
 use Rattle.sym_micro.specs.declared.micro.Micro.{Micro}
+use Rattle.sym_micro.specs.declared.micro.Micro.TheVariants.{Flags}
 use Rattle.sym_micro.specs.declared.run.Run.{Run}
 use Rattle.sym_micro.specs.Machine.{Machine, micro, weight, moves, loads_at, stores_at}
 use Rattle.sym_micro.specs.Stands.{machine_of, GoesOn}
@@ -25,8 +26,13 @@ returns-in-Word c = of_arm c.args.terms.now c.give_word.new.terms c.args.run.now
 pub returns-in-Flag : goal.returns-in-Flag
 returns-in-Flag c = of_arm c.args.terms.now c.give_flag.new.terms c.args.run.now c.give_flag.new.run c.give_flag.result c.in-Flag.is c.give_flag.ensures
 
-pub returns-in-Flags : goal.returns-in-Flags
-returns-in-Flags c = of_arm c.args.terms.now c.give_flags.new.terms c.args.run.now c.give_flags.new.run c.give_flags.result c.in-Flags.is c.give_flags.ensures
+pub returns-in-All : goal.returns-in-All
+returns-in-All c =
+    of_arm c.args.terms.now c.give_five_flags.new.terms c.args.run.now c.give_five_flags.new.run c.give_five_flags.result (c.in-Flags.is ∙ ap (λ flags. Flags flags c.in-Flags.value) c.in-All.is) c.give_five_flags.ensures
+
+pub returns-in-AllButCy : goal.returns-in-AllButCy
+returns-in-AllButCy c =
+    of_arm c.args.terms.now c.give_four_flags.new.terms c.args.run.now c.give_four_flags.new.run c.give_four_flags.result (c.in-Flags.is ∙ ap (λ flags. Flags flags c.in-Flags.value) c.in-AllButCy.is) c.give_four_flags.ensures
 
 pub returns-in-Put : goal.returns-in-Put
 returns-in-Put c = of_arm c.args.terms.now c.put.new.terms c.args.run.now c.put.new.run c.put.result c.in-Put.is c.put.ensures

@@ -47,3 +47,10 @@ returns c =
     then_gives old last new 2 1 tree c.alu.result grows
     (subst (λ t. Gives last new 1 t c.alu.result) is
     (gives_of last new 1 (alu Xra (tree_in last cy) (tree_in last c.in_ok-one.one) (tree_in last c.in_ok-zero.zero)) c.alu.result c.alu.ensures))
+
+pub returns-in_err-zero : goal.returns-in_err-zero
+returns-in_err-zero c =
+    let old = c.args.terms.now in
+    let new = c.number.new.self in
+    let tree = alu Xra (tree_in old c.args.run.now.held.cy) (Num 1) (Num 0) in
+    subst (λ x. Gives old new 3 tree x) (sym c.from_residual.ensures) (gives_none old new 1 3 (Num 0) tree (lit≤ tt) (gives_of old new 1 (Num 0) None c.in_err-zero.ensures))

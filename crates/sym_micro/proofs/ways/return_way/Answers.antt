@@ -2,7 +2,7 @@ use Rattle.std.proofs.Common.{◌≡◌, ◌∙◌, ap, subst, sym, lit≤}
 use Rattle.sym_terms.specs.Term.{Loaded16}
 use Rattle.sym_terms.specs.Making.{high, low}
 use Rattle.sym_terms.specs.Trees.{tree_in}
-use Rattle.sym_terms.proofs.Interning.{then_grows}
+use Rattle.sym_terms.proofs.Interning.{still, then_grows}
 use Rattle.sym_block_def.specs.Outcome.{ByTerms}
 use Rattle.sym_micro.specs.Exits.{FindsWay}
 use Rattle.sym_micro.proofs.Found.{no_way, way_of_terms}
@@ -42,3 +42,11 @@ returns c =
     way_of_terms old three 3 c.in_ok-high.high c.in_ok-low.low (high word) (low word) grows c.in_ok-low.ensures.terms
     (high_kept.0, high_kept.1 ∙ c.in_ok-high.ensures.gives.1 ∙ ap high c.in_ok-word.ensures.gives.1)
     (c.in_ok-low.ensures.gives.0, c.in_ok-low.ensures.gives.1 ∙ ap low word_is)
+
+pub returns-in_err-word : goal.returns-in_err-word
+returns-in_err-word c =
+    let old = c.args.terms.now in
+    let one = c.loaded.new.self in
+    let word = Loaded16 c.args.run.now.loads in
+    let way = ByTerms (high word) (low word) in
+    subst (λ x. FindsWay old one 3 way x) (sym c.from_residual.ensures) (no_way old old one 0 word way (still old) (lit≤ tt) c.in_err-word.ensures)

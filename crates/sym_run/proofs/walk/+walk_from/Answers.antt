@@ -8,7 +8,7 @@ use Rattle.sym_micro.specs.Stands.{machine_of}
 use Rattle.sym_run.specs.declared.ends.Next.{Next}
 use Rattle.sym_run.specs.Around.{surroundings_of}
 use Rattle.sym_run.specs.Ends.{OnTo, Advances, WalksTo}
-use Rattle.sym_run.proofs.Steps.{counted, ends_here, step_ends, then_walks, walks_more}
+use Rattle.sym_run.proofs.Steps.{counted, ends_here, step_missing, step_ends, then_walks, walks_more}
 use Rattle.sym_run.proofs.walk.+walk_from.Goals as goal
 
 no_room : (w : Surroundings) (s : Symbolic86) (room : ℕ) (x : Stmt86) (rest : List Stmt86) → room ≡ 0 → Err Length ≡ walk_through w room (Instruction x rest) s
@@ -83,3 +83,17 @@ returns-in-GoesOn t c =
     subst (λ x. WalksTo old new c.walk_from.new.run (24 * room) x end) (sym (same ∙ step.gives.is on))
     (walks_more old new c.walk_from.new.run (24 + 24 * (room - 1)) (24 * room) (on (as86 (machine_of mid s)) c.in-GoesOn.rest.now) end enough
     (then_walks old mid new c.walk_from.new.run 24 (24 * (room - 1)) (on (as86 (machine_of mid s)) c.in-GoesOn.rest.now) end step.grows c.walk_from.ensures))
+
+pub returns-in_err-end-in-Instruction : goal.returns-in_err-end-in-Instruction
+returns-in_err-end-in-Instruction t c =
+    let old = c.args.terms.now in
+    let mid = c.advance.new.terms in
+    let r = c.args.run.now in
+    let s = c.advance.new.run in
+    let w = surroundings_of c.args.around.now in
+    let room = c.args.room in
+    let start = as86 (machine_of old r) in
+    let some : 24 ≤ 24 * room = omega arith in
+    let walk = walk_through w room (met w c.args.from.now) start in
+    subst (λ x. WalksTo old mid s (24 * room) walk x) (sym c.from_residual.ensures)
+    (step_missing old mid r s (24 * room) (λ o. walk_by w (room - 1) o c.in-Instruction.rest.now start c.in-Instruction.stmt) walk some c.in_err-end-in-Instruction.ensures)

@@ -1,4 +1,4 @@
-use Rattle.std.proofs.Common.{◌≡◌, ℕ, List, Some, Err, refl, subst, sym, arith}
+use Rattle.std.proofs.Common.{◌≡◌, ℕ, List, Some, None, Result, Err, refl, subst, sym, arith}
 use Rattle.asm86_line_types.specs.declared.line.Label.{Label}
 use Rattle.asm86_line_types.specs.declared.line.Stmt86.{Stmt86}
 use Rattle.asm86_line_types.specs.declared.line.Stmt86.TheVariants.{Run, MovOffset, Jmp, Jmps, Jcc as JccTo, Call as CallTo}
@@ -7,15 +7,23 @@ use Rattle.i86.specs.declared.Jump.{Jump}
 use Rattle.i86.specs.declared.Reg16.{Reg16}
 use Rattle.dialogue.specs.Tried.{try_then}
 use Rattle.sym_block_def.specs.declared.reason.Reason.TheVariants.{Form}
+use Rattle.sym_block_def.specs.declared.reason.Reason.{Reason}
+use Rattle.sym_block_def.specs.Outcome.{Outcome}
 use Rattle.sym_block_def.specs.Symbolic86.{Symbolic86}
 use Rattle.sym_block_def.specs.Walk86.{Surroundings, call_way, jump_to, one_way, walk_by}
-use Rattle.sym_micro.specs.Machine.{as86}
-use Rattle.sym_micro.specs.Stands.{machine_of}
+use Rattle.xlt_pool.specs.Contents.{Contents}
+use Rattle.sym_micro.specs.declared.run.Run.{Run as Run86}
+use Rattle.sym_micro.specs.Machine.{Machine, as86}
+use Rattle.sym_micro.specs.Stands.{machine_of, GoesOn}
 use Rattle.sym_run.specs.declared.ends.Next.TheVariants.{Ends}
 use Rattle.sym_run.specs.Around.{surroundings_of}
 use Rattle.sym_run.specs.Ends.{OnTo, Advances}
 use Rattle.sym_run.proofs.Steps.{advances_as, stands_still, end_missing, end_found, jumps_by}
 use Rattle.sym_run.proofs.walk.advance.Goals as goal
+
+-- a step for which a node is missing
+step_missing : (old new : Contents) (r s : Run86) (P : Machine → Type 0) (tree : OnTo → Result Outcome Reason) → GoesOn old new r s 24 2 P None → Advances old new r s tree None
+step_missing old new r s P tree g = record { grows = g.grows; terms = g.ready.terms; capacity = g.ready.capacity; gives = g.gives; enough = g.enough }
 
 has_no_form : (w : Surroundings) (room : ℕ) (on : OnTo) (rest : List Stmt86) (s : Symbolic86) (x : Stmt86) → ((i : Instr86) → x ≡ Run i → ⊥) → ((r : Reg16) (l : Label) → x ≡ MovOffset r l → ⊥) → ((l : Label) → x ≡ Jmp l → ⊥) → ((l : Label) → x ≡ Jmps l → ⊥) → ((j : Jump) (l : Label) → x ≡ JccTo j l → ⊥) → ((l : Label) → x ≡ CallTo l → ⊥) → walk_by w room on rest s x ≡ Err Form
 has_no_form w room on rest s (Run i) a b c d e f = absurd (a i refl)
@@ -85,3 +93,12 @@ returns-in_default c =
     advances_as old old r r (λ on. walk_by w c.args.room on c.args.rest.now s c.args.stmt) (λ on. Err Form) (Some end)
     (λ on. has_no_form w c.args.room on c.args.rest.now s c.args.stmt c.in_default.not-Run c.in_default.not-MovOffset c.in_default.not-Jmp c.in_default.not-Jmps c.in_default.not-Jcc c.in_default.not-Call)
     (stands_still old r (λ x on. Err Form) end c.requires.ready (λ on pool r h. refl))
+
+pub returns-in_err-offset-in-MovOffset : goal.returns-in_err-offset-in-MovOffset
+returns-in_err-offset-in-MovOffset c =
+    let old = c.args.terms.now in
+    let new = c.offset.new.terms in
+    let r = c.args.run.now in
+    let s = c.offset.new.run in
+    let tree = λ (on : OnTo). walk_by (surroundings_of c.args.around.now) c.args.room on c.args.rest.now (as86 (machine_of old r)) c.args.stmt in
+    subst (Advances old new r s tree) (sym c.from_residual.ensures) (step_missing old new r s _ tree c.in_err-offset-in-MovOffset.ensures)

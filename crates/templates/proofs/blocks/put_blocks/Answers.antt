@@ -1,6 +1,7 @@
 use Rattle.std.proofs.Common.{◌≡◌, ℕ, ◌+◌, ◌*◌, ◌<◌, ◌≤◌, List, ◌++◌, length, take, drop, refl, sym, ap, subst, ◌∙◌, All, arith, append-nil}
 use Rattle.std.proofs.lemmas.List.{length-map, length-take, drop_all}
 use Rattle.std.proofs.lemmas.Bool.{and_parts, leb-true}
+use Rattle.std.proofs.lemmas.Result.{err_from_is_err_and}
 use Rattle.std.specs.Prelude.{◌==◌, ◌^◌, ◌%◌, nat_le, ◌&&◌}
 use Rattle.std.proofs.lemmas.List.Elements.{All-drop, All-take}
 use Rattle.asm86_line_types.specs.declared.line.Stmt86.{Stmt86}
@@ -71,3 +72,18 @@ put_block-requires-clause-whole c =
 pub returns-clause-value : goal.returns-clause-value
 returns-clause-value c = λ n all.
     all_put c.args.program.now c.args.graph.now.program (style_by n c.args.jumps.now) c.leaders-leader-items.result.now c.loop-leader.leader-index c.loop-leader.text _ c.leaders-leader-items.ensures c.requires.program c.loop-leader-test.false (c.loop-leader.invariant.so_far n all)
+
+no_more : (text rest most : ℕ) → text + 13 * rest ≤ most → text ≤ most
+no_more text rest most h = omega (arith, h)
+
+pub returns-clause-most : goal.returns-clause-most
+returns-clause-most c = no_more (length c.loop-leader.text) (length c.loop-leader.rest.now) (length c.args.text.now + 13 * 65022) c.loop-leader.invariant.most
+
+pub put_block-requires-clause-solved : goal.put_block-requires-clause-solved
+put_block-requires-clause-solved c = c.requires.solved
+
+pub returns-in_err-put_block-clause-value : goal.returns-in_err-put_block-clause-value
+returns-in_err-put_block-clause-value c = λ n all. let p = err_from_is_err_and c.from_residual.result c.from_residual.ensures.1 in rw p.1 tt
+
+pub returns-in_err-put_block-clause-most : goal.returns-in_err-put_block-clause-most
+returns-in_err-put_block-clause-most c = let p = err_from_is_err_and c.from_residual.result c.from_residual.ensures.1 in rw p.1 tt

@@ -2,7 +2,7 @@ use Rattle.std.proofs.Common.{◌∙◌, ap, refl, subst, sym, Some}
 use Rattle.sym_terms.specs.Term.{Low}
 use Rattle.sym_terms.specs.Making.{low}
 use Rattle.sym_terms.specs.Trees.{Makes}
-use Rattle.sym_terms.proofs.Making.{low_plain, makes_given}
+use Rattle.sym_terms.proofs.Making.{low_plain, low_open, makes_given}
 use Rattle.sym_terms.proofs.terms.Terms.low_half.Goals as goal
 
 pub keep-requires-clause-made : goal.keep-requires-clause-made
@@ -23,3 +23,14 @@ returns-in_default c =
     let n = c.in_default in
     let kept = ap low c.head.ensures.tree ∙ low_plain held c.head.result n.not-Num n.not-Join n.not-Turned n.not-Unknown ∙ ap Low (sym c.head.ensures.tree) in
     subst (λ t. Makes held c.keep.new.self 1 t c.keep.result) (sym kept) c.keep.ensures
+
+pub returns-in-Num : goal.returns-in-Num
+returns-in-Num c =
+    let held = c.args.self.now in
+    subst (λ t. Makes held c.number.new.self 1 t c.number.result) (sym (ap low c.in-Num.ensures.tree)) c.number.ensures
+
+pub returns-in-Turned : goal.returns-in-Turned
+returns-in-Turned c =
+    let held = c.args.self.now in
+    let none = ap low c.head.ensures.tree ∙ low_open held c.head.result c.in-Turned.is in
+    subst (λ t. Makes held c.unknown.new.self 1 t c.unknown.result) (sym none) c.unknown.ensures
