@@ -30,7 +30,7 @@ pub fn bare(operation: Operation) -> Result<Stmt86, TextRule>
     }
 }
 
-/// With one operand.
+/// The statement of an operation with one operand.
 pub fn with_one(operation: Operation, operand: Operand) -> Result<Stmt86, TextRule>
     ensures { result ≡ checked (with_one operation operand) }
 {
@@ -50,7 +50,7 @@ pub fn with_one(operation: Operation, operand: Operand) -> Result<Stmt86, TextRu
     }
 }
 
-/// With two operands.
+/// The statement of an operation with two operands.
 pub fn with_two(operation: Operation, first: Operand, second: Operand) -> Result<Stmt86, TextRule>
     ensures { result ≡ checked (with_two operation first second) }
 {
