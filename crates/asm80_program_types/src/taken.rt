@@ -1,11 +1,11 @@
 // The places that are taken.
 ghost use Rattle.std.specs.Prelude.{◌≡◌, ◌||◌, ℕ, filter, filter_map, option_to_list, IfOk};
-ghost use Rattle.base_types.specs.Addresses.{has_address, is_among};
+ghost use Rattle.base.specs.Addresses.{has_address, is_among};
 ghost use Rattle.asm80_program_types.specs.Program.{if_code};
 ghost use Rattle.asm80_program_types.specs.Taken.{if_calls, place_placed, place_in_cell, is_taken_place};
 
 use crate::program::Placed;
-use base_types::AddressSet;
+use base::AddressSet;
 use cells::{Cell, Place};
 use i80::{Goal, Instr80, Word};
 use std::alloc::{AllocError, Global};

@@ -13,12 +13,12 @@ use Rattle.asm80_statement_types.specs.Tree.{statement_of}
 use Rattle.asm80_statement_types.specs.Reading.{Finishes}
 use Rattle.asm80_tokens.specs.Spelling.{Spelling}
 use Rattle.asm80_text.specs.Line.{LineGives, late, long}
-use Rattle.base_types.specs.Held.{held_with_byte, HoldsLine}
-use Rattle.base_types.specs.Cut.{Cut, without_cr, last_line}
+use Rattle.base.specs.Held.{held_with_byte, HoldsLine}
+use Rattle.base.specs.Cut.{Cut, without_cr, last_line}
 use Rattle.asm80_text.specs.Stream.{IsPlain, is_plain, plain_len, IsStream, open_yet, closed, complete, LinesGive, none_left, StreamGives}
 use Rattle.asm80_text.specs.Reader.{Reader, After, Advances, rule_of_long, EndsLineBy, EndsLine, AddsBy, Adds, EndsStreamBy, EndsStream}
-use Rattle.base_types.proofs.Cuts.{cut_byte, cut_bytes, cut_line, map_push}
-use Rattle.base_types.proofs.Holding.{holds_byte}
+use Rattle.base.proofs.Cuts.{cut_byte, cut_bytes, cut_line, map_push}
+use Rattle.base.proofs.Holding.{holds_byte}
 use Rattle.asm80_text.proofs.Grow.{reads_on, reads_fault, stands}
 
 stream_closed : {stream rest : List ℕ} {raw : List (List ℕ)} {k : Bool} → IsStream stream raw rest k → k ≡ true → (b : ℕ) → IsStream (stream ++ b ∷ []) raw rest k

@@ -11,8 +11,8 @@ use Rattle.asm80_tokens.specs.Spelling.{Spelling}
 use Rattle.asm80_tokens.specs.Coherent.{IsCoherent}
 use Rattle.asm80_text.proofs.Once.{one_line}
 use Rattle.asm80_text.proofs.Steps.{not_memory, none_not_memory}
-use Rattle.base_types.specs.Cut.{Cut, ended}
-use Rattle.base_types.proofs.Cuts.{split_same, not_in, regroup, one_cut}
+use Rattle.base.specs.Cut.{Cut, ended}
+use Rattle.base.proofs.Cuts.{split_same, not_in, regroup, one_cut}
 use Rattle.asm80_text.specs.Stream.{IsPlain, IsStream, open_yet, closed, complete, LinesGive, none_left, next, fails, StreamGives, HoldsFault}
 use Rattle.asm80_statement_types.specs.declared.stmt.Stmt80.{Stmt80}
 use Rattle.asm80_text.specs.Reader.{Reader, After, answer_of, Agrees}

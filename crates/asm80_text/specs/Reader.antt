@@ -8,9 +8,9 @@ use Rattle.asm80_statement_types.specs.declared.fault.ReadFault.TheVariants.{Syn
 use Rattle.asm80_statement_types.specs.declared.stmt.Stmt80.{Stmt80}
 use Rattle.asm80_statement_types.specs.Tree.{Statement, statement_of}
 use Rattle.asm80_tokens.specs.Spelling.{Spelling}
-use Rattle.base_types.specs.Held.{HoldsLine}
+use Rattle.base.specs.Held.{HoldsLine}
 use Rattle.asm80_text.specs.Line.{LineGives}
-use Rattle.base_types.specs.Cut.{without_cr}
+use Rattle.base.specs.Cut.{without_cr}
 use Rattle.asm80_text.specs.Stream.{IsStream, complete, LinesGive}
 
 -- the statements so far, the line that is not complete yet, the number of complete lines, whether the byte 1AH has

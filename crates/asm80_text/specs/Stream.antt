@@ -6,7 +6,7 @@ use Rattle.asm80_statement_types.specs.declared.fault.ReadFault.{ReadFault}
 use Rattle.asm80_statement_types.specs.declared.fault.ReadFault.TheVariants.{Syntax}
 use Rattle.asm80_statement_types.specs.Tree.{Statement}
 use Rattle.asm80_tokens.specs.Spelling.{Spelling}
-use Rattle.base_types.specs.Cut.{Cut, without_cr, last_line}
+use Rattle.base.specs.Cut.{Cut, without_cr, last_line}
 use Rattle.asm80_text.specs.Line.{LineGives}
 
 -- neither LF nor the byte 1AH

@@ -6,7 +6,7 @@ ghost use Rattle.asm80_statement_types.specs.declared.fault.ReadFault.TheVariant
 ghost use Rattle.asm80_statement_types.specs.declared.fault.LineRule.{LineRule};
 ghost use Rattle.asm80_statement_types.specs.Tree.{Statement};
 ghost use Rattle.asm80_statement_types.specs.WellFormed.{AreWellFormed};
-ghost use Rattle.base_types.specs.Held.{held_with_byte};
+ghost use Rattle.base.specs.Held.{held_with_byte};
 ghost use Rattle.asm80_text.specs.Stream.{HoldsFault, StreamGives, plain_len};
 ghost use Rattle.asm80_statement_types.specs.Reading.{Finishes, HasOneOutcome};
 ghost use Rattle.asm80_text.specs.Reader.{Adds, Advances, After, Agrees, EndsLine, EndsStream, answer_of, rule_of_long};
@@ -15,7 +15,7 @@ use crate::intel::Intel;
 use crate::line::{MOST_LINES, read_line};
 use asm80_statement_types::{LineRule, ReadFault, StatementReader, Stmt80};
 use asm80_tokens::{Notation, Token};
-use base_types::{HeldLine, without_cr};
+use base::{HeldLine, without_cr};
 use std::alloc::{AllocError, Global};
 use std::marker::{Model, PhantomData};
 use std::mem;

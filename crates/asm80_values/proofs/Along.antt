@@ -4,7 +4,7 @@ use Rattle.std.specs.Option.{option_or, option_to_list}
 use Rattle.std.proofs.Math.Path.{fun_ext}
 use Rattle.asm80_statement_types.specs.declared.stmt.Stmt80.{Stmt80}
 use Rattle.asm80_statement_types.specs.Tree.{statement_of}
-use Rattle.base_types.specs.Addresses.{has_address, IsSetOf}
+use Rattle.base.specs.Addresses.{has_address, IsSetOf}
 use Rattle.asm80_first_walk.specs.declared.walked.Taken.{Taken}
 use Rattle.asm80_first_walk.specs.declared.walked.AsmFault.TheVariants.{Refused}
 use Rattle.asm80_first_walk.specs.Walked.{IsRowOf as StandsForRow, Stand}

@@ -3,7 +3,7 @@ use Rattle.std.proofs.Common.{◌≡◌, ℕ, ◌+◌, suc, Bool, ◌<◌, ◌�
 use Rattle.std.specs.Option.{option_to_list}
 use Rattle.asm80_statement_types.specs.declared.stmt.Stmt80.{Stmt80}
 use Rattle.asm80_statement_types.specs.Tree.{statement_of}
-use Rattle.base_types.specs.Addresses.{IsSetOf}
+use Rattle.base.specs.Addresses.{IsSetOf}
 use Rattle.asm80_first_walk.specs.declared.walked.Taken.{Taken}
 use Rattle.asm80_first_walk.specs.declared.walked.AsmFault.{AsmFault}
 use Rattle.asm80_first_walk.specs.declared.walked.AsmFault.TheVariants.{Refused, Memory}

@@ -3,8 +3,8 @@ use Rattle.std.proofs.Common.{ℕ, List, [], ◌∷◌, ◌++◌, Bool, true, Op
 use Rattle.std.proofs.lemmas.Bool.{cases_eq}
 use Rattle.asm80_statement_types.specs.declared.fault.ReadFault.{ReadFault}
 use Rattle.asm80_statement_types.specs.Tree.{Statement}
-use Rattle.base_types.specs.Cut.{Cut}
-use Rattle.base_types.proofs.Cuts.{cut_byte, cut_line}
+use Rattle.base.specs.Cut.{Cut}
+use Rattle.base.proofs.Cuts.{cut_byte, cut_line}
 use Rattle.asm80_text.specs.Stream.{IsPlain, IsStream, closed, complete, StreamGives}
 use Rattle.asm80_tokens.specs.Spelling.{Spelling}
 use Rattle.asm80_values.proofs.Lines80.{lines_give}

@@ -2,7 +2,7 @@
 use Rattle.std.specs.Prelude.{◌≡◌, ℕ, ◌^◌, ◌<◌, ◌||◌, Bool, true, false, ◌++◌, cond, List, map, filter, option_to_list, Option, Some, None, Result, Ok, Err}
 use Rattle.asm80_statement_types.specs.declared.stmt.Stmt80.{Stmt80}
 use Rattle.asm80_statement_types.specs.Tree.{statement_of}
-use Rattle.base_types.specs.Addresses.{has_address, IsSetOf}
+use Rattle.base.specs.Addresses.{has_address, IsSetOf}
 use Rattle.asm80_values.specs.declared.fault.FormFault.{FormFault}
 use Rattle.asm80_values.specs.declared.fault.FormFault.TheVariants.{Rule, Memory as NoRoom}
 use Rattle.asm80_first_walk.specs.declared.walked.Taken.{Taken}

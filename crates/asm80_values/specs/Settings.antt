@@ -1,5 +1,5 @@
 -- What a setting stands for.
-use Rattle.base_types.specs.Addresses.{has_address}
+use Rattle.base.specs.Addresses.{has_address}
 use Rattle.asm80_first_walk.specs.Scopes.{scope_of}
 use Rattle.asm80_values.specs.declared.setting.Setting.{Setting}
 use Rattle.asm80_source_def.specs.Items.{Setting as Seen}

@@ -14,7 +14,7 @@ use crate::second_walk::{items_of, starts_of};
 use asm80_first_walk::{AsmFault, walk};
 use asm80_program_types::Program80;
 use asm80_statement_types::Stmt80;
-use base_types::AddressSet;
+use base::AddressSet;
 use std::alloc::Global;
 
 // The program of items, or the first rule of the layout that they break, by the addresses at which instructions start.

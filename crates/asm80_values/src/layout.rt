@@ -1,7 +1,7 @@
 // The rules of the layout and of this project's profile.
 ghost use Rattle.std.specs.Prelude.{◌≡◌, ◌||◌, ℕ, [], ◌++◌, find, List, IfOk, Some, None};
 ghost use Rattle.std.specs.List.{list_any};
-ghost use Rattle.base_types.specs.Addresses.{has_address, IsSetOf};
+ghost use Rattle.base.specs.Addresses.{has_address, IsSetOf};
 ghost use Rattle.asm80_source_def.specs.Walk.{Walk, WalkRow};
 ghost use Rattle.asm80_source_def.specs.Items.{item_rows as rows_that_fill, starts_in};
 ghost use Rattle.asm80_source_def.specs.Layout.{layout_fault};
@@ -10,7 +10,7 @@ ghost use Rattle.asm80_values.specs.Items.{AreItems, cells_of_item, overlap_from
 use crate::Form;
 use crate::item::{Item, address_of_cell};
 use asm80_source_def::AsmRule;
-use base_types::AddressSet;
+use base::AddressSet;
 use std::alloc::{AllocError, Global};
 
 // Whether a cell of an item is in a set.

@@ -6,7 +6,7 @@ ghost use Rattle.asm80_source_def.specs.Items.{value, byte, code_address};
 
 use asm80_first_walk::{Scope, operand_number, operand_place};
 use asm80_statement_types::Arg;
-use base_types::AddressSet;
+use base::AddressSet;
 
 /// Where operands are evaluated: what they see, and the addresses at which instructions start.
 #[derive(Clone, Copy)]

@@ -10,7 +10,7 @@ use Rattle.asm86_line_types.specs.declared.line.Stmt86.{Stmt86}
 use Rattle.asm86_line_types.specs.Image.{statements}
 use Rattle.asm86_line_types.specs.Order.{Reading, reading_after, at_start, in_order, ends_text, has_no_statement, may_stand}
 use Rattle.asm86_line_types.specs.Written.{written_line, written_text}
-use Rattle.base_types.specs.Cut.{ended, without_cr}
+use Rattle.base.specs.Cut.{ended, without_cr}
 use Rattle.asm86.specs.Stream.{IsNotLf, lines_of_number, are_in_order, has_end, AddsLine, Ended, TextLinesGive, next, ends, TextGives}
 use Rattle.asm86.specs.Back.{AreWritten}
 use Rattle.asm86_line_reader.specs.Line.{TextLineGives}

@@ -7,12 +7,12 @@ use Rattle.std.proofs.lemmas.List.{length-map, append-nil, length-append}
 use Rattle.asm86_line_types.specs.declared.line.Line86.{Line86}
 use Rattle.asm86.specs.declared.text_fault.TextFault.{TextFault}
 use Rattle.asm86.specs.declared.text_fault.TextFault.TheVariants.{Line, Memory}
-use Rattle.base_types.specs.Held.{held_with_byte, HoldsLine}
+use Rattle.base.specs.Held.{held_with_byte, HoldsLine}
 use Rattle.asm86.specs.Stream.{IsNotLf, line_len, has_end, Ending, Open, Ended, Broken, TextLinesGive, none_left, next, ends, breaks}
 use Rattle.asm86.specs.Reader.{TextReader, IsBehind, IsOf, AfterText, Advances, ReadsBy, ReadsLine}
-use Rattle.base_types.specs.Cut.{Cut, without_cr}
-use Rattle.base_types.proofs.Holding.{holds_byte}
-use Rattle.base_types.proofs.Cuts.{cut_byte, cut_bytes, cut_line, map_push}
+use Rattle.base.specs.Cut.{Cut, without_cr}
+use Rattle.base.proofs.Holding.{holds_byte}
+use Rattle.base.proofs.Cuts.{cut_byte, cut_bytes, cut_line, map_push}
 use Rattle.asm86.proofs.Lines.{true_false, open_not_ended, reads_on, stands, open_without_end, ended_with_end}
 
 pub after_none : (reader : TextReader) → reader.lines ≡ [] → reader.number ≡ 0 → reader.held ≡ Some [] → reader.fault ≡ None → AfterText [] reader

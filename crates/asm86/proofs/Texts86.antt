@@ -3,8 +3,8 @@ use Rattle.std.proofs.Common.{◌≡◌, ℕ, suc, ◌≤◌, List, [], ◌∷�
 use Rattle.std.specs.List.{list_all}
 use Rattle.std.proofs.lemmas.Bool.{cases_Bool, cases_eq, cases_lt}
 use Rattle.std.proofs.lemmas.List.{append-nil}
-use Rattle.base_types.specs.Cut.{Cut, without_cr, last_line}
-use Rattle.base_types.proofs.Cuts.{cut_byte, cut_line}
+use Rattle.base.specs.Cut.{Cut, without_cr, last_line}
+use Rattle.base.proofs.Cuts.{cut_byte, cut_line}
 use Rattle.asm86_line_types.specs.declared.line.Line86.{Line86}
 use Rattle.asm86_line_types.specs.declared.line.Stmt86.{Stmt86}
 use Rattle.asm86_line_types.specs.declared.line.TextRule.{TextRule}

@@ -9,10 +9,10 @@ use Rattle.asm86_line_types.specs.declared.line.TextRule.{TextRule}
 use Rattle.asm86_line_types.specs.declared.line.TextRule.TheVariants.{M6}
 use Rattle.asm86.specs.declared.text_fault.TextFault.{TextFault}
 use Rattle.asm86.specs.declared.text_fault.TextFault.TheVariants.{Line, Memory}
-use Rattle.base_types.specs.Cut.{Cut, without_cr, last_line}
+use Rattle.base.specs.Cut.{Cut, without_cr, last_line}
 use Rattle.asm86.specs.Stream.{IsNotLf, has_end, Ending, Open, Ended, Broken, TextLinesGive, outcome_of_text, TextGives, HoldsTextFault}
 use Rattle.asm86.specs.Reader.{TextReader, IsBehind, IsOf, AfterText, AfterAll, answer_of_fault, FinishesText, AgreesWithText, ReadsRest}
-use Rattle.base_types.proofs.Cuts.{one_cut}
+use Rattle.base.proofs.Cuts.{one_cut}
 use Rattle.asm86.proofs.Lines.{true_false, reads_on, stands, open_without_end, ended_with_end, one_run}
 use Rattle.asm86.proofs.Steps.{no_fault, Opened, given, done_not_open}
 

@@ -1,7 +1,7 @@
 -- What the reader keeps of the statements that it has passed, to tell which may stand next.
 use Rattle.std.specs.Prelude.{◌≡◌, ℕ, ◌<◌, ◌==◌, true, List, [], ◌∷◌, min}
 use Rattle.std.specs.List.{list_any}
-use Rattle.base_types.specs.Addresses.{has_address}
+use Rattle.base.specs.Addresses.{has_address}
 use Rattle.asm86_line_types.specs.declared.line.Stmt86.{Stmt86}
 use Rattle.asm86_line_types.specs.Order.{Group as Part, NoGroup, CodeGroup, DataGroup, Reading, reading_after, at_start, in_order, ends_text}
 use Rattle.asm86.specs.declared.order.Group.{Group}

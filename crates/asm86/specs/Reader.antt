@@ -10,9 +10,9 @@ use Rattle.asm86_line_reader.specs.Line.{TextLineGives}
 use Rattle.asm86.specs.declared.text_fault.TextFault.{TextFault}
 use Rattle.asm86.specs.declared.text_fault.TextFault.TheVariants.{Line, Memory}
 use Rattle.asm86.specs.declared.listing.Listing.{Listing}
-use Rattle.base_types.specs.Held.{HoldsLine}
+use Rattle.base.specs.Held.{HoldsLine}
 use Rattle.asm86.specs.Place.{IsAfter}
-use Rattle.base_types.specs.Cut.{Cut, without_cr, last_line}
+use Rattle.base.specs.Cut.{Cut, without_cr, last_line}
 use Rattle.asm86.specs.Stream.{IsNotLf, lines_of_number, are_in_order, AddsLine, Breaks, Ending, Open, Ended, Broken, TextLinesGive, TextGives}
 
 -- the statements so far, the number of lines read, the line that is not complete yet, and the fault

@@ -9,7 +9,7 @@ use Rattle.asm86_line_types.specs.declared.line.TextRule.TheVariants.{M5, M6}
 use Rattle.asm86_line_types.specs.Image.{statements}
 use Rattle.asm86_line_types.specs.Order.{at_start, in_order, ends_text}
 use Rattle.asm86_line_reader.specs.Line.{TextLineGives}
-use Rattle.base_types.specs.Cut.{Cut, without_cr, last_line}
+use Rattle.base.specs.Cut.{Cut, without_cr, last_line}
 
 -- the bytes of a line
 abbrev pub IsNotLf : ℕ → Type 0

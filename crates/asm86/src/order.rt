@@ -2,7 +2,7 @@
 ghost use Rattle.std.specs.Prelude.{◌≡◌, ◌≤◌};
 
 use asm86_line_types::Stmt86;
-use base_types::AddressSet;
+use base::AddressSet;
 use std::alloc::{AllocError, Global};
 
 /// The address past the last cell of memory.

@@ -6,15 +6,15 @@ ghost use Rattle.asm86_line_types.specs.Image.{statements};
 ghost use Rattle.asm86_line_types.specs.Order.{at_start, in_order};
 ghost use Rattle.asm86.specs.declared.text_fault.TextFault.{TextFault};
 ghost use Rattle.asm86.specs.declared.text_fault.TextFault.TheVariants.{Line, Memory};
-ghost use Rattle.base_types.specs.Cut.{without_cr};
-ghost use Rattle.base_types.specs.Held.{held_with_byte, HoldsLine};
+ghost use Rattle.base.specs.Cut.{without_cr};
+ghost use Rattle.base.specs.Held.{held_with_byte, HoldsLine};
 ghost use Rattle.asm86.specs.Reader.{Advances, AfterText, AfterAll, AgreesWithText, FinishesText, ReadsLine, ReadsRest, answer_of_fault};
 ghost use Rattle.asm86.specs.Stream.{HoldsTextFault, TextGives, has_end, line_len};
 
 use crate::listing::Listing;
 use crate::text_fault::TextFault;
 use asm86_line_types::{Line86, TextRule};
-use base_types::{HeldLine, without_cr};
+use base::{HeldLine, without_cr};
 use std::alloc::{AllocError, Global};
 use std::marker::Model;
 use std::mem;

@@ -10,7 +10,7 @@ use Rattle.std.proofs.lemmas.Bool.{both_ways, cases_Bool, not-true, ltb-true, le
 use Rattle.std.proofs.lemmas.List.{append-nil, length-append, length-take-le, length-replicate, take-append-drop, take-append-le, take_more, set_at}
 use Rattle.std.proofs.lemmas.Slice.Eq.{bytes_eq-Decides}
 use Rattle.bdos_disk.specs.Names.{is_name_byte, is_file_name, is_before, is_after, top_byte, highest, IsNameBetween}
-use Rattle.base_types.specs.Prefixes.{IsPrefixOf}
+use Rattle.base.specs.Prefixes.{IsPrefixOf}
 use Rattle.bdos_disk.specs.Spelled.{BreaksAt}
 use Rattle.bdos_disk.proofs.Order.{compared, compared-append, compared_itself, same_from_compared, before_trans, before_back, before_itself, before_cases}
 

@@ -4,7 +4,7 @@ use Rattle.std.specs.Prelude.{Option, Some, None}
 use Rattle.std.proofs.lemmas.List.{append-nil, length-append, length-take-le, length-drop, take-append-drop, take-take, take_at}
 use Rattle.std.proofs.lemmas.List.Elements.{All-nil}
 use Rattle.std.proofs.lemmas.List.Sums.{sum_by-cons}
-use Rattle.base_types.proofs.Fronts.{member_goes_on}
+use Rattle.base.proofs.Fronts.{member_goes_on}
 use Rattle.bdos_disk.specs.Spelled.{BreaksAt}
 use Rattle.bdos_disk.proofs.Going.{name_parts, highest_lawful}
 use Rattle.bdos_disk.specs.declared.reading.Stop.{Stop}

@@ -2,7 +2,7 @@
 -- order, its name, the number of its records as two bytes, the low one first, and its records. Nothing follows.
 use Rattle.std.specs.Prelude.{◌≡◌, ℕ, ◌%◌, ◌/◌, List, [], ◌∷◌, ◌++◌, length, codes}
 use Rattle.std.specs.List.{flat_map}
-use Rattle.base_types.specs.Prefixes.{CannotGoOn}
+use Rattle.base.specs.Prefixes.{CannotGoOn}
 use Rattle.bdos_disk.specs.Stored.{Stored}
 use Rattle.bdos_disk.specs.Disks.{IsDisk}
 

@@ -1,6 +1,6 @@
 -- Bytes that spell a value, read from the front: where they can go on, and where they cannot.
 use Rattle.std.specs.Prelude.{ℕ, ◌+◌, ◌<◌, ◌≤◌, List, length, take}
-use Rattle.base_types.specs.Prefixes.{IsPrefixOf}
+use Rattle.base.specs.Prefixes.{IsPrefixOf}
 
 -- the bytes do not begin with the spelling of a value, and the byte at k is the first that cannot go on, or k is their number:
 -- the spelling of some value begins with the first k bytes, and that of none with one byte more

@@ -1,3 +1,5 @@
+mod Digits
+mod Heads
 mod Smaller
 mod Leaves
 mod One

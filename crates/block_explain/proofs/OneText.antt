@@ -1,6 +1,6 @@
 -- What is told is said in just one way.
 use Rattle.std.proofs.Common.{◌≡◌, ◌∙◌, ℕ, List, ◌++◌, Some, None, sym, ap}
-use Rattle.sym_words.specs.Words.{words}
+use Rattle.block_explain.specs.Words.{words}
 use Rattle.block_explain.specs.Smallest.{TermPair}
 use Rattle.block_explain.specs.Explained.{Told, Nothing, Lost, Sides, AreLines, sides_lines, differs_lines, DiffersIn}
 use Rattle.block_explain.proofs.One.{one_smallest}

@@ -13,8 +13,8 @@ use Rattle.sym_terms.specs.Term.{Term}
 use Rattle.sym_block_def.specs.declared.reason.Reason.{Reason}
 use Rattle.sym_block_def.specs.declared.reason.Reason.TheVariants.{Actions, Exits, Kept, KeptSp}
 use Rattle.sym_block_def.specs.Outcome.{Action, Exit, One, Sys, Outcome, term_in}
-use Rattle.sym_words.specs.Words.{words}
-use Rattle.sym_words.specs.Moves.{action_words, exit_words}
+use Rattle.block_explain.specs.Words.{words}
+use Rattle.block_explain.specs.Moves.{action_words, exit_words}
 use Rattle.block_explain.specs.Smallest.{TermPair, pair, Smallest}
 use Rattle.block_explain.specs.Apart.{ActionPair, first_apart, action_terms, exit_terms}
 

@@ -1,3 +1,6 @@
+pub mod Names
+pub mod Words
+pub mod Moves
 pub mod Smallest
 pub mod Apart
 pub mod Pairs

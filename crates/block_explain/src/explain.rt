@@ -8,13 +8,14 @@ ghost use Rattle.block_explain.specs.Pairs.{IsOneGiven, tree_of_one, trees_if_an
 ghost use Rattle.block_explain.specs.Explained.{Sides, action_or_none, terms_told, is_lost, sides_lines, DiffersIn, SidesDiffer, AreLines, Explains};
 
 use crate::apart::{action_terms, exit_terms, first_apart};
+use crate::moves::{action_words, exit_words};
 use crate::smallest::{TermPair, pair, smallest_pair};
+use crate::terms::term_words;
 use block_check::Work;
 use cells::Part;
 use std::alloc::{AllocError, Global};
 use sym_run::{Action, Exit, Reason, Way};
 use sym_terms::{Term, Terms};
-use sym_words::{action_words, exit_words, term_words};
 
 /// The lines that say why the second outcome of a work does not match the first one, for the reason that was found. There are none for
 /// a reason that is not of outcomes.

@@ -9,7 +9,7 @@ use asm80_first_walk::{
 use asm80_source_def::{Meaning, NameKind};
 use asm80_statement_types::{Arg, ReadFault, Stmt80};
 use asm80_values::{Form, FormFault, Setting, form_of};
-use base_types::AddressSet;
+use base::AddressSet;
 use cells::Cell;
 use std::alloc::{AllocError, Global};
 

@@ -4,8 +4,8 @@ ghost use Rattle.std.specs.Prelude.{◌≡◌, length};
 use crate::words::push_number;
 use cells::Cell::{Junk, Num};
 use cells::{Cell, Flags, Place, Rule};
-use cpu80_tagged_step::draft::{Draft, Write};
-use cpu80_tagged_step::registers::Registers;
+use cpu80_tagged::draft::{Draft, Write};
+use cpu80_tagged::registers::Registers;
 use std::alloc::{AllocError, Global};
 
 /// DAA (8080 Assembly Language Programming Manual, "Decimal adjust accumulator"): the byte that it leaves, and CY.

@@ -1,8 +1,8 @@
 // States of the tagged 8080 as words, `a=41`, `flags=S-A-C` or `effc=lo0100`, a place and what is known to stand there.
 use crate::words::{push_byte, push_word};
 use cells::{Cell, Flags, Place};
-use cpu80_tagged_step::draft::Draft;
-use cpu80_tagged_step::registers::Registers;
+use cpu80_tagged::draft::Draft;
+use cpu80_tagged::registers::Registers;
 use std::alloc::{AllocError, Global};
 
 const REGISTER_NAMES: [&str; 7] = [" a=", " b=", " c=", " d=", " e=", " h=", " l="];

@@ -8,7 +8,7 @@ use Rattle.asm86_line_types.specs.declared.line.Line86.{Line86}
 use Rattle.asm86_line_types.specs.declared.line.Stmt86.{Stmt86}
 use Rattle.asm86_line_types.specs.Written.{written_line}
 use Rattle.sym_block_def.specs.declared.reason.Reason.{Reason}
-use Rattle.sym_words.specs.Names.{label_words}
+use Rattle.block_explain.specs.Names.{label_words}
 use Rattle.cmd_common.specs.Lines.{byte_digits, word_digits, reason_name}
 
 -- ---- a statement

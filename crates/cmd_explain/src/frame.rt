@@ -17,11 +17,11 @@ use crate::lines::{tell_end, tell_wanted};
 use asm80_program_types::Program80;
 use asm86::Image86;
 use asm86_line_types::{Label, Line86, Stmt86};
+use block_explain::label_words;
 use cells::Cell;
 use cmd_common::word_digits;
 use std::alloc::{AllocError, Global};
 use sym_block_def::Reason;
-use sym_words::label_words;
 use templates::prologue;
 use text_check::{byte_at, cell_stands};
 

@@ -6,12 +6,12 @@ use Rattle.dialogue.specs.Same.{SameDialogue}
 use Rattle.dialogue.proofs.Turns.{front_trans}
 use Rattle.i86.specs.declared.Instr86.{Instr86}
 use Rattle.asm86_line_types.specs.Cells.{CellsAreSorted}
-use Rattle.cpu80_tagged_def.specs.State.{State80}
-use Rattle.cpu80_tagged_def.specs.Start.{run80}
-use Rattle.cpu86_def.specs.State.{State86}
-use Rattle.cpu86_def.specs.Call.{Stop}
-use Rattle.cpu86_def.specs.Step.{machine86}
-use Rattle.cpu86_def.specs.Start.{start86}
+use Rattle.cpu80_tagged.specs.State.{State80}
+use Rattle.cpu80_tagged.specs.Start.{run80}
+use Rattle.cpu86.specs.State.{State86}
+use Rattle.cpu86.specs.Call.{Stop}
+use Rattle.cpu86.specs.Step.{machine86}
+use Rattle.cpu86.specs.Start.{start86}
 use Rattle.simulation_def.specs.Same.{Same}
 use Rattle.cmd_file.specs.Written.{lacking, command_file_of}
 use Rattle.cmd_file.specs.Loaded.{loaded}

@@ -7,7 +7,7 @@ use Rattle.std.proofs.lemmas.List.{length-append, length-take-le, length-drop, l
 use Rattle.std.proofs.lemmas.List.Elements.{All-append, All-take, All-drop, All-replicate, All-head, All-tail}
 use Rattle.dialogue.specs.ByteMemory.{put, put_cells}
 use Rattle.dialogue.specs.Fill.{IsFill}
-use Rattle.cpu86_def.specs.Start.{start_byte}
+use Rattle.cpu86.specs.Start.{start_byte}
 use Rattle.cmd_file.specs.Written.{lacking, zero_filled, end_with, data_end, data_bytes}
 use Rattle.cmd_file.proofs.Cells.{end_grows, cells_below, length-data_bytes, data_byte}
 use Rattle.cmd_file.proofs.ImageCells.{InData}

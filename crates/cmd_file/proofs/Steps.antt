@@ -6,9 +6,9 @@ use Rattle.dialogue.specs.declared.request.Event.{Event}
 use Rattle.dialogue.specs.Run.{Answer, Ran, Asks, Ends, Stops, Status, Going, Waiting, Over, Stopped, Run, choice_at, take_reply, settle, turn_by, turn, turns, IsNotStopped, IsFrontOf}
 use Rattle.dialogue.proofs.Turns.{turns_grow, still_turns, was_not_stopped}
 use Rattle.i86.specs.declared.Instr86.{Instr86}
-use Rattle.cpu86_def.specs.State.{State86}
-use Rattle.cpu86_def.specs.Call.{Stop, NoInstruction}
-use Rattle.cpu86_def.specs.Step.{act_at, machine86}
+use Rattle.cpu86.specs.State.{State86}
+use Rattle.cpu86.specs.Call.{Stop, NoInstruction}
+use Rattle.cpu86.specs.Step.{act_at, machine86}
 
 module _ (cs : List ℕ) (f g : ℕ → Option Instr86) (finds : (ip : ℕ) (i : Instr86) → f ip ≡ Some i → g ip ≡ Some i) where
   -- replies are taken in the same way

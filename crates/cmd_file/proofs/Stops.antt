@@ -4,8 +4,8 @@ use Rattle.std.specs.List.{All}
 use Rattle.std.proofs.lemmas.Bool.{cases_lt, both_ways}
 use Rattle.std.proofs.lemmas.List.{length-append, length-take-le, length-replicate, take-append-drop, take_all, take_at, get_or-take, get_or_append_left}
 use Rattle.std.proofs.lemmas.List.Elements.{All-take, All-append, All-replicate}
-use Rattle.base_types.specs.Prefixes.{IsPrefixOf, CannotGoOn}
-use Rattle.base_types.proofs.Fronts.{AreFronts, stops_at}
+use Rattle.base.specs.Prefixes.{IsPrefixOf, CannotGoOn}
+use Rattle.base.proofs.Fronts.{AreFronts, stops_at}
 use Rattle.cmd_file.specs.CommandFile.{IsCommandFile, IsFile}
 use Rattle.cmd_file.specs.Header.{may_stand, FitsBelow, code_size, data_size, groups_end, HasHeader}
 use Rattle.cmd_file.proofs.Fitting.{fits_past, fits_front, front_fits, lacks, completed, length-completed, completed_small, completed_fits}

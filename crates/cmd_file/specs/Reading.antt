@@ -1,6 +1,6 @@
 -- Why bytes are not read as a command file.
 use Rattle.std.specs.Prelude.{ℕ, List}
-use Rattle.base_types.specs.Prefixes.{CannotGoOn}
+use Rattle.base.specs.Prefixes.{CannotGoOn}
 use Rattle.cmd_file.specs.declared.fault.CmdFault.{CmdFault}
 use Rattle.cmd_file.specs.declared.fault.CmdFault.TheVariants.{Bad, Memory}
 use Rattle.cmd_file.specs.CommandFile.{IsFile}

@@ -13,12 +13,12 @@ use Rattle.cells.specs.declared.Rule.{Rule}
 use Rattle.asm80_program_types.specs.Program.{Program}
 use Rattle.asm86_line_types.specs.Image.{Image}
 use Rattle.host.specs.Host.{HostState}
-use Rattle.cpu80_tagged_def.specs.State.{State80}
-use Rattle.cpu80_tagged_def.specs.Start.{IsPage, run80}
-use Rattle.cpu86_def.specs.State.{State86}
-use Rattle.cpu86_def.specs.Call.{Stop}
+use Rattle.cpu80_tagged.specs.State.{State80}
+use Rattle.cpu80_tagged.specs.Start.{IsPage, run80}
+use Rattle.cpu86.specs.State.{State86}
+use Rattle.cpu86.specs.Call.{Stop}
 use Rattle.dialogue.specs.Fill.{IsFill}
-use Rattle.cpu86_def.specs.Start.{IsStart, AreChoices, run86}
+use Rattle.cpu86.specs.Start.{IsStart, AreChoices, run86}
 use Rattle.bdos_small.specs.Supply.{Supply}
 use Rattle.emulator_loop.specs.declared.emulator.Why.{Why}
 use Rattle.emulator_loop.specs.declared.running.Conversation.{Conversation}

@@ -5,7 +5,7 @@ use Rattle.i86.specs.declared.Instr86.{Instr86}
 use Rattle.asm80_program_types.specs.Program.{Program}
 use Rattle.asm86_line_types.specs.Image.{Image}
 use Rattle.host.specs.Host.{HostState}
-use Rattle.cpu80_tagged_def.specs.Start.{IsPage}
+use Rattle.cpu80_tagged.specs.Start.{IsPage}
 use Rattle.dialogue.specs.Fill.{IsFill}
 use Rattle.bdos_small.specs.Supply.{Supply}
 use Rattle.emulator_loop.specs.declared.fault.TalkFault.{TalkFault}

@@ -7,7 +7,7 @@ use Rattle.host.proofs.HostLemmas.{SameFaults-trans}
 use Rattle.host.specs.Host.{HostState, SameFaults}
 use Rattle.bdos_disk.specs.declared.fault.DiskFault.{DiskFault}
 use Rattle.bdos_disk.specs.declared.fault.DiskFault.TheVariants.{Bad, Memory}
-use Rattle.base_types.proofs.Fronts.{one_place}
+use Rattle.base.proofs.Fronts.{one_place}
 use Rattle.bdos_disk.specs.DiskFile.{IsBadAt}
 use Rattle.bdos_disk.specs.Reading.{IsDiskFaultOf}
 use Rattle.bdos_small.specs.Supply.{Supply}

@@ -2,7 +2,7 @@
 use Rattle.std.proofs.Common.{◌≡◌, ℕ, suc, ◌+◌, ◌≤◌, List, [], ◌∷◌, ◌++◌, true, None, length, map, refl, sym, ap, ◌∙◌, arith}
 use Rattle.std.specs.List.{flat_map, AllByRecursion}
 use Rattle.std.proofs.lemmas.List.{append-nil}
-use Rattle.base_types.specs.Cut.{ended, Cut, without_cr}
+use Rattle.base.specs.Cut.{ended, Cut, without_cr}
 use Rattle.asm80_text.specs.Stream.{IsPlain, closed, LinesGive, none_left, next}
 use Rattle.asm80_text.specs.Intel.{intel_reading, intel_spelling}
 use Rattle.cmd_sample.specs.Written.{Written, line_text, text_of_source, statements_from, statements_of}

@@ -10,7 +10,7 @@ use Rattle.asm80_text.specs.Intel.{intel_spelling}
 use Rattle.asm80_statement_types.specs.Tree.{Operand}
 use Rattle.asm80_text.specs.Statement.{IsOperand, AreOperands, last, more, bare, full, IsBody, operated, unlabeled, with_colon, IsStatement, unnumbered, AreStatements, none_left, next}
 use Rattle.asm80_text.specs.Line.{is_bang, open_after, most_open, is_deep, begins_with_colon, has_reserved_label, parts_of, formed, TextGives, sound, IsRemark, LineGives, told}
-use Rattle.base_types.specs.Cut.{without_cr}
+use Rattle.base.specs.Cut.{without_cr}
 use Rattle.cmd_sample.specs.Written.{Argument, Written, label_column, more_arguments, arguments_text, line_text, statement_at}
 use Rattle.cmd_sample.proofs.Each.{each_append, each_last}
 use Rattle.cmd_sample.proofs.Lexemes.{IsParted, IsInk, Lexeme}

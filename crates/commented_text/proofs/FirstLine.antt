@@ -3,7 +3,7 @@ use Rattle.std.proofs.Common.{◌≡◌, ℕ, suc, ◌+◌, List, [], ◌∷◌,
 use Rattle.std.specs.Prelude.{◌==◌}
 use Rattle.std.proofs.lemmas.Bool.{cases_Bool}
 use Rattle.std.proofs.lemmas.List.{take-append-drop, append-nil}
-use Rattle.base_types.specs.Cut.{without_cr, last_line}
+use Rattle.base.specs.Cut.{without_cr, last_line}
 use Rattle.commented_text.specs.Lines.{line_len, with_byte, parts_of, lines_of_parts, lines_of}
 
 pub one_more : (n : ℕ) → 1 + n ≡ suc n

@@ -8,7 +8,7 @@ use Rattle.asm86_line_types.specs.declared.line.TextRule.{TextRule}
 use Rattle.asm86_line_types.specs.Image.{statements}
 use Rattle.asm86_line_types.specs.Order.{at_start, in_order, ends_text}
 use Rattle.std.specs.List.{list_any}
-use Rattle.base_types.specs.Cut.{without_cr}
+use Rattle.base.specs.Cut.{without_cr}
 use Rattle.asm86.specs.Stream.{lines_of_number, are_in_order, has_end, AddsLine, Ending, Open, Ended, Broken, TextLinesGive, none_left, next, ends, breaks}
 use Rattle.commented_text.proofs.Weaving.{Woven, no_more, line, remark}
 use Rattle.commented_text.proofs.Rising.{Renumbers, none_added, line_added, comment_added}

@@ -3,8 +3,8 @@ use Rattle.std.proofs.Common.{◌≡◌, ℕ, List, [], ◌++◌, map, Result, O
 use Rattle.asm86_line_types.specs.declared.line.Line86.{Line86}
 use Rattle.asm86_line_types.specs.declared.line.TextRule.{TextRule}
 use Rattle.asm86_line_types.specs.Image.{statements, Image, IsImage}
-use Rattle.base_types.specs.Cut.{Cut, ended, without_cr, last_line}
-use Rattle.base_types.proofs.Cuts.{one_cut}
+use Rattle.base.specs.Cut.{Cut, ended, without_cr, last_line}
+use Rattle.base.proofs.Cuts.{one_cut}
 use Rattle.std.specs.List.{flat_map, AllByRecursion}
 use Rattle.asm86.specs.Images.{HasImage}
 use Rattle.asm86.specs.Stream.{IsNotLf, Ending, Open, Ended, Broken, TextLinesGive, outcome_of_text, TextGives}

@@ -2,7 +2,7 @@
 use Rattle.std.proofs.Common.{ℕ, zero, suc, ◌-◌, List, [], ◌∷◌, length, map, Bool, true, false, take, drop, if◌then◌else◌}
 use Rattle.std.specs.Prelude.{◌==◌, slice_index}
 use Rattle.std.specs.List.{AllByRecursion}
-use Rattle.base_types.specs.Cut.{Cut, without_cr, last_line}
+use Rattle.base.specs.Cut.{Cut, without_cr, last_line}
 use Rattle.asm80_text.specs.Stream.{IsPlain, IsStream, open_yet, closed, complete}
 use Rattle.asm86.specs.Stream.{IsNotLf}
 use Rattle.commented_text.specs.Commented.{AreLinesOf}

@@ -3,7 +3,7 @@ use Rattle.std.proofs.Common.{◌≡◌, ◌≢◌, ℕ, List, [], ◌∷◌, �
 use Rattle.std.specs.Prelude.{◌==◌}
 use Rattle.std.specs.List.{flat_map, AllByRecursion}
 use Rattle.std.proofs.lemmas.Bool.{cases_Bool, eqb-true, eqb-false}
-use Rattle.base_types.specs.Cut.{ended, without_cr, last_line}
+use Rattle.base.specs.Cut.{ended, without_cr, last_line}
 use Rattle.asm80_text.specs.Stream.{IsPlain, closed}
 use Rattle.commented_text.specs.Commented.{AreLinesOf}
 use Rattle.commented_text.specs.Lines.{source_len, with_byte, parts_of, lines_of_parts, lines_of_source}

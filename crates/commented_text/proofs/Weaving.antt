@@ -3,7 +3,7 @@ use Rattle.std.proofs.Common.{◌≡◌, ℕ, zero, suc, List, [], ◌∷◌, �
 use Rattle.std.proofs.lemmas.List.{length-take}
 use Rattle.std.specs.List.{flat_map, AllByRecursion}
 use Rattle.std.proofs.lemmas.Grind.{flat_map-append}
-use Rattle.base_types.specs.Cut.{ended}
+use Rattle.base.specs.Cut.{ended}
 use Rattle.asm86_line_reader.specs.Line.{TextLineGives, sensible}
 use Rattle.asm86_line_reader.specs.Tokens.{ends, comment as comment_lexes}
 use Rattle.asm86.specs.Stream.{IsNotLf}

@@ -4,7 +4,7 @@ use Rattle.std.specs.Prelude.{◌==◌}
 use Rattle.std.specs.List.{flat_map, AllByRecursion}
 use Rattle.std.proofs.lemmas.Grind.{flat_map-append}
 use Rattle.std.proofs.lemmas.Bool.{cases_Bool, eqb-true, eqb-false}
-use Rattle.base_types.specs.Cut.{ended}
+use Rattle.base.specs.Cut.{ended}
 use Rattle.asm86_line_types.specs.Written.{alone, with_one, with_two}
 use Rattle.asm86.specs.Stream.{IsNotLf}
 

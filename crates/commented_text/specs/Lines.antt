@@ -1,7 +1,7 @@
 -- The lines of bytes, from the front on.
 use Rattle.std.specs.Prelude.{ℕ, ◌==◌, not, cond, List, [], ◌∷◌, take}
 use Rattle.std.specs.List.{prefix_len}
-use Rattle.base_types.specs.Cut.{without_cr, last_line}
+use Rattle.base.specs.Cut.{without_cr, last_line}
 
 -- how many bytes stand before the byte 1AH, and how many before an LF
 abbrev pub source_len : List ℕ → ℕ

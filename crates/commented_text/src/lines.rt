@@ -2,7 +2,7 @@
 ghost use Rattle.std.specs.Prelude.{◌≡◌, ◌+◌, ◌≤◌, ◌<◌, [], ◌∷◌, take, length, MatchOption, IfSome};
 ghost use Rattle.commented_text.specs.Lines.{source_len, line_len, lines_of};
 
-use base_types::without_cr;
+use base::without_cr;
 
 /// The byte that ends a source.
 const END_OF_FILE: u8 = 0x1a;

@@ -24,18 +24,18 @@ use Rattle.dialogue.specs.Fits.{answer_fits, answer_in, answer_kind_of, fits_row
 use Rattle.dialogue.specs.ByteMemory.{put, put_bytes, put_blocks, seen_by, word_at}
 use Rattle.dialogue.specs.Run.{Answer, Ran, Asks, Ends, Stops}
 use Rattle.asm80_program_types.specs.Program.{Program, IsProgram, is_code}
-use Rattle.cpu80_tagged_def.specs.State.{State80, num_of}
-use Rattle.cpu80_tagged_def.specs.Memory.{is_closed, is_write_protected, put as put80, read_word}
+use Rattle.cpu80_tagged.specs.State.{State80, num_of}
+use Rattle.cpu80_tagged.specs.Memory.{is_closed, is_write_protected, put as put80, read_word}
 use Rattle.cells.specs.Places.{same_place}
 use Rattle.cells.proofs.SamePlace.{same_place_is}
-use Rattle.cpu80_tagged_def.specs.Call.{Return as Return80, is_just_below, may_be_written, seen_by_tagged as seen_by80, ask as ask80, ask_after, call_by, call_system as call_system80, is_place, place_in, popped_return as popped_return80, put_bytes as put_bytes80, put_blocks as put_blocks80, answered as answered80, cells_after, after_reply as after_reply80}
-use Rattle.cpu80_tagged_def.specs.Step.{return_at as return_at80, replied_to as replied_to80, replied80}
-use Rattle.cpu80_tagged_def.proofs.Passing.{place_if_is}
-use Rattle.cpu80_untagged_def.specs.State.{UntaggedState, next}
-use Rattle.cpu80_untagged_def.specs.Call.{Stop, ask, call_system, Return, place_of_return, popped_return, chosen_regs, answered, after_reply}
-use Rattle.cpu80_untagged_def.specs.Step.{Fetch, return_at, replied_to, replied_untagged}
-use Rattle.cpu80_untagged_def.specs.Start.{address_of}
-use Rattle.cpu80_untagged_def.specs.Follows.{WritesBytes}
+use Rattle.cpu80_tagged.specs.Call.{Return as Return80, is_just_below, may_be_written, seen_by_tagged as seen_by80, ask as ask80, ask_after, call_by, call_system as call_system80, is_place, place_in, popped_return as popped_return80, put_bytes as put_bytes80, put_blocks as put_blocks80, answered as answered80, cells_after, after_reply as after_reply80}
+use Rattle.cpu80_tagged.specs.Step.{return_at as return_at80, replied_to as replied_to80, replied80}
+use Rattle.cpu80_tagged.proofs.Passing.{place_if_is}
+use Rattle.cpu80_untagged.specs.State.{UntaggedState, next}
+use Rattle.cpu80_untagged.specs.Call.{Stop, ask, call_system, Return, place_of_return, popped_return, chosen_regs, answered, after_reply}
+use Rattle.cpu80_untagged.specs.Step.{Fetch, return_at, replied_to, replied_untagged}
+use Rattle.cpu80_untagged.specs.Start.{address_of}
+use Rattle.cpu80_untagged.specs.Follows.{WritesBytes}
 use Rattle.dialogue.specs.Sight.{SeesMore, KnowsMore, WhoSeesMoreAsksTheSame}
 use Rattle.dialogue.specs.Words.{word, wrap}
 use Rattle.dialogue.specs.Choice.{byte_of}

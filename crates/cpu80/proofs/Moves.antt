@@ -17,16 +17,16 @@ use Rattle.i80.specs.declared.StackPair.TheVariants.{B as StackB, D as StackD, H
 use Rattle.dialogue.specs.Tried.{try_then}
 use Rattle.dialogue.specs.ByteMemory.{put}
 use Rattle.dialogue.specs.Words.{wrap}
-use Rattle.base_arithmetic_def.specs.Operations.{flags_in}
-use Rattle.base_arithmetic_def.proofs.Bytes.{flag_bits}
+use Rattle.base.specs.Operations.{flags_in}
+use Rattle.base.proofs.Bytes.{flag_bits}
 use Rattle.asm80_program_types.specs.Program.{Program, is_code}
-use Rattle.cpu80_tagged_def.specs.State.{State80, high_of, low_of, with_bc as with_bc80, with_de as with_de80, with_hl as with_hl80, with_num, with_a as with_a80, num_or}
-use Rattle.cpu80_tagged_def.specs.Memory.{is_closed, is_write_protected, unless_then, put as put80, address, word_fits, read_at, may_write, write_at, Halves, read_word, write_word}
-use Rattle.cpu80_tagged_def.specs.Effect.{source as source80, into as into80, lda as lda80, sta as sta80, lhld as lhld80, xchg as xchg80, xthl as xthl80, sphl as sphl80, push as push80, push_pair as push_pair80, popped as popped80, pop_pair as pop_pair80}
-use Rattle.cpu80_tagged_def.proofs.Passing.{unless_is, within}
-use Rattle.cpu80_untagged_def.specs.State.{UntaggedState, pair_word, with_bc, with_de, with_hl, with_word, with_a, next, put_word}
-use Rattle.cpu80_untagged_def.specs.Flags.{flag_byte, flags_in_byte}
-use Rattle.cpu80_untagged_def.specs.Effect.{source, into, store, lda, lhld, shld, xchg, xthl, push, push_pair, popped, pop_pair}
+use Rattle.cpu80_tagged.specs.State.{State80, high_of, low_of, with_bc as with_bc80, with_de as with_de80, with_hl as with_hl80, with_num, with_a as with_a80, num_or}
+use Rattle.cpu80_tagged.specs.Memory.{is_closed, is_write_protected, unless_then, put as put80, address, word_fits, read_at, may_write, write_at, Halves, read_word, write_word}
+use Rattle.cpu80_tagged.specs.Effect.{source as source80, into as into80, lda as lda80, sta as sta80, lhld as lhld80, xchg as xchg80, xthl as xthl80, sphl as sphl80, push as push80, push_pair as push_pair80, popped as popped80, pop_pair as pop_pair80}
+use Rattle.cpu80_tagged.proofs.Passing.{unless_is, within}
+use Rattle.cpu80_untagged.specs.State.{UntaggedState, pair_word, with_bc, with_de, with_hl, with_word, with_a, next, put_word}
+use Rattle.cpu80_untagged.specs.Flags.{flag_byte, flags_in_byte}
+use Rattle.cpu80_untagged.specs.Effect.{source, into, store, lda, lhld, shld, xchg, xthl, push, push_pair, popped, pop_pair}
 use Rattle.dialogue.proofs.Tried.{ok_is, then_is}
 use Rattle.cpu80.proofs.Stands.{Stands, FlagsStand, StatesStand, reg_stands, set_stands, put_stands, sets_regs, sets_flags, sets_cells, sets_sp, number, word_is, word_small}
 

@@ -9,12 +9,12 @@ use Rattle.dialogue.specs.declared.request.Event.TheVariants.{End}
 use Rattle.dialogue.specs.Fits.{fits_event}
 use Rattle.dialogue.specs.Run.{Answer, Ran, Asks, Ends, Stops, Machine, Status, Going, Waiting, Over, Stopped, Run, choice_at, take_reply, settle, turn_by, turn, turns, IsNotStopped}
 use Rattle.asm80_program_types.specs.Program.{Program, IsProgram}
-use Rattle.cpu80_tagged_def.specs.State.{State80}
-use Rattle.cpu80_tagged_def.specs.Step.{step80, machine80}
-use Rattle.cpu80_untagged_def.specs.State.{UntaggedState}
-use Rattle.cpu80_untagged_def.specs.Call.{Stop}
-use Rattle.cpu80_untagged_def.specs.Step.{Fetch, step_untagged, untagged_machine}
-use Rattle.cpu80_untagged_def.specs.Follows.{WritesBytes, TakesProgram}
+use Rattle.cpu80_tagged.specs.State.{State80}
+use Rattle.cpu80_tagged.specs.Step.{step80, machine80}
+use Rattle.cpu80_untagged.specs.State.{UntaggedState}
+use Rattle.cpu80_untagged.specs.Call.{Stop}
+use Rattle.cpu80_untagged.specs.Step.{Fetch, step_untagged, untagged_machine}
+use Rattle.cpu80_untagged.specs.Follows.{WritesBytes, TakesProgram}
 use Rattle.dialogue.specs.Sight.{WhoSeesMoreAsksTheSame}
 use Rattle.cpu80.proofs.Stands.{StatesStand}
 use Rattle.cpu80.proofs.Calls.{IsAnswered, StepFollows}

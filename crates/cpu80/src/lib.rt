@@ -6,7 +6,7 @@
 // program's instructions as long as their cells are unchanged, over any memory that has the program's data (`FetchFollows`).
 #![tactic(auto)]
 
-ghost use Rattle.cpu80_untagged_def.specs.Follows.{PlainFollows, FetchFollows};
+ghost use Rattle.cpu80_untagged.specs.Follows.{PlainFollows, FetchFollows};
 
 pub use cpu80_tagged::{Cpu80, Step80, calls_give_runs};
 pub use cpu80_untagged::{Plain80, StepPlain};

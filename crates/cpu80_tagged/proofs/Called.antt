@@ -9,12 +9,12 @@ use Rattle.dialogue.specs.Calls.{Standing, settled}
 use Rattle.dialogue.specs.Histories.{Calls as MachineCalls, started as has_started, ran as has_run, asked as has_asked, took, ended as has_ended, stopped, IsRunAt}
 use Rattle.dialogue.proofs.Called.{calls_run}
 use Rattle.asm80_program_types.specs.Program.{Program}
-use Rattle.cpu80_tagged_def.specs.State.{State80}
-use Rattle.cpu80_tagged_def.specs.Start.{start80, run80}
-use Rattle.cpu80_tagged_def.specs.Step.{step80, replied80, machine80}
+use Rattle.cpu80_tagged.specs.State.{State80}
+use Rattle.cpu80_tagged.specs.Start.{start80, run80}
+use Rattle.cpu80_tagged.specs.Step.{step80, replied80, machine80}
 use Rattle.cpu80_tagged.specs.declared.processor.Cpu80.{Cpu80}
 use Rattle.cpu80_tagged.specs.declared.processor.Step80.TheVariants.{Ran as DidRun, Asked as DidAsk, Ended as DidEnd, Left}
-use Rattle.cpu80_tagged.specs.State.{tagged_state}
+use Rattle.cpu80_tagged.specs.ProcessorState.{tagged_state}
 use Rattle.cpu80_tagged.specs.Machine.{IsTaggedStep}
 use Rattle.cpu80_tagged.specs.Calls.{Calls, started, ran, asked, replied, ended, left, refused, asked_again, ended_again, left_again, CallsGiveRuns}
 

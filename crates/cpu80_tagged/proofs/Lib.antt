@@ -1,3 +1,6 @@
+pub mod Passing
+pub mod Sights
+pub mod Turns
 pub mod Writes
 pub mod Spoils
 pub mod Starts

@@ -20,13 +20,13 @@ use Rattle.dialogue.specs.Tried.{try_then}
 use Rattle.dialogue.specs.Run.{Answer, Ran, Asks, Ends, Stops}
 use Rattle.dialogue.specs.Words.{wrap}
 use Rattle.asm80_program_types.specs.Program.{Program, instr_at, is_start}
-use Rattle.cpu80_tagged_def.specs.State.{State80, num_of}
-use Rattle.cpu80_tagged_def.specs.Memory.{Halves, read_word}
-use Rattle.cpu80_tagged_def.specs.Effect.{effect, push}
+use Rattle.cpu80_tagged.specs.State.{State80, num_of}
+use Rattle.cpu80_tagged.specs.Memory.{Halves, read_word}
+use Rattle.cpu80_tagged.specs.Effect.{effect, push}
 use Rattle.cells.specs.Conditions.{holds}
 use Rattle.cells.specs.Places.{same_place}
-use Rattle.cpu80_tagged_def.specs.Call.{Return, ask, ask_after, call_by, is_just_below, seen_by_tagged, place_if, is_place, place_in, popped_return, return_after}
-use Rattle.cpu80_tagged_def.specs.Step.{go_to, go_on, leave_to, go_by, go_back, jump, enter, call, where_holds, ask_event, ask_port, sent, act, act_at, step_at, step80, return_of, return_at}
+use Rattle.cpu80_tagged.specs.Call.{Return, ask, ask_after, call_by, is_just_below, seen_by_tagged, place_if, is_place, place_in, popped_return, return_after}
+use Rattle.cpu80_tagged.specs.Step.{go_to, go_on, leave_to, go_by, go_back, jump, enter, call, where_holds, ask_event, ask_port, sent, act, act_at, step_at, step80, return_of, return_at}
 
 -- where the answer ran on, an instruction comes next, or the end; and where it asks, the state is as before
 abbrev pub GoesOn : Program → State80 → Answer State80 Rule → Type 0

@@ -22,20 +22,20 @@ use Rattle.dialogue.proofs.LawfulShapes.{made, made-lawful}
 use Rattle.dialogue.proofs.Lines.{line_short}
 use Rattle.dialogue.specs.Run.{Asks}
 use Rattle.asm80_program_types.specs.Program.{Program}
-use Rattle.cpu80_tagged_def.specs.State.{State80, num_of}
-use Rattle.cpu80_tagged_def.specs.Call.{seen_by_tagged, is_place}
-use Rattle.cpu80_tagged_def.specs.Step.{step80, return_at, replied80, replied_to}
-use Rattle.cpu80_tagged_step.specs.declared.turn.Return.{Return}
-use Rattle.cpu80_tagged_step.specs.Area.{HasUses}
-use Rattle.cpu80_tagged_step.specs.Draft.{memory_of}
-use Rattle.cpu80_tagged_step.specs.Sight.{closed_in}
-use Rattle.cpu80_tagged_step.specs.Turn.{return_of_turn, shape_at}
-use Rattle.cpu80_tagged_step.proofs.Sights.{same_closed, same_seen}
+use Rattle.cpu80_tagged.specs.State.{State80, num_of}
+use Rattle.cpu80_tagged.specs.Call.{seen_by_tagged, is_place}
+use Rattle.cpu80_tagged.specs.Step.{step80, return_at, replied80, replied_to}
+use Rattle.cpu80_tagged.specs.declared.turn.Return.{Return}
+use Rattle.cpu80_tagged.specs.Area.{HasUses}
+use Rattle.cpu80_tagged.specs.Draft.{memory_of}
+use Rattle.cpu80_tagged.specs.Sight.{closed_in}
+use Rattle.cpu80_tagged.specs.Turn.{return_of_turn, shape_at}
+use Rattle.cpu80_tagged.proofs.Sights.{same_closed, same_seen}
 use Rattle.cpu80_tagged.proofs.Places.{Returns, returns_to}
 use Rattle.cpu80_tagged.proofs.Steps.{runs_on}
 use Rattle.cpu80_tagged.specs.declared.processor.Cpu80.{Cpu80}
 use Rattle.cpu80_tagged.specs.declared.processor.Phase.TheVariants.{Running}
-use Rattle.cpu80_tagged.specs.State.{tagged_state, waits, asks, seen_of, tagged_shape}
+use Rattle.cpu80_tagged.specs.ProcessorState.{tagged_state, waits, asks, seen_of, tagged_shape}
 use Rattle.cpu80_tagged.specs.Machine.{IsCalling, IsAtPort, IsAskedBy, IsReplyTo}
 use Rattle.cpu80_tagged.specs.Reply.{Fits, after_taken_reply}
 

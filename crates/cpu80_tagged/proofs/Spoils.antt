@@ -5,7 +5,7 @@ use Rattle.std.proofs.lemmas.Bool.Decides.{nat_tests}
 use Rattle.cells.specs.declared.Cell.{Cell}
 use Rattle.cells.specs.declared.Cell.TheVariants.{Junk}
 use Rattle.dialogue.specs.Words.{wrap}
-use Rattle.cpu80_tagged_def.specs.Memory.{put}
+use Rattle.cpu80_tagged.specs.Memory.{put}
 use Rattle.cpu80_tagged.specs.Reply.{spoiled_cells}
 
 -- how far a cell is below SP

@@ -5,21 +5,21 @@ use Rattle.dialogue.specs.declared.request.Shape.{Shape}
 use Rattle.dialogue.specs.declared.request.Event.{Event}
 use Rattle.dialogue.specs.Run.{Ran, Asks}
 use Rattle.asm80_program_types.specs.Program.{Program}
-use Rattle.cpu80_tagged_def.specs.State.{State80, num_of}
-use Rattle.cpu80_tagged_def.specs.Call.{ask, is_place}
-use Rattle.cpu80_tagged_def.specs.Step.{step80, return_at}
-use Rattle.cpu80_tagged_step.specs.declared.turn.Return.{Return as KeptReturn}
-use Rattle.cpu80_tagged_step.specs.declared.turn.Question.{Question}
-use Rattle.cpu80_tagged_step.specs.declared.turn.Question.TheVariants.{System, In, Out}
-use Rattle.cpu80_tagged_step.specs.declared.turn.Turn.{Turn}
-use Rattle.cpu80_tagged_step.specs.declared.turn.Turn.TheVariants.{Ran as TurnRan, Asked as TurnAsked}
-use Rattle.cpu80_tagged_step.specs.Turn.{return_of_turn, shape_at, answer_of_question, answer_of_turn, MayAsk, IsAsking}
+use Rattle.cpu80_tagged.specs.State.{State80, num_of}
+use Rattle.cpu80_tagged.specs.Call.{ask, is_place}
+use Rattle.cpu80_tagged.specs.Step.{step80, return_at}
+use Rattle.cpu80_tagged.specs.declared.turn.Return.{Return as KeptReturn}
+use Rattle.cpu80_tagged.specs.declared.turn.Question.{Question}
+use Rattle.cpu80_tagged.specs.declared.turn.Question.TheVariants.{System, In, Out}
+use Rattle.cpu80_tagged.specs.declared.turn.Turn.{Turn}
+use Rattle.cpu80_tagged.specs.declared.turn.Turn.TheVariants.{Ran as TurnRan, Asked as TurnAsked}
+use Rattle.cpu80_tagged.specs.Turn.{return_of_turn, shape_at, answer_of_question, answer_of_turn, MayAsk, IsAsking}
 use Rattle.cpu80_tagged.specs.declared.processor.Step80.TheVariants.{Asked as DidAsk}
-use Rattle.cpu80_tagged_step.specs.declared.area.CellUse.{CellUse}
-use Rattle.cpu80_tagged_step.specs.Area.{HasUses}
+use Rattle.cpu80_tagged.specs.declared.area.CellUse.{CellUse}
+use Rattle.cpu80_tagged.specs.Area.{HasUses}
 use Rattle.cpu80_tagged.specs.declared.processor.Cpu80.{Cpu80}
 use Rattle.cpu80_tagged.specs.declared.processor.Phase.TheVariants.{Running}
-use Rattle.cpu80_tagged.specs.State.{tagged_state}
+use Rattle.cpu80_tagged.specs.ProcessorState.{tagged_state}
 use Rattle.cpu80_tagged.specs.Machine.{IsCalling, WaitsBy, IsPhase, IsMachineOf, IsTaggedStep}
 use Rattle.cpu80_tagged.proofs.Places.{GoesOn, goes_on}
 

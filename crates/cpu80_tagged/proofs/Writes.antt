@@ -5,9 +5,9 @@ use Rattle.std.proofs.lemmas.List.{get_or-set_same, get_or-set_other, drop_more}
 use Rattle.std.proofs.lemmas.Bool.Decides.{nat_tests}
 use Rattle.cells.specs.declared.Cell.{Cell}
 use Rattle.cells.specs.declared.Cell.TheVariants.{Num, Junk}
-use Rattle.cpu80_tagged_def.specs.Memory.{put}
-use Rattle.cpu80_tagged_def.specs.Call.{put_bytes}
-use Rattle.cpu80_tagged_step.specs.Draft.{memory_of}
+use Rattle.cpu80_tagged.specs.Memory.{put}
+use Rattle.cpu80_tagged.specs.Call.{put_bytes}
+use Rattle.cpu80_tagged.specs.Draft.{memory_of}
 
 -- a write to the list is a write to the memory that it is
 pub memory_of-set : (xs : List Cell) (i : ℕ) (v : Cell) → i < length xs → memory_of (set xs i v) ≡ put (memory_of xs) i v

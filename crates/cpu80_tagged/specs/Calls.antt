@@ -7,12 +7,12 @@ use Rattle.dialogue.specs.declared.request.Event.TheVariants.{End}
 use Rattle.dialogue.specs.Run.{Status, Going, Waiting, Over, Stopped}
 use Rattle.dialogue.specs.Histories.{IsRunAt}
 use Rattle.asm80_program_types.specs.Program.{Program}
-use Rattle.cpu80_tagged_def.specs.Start.{start80, run80}
-use Rattle.cpu80_tagged_def.specs.Step.{step80}
+use Rattle.cpu80_tagged.specs.Start.{start80, run80}
+use Rattle.cpu80_tagged.specs.Step.{step80}
 use Rattle.cpu80_tagged.specs.declared.processor.Cpu80.{Cpu80}
 use Rattle.cpu80_tagged.specs.declared.processor.Step80.{Step80}
 use Rattle.cpu80_tagged.specs.declared.processor.Step80.TheVariants.{Ran, Asked, Ended, Left}
-use Rattle.cpu80_tagged.specs.State.{tagged_state, asks}
+use Rattle.cpu80_tagged.specs.ProcessorState.{tagged_state, asks}
 use Rattle.cpu80_tagged.specs.Machine.{IsMachineOf, IsTaggedStep, IsEventAsked, IsReplyTo, has_asked}
 
 -- a call of `step`

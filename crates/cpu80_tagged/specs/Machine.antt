@@ -10,20 +10,20 @@ use Rattle.dialogue.specs.Fits.{fits_event}
 use Rattle.dialogue.specs.Lawful.{IsLawfulEvent}
 use Rattle.dialogue.specs.Run.{Answer, Ran, Asks, Ends, Stops}
 use Rattle.asm80_program_types.specs.Program.{Program}
-use Rattle.cpu80_tagged_def.specs.State.{State80, num_of}
-use Rattle.cpu80_tagged_def.specs.Call.{is_place, seen_by_tagged}
-use Rattle.cpu80_tagged_def.specs.Step.{step80, return_at, replied80}
-use Rattle.cpu80_tagged_step.specs.declared.turn.Question.{Question}
-use Rattle.cpu80_tagged_step.specs.declared.turn.Question.TheVariants.{System, In, Out}
-use Rattle.cpu80_tagged_step.specs.declared.turn.Return.{Return}
-use Rattle.cpu80_tagged_step.specs.Area.{HasUses}
-use Rattle.cpu80_tagged_step.specs.Turn.{return_of_turn, shape_at}
+use Rattle.cpu80_tagged.specs.State.{State80, num_of}
+use Rattle.cpu80_tagged.specs.Call.{is_place, seen_by_tagged}
+use Rattle.cpu80_tagged.specs.Step.{step80, return_at, replied80}
+use Rattle.cpu80_tagged.specs.declared.turn.Question.{Question}
+use Rattle.cpu80_tagged.specs.declared.turn.Question.TheVariants.{System, In, Out}
+use Rattle.cpu80_tagged.specs.declared.turn.Return.{Return}
+use Rattle.cpu80_tagged.specs.Area.{HasUses}
+use Rattle.cpu80_tagged.specs.Turn.{return_of_turn, shape_at}
 use Rattle.cpu80_tagged.specs.declared.processor.Cpu80.{Cpu80}
 use Rattle.cpu80_tagged.specs.declared.processor.Phase.{Phase}
 use Rattle.cpu80_tagged.specs.declared.processor.Phase.TheVariants.{Running, Asking, Ended}
 use Rattle.cpu80_tagged.specs.declared.processor.Step80.{Step80}
 use Rattle.cpu80_tagged.specs.declared.processor.Step80.TheVariants.{Ran as DidRun, Asked as DidAsk, Ended as DidEnd, Left}
-use Rattle.cpu80_tagged.specs.State.{tagged_state, asks}
+use Rattle.cpu80_tagged.specs.ProcessorState.{tagged_state, asks}
 
 -- the machine waits for the reply to the call of the system that its step asks, and keeps where the call returns
 pub record IsCalling (p : Program) (s : State80) (kept : Return) : Type 0 where

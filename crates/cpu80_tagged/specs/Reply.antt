@@ -8,9 +8,9 @@ use Rattle.dialogue.specs.declared.request.Request.{Request}
 use Rattle.dialogue.specs.declared.request.Reply.{Reply}
 use Rattle.dialogue.specs.Fits.{answer_kind_of, dma_after}
 use Rattle.dialogue.specs.Words.{wrap}
-use Rattle.cpu80_tagged_def.specs.State.{State80}
-use Rattle.cpu80_tagged_def.specs.Call.{put_blocks, answered}
-use Rattle.cpu80_tagged_step.specs.declared.turn.Return.{Return}
+use Rattle.cpu80_tagged.specs.State.{State80}
+use Rattle.cpu80_tagged.specs.Call.{put_blocks, answered}
+use Rattle.cpu80_tagged.specs.declared.turn.Return.{Return}
 
 -- of the k cells below SP nothing is known, but for those that are closed
 abbrev pub spoiled_cells : ℕ → (ℕ → Bool) → ℕ → (ℕ → Cell) → ℕ → Cell

@@ -1,38 +1,105 @@
--- The state that a machine's fields stand for, and whether it asks.
-use Rattle.std.specs.Prelude.{Bool, true, false, Result}
+-- The state of the tagged 8080: what each register and cell is known to hold.
+use Rattle.std.specs.Prelude.{ℕ, ◌/◌, ◌%◌, Bool, Option, Some, None, Result, Ok, Err}
+use Rattle.cells.specs.declared.Place.{Place}
+use Rattle.cells.specs.declared.Flags.{Flags}
+use Rattle.cells.specs.declared.Cell.{Cell}
+use Rattle.cells.specs.declared.Cell.TheVariants.{Num, Lo, Hi, Psw, Junk}
 use Rattle.cells.specs.declared.Rule.{Rule}
-use Rattle.dialogue.specs.declared.request.Shape.{Shape}
-use Rattle.dialogue.specs.Shape.{Seen, shape_of}
-use Rattle.cpu80_tagged_def.specs.State.{State80, num_of}
-use Rattle.cpu80_tagged_step.specs.Draft.{regs_of_draft, memory_of}
-use Rattle.cpu80_tagged_step.specs.Sight.{seen_over, closed_in}
-use Rattle.cpu80_tagged.specs.declared.processor.Cpu80.{Cpu80}
-use Rattle.cpu80_tagged.specs.declared.processor.Phase.{Phase}
-use Rattle.cpu80_tagged.specs.declared.processor.Phase.TheVariants.{Running, Asking, Ended}
+use Rattle.i80.specs.declared.Reg.{Reg}
+use Rattle.i80.specs.declared.Reg.TheVariants.{A, B, C, D, E, H, L}
+use Rattle.i80.specs.declared.Pair.{Pair}
+use Rattle.i80.specs.declared.Pair.TheVariants.{B as PairB, D as PairD, H as PairH, Sp}
 
-abbrev pub tagged_state : Cpu80 → State80
-tagged_state c = record {
-  regs = regs_of_draft c.registers;
-  flags = c.flags;
-  sp = c.sp;
-  mem = memory_of c.memory.items;
-  place = c.place;
-  dma = c.dma;
-}
+pub record Regs80 : Type 0 where
+  pub a : Cell
+  pub b : Cell
+  pub c : Cell
+  pub d : Cell
+  pub e : Cell
+  pub h : Cell
+  pub l : Cell
 
-abbrev pub waits : Phase → Bool
-waits Running = false
-waits (Asking what back) = true
-waits Ended = false
+-- SP is a number always; `place` is the instruction that comes next, `dma` the DMA address
+pub record State80 : Type 0 where
+  pub regs : Regs80
+  pub flags : Flags
+  pub sp : ℕ
+  pub mem : ℕ → Cell
+  pub place : Place
+  pub dma : ℕ
 
--- it asks, and waits for a reply
-abbrev pub asks : Cpu80 → Bool
-asks c = waits c.phase
+abbrev pub reg80 : Regs80 → Reg → Cell
+reg80 r A = r.a
+reg80 r B = r.b
+reg80 r C = r.c
+reg80 r D = r.d
+reg80 r E = r.e
+reg80 r H = r.h
+reg80 r L = r.l
 
--- what a call of it sees of memory, and the shape of the call that its registers make
-abbrev pub seen_of : Cpu80 → Bool → Seen
-seen_of c is_popped = seen_over (closed_in c.uses.items) (memory_of c.memory.items) c.sp is_popped
+abbrev pub with_reg80 : Regs80 → Reg → Cell → Regs80
+with_reg80 r A v = record r { a = v }
+with_reg80 r B v = record r { b = v }
+with_reg80 r C v = record r { c = v }
+with_reg80 r D v = record r { d = v }
+with_reg80 r E v = record r { e = v }
+with_reg80 r H v = record r { h = v }
+with_reg80 r L v = record r { l = v }
 
-abbrev pub tagged_shape : Cpu80 → Bool → Result Shape Rule
-tagged_shape c is_popped =
-    shape_of (num_of c.registers.c) (num_of c.registers.d) (num_of c.registers.e) c.dma (seen_of c is_popped)
+-- the halves of a pair
+abbrev pub high_of : State80 → Pair → Cell
+high_of s PairB = s.regs.b
+high_of s PairD = s.regs.d
+high_of s PairH = s.regs.h
+high_of s Sp = Num (s.sp / 256)
+
+abbrev pub low_of : State80 → Pair → Cell
+low_of s PairB = s.regs.c
+low_of s PairD = s.regs.e
+low_of s PairH = s.regs.l
+low_of s Sp = Num (s.sp % 256)
+
+-- two cells into a pair of registers
+abbrev pub with_bc : State80 → Cell → Cell → State80
+with_bc s high low = record s { regs = record (s.regs) { b = high; c = low } }
+
+abbrev pub with_de : State80 → Cell → Cell → State80
+with_de s high low = record s { regs = record (s.regs) { d = high; e = low } }
+
+abbrev pub with_hl : State80 → Cell → Cell → State80
+with_hl s high low = record s { regs = record (s.regs) { h = high; l = low } }
+
+-- a number into a pair
+abbrev pub with_num : State80 → Pair → ℕ → State80
+with_num s PairB w = with_bc s (Num (w / 256)) (Num (w % 256))
+with_num s PairD w = with_de s (Num (w / 256)) (Num (w % 256))
+with_num s PairH w = with_hl s (Num (w / 256)) (Num (w % 256))
+with_num s Sp w = record s { sp = w }
+
+abbrev pub with_a : State80 → Cell → State80
+with_a s v = record s { regs = record (s.regs) { a = v } }
+
+abbrev pub with_flags : State80 → Flags → State80
+with_flags s f = record s { flags = f }
+
+abbrev pub with_cy : State80 → Bool → State80
+with_cy s c = record s { flags = record (s.flags) { cy = Some c } }
+
+abbrev pub junk_regs : Regs80
+junk_regs = record { a = Junk; b = Junk; c = Junk; d = Junk; e = Junk; h = Junk; l = Junk }
+
+-- the number in a cell, if it is one
+abbrev pub num_of : Cell → Option ℕ
+num_of (Num n) = Some n
+num_of (Lo q) = None
+num_of (Hi q) = None
+num_of (Psw f) = None
+num_of Junk = None
+
+-- the number in a cell; without one the rule is broken
+abbrev pub num_or : Rule → Cell → Result ℕ Rule
+num_or r (Num n) = Ok n
+num_or r (Lo q) = Err r
+num_or r (Hi q) = Err r
+num_or r (Psw f) = Err r
+num_or r Junk = Err r

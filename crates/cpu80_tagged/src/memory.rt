@@ -1,15 +1,15 @@
 // Writes to the 64K of cells.
 ghost use Rattle.std.specs.Prelude.{◌≡◌, ◌+◌, ◌≤◌, length, IsTrue, All};
-ghost use Rattle.cpu80_tagged_def.specs.Memory.{put};
-ghost use Rattle.cpu80_tagged_def.specs.Call.{put_bytes, put_blocks};
-ghost use Rattle.cpu80_tagged_step.specs.Draft.{memory_of, memory_written};
-ghost use Rattle.cpu80_tagged_step.specs.Sight.{closed_in};
-ghost use Rattle.cpu80_tagged_step.specs.Write.{write_fits};
+ghost use Rattle.cpu80_tagged.specs.Memory.{put};
+ghost use Rattle.cpu80_tagged.specs.Call.{put_bytes, put_blocks};
+ghost use Rattle.cpu80_tagged.specs.Draft.{memory_of, memory_written};
+ghost use Rattle.cpu80_tagged.specs.Sight.{closed_in};
+ghost use Rattle.cpu80_tagged.specs.Write.{write_fits};
 ghost use Rattle.cpu80_tagged.specs.Reply.{Fits, spoiled_cells};
 
+use crate::area::CellUse;
+use crate::draft::Write;
 use cells::Cell;
-use cpu80_tagged_step::area::CellUse;
-use cpu80_tagged_step::draft::Write;
 use dialogue::Block;
 
 // A cell becomes another.

@@ -1,16 +1,16 @@
 // The machine: registers, flags and 64K of cells, and the three calls that drive it.
 ghost use Rattle.std.specs.Prelude.{◌≡◌, length};
 
+use crate::area::{Area, CellUse};
+use crate::draft::{Draft, Write};
 use crate::memory::{make, put_blocks, spoil};
+use crate::numbers::number_in;
+use crate::registers::Registers;
 use crate::replies::answered;
+use crate::sight::Sight;
+use crate::turn::{Question, Return, Turn};
 use asm80_program_types::Program80;
 use cells::{Cell, Flags, Place, Rule};
-use cpu80_tagged_step::area::{Area, CellUse};
-use cpu80_tagged_step::draft::{Draft, Write};
-use cpu80_tagged_step::numbers::number_in;
-use cpu80_tagged_step::registers::Registers;
-use cpu80_tagged_step::sight::Sight;
-use cpu80_tagged_step::turn::{Question, Return, Turn};
 use dialogue::{
     Blocks, Event, Reply, Request, Shape, answer_of, dma_after, fits, fits_event, request_of,
     shape_of,
@@ -56,10 +56,10 @@ impl Cpu80 {
     ghost use Rattle.dialogue.specs.Fits.{fits};
     ghost use Rattle.dialogue.specs.Shape.{seen_by_view};
     ghost use Rattle.asm80_program_types.specs.Program.{Program};
-    ghost use Rattle.cpu80_tagged_def.specs.Step.{step80};
-    ghost use Rattle.cpu80_tagged_step.specs.Draft.{memory_of, IsFresh, state_of_draft as draft_state};
-    ghost use Rattle.cpu80_tagged_step.specs.Sight.{byte_over, writable_over, closed_in};
-    ghost use Rattle.cpu80_tagged.specs.State.{tagged_state, asks, seen_of, tagged_shape};
+    ghost use Rattle.cpu80_tagged.specs.Step.{step80};
+    ghost use Rattle.cpu80_tagged.specs.Draft.{memory_of, IsFresh, state_of_draft as draft_state};
+    ghost use Rattle.cpu80_tagged.specs.Sight.{byte_over, writable_over, closed_in};
+    ghost use Rattle.cpu80_tagged.specs.ProcessorState.{tagged_state, asks, seen_of, tagged_shape};
     ghost use Rattle.cpu80_tagged.specs.Reply.{Fits, after_taken_reply};
     ghost use Rattle.cpu80_tagged.specs.Machine.{IsMachineOf, IsTaggedStep, has_asked, IsEventAsked, IsReplyTo};
 

@@ -1,12 +1,12 @@
 // What a reply leaves in the registers.
 ghost use Rattle.std.specs.Prelude.{◌≡◌, IsTrue};
 ghost use Rattle.dialogue.specs.Fits.{answer_fits};
-ghost use Rattle.cpu80_tagged_def.specs.Call.{answered};
-ghost use Rattle.cpu80_tagged_def.specs.State.{junk_regs};
-ghost use Rattle.cpu80_tagged_step.specs.Draft.{regs_of_draft};
+ghost use Rattle.cpu80_tagged.specs.Call.{answered};
+ghost use Rattle.cpu80_tagged.specs.State.{junk_regs};
+ghost use Rattle.cpu80_tagged.specs.Draft.{regs_of_draft};
 
+use crate::registers::Registers;
 use cells::Cell;
-use cpu80_tagged_step::registers::Registers;
 use dialogue::AnswerKind;
 
 /// Registers of which nothing is known.

@@ -1,16 +1,16 @@
 // The start of a program.
 ghost use Rattle.std.specs.Prelude.{◌≡◌, ◌<◌, ◌≤◌, length, IfOk};
 ghost use Rattle.asm80_program_types.specs.Program.{is_start};
-ghost use Rattle.cpu80_tagged_def.specs.Memory.{is_closed};
-ghost use Rattle.cpu80_tagged_def.specs.Start.{start_cell80};
-ghost use Rattle.cpu80_tagged_step.specs.Area.{HasUses, is_closed_use, is_start_use};
-ghost use Rattle.cpu80_tagged_step.specs.Draft.{memory_of};
+ghost use Rattle.cpu80_tagged.specs.Memory.{is_closed};
+ghost use Rattle.cpu80_tagged.specs.Start.{start_cell80};
+ghost use Rattle.cpu80_tagged.specs.Area.{HasUses, is_closed_use, is_start_use};
+ghost use Rattle.cpu80_tagged.specs.Draft.{memory_of};
 
+use crate::area::CellUse;
 use crate::processor::{Cpu80, Phase};
 use crate::replies::junk;
 use asm80_program_types::Program80;
 use cells::{Cell, Flags, Place};
-use cpu80_tagged_step::area::CellUse;
 use dialogue::Page;
 use std::alloc::{AllocError, Global};
 
@@ -93,8 +93,8 @@ fn start_memory(alloc: Global, program: &Program80, page: &[u8]) -> Result<Vec<C
 
 impl Cpu80 {
     ghost use Rattle.std.specs.Prelude.{false};
-    ghost use Rattle.cpu80_tagged_def.specs.Start.{start80};
-    ghost use Rattle.cpu80_tagged.specs.State.{tagged_state, asks};
+    ghost use Rattle.cpu80_tagged.specs.Start.{start80};
+    ghost use Rattle.cpu80_tagged.specs.ProcessorState.{tagged_state, asks};
     ghost use Rattle.cpu80_tagged.specs.Machine.{IsMachineOf};
 
     /// The machine as a program begins: at 100H, with SP at the return to the end, and with a start page.

@@ -10,8 +10,8 @@ use Rattle.dialogue.specs.Shape.{request_of}
 use Rattle.dialogue.specs.ByteMemory.{seen_by}
 use Rattle.dialogue.specs.Run.{Ends, Stops, Waiting, Stopped}
 use Rattle.dialogue.specs.Calls.{settled}
-use Rattle.cpu80_untagged_def.specs.State.{UntaggedState}
-use Rattle.cpu80_untagged_def.specs.Call.{OddCall, ask, shape_in, call_system}
+use Rattle.cpu80_untagged.specs.State.{UntaggedState}
+use Rattle.cpu80_untagged.specs.Call.{OddCall, ask, shape_in, call_system}
 use Rattle.cpu80_untagged.specs.declared.machine.Pending.TheVariants.{Answer}
 use Rattle.cpu80_untagged.specs.declared.system.Return.{Return}
 use Rattle.cpu80_untagged.specs.Back.{IsUntaggedCall}

@@ -5,7 +5,7 @@ use Rattle.std.proofs.lemmas.Bool.Decides.{nat_tests}
 use Rattle.std.proofs.lemmas.List.{get_or_append_left, get_or_push, get_or_past}
 use Rattle.asm80_program_types.specs.Program.{Program, IsProgram, cell_at}
 use Rattle.asm80_program_types.proofs.CellSearch.{no_cell}
-use Rattle.cpu80_untagged_def.specs.Start.{datum_or, start_byte}
+use Rattle.cpu80_untagged.specs.Start.{datum_or, start_byte}
 
 -- past 64K there are zeros
 start_past : (p : Program) (page fill : List ℕ) (a : ℕ) → IsProgram p → p.top ≤ 0xFF00 → length fill ≡ 0x10000 → 0x10000 ≤ a → start_byte p page fill a ≡ 0

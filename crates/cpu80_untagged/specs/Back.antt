@@ -1,8 +1,8 @@
 -- A call of the system by a processor, and where it goes on.
 use Rattle.std.specs.Prelude.{◌≡◌, Ok}
 use Rattle.dialogue.specs.declared.request.Shape.{Shape}
-use Rattle.cpu80_untagged_def.specs.State.{UntaggedState}
-use Rattle.cpu80_untagged_def.specs.Call.{shape_in, Return}
+use Rattle.cpu80_untagged.specs.State.{UntaggedState}
+use Rattle.cpu80_untagged.specs.Call.{shape_in, Return}
 use Rattle.cpu80_untagged.specs.declared.system.Return.{Return as Kept}
 
 abbrev pub back_of : Kept → Return

@@ -2,10 +2,10 @@
 use Rattle.std.specs.Prelude.{ℕ}
 use Rattle.i80.specs.declared.Op.{Op}
 use Rattle.i80.specs.declared.Src.{Src}
-use Rattle.base_arithmetic_def.specs.Operations.{result_of, flags_of}
-use Rattle.cpu80_untagged_def.specs.Flags.{settled}
-use Rattle.cpu80_untagged_def.specs.State.{UntaggedState, with_flags}
-use Rattle.cpu80_untagged_def.specs.Effect.{source, into}
+use Rattle.base.specs.Operations.{result_of, flags_of}
+use Rattle.cpu80_untagged.specs.Flags.{settled}
+use Rattle.cpu80_untagged.specs.State.{UntaggedState, with_flags}
+use Rattle.cpu80_untagged.specs.Effect.{source, into}
 
 -- the flags of an operation on a byte and 1, which keeps CY
 abbrev pub with_counted : UntaggedState → Op → ℕ → ℕ → UntaggedState

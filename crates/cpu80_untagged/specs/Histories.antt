@@ -5,9 +5,9 @@ use Rattle.dialogue.specs.declared.request.Event.{Event}
 use Rattle.dialogue.specs.Run.{Status, turns, start_run}
 use Rattle.dialogue.specs.Calls.{Standing}
 use Rattle.dialogue.specs.Histories.{Calls, IsRunAt}
-use Rattle.cpu80_untagged_def.specs.State.{UntaggedState}
-use Rattle.cpu80_untagged_def.specs.Call.{Stop}
-use Rattle.cpu80_untagged_def.specs.Step.{Fetch, untagged_machine}
+use Rattle.cpu80_untagged.specs.State.{UntaggedState}
+use Rattle.cpu80_untagged.specs.Call.{Stop}
+use Rattle.cpu80_untagged.specs.Step.{Fetch, untagged_machine}
 
 -- Any calls on a machine give its run, from the state in which it began, over the replies that were taken. Of a program, which
 -- begins in `start_untagged p page fill` with the fetch `program_fetch p`, this is `run_untagged p page fill`.

@@ -1,4 +1,11 @@
 pub mod State
+pub mod Flags
+pub mod Effect
+pub mod Call
+pub mod Step
+pub mod Start
+pub mod Follows
+pub mod ProcessorState
 pub mod Back
 pub mod Standing
 pub mod Plain

@@ -2,9 +2,9 @@
 use Rattle.asm80_program_types.specs.Program.{Program}
 use Rattle.dialogue.specs.Run.{Status, Going, Waiting, Over, Stopped}
 use Rattle.dialogue.specs.Calls.{Standing}
-use Rattle.cpu80_untagged_def.specs.State.{UntaggedState}
-use Rattle.cpu80_untagged_def.specs.Call.{Stop}
-use Rattle.cpu80_untagged_def.specs.Step.{program_fetch}
+use Rattle.cpu80_untagged.specs.State.{UntaggedState}
+use Rattle.cpu80_untagged.specs.Call.{Stop}
+use Rattle.cpu80_untagged.specs.Step.{program_fetch}
 use Rattle.cpu80_untagged.specs.declared.plain.StepPlain.{StepPlain}
 use Rattle.cpu80_untagged.specs.declared.plain.StepPlain.TheVariants.{Ran, Asked, Ended, Stopped as DidStop}
 use Rattle.cpu80_untagged.specs.declared.plain.Plain80.{Plain80}

@@ -9,10 +9,10 @@ use Rattle.dialogue.specs.Shape.{request_of}
 use Rattle.dialogue.specs.ByteMemory.{seen_by}
 use Rattle.dialogue.specs.Run.{Status, Going, Waiting, Over, Stopped}
 use Rattle.dialogue.specs.Calls.{Standing}
-use Rattle.cpu80_untagged_def.specs.State.{UntaggedState}
-use Rattle.cpu80_untagged_def.specs.Call.{Stop, NoInstruction, OddCall, Return, popped_return}
-use Rattle.cpu80_untagged_def.specs.Step.{Fetch, return_at}
-use Rattle.cpu80_untagged.specs.State.{untagged_state}
+use Rattle.cpu80_untagged.specs.State.{UntaggedState}
+use Rattle.cpu80_untagged.specs.Call.{Stop, NoInstruction, OddCall, Return, popped_return}
+use Rattle.cpu80_untagged.specs.Step.{Fetch, return_at}
+use Rattle.cpu80_untagged.specs.ProcessorState.{untagged_state}
 use Rattle.cpu80_untagged.specs.Back.{back_of}
 use Rattle.cpu80_untagged.specs.declared.machine.Pending.{Pending}
 use Rattle.cpu80_untagged.specs.declared.machine.Pending.TheVariants.{Nothing, Answer, Byte, Taking, Ending}

@@ -1,14 +1,14 @@
 // Arithmetic (8080 Assembly Language Programming Manual, "Register or memory to accumulator instructions", "Single register
 // instructions", "Register pair instructions", "Rotate accumulator instructions").
 ghost use Rattle.std.specs.Prelude.{◌≡◌, ◌≤◌, Some, None};
-ghost use Rattle.base_arithmetic_def.specs.Arithmetic.{as_bit, turned_left, turned_right};
-ghost use Rattle.cpu80_untagged_def.specs.Effect.{carry_for, alu, add_to_pair, dad, daa, turned};
+ghost use Rattle.base.specs.Arithmetic.{as_bit, turned_left, turned_right};
+ghost use Rattle.cpu80_untagged.specs.Effect.{carry_for, alu, add_to_pair, dad, daa, turned};
 ghost use Rattle.cpu80_untagged.specs.Counting.{count_by};
-ghost use Rattle.cpu80_untagged.specs.State.{untagged_flags, untagged_state};
+ghost use Rattle.cpu80_untagged.specs.ProcessorState.{untagged_flags, untagged_state};
 
 use crate::flags::FlagBits;
 use crate::processor::Processor;
-use cpu80_tagged_step::numbers::{adjusted, byte_flags, is_excepted, outcome, outcome_flags};
+use cpu80_tagged::numbers::{adjusted, byte_flags, is_excepted, outcome, outcome_flags};
 use dialogue::choice_byte;
 use i80::{Op, Pair, Src};
 

@@ -1,7 +1,7 @@
 // The table of instructions (8080 Assembly Language Programming Manual, chapter 2).
 ghost use Rattle.std.specs.Prelude.{◌≡◌};
-ghost use Rattle.cpu80_untagged_def.specs.Effect.{effect};
-ghost use Rattle.cpu80_untagged.specs.State.{untagged_state};
+ghost use Rattle.cpu80_untagged.specs.Effect.{effect};
+ghost use Rattle.cpu80_untagged.specs.ProcessorState.{untagged_state};
 
 use crate::arithmetic::{left, right};
 use crate::processor::Processor;

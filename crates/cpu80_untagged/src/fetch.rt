@@ -1,8 +1,8 @@
 // Where the machine takes its instructions from.
 ghost use Rattle.std.specs.Prelude.{◌≡◌, IfSome, IsTrue};
 ghost use Rattle.i80.specs.Columns.{is_well_formed};
-ghost use Rattle.cpu80_untagged_def.specs.Step.{Fetch, program_fetch};
-ghost use Rattle.cpu80_untagged.specs.State.{untagged_state};
+ghost use Rattle.cpu80_untagged.specs.Step.{Fetch, program_fetch};
+ghost use Rattle.cpu80_untagged.specs.ProcessorState.{untagged_state};
 
 use crate::processor::Processor;
 use asm80_program_types::Program80;

@@ -1,8 +1,8 @@
 // The flags (Intel 8080 Assembly Language Programming Manual, "Condition bits").
 ghost use Rattle.std.specs.Prelude.{◌≡◌, ◌+◌, ◌<◌};
 ghost use Rattle.cells.specs.Bits.{has_bit};
-ghost use Rattle.cpu80_untagged_def.specs.Flags.{settled, chosen_flags, flag_byte, flags_in_byte, holds};
-ghost use Rattle.cpu80_untagged.specs.State.{untagged_flags};
+ghost use Rattle.cpu80_untagged.specs.Flags.{settled, chosen_flags, flag_byte, flags_in_byte, holds};
+ghost use Rattle.cpu80_untagged.specs.ProcessorState.{untagged_flags};
 
 use cells::{Cond, Flags};
 use dialogue::choice_bit;

@@ -11,12 +11,12 @@ use i80::{Goal, Instr80, Pair, length};
 impl Untagged80 {
     ghost use Rattle.std.specs.Prelude.{Option, Some, ◌/◌, ◌%◌};
     ghost use Rattle.cells.specs.declared.Place.TheVariants.{At};
-    ghost use Rattle.cpu80_untagged_def.specs.Call.{call_system, popped_return, Return};
-    ghost use Rattle.cpu80_untagged_def.specs.Effect.{push, effect};
+    ghost use Rattle.cpu80_untagged.specs.Call.{call_system, popped_return, Return};
+    ghost use Rattle.cpu80_untagged.specs.Effect.{push, effect};
     ghost use Rattle.dialogue.specs.Run.{Ends};
     ghost use Rattle.dialogue.specs.Calls.{settled, IsOpen};
-    ghost use Rattle.cpu80_untagged_def.specs.Step.{go_to, leave_to, ret, jump, call, act, step_untagged, return_at};
-    ghost use Rattle.cpu80_untagged.specs.State.{untagged_state};
+    ghost use Rattle.cpu80_untagged.specs.Step.{go_to, leave_to, ret, jump, call, act, step_untagged, return_at};
+    ghost use Rattle.cpu80_untagged.specs.ProcessorState.{untagged_state};
     ghost use Rattle.cpu80_untagged.specs.Back.{back_of};
     ghost use Rattle.cpu80_untagged.specs.Standing.{standing, status_of, Keeps, goes_on_at};
 

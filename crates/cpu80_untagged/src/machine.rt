@@ -1,7 +1,7 @@
 // The machine: a processor, and what it has said last.
 ghost use Rattle.std.specs.Prelude.{◌≡◌};
 ghost use Rattle.dialogue.specs.declared.request.Shape.{Shape};
-ghost use Rattle.cpu80_untagged.specs.State.{untagged_state};
+ghost use Rattle.cpu80_untagged.specs.ProcessorState.{untagged_state};
 ghost use Rattle.cpu80_untagged.specs.Back.{IsUntaggedCall};
 ghost use Rattle.cpu80_untagged.specs.declared.machine.Pending.TheVariants.{Answer};
 ghost use Rattle.cpu80_untagged.specs.declared.system.Return.{Return};
@@ -55,7 +55,7 @@ impl Untagged80 {
     ghost use Rattle.dialogue.specs.Fits.{waits_in};
     ghost use Rattle.dialogue.specs.Lawful.{IsLawfulEvent};
     ghost use Rattle.dialogue.specs.Calls.{stepped, replied, IsOpen, IsStepTold, IsTaken};
-    ghost use Rattle.cpu80_untagged_def.specs.Step.{Fetch, step_untagged, replied_untagged};
+    ghost use Rattle.cpu80_untagged.specs.Step.{Fetch, step_untagged, replied_untagged};
     ghost use Rattle.cpu80_untagged.specs.Standing.{standing, status_of, IsMachineOf};
 
     /// The machine with a processor, before its first step.

@@ -12,8 +12,8 @@ pub struct Memory {
 
 impl Memory {
     ghost use Rattle.dialogue.specs.ByteMemory.{put, put_bytes, put_blocks, word_at};
-    ghost use Rattle.cpu80_untagged_def.specs.State.{put_word};
-    ghost use Rattle.cpu80_untagged.specs.State.{untagged_memory};
+    ghost use Rattle.cpu80_untagged.specs.State.{put_word};
+    ghost use Rattle.cpu80_untagged.specs.ProcessorState.{untagged_memory};
 
     /// The byte at an address.
     pub fn get(&self, at: u16) -> u8
@@ -68,7 +68,7 @@ impl Memory {
 // The system may read and write every cell.
 impl View for Memory {
     ghost use Rattle.std.specs.Prelude.{Some, true};
-    ghost use Rattle.cpu80_untagged.specs.State.{untagged_memory};
+    ghost use Rattle.cpu80_untagged.specs.ProcessorState.{untagged_memory};
 
     ghost byte_at = { λ m a. Some (untagged_memory m a) };
 

@@ -1,8 +1,8 @@
 // Moves, loads and stores (8080 Assembly Language Programming Manual, "Data transfer instructions", "Direct addressing
 // instructions").
 ghost use Rattle.std.specs.Prelude.{◌≡◌};
-ghost use Rattle.cpu80_untagged_def.specs.Effect.{lhld, xchg, xthl};
-ghost use Rattle.cpu80_untagged.specs.State.{untagged_state};
+ghost use Rattle.cpu80_untagged.specs.Effect.{lhld, xchg, xthl};
+ghost use Rattle.cpu80_untagged.specs.ProcessorState.{untagged_state};
 
 use crate::processor::Processor;
 

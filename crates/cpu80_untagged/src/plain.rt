@@ -4,8 +4,8 @@ ghost use Rattle.dialogue.specs.Fits.{waits_in};
 ghost use Rattle.dialogue.specs.Lawful.{IsLawfulEvent};
 ghost use Rattle.dialogue.specs.Calls.{stepped, replied, IsOpen};
 ghost use Rattle.asm80_program_types.specs.Program.{Program};
-ghost use Rattle.cpu80_untagged_def.specs.Start.{start_untagged};
-ghost use Rattle.cpu80_untagged_def.specs.Step.{program_fetch, step_untagged, replied_untagged};
+ghost use Rattle.cpu80_untagged.specs.Start.{start_untagged};
+ghost use Rattle.cpu80_untagged.specs.Step.{program_fetch, step_untagged, replied_untagged};
 ghost use Rattle.cpu80_untagged.specs.Plain.{plain_standing, OfStatus, IsPlainOf};
 
 use crate::machine::{Untagged80, UntaggedStep};

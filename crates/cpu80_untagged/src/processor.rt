@@ -1,8 +1,8 @@
 // The processor: what an instruction reads and writes.
 ghost use Rattle.std.specs.Prelude.{◌≡◌};
-ghost use Rattle.cpu80_untagged_def.specs.State.{pair_word, with_word, with_hl};
-ghost use Rattle.cpu80_untagged_def.specs.Effect.{source, into};
-ghost use Rattle.cpu80_untagged.specs.State.{untagged_state};
+ghost use Rattle.cpu80_untagged.specs.State.{pair_word, with_word, with_hl};
+ghost use Rattle.cpu80_untagged.specs.Effect.{source, into};
+ghost use Rattle.cpu80_untagged.specs.ProcessorState.{untagged_state};
 
 use crate::flags::FlagBits;
 use crate::memory::Memory;

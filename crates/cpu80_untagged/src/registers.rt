@@ -1,9 +1,9 @@
 // The registers (Intel 8080 Assembly Language Programming Manual, chapter 1).
 ghost use Rattle.std.specs.Prelude.{◌≡◌, true};
 ghost use Rattle.dialogue.specs.Fits.{answer_fits};
-ghost use Rattle.cpu80_untagged_def.specs.State.{reg, with_reg};
-ghost use Rattle.cpu80_untagged_def.specs.Call.{chosen_regs, answered};
-ghost use Rattle.cpu80_untagged.specs.State.{untagged_regs};
+ghost use Rattle.cpu80_untagged.specs.State.{reg, with_reg};
+ghost use Rattle.cpu80_untagged.specs.Call.{chosen_regs, answered};
+ghost use Rattle.cpu80_untagged.specs.ProcessorState.{untagged_regs};
 
 use dialogue::{AnswerKind, choice_byte};
 use i80::Reg;

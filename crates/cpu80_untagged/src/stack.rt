@@ -1,7 +1,7 @@
 // The stack (8080 Assembly Language Programming Manual, "PUSH", "POP").
 ghost use Rattle.std.specs.Prelude.{◌≡◌};
-ghost use Rattle.cpu80_untagged_def.specs.Effect.{push, push_pair, pop_pair};
-ghost use Rattle.cpu80_untagged.specs.State.{untagged_state};
+ghost use Rattle.cpu80_untagged.specs.Effect.{push, push_pair, pop_pair};
+ghost use Rattle.cpu80_untagged.specs.ProcessorState.{untagged_state};
 
 use crate::flags::FlagBits;
 use crate::processor::Processor;

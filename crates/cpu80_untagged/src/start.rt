@@ -1,7 +1,7 @@
 // The start of a program: what memory holds.
 ghost use Rattle.std.specs.Prelude.{◌≡◌, ◌%◌, ◌/◌, ◌≤◌, length, IfOk};
-ghost use Rattle.cpu80_untagged_def.specs.Start.{address_of, datum_or, start_byte, start_over};
-ghost use Rattle.cpu80_untagged.specs.State.{untagged_memory, untagged_state};
+ghost use Rattle.cpu80_untagged.specs.Start.{address_of, datum_or, start_byte, start_over};
+ghost use Rattle.cpu80_untagged.specs.ProcessorState.{untagged_memory, untagged_state};
 
 use crate::flags::FlagBits;
 use crate::memory::Memory;

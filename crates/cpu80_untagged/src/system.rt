@@ -2,8 +2,8 @@
 ghost use Rattle.std.specs.Prelude.{◌≡◌, true, MatchOption};
 ghost use Rattle.dialogue.specs.Run.{Stops};
 ghost use Rattle.dialogue.specs.Fits.{fits};
-ghost use Rattle.cpu80_untagged_def.specs.Call.{OddCall, ask, shape_in, popped_return, after_reply};
-ghost use Rattle.cpu80_untagged.specs.State.{untagged_state};
+ghost use Rattle.cpu80_untagged.specs.Call.{OddCall, ask, shape_in, popped_return, after_reply};
+ghost use Rattle.cpu80_untagged.specs.ProcessorState.{untagged_state};
 ghost use Rattle.cpu80_untagged.specs.Back.{back_of, IsUntaggedCall};
 
 use crate::flags::FlagBits;

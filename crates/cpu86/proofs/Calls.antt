@@ -8,9 +8,9 @@ use Rattle.dialogue.specs.declared.request.Event.TheVariants.{Call}
 use Rattle.dialogue.specs.Shape.{shape_of, request_of}
 use Rattle.dialogue.specs.ByteMemory.{put_bytes, seen_by}
 use Rattle.dialogue.specs.Run.{Asks, Ends, Stops}
-use Rattle.cpu86_def.specs.State.{State86, back}
-use Rattle.cpu86_def.specs.Call.{OddCall, ask, call_system, spoiled}
-use Rattle.cpu86.specs.State.{with_mem}
+use Rattle.cpu86.specs.State.{State86, back}
+use Rattle.cpu86.specs.Call.{OddCall, ask, call_system, spoiled}
+use Rattle.cpu86.specs.ProcessorState.{with_mem}
 use Rattle.cpu86.specs.System.{six_at, IsShapeAsked}
 use Rattle.cpu86.proofs.Writes.{put_back_six}
 

@@ -4,7 +4,7 @@ use Rattle.std.proofs.Math.Seq.{take-append_seam}
 use mathlib.Core.Path.{fun_ext}
 use Rattle.std.proofs.lemmas.Bool.Decides.{nat_tests}
 use Rattle.std.proofs.lemmas.List.{get_or-take, get_or-drop, get_or_append_left, get_or-append_right, length-take-le}
-use Rattle.cpu86_def.specs.Start.{start_byte}
+use Rattle.cpu86.specs.Start.{start_byte}
 
 module _ (fill page : List ℕ) (f : length fill ≡ 0x10000) (p : length page ≡ 164) where
   front : length (take 92 fill) ≡ 92

@@ -10,8 +10,8 @@ use Rattle.dialogue.specs.Shape.{request_of}
 use Rattle.dialogue.specs.Fits.{fits_row, fits, fits_event}
 use Rattle.dialogue.specs.ByteMemory.{seen_by}
 use Rattle.dialogue.specs.Calls.{Standing, replied_by}
-use Rattle.cpu86_def.specs.State.{State86}
-use Rattle.cpu86_def.specs.Call.{replied86}
+use Rattle.cpu86.specs.State.{State86}
+use Rattle.cpu86.specs.Call.{replied86}
 use Rattle.cpu86.specs.declared.cpu.Pending.{Pending}
 use Rattle.cpu86.specs.declared.cpu.Pending.TheVariants.{Answer, Byte}
 use Rattle.cpu86.specs.Standing.{said_by}

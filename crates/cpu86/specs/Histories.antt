@@ -7,10 +7,10 @@ use Rattle.dialogue.specs.Run.{Status}
 use Rattle.dialogue.specs.Calls.{Standing}
 use Rattle.dialogue.specs.Histories.{Calls, IsRunAt}
 use Rattle.asm86_line_types.specs.Image.{Image}
-use Rattle.cpu86_def.specs.State.{State86}
-use Rattle.cpu86_def.specs.Call.{Stop}
-use Rattle.cpu86_def.specs.Step.{machine86}
-use Rattle.cpu86_def.specs.Start.{Start, start86, run86}
+use Rattle.cpu86.specs.State.{State86}
+use Rattle.cpu86.specs.Call.{Stop}
+use Rattle.cpu86.specs.Step.{machine86}
+use Rattle.cpu86.specs.Start.{Start, start86, run86}
 
 -- any calls on a machine at the start of an image give the run of the image over the replies that were taken
 unfoldable pub CallsGiveRuns : Type 0

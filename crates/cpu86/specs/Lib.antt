@@ -1,4 +1,10 @@
 pub mod State
+pub mod Flags
+pub mod Effect
+pub mod Call
+pub mod Step
+pub mod Start
+pub mod ProcessorState
 pub mod System
 pub mod Standing
 pub mod Starts

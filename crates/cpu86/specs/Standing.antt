@@ -6,9 +6,9 @@ use Rattle.dialogue.specs.Shape.{request_of}
 use Rattle.dialogue.specs.ByteMemory.{seen_by}
 use Rattle.dialogue.specs.Run.{Status, Going, Waiting, Over, Stopped}
 use Rattle.dialogue.specs.Calls.{Standing}
-use Rattle.cpu86_def.specs.State.{State86}
-use Rattle.cpu86_def.specs.Call.{Stop, NoInstruction, StackSegment, OddCall}
-use Rattle.cpu86.specs.State.{state_of_86}
+use Rattle.cpu86.specs.State.{State86}
+use Rattle.cpu86.specs.Call.{Stop, NoInstruction, StackSegment, OddCall}
+use Rattle.cpu86.specs.ProcessorState.{state_of_86}
 use Rattle.cpu86.specs.declared.cpu.Pending.{Pending}
 use Rattle.cpu86.specs.declared.cpu.Pending.TheVariants.{Nothing, Answer, Byte, Taking, Ending}
 use Rattle.cpu86.specs.declared.cpu.Step86.{Step86}

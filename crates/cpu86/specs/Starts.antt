@@ -1,5 +1,5 @@
 -- The start as the definition has it.
-use Rattle.cpu86_def.specs.Start.{Start}
+use Rattle.cpu86.specs.Start.{Start}
 use Rattle.cpu86.specs.declared.start.Start86.{Start86}
 
 abbrev pub start_of : Start86 → Start

@@ -6,8 +6,8 @@ use Rattle.dialogue.specs.Shape.{shape_of, request_of}
 use Rattle.dialogue.specs.ByteMemory.{seen_by}
 use Rattle.dialogue.specs.Run.{Asks, Ends, Stops}
 use Rattle.dialogue.specs.Words.{wrap}
-use Rattle.cpu86_def.specs.State.{State86}
-use Rattle.cpu86_def.specs.Call.{OddCall, call_system}
+use Rattle.cpu86.specs.State.{State86}
+use Rattle.cpu86.specs.Call.{OddCall, call_system}
 use Rattle.cpu86.specs.declared.system.Interrupt.{Interrupt}
 use Rattle.cpu86.specs.declared.system.Interrupt.TheVariants.{Ends as DoesEnd, Asks as DoesAsk, Odd}
 

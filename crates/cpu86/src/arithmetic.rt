@@ -1,8 +1,8 @@
 // Results and flags of the operations (Intel 8086 Family User's Manual, "Instruction set").
 ghost use Rattle.std.specs.Prelude.{◌≡◌, ◌+◌, ◌*◌, ◌/◌, ◌%◌, ◌≤◌};
-ghost use Rattle.base_arithmetic_def.specs.Arithmetic.{sum8, carry8, carry4, difference8, borrow8, borrow4, as_bit, turned_left, turned_right, daa_adds_6, daa_carry, daa_result, daa_excepted};
-ghost use Rattle.cpu86_def.specs.Flags.{flags_by, alu_result, alu_flags, count8_result, count8_flags, count16_result, count16_flags, add16_flags, rotate8_result, rotate8_carry, rotate16_result, rotate16_carry};
-ghost use Rattle.cpu86.specs.State.{flags_of_86};
+ghost use Rattle.base.specs.Arithmetic.{sum8, carry8, carry4, difference8, borrow8, borrow4, as_bit, turned_left, turned_right, daa_adds_6, daa_carry, daa_result, daa_excepted};
+ghost use Rattle.cpu86.specs.Flags.{flags_by, alu_result, alu_flags, count8_result, count8_flags, count16_result, count16_flags, add16_flags, rotate8_result, rotate8_carry, rotate16_result, rotate16_carry};
+ghost use Rattle.cpu86.specs.ProcessorState.{flags_of_86};
 
 use crate::flags::Flags;
 use dialogue::choice_bit;

@@ -1,8 +1,8 @@
 // The machine: code, a processor, and what it has said last.
 ghost use Rattle.std.specs.Prelude.{◌≡◌, ℕ, Option, Some, length};
 ghost use Rattle.dialogue.specs.declared.request.Shape.{Shape};
-ghost use Rattle.cpu86_def.specs.Step.{uses_stack};
-ghost use Rattle.cpu86.specs.State.{state_of_86};
+ghost use Rattle.cpu86.specs.Step.{uses_stack};
+ghost use Rattle.cpu86.specs.ProcessorState.{state_of_86};
 ghost use Rattle.cpu86.specs.System.{IsShapeAsked};
 ghost use Rattle.cpu86.specs.declared.cpu.Pending.TheVariants.{Answer};
 ghost use Rattle.std.proofs.Props.{props};
@@ -63,9 +63,9 @@ impl Cpu86 {
     ghost use Rattle.dialogue.specs.Calls.{settled, stepped, replied, IsOpen, IsStepTold, IsTaken};
     ghost use Rattle.i86.specs.declared.Instr86.{Instr86};
     ghost use Rattle.i86.specs.Code.{ReadsCode};
-    ghost use Rattle.cpu86_def.specs.Call.{call_system, replied86};
-    ghost use Rattle.cpu86_def.specs.Step.{step86, act_from};
-    ghost use Rattle.cpu86_def.specs.Start.{start86};
+    ghost use Rattle.cpu86.specs.Call.{call_system, replied86};
+    ghost use Rattle.cpu86.specs.Step.{step86, act_from};
+    ghost use Rattle.cpu86.specs.Start.{start86};
     ghost use Rattle.cpu86.specs.Starts.{start_of};
     ghost use Rattle.cpu86.specs.Standing.{standing, status_of, code_kept};
 

@@ -1,9 +1,9 @@
 // What the families of instructions do (Intel 8086 Family User's Manual, "Instruction set").
 ghost use Rattle.std.specs.Prelude.{◌≡◌, ◌+◌};
 ghost use Rattle.i86.specs.Enc86.{reg_of_stack};
-ghost use Rattle.cpu86.specs.State.{state_of_86};
-ghost use Rattle.cpu86_def.specs.State.{push, with16};
-ghost use Rattle.cpu86_def.specs.Effect.{alu_al, or_cl, count8, count16, add16, xchg8, xchg16, rotate8, rotate16, daa, popped, with_pop, distance, jump_by, effect};
+ghost use Rattle.cpu86.specs.ProcessorState.{state_of_86};
+ghost use Rattle.cpu86.specs.State.{push, with16};
+ghost use Rattle.cpu86.specs.Effect.{alu_al, or_cl, count8, count16, add16, xchg8, xchg16, rotate8, rotate16, daa, popped, with_pop, distance, jump_by, effect};
 
 use crate::arithmetic::{
     add16_flags, adds_6, adjusted, alu_flags, alu_result, count8_flags, count8_result,

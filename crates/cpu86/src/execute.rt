@@ -1,7 +1,7 @@
 // The table of instructions (Intel 8086 Family User's Manual, "Instruction set").
 ghost use Rattle.std.specs.Prelude.{◌≡◌};
-ghost use Rattle.cpu86.specs.State.{state_of_86};
-ghost use Rattle.cpu86_def.specs.Effect.{effect};
+ghost use Rattle.cpu86.specs.ProcessorState.{state_of_86};
+ghost use Rattle.cpu86.specs.Effect.{effect};
 
 use crate::effects::{distance, word_register};
 use crate::flags::Flags;

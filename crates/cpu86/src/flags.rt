@@ -1,8 +1,8 @@
 // The flags (Intel 8086 Family User's Manual, "Flags").
 ghost use Rattle.std.specs.Prelude.{◌≡◌, ◌+◌, ◌<◌};
-ghost use Rattle.base_arithmetic_def.specs.Arithmetic.{has_even_parity};
-ghost use Rattle.cpu86_def.specs.Flags.{flags_by, flags_by_word, chosen_flags, flag_byte, flags_of_byte, jumps};
-ghost use Rattle.cpu86.specs.State.{flags_of_86};
+ghost use Rattle.base.specs.Arithmetic.{has_even_parity};
+ghost use Rattle.cpu86.specs.Flags.{flags_by, flags_by_word, chosen_flags, flag_byte, flags_of_byte, jumps};
+ghost use Rattle.cpu86.specs.ProcessorState.{flags_of_86};
 
 use dialogue::choice_bit;
 use i86::Jump;

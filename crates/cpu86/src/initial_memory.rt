@@ -1,7 +1,7 @@
 // The start of a program: what memory holds.
 ghost use Rattle.std.specs.Prelude.{◌≡◌, length, IfOk};
-ghost use Rattle.cpu86.specs.State.{memory_of_86};
-ghost use Rattle.cpu86_def.specs.Start.{start_byte};
+ghost use Rattle.cpu86.specs.ProcessorState.{memory_of_86};
+ghost use Rattle.cpu86.specs.Start.{start_byte};
 ghost use Rattle.dialogue.specs.ByteMemory.{put_cells};
 
 use crate::memory::Memory;

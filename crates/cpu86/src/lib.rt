@@ -1,4 +1,8 @@
-// The 8086: one step as code, and the machine with an image, step by step.
+// The 8086 as far as the texts use it: as a definition, one step as code, and the machine with an image, step by step.
+//
+// The definition (`specs/State`, `Flags`, `Effect`, `Call`, `Step`, `Start`): small-step semantics in which a list of choices (an oracle)
+// gives each result that the manuals leave undefined: its states, the effect of each instruction, one step (`step86`), INT 224 and its
+// replies, and runs of an image (`run86`). From the Intel 8086 Family User's Manual and the CP/M-86 System Guide, "BDOS calls".
 //
 // One step: its registers, flags and memory, and what each instruction does to them. Proved, over every choice of what the manuals leave
 // undefined: `Processor::execute` is the definition's effect of every instruction, and each function below it is that of its family of

@@ -11,11 +11,11 @@ pub struct Memory {
 }
 
 impl Memory {
-    ghost use Rattle.cpu86.specs.State.{memory_of_86};
+    ghost use Rattle.cpu86.specs.ProcessorState.{memory_of_86};
     ghost use Rattle.cpu86.specs.System.{six_at};
     ghost use Rattle.dialogue.specs.ByteMemory.{put, put_bytes, put_blocks, word_at};
-    ghost use Rattle.cpu86_def.specs.State.{put_word};
-    ghost use Rattle.cpu86_def.specs.Call.{spoiled};
+    ghost use Rattle.cpu86.specs.State.{put_word};
+    ghost use Rattle.cpu86.specs.Call.{spoiled};
 
     /// The byte at an address.
     pub fn get(&self, at: u16) -> u8
@@ -99,7 +99,7 @@ impl Memory {
 // The system may read and write every cell.
 impl View for Memory {
     ghost use Rattle.std.specs.Prelude.{Some, true};
-    ghost use Rattle.cpu86.specs.State.{memory_of_86};
+    ghost use Rattle.cpu86.specs.ProcessorState.{memory_of_86};
 
     ghost byte_at = { λ m a. Some (memory_of_86 m a) };
 

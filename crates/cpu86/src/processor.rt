@@ -1,9 +1,9 @@
 // The processor: what an instruction reads and writes.
 ghost use Rattle.std.specs.Prelude.{◌≡◌};
-ghost use Rattle.cpu86.specs.State.{state_of_86, with_mem};
+ghost use Rattle.cpu86.specs.ProcessorState.{state_of_86, with_mem};
 ghost use Rattle.dialogue.specs.ByteMemory.{put};
-ghost use Rattle.cpu86_def.specs.State.{reg8, reg16, with16, pointed, operand8, with_operand8, operand16, push, put_word};
-ghost use Rattle.cpu86_def.specs.Effect.{set8, popped, with_pop};
+ghost use Rattle.cpu86.specs.State.{reg8, reg16, with16, pointed, operand8, with_operand8, operand16, push, put_word};
+ghost use Rattle.cpu86.specs.Effect.{set8, popped, with_pop};
 
 use crate::flags::Flags;
 use crate::memory::Memory;

@@ -1,7 +1,7 @@
 // The byte registers (Intel 8086 Family User's Manual, "Registers").
 ghost use Rattle.std.specs.Prelude.{◌≡◌};
-ghost use Rattle.cpu86.specs.State.{regs_of_86};
-ghost use Rattle.cpu86_def.specs.State.{reg8, with8};
+ghost use Rattle.cpu86.specs.ProcessorState.{regs_of_86};
+ghost use Rattle.cpu86.specs.State.{reg8, with8};
 
 use i86::Reg8;
 

@@ -1,6 +1,6 @@
 // The start of a program.
 ghost use Rattle.std.specs.Prelude.{◌≡◌, ◌/◌, ◌%◌};
-ghost use Rattle.cpu86.specs.State.{regs_of_86};
+ghost use Rattle.cpu86.specs.ProcessorState.{regs_of_86};
 
 use crate::registers::Registers;
 

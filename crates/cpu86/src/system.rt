@@ -4,8 +4,8 @@ ghost use Rattle.std.specs.Result.{result_ok};
 ghost use Rattle.dialogue.specs.Shape.{shape_of};
 ghost use Rattle.dialogue.specs.Fits.{answer_fits, fits};
 ghost use Rattle.dialogue.specs.ByteMemory.{seen_by};
-ghost use Rattle.cpu86_def.specs.Call.{chosen_regs, answered, after_reply};
-ghost use Rattle.cpu86.specs.State.{regs_of_86, state_of_86};
+ghost use Rattle.cpu86.specs.Call.{chosen_regs, answered, after_reply};
+ghost use Rattle.cpu86.specs.ProcessorState.{regs_of_86, state_of_86};
 ghost use Rattle.cpu86.specs.System.{IsInterrupt};
 
 use crate::flags::Flags;

@@ -10,10 +10,10 @@ use Rattle.i86.specs.Decoder.{decoded}
 use Rattle.dialogue.specs.declared.request.Reply.{Reply}
 use Rattle.dialogue.specs.declared.request.Event.{Event}
 use Rattle.dialogue.specs.Run.{Answer, Ran, Asks, Ends, Stops, choice_at}
-use Rattle.cpu86_def.specs.State.{State86}
-use Rattle.cpu86_def.specs.Call.{Stop, replied86}
-use Rattle.cpu86_def.specs.Start.{Start, start86}
-use Rattle.cpu86_def.specs.Step.{step86, machine86}
+use Rattle.cpu86.specs.State.{State86}
+use Rattle.cpu86.specs.Call.{Stop, replied86}
+use Rattle.cpu86.specs.Start.{Start, start86}
+use Rattle.cpu86.specs.Step.{step86, machine86}
 use Rattle.emulator_loop.specs.declared.emulator.Turn.TheVariants.{Ran as HasRun, Asks as HasAsked, Ended, Stopped as HasStopped}
 use Rattle.emulator_loop.specs.Turns.{no_past, Course, with_reply_taken, after_asked, IsTurn}
 use Rattle.emulators.specs.Courses.{why86, course86, course86_from}

@@ -9,15 +9,15 @@ use Rattle.dialogue.specs.declared.request.Event.{Event}
 use Rattle.dialogue.specs.Run.{Asks}
 use Rattle.asm80_program_types.specs.Program.{Program}
 use Rattle.asm86_line_types.specs.Image.{Image}
-use Rattle.cpu80_tagged_def.specs.State.{State80}
-use Rattle.cpu80_tagged_def.specs.Start.{run80}
-use Rattle.cpu80_tagged_def.specs.Step.{step80, machine80}
-use Rattle.cpu86_def.specs.State.{State86}
-use Rattle.cpu86_def.specs.Call.{Stop, NoInstruction, StackSegment, OddCall}
-use Rattle.cpu86_def.specs.Start.{Start, run86}
-use Rattle.cpu86_def.specs.Step.{machine86}
+use Rattle.cpu80_tagged.specs.State.{State80}
+use Rattle.cpu80_tagged.specs.Start.{run80}
+use Rattle.cpu80_tagged.specs.Step.{step80, machine80}
+use Rattle.cpu86.specs.State.{State86}
+use Rattle.cpu86.specs.Call.{Stop, NoInstruction, StackSegment, OddCall}
+use Rattle.cpu86.specs.Start.{Start, run86}
+use Rattle.cpu86.specs.Step.{machine86}
 use Rattle.cpu80_tagged.specs.declared.processor.Cpu80.{Cpu80}
-use Rattle.cpu80_tagged.specs.State.{tagged_state, asks}
+use Rattle.cpu80_tagged.specs.ProcessorState.{tagged_state, asks}
 use Rattle.cpu80_tagged.specs.Machine.{IsMachineOf}
 use Rattle.cpu86.specs.declared.cpu.Cpu86.{Cpu86}
 use Rattle.cpu86.specs.Standing.{standing, code_kept}

@@ -5,9 +5,9 @@ ghost use Rattle.i86.specs.Decode.{IsOnlyReader};
 ghost use Rattle.i86.specs.Decoder.{decoded};
 ghost use Rattle.asm80_program_types.specs.Program.{Program};
 ghost use Rattle.asm86_line_types.specs.Image.{Image};
-ghost use Rattle.cpu86_def.specs.Start.{Start};
+ghost use Rattle.cpu86.specs.Start.{Start};
 ghost use Rattle.emulator_loop.specs.Talk.{HasOneRun};
-ghost use Rattle.cpu80_untagged_def.specs.Step.{Fetch};
+ghost use Rattle.cpu80_untagged.specs.Step.{Fetch};
 ghost use Rattle.emulators.specs.Courses.{course80, course86};
 ghost use Rattle.emulators.specs.ByteCourses.{course_bytes};
 

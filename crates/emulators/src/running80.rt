@@ -15,8 +15,8 @@ pub struct Running80<'a> {
 }
 
 impl<'a> Running80<'a> {
-    ghost use Rattle.cpu80_tagged_def.specs.Start.{start80};
-    ghost use Rattle.cpu80_tagged.specs.State.{tagged_state};
+    ghost use Rattle.cpu80_tagged.specs.Start.{start80};
+    ghost use Rattle.cpu80_tagged.specs.ProcessorState.{tagged_state};
     ghost use Rattle.cpu80_tagged.specs.Machine.{IsMachineOf};
 
     /// The machine as its program begins, with a start page.
@@ -36,8 +36,8 @@ impl<'a> Running80<'a> {
 
 impl<'a> Emulator for Running80<'a> {
     ghost use Rattle.std.specs.Prelude.{refl, []};
-    ghost use Rattle.cpu80_tagged_def.specs.Step.{machine80, replied80};
-    ghost use Rattle.cpu80_tagged.specs.State.{tagged_state};
+    ghost use Rattle.cpu80_tagged.specs.Step.{machine80, replied80};
+    ghost use Rattle.cpu80_tagged.specs.ProcessorState.{tagged_state};
     ghost use Rattle.cpu80_tagged.specs.Machine.{IsMachineOf};
     ghost use Rattle.emulators.specs.Courses.{why80, course80_from, Waits80};
     ghost use Rattle.emulator_loop.proofs.OneRun.{one_run};

@@ -16,7 +16,7 @@ pub struct Running86 {
 }
 
 impl Running86 {
-    ghost use Rattle.cpu86_def.specs.Start.{start86};
+    ghost use Rattle.cpu86.specs.Start.{start86};
     ghost use Rattle.cpu86.specs.Starts.{start_of};
     ghost use Rattle.cpu86.specs.Standing.{standing, code_kept};
     ghost use Rattle.i86.specs.Decode.{IsOnlyReader};
@@ -47,10 +47,10 @@ impl Running86 {
 
 impl Emulator for Running86 {
     ghost use Rattle.std.specs.Prelude.{refl};
-    ghost use Rattle.cpu86_def.specs.Call.{replied86};
+    ghost use Rattle.cpu86.specs.Call.{replied86};
     ghost use Rattle.cpu86.specs.Standing.{standing, code_kept};
     ghost use Rattle.i86.specs.Decoder.{decoded};
-    ghost use Rattle.cpu86_def.specs.Step.{machine86};
+    ghost use Rattle.cpu86.specs.Step.{machine86};
     ghost use Rattle.emulators.specs.Courses.{why86, course86_from, Runs86, Waits86};
     ghost use Rattle.emulator_loop.proofs.OneRun.{one_run};
 

@@ -3,7 +3,7 @@ use Rattle.std.proofs.Common.{◌≡◌, ℕ, zero, suc, ◌<◌, true, ◌||◌
 use Rattle.std.specs.Prelude.{◌==◌, filter_map, not}
 use Rattle.std.specs.List.{Contains, cons_option}
 use Rattle.std.proofs.lemmas.Bool.{or_left, or_right, or_cases, eq-eqb, eqb-true, ne_eqb}
-use Rattle.base_types.specs.Addresses.{is_among}
+use Rattle.base.specs.Addresses.{is_among}
 use Rattle.i80.specs.declared.Instr80.{Instr80}
 use Rattle.i80.specs.declared.Instr80.TheVariants.{Jmp, Jif, Call, Cif}
 use Rattle.i80.specs.Columns.{ends80}

@@ -15,7 +15,7 @@ use crate::search::{Vertex, run};
 use crate::sources::Sources;
 use crate::wiring::{number_of, sources_of};
 use asm80_program_types::Program80;
-use base_types::Steps;
+use base::Steps;
 use cells::Keep;
 use std::alloc::{AllocError, Global};
 use std::marker::{Brand, Model};

@@ -9,7 +9,7 @@ ghost use Rattle.flow.specs.Rounds.{IsRound};
 ghost use Rattle.flow.specs.Search.{is_left, IsQueue, IsVisited, IsSpread, credit, visits_left, row};
 
 use crate::sources::Sources;
-use base_types::Steps;
+use base::Steps;
 use cells::{Keep, Part};
 use std::sync::ledger::Ledger;
 

@@ -4,8 +4,8 @@ use Rattle.std.specs.List.{AllByRecursion, position, position_or_len}
 use Rattle.std.proofs.lemmas.Bool.{cases_eq, cases_lt, eq-eqb, ne_eqb, eqb-true, lt-ltb}
 use Rattle.std.proofs.lemmas.List.{length-drop, take-append-drop, take_all, drop_all}
 use Rattle.std.proofs.lemmas.List.Quantifiers.{position-Some}
-use Rattle.base_types.specs.Cut.{Cut, without_cr, last_line}
-use Rattle.base_types.proofs.Cuts.{regroup, one_cut}
+use Rattle.base.specs.Cut.{Cut, without_cr, last_line}
+use Rattle.base.proofs.Cuts.{regroup, one_cut}
 use Rattle.hex_file.specs.Lines.{IsNotLf, AreLines, FirstLine}
 
 -- ---- there is one way, and there is one

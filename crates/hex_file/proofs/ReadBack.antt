@@ -16,7 +16,7 @@ use Rattle.std.proofs.lemmas.Map.Keys.{sorted_head, sorted_tail, sorted_from_str
 use Rattle.hex.specs.Hex.{IsBytes, encode_upper, encode_with, upper_digits}
 use Rattle.hex.proofs.HexLemmas.{decode_of-encode_upper}
 use Rattle.hex.proofs.OnLiterals.{hex_on_literals}
-use Rattle.base_types.specs.Cut.{without_cr}
+use Rattle.base.specs.Cut.{without_cr}
 use Rattle.hex_file.specs.Records.{Record, checked_bytes, record_bytes, IsDataLine, IsEndLine}
 use Rattle.hex_file.specs.Lines.{IsNotLf, AreLines}
 use Rattle.hex_file.specs.HexFile.{IsHex, ended, more, record_cells, put_cell, IsHexOf}

@@ -1,6 +1,6 @@
 -- The lines of a file. LF ends a line, and a CR before it is no part of the line; the last line needs no LF.
 use Rattle.std.specs.Prelude.{◌≡◌, ◌≢◌, ℕ, ◌<◌, List, ◌∷◌, ◌++◌, length, map}
-use Rattle.base_types.specs.Cut.{Cut, without_cr, last_line}
+use Rattle.base.specs.Cut.{Cut, without_cr, last_line}
 
 -- a byte of a line
 abbrev pub IsNotLf : ℕ → Type 0

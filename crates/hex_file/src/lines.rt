@@ -3,7 +3,7 @@ ghost use Rattle.std.specs.Prelude.{◌≡◌, ◌==◌, [], MatchOption};
 ghost use Rattle.std.specs.List.{position};
 ghost use Rattle.hex_file.specs.Lines.{FirstLine};
 
-use base_types::without_cr;
+use base::without_cr;
 
 /// The first line of a text, and what comes after it; none at the end of the text.
 pub fn first_line(text: &[u8]) -> Option<(&[u8], &[u8])>

@@ -1,11 +1,11 @@
 -- What is decoded of the bytes in memory is the instruction that stands first in them.
 use Rattle.std.proofs.Common.{◌≡◌, ℕ, zero, suc, ◌<◌, List, [], ◌∷◌, length, get_or, Option, Some, None, refl, sym, ap, ◌∙◌, arith}
 use Rattle.i80.specs.declared.Instr80.{Instr80}
-use Rattle.i80_encoding.specs.Decoded.{IsDecoded}
-use Rattle.i80_encoding.specs.Decoder.{decoded80}
-use Rattle.i80_encoding.specs.Enc80.{enc80}
-use Rattle.i80_encoding.proofs.Readers.{complete, sound, is_the_one, none_stands}
-use Rattle.cpu80_untagged_def.specs.State.{next}
+use Rattle.i80_bytes.specs.Decoded.{IsDecoded}
+use Rattle.i80_bytes.specs.Decoder.{decoded80}
+use Rattle.i80_bytes.specs.Enc80.{enc80}
+use Rattle.i80_bytes.proofs.Readers.{complete, sound, is_the_one, none_stands}
+use Rattle.cpu80_untagged.specs.State.{next}
 use Rattle.i80_bytes.specs.InMemory.{bytes_from, StandsAsTold, IsFetchOfBytes}
 use Rattle.i80_bytes.specs.Fetch.{fetch_of_bytes}
 

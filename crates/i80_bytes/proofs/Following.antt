@@ -10,17 +10,17 @@ use Rattle.i80.specs.declared.Goal.TheVariants.{At, Boot, Bdos}
 use Rattle.i80.specs.declared.Instr80.{Instr80}
 use Rattle.i80.specs.declared.Instr80.TheVariants.{Nop, Lxi, Jmp, Jif, Call, Cif}
 use Rattle.i80.specs.Columns.{length80}
-use Rattle.i80_encoding.specs.Enc80.{enc80, address_of}
-use Rattle.i80_encoding.specs.Decoded.{goal_at, as_told, IsPrefix, StandsFirst}
-use Rattle.i80_encoding.proofs.Readers.{encoding_length}
+use Rattle.i80_bytes.specs.Enc80.{enc80, address_of}
+use Rattle.i80_bytes.specs.Decoded.{goal_at, as_told, IsPrefix, StandsFirst}
+use Rattle.i80_bytes.proofs.Readers.{encoding_length}
 use Rattle.dialogue.specs.Fill.{IsFill}
 use Rattle.asm80_program_types.specs.declared.program.Placed.{Placed}
 use Rattle.asm80_program_types.specs.Program.{Program, IsProgram, is_top, placed_in, instr_at, is_start, cell_at, if_instr}
 use Rattle.asm80_program_types.proofs.Standing.{IsPlaced, is_placed, placed_is, start_range}
-use Rattle.cpu80_untagged_def.specs.State.{UntaggedState, next}
-use Rattle.cpu80_untagged_def.specs.Step.{Fetch, act_at, return_of}
-use Rattle.cpu80_untagged_def.specs.Start.{byte_of_cell, system_byte}
-use Rattle.cpu80_untagged_def.specs.Follows.{HoldsCode, TakesAs, TakesProgram, HasData, FetchFollows}
+use Rattle.cpu80_untagged.specs.State.{UntaggedState, next}
+use Rattle.cpu80_untagged.specs.Step.{Fetch, act_at, return_of}
+use Rattle.cpu80_untagged.specs.Start.{byte_of_cell, system_byte}
+use Rattle.cpu80_untagged.specs.Follows.{HoldsCode, TakesAs, TakesProgram, HasData, FetchFollows}
 use Rattle.cpu80.proofs.Starting.{byte_in as byte_in_list, datum_small}
 use Rattle.i80_bytes.specs.InMemory.{bytes_from, StandsAsTold, IsFetchOfBytes}
 use Rattle.i80_bytes.specs.Start.{cells_over}

@@ -1,3 +1,5 @@
+pub mod Tables
+pub mod Readers
 mod Encodings
 mod Lookup
 pub mod CellBytes

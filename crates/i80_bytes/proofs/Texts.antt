@@ -7,8 +7,8 @@ use Rattle.std.proofs.lemmas.List.Elements.{filter_map-append}
 use Rattle.i80.specs.declared.Instr80.{Instr80}
 use Rattle.i80.specs.declared.Instr80.TheVariants.{Nop}
 use Rattle.i80.specs.Columns.{length80}
-use Rattle.i80_encoding.specs.Enc80.{enc80}
-use Rattle.i80_encoding.proofs.Readers.{encoding_length}
+use Rattle.i80_bytes.specs.Enc80.{enc80}
+use Rattle.i80_bytes.proofs.Readers.{encoding_length}
 use Rattle.asm80_program_types.proofs.Standing.{placed_is}
 use Rattle.asm80_program_types.specs.declared.program.Placed.{Placed}
 use Rattle.asm80_program_types.specs.Program.{Program, IsProgram, placed_in, instr_at}

@@ -1,3 +1,6 @@
+pub mod Enc80
+pub mod Decoded
+pub mod Decoder
 pub mod InMemory
 pub mod Start
 pub mod Cells

@@ -2,9 +2,9 @@
 ghost use Rattle.i80_bytes.specs.Fetch.{fetch_of_bytes};
 ghost use Rattle.i80_bytes.specs.InMemory.{IsFetchOfBytes};
 
+use crate::decoding::decode80;
 use cpu80_untagged::{Fetch80, Processor};
 use i80::Instr80;
-use i80_encoding::decode80;
 
 /// The bytes of memory, whatever put them there.
 pub struct Bytes;

@@ -5,11 +5,11 @@ ghost use Rattle.asm80_program_types.specs.Program.{IsProgram};
 ghost use Rattle.hex_file.specs.Written.{IsWritten};
 ghost use Rattle.i80_bytes.specs.Text.{NoneFrom};
 
+use crate::encoding::encode80;
 use asm80_program_types::Program80;
 use cells::Cell;
 use cpu80_untagged::datum_or;
 use hex_file::write_cells;
-use i80_encoding::encode80;
 use std::alloc::{AllocError, Global};
 
 /// The number of cells.

@@ -9,8 +9,8 @@ use Rattle.dialogue.specs.Run.{Run, Going, IsNotStopped, Status, Waiting, Over, 
 use Rattle.dialogue.proofs.Turns.{turns_add}
 use Rattle.asm80_program_types.specs.Program.{Program, IsProgram}
 use Rattle.asm80_program_types.proofs.Lookup.{start_is}
-use Rattle.cpu80_tagged_def.specs.State.{State80}
-use Rattle.cpu80_tagged_def.specs.Step.{step80, machine80}
+use Rattle.cpu80_tagged.specs.State.{State80}
+use Rattle.cpu80_tagged.specs.Step.{step80, machine80}
 use Rattle.flow.specs.Blocks.{IsStraight, place_after}
 use Rattle.sym_terms.specs.Term.{Term, Num as Number}
 use Rattle.sym_terms.specs.Values80.{Load80, Byte, Val80}

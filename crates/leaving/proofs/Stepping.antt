@@ -14,10 +14,10 @@ use Rattle.i80.specs.Columns.{length80}
 use Rattle.dialogue.specs.Table.{Row, row_of}
 use Rattle.dialogue.specs.Run.{Answer, Ends, Stops}
 use Rattle.asm80_program_types.specs.Program.{Program, instr_at, is_start}
-use Rattle.cpu80_tagged_def.specs.State.{State80, num_of}
-use Rattle.cpu80_tagged_def.specs.Effect.{effect, push}
-use Rattle.cpu80_tagged_def.specs.Call.{Return, call_by, call_system, popped_return, return_after, ask_after}
-use Rattle.cpu80_tagged_def.specs.Step.{go_on, enter, call, jump, where_holds, act, step80}
+use Rattle.cpu80_tagged.specs.State.{State80, num_of}
+use Rattle.cpu80_tagged.specs.Effect.{effect, push}
+use Rattle.cpu80_tagged.specs.Call.{Return, call_by, call_system, popped_return, return_after, ask_after}
+use Rattle.cpu80_tagged.specs.Step.{go_on, enter, call, jump, where_holds, act, step80}
 use Rattle.leaving.specs.declared.departure.Certainty.{Certainty}
 use Rattle.leaving.specs.declared.departure.Certainty.TheVariants.{Sure, May}
 use Rattle.leaving.specs.declared.departure.Departure.{Departure}

@@ -9,8 +9,8 @@ use Rattle.i80.specs.declared.Instr80.{Instr80}
 use Rattle.i80.specs.declared.Instr80.TheVariants.{Jif, Call, Cif}
 use Rattle.dialogue.specs.Run.{Run, Going, Stopped, turns}
 use Rattle.asm80_program_types.specs.Program.{Program, IsProgram, instr_at}
-use Rattle.cpu80_tagged_def.specs.State.{State80}
-use Rattle.cpu80_tagged_def.specs.Step.{machine80}
+use Rattle.cpu80_tagged.specs.State.{State80}
+use Rattle.cpu80_tagged.specs.Step.{machine80}
 use Rattle.flow.specs.Blocks.{IsBlockOf, place_after}
 use Rattle.simulation_def.specs.States.{IsState80}
 use Rattle.leaving.specs.declared.departure.Certainty.{Certainty}

@@ -10,10 +10,10 @@ use Rattle.cells.specs.Conditions.{Knows}
 use Rattle.dialogue.specs.Run.{Run, Going, Waiting, Over}
 use Rattle.asm86_line_types.specs.declared.line.Label.{Label}
 use Rattle.asm80_program_types.specs.Program.{Program}
-use Rattle.cpu80_tagged_def.specs.State.{State80}
-use Rattle.cpu80_tagged_def.specs.Memory.{is_closed}
-use Rattle.cpu86_def.specs.State.{State86}
-use Rattle.cpu86_def.specs.Call.{Stop}
+use Rattle.cpu80_tagged.specs.State.{State80}
+use Rattle.cpu80_tagged.specs.Memory.{is_closed}
+use Rattle.cpu86.specs.State.{State86}
+use Rattle.cpu86.specs.Call.{Stop}
 use Rattle.sym_block_def.specs.Stands.{label_of, Stands}
 use Rattle.block_check_def.specs.BlockMatch.{Keeps, kept_at}
 use Rattle.simulation_def.specs.States.{IsState80, IsState86}

@@ -13,11 +13,11 @@ use Rattle.dialogue.specs.declared.request.Event.TheVariants.{In as AskedIn, Out
 use Rattle.dialogue.specs.Run.{Answer, Ran, Asks, Ends, Stops}
 use Rattle.dialogue.specs.Words.{wrap}
 use Rattle.asm80_program_types.specs.Program.{Program, IsProgram}
-use Rattle.cpu80_tagged_def.specs.State.{State80, Regs80, reg80}
-use Rattle.cpu80_tagged_def.specs.Memory.{is_closed, is_write_protected, put, read_word}
-use Rattle.cpu80_tagged_def.specs.Effect.{push}
-use Rattle.cpu80_tagged_def.specs.Call.{Return, call_system, place_if, is_place, popped_return}
-use Rattle.cpu80_tagged_def.specs.Step.{step80, leave_to, return_at, machine80}
+use Rattle.cpu80_tagged.specs.State.{State80, Regs80, reg80}
+use Rattle.cpu80_tagged.specs.Memory.{is_closed, is_write_protected, put, read_word}
+use Rattle.cpu80_tagged.specs.Effect.{push}
+use Rattle.cpu80_tagged.specs.Call.{Return, call_system, place_if, is_place, popped_return}
+use Rattle.cpu80_tagged.specs.Step.{step80, leave_to, return_at, machine80}
 use Rattle.sym_terms.specs.Term.{Term, High, Low, Loaded16, same_bool}
 use Rattle.sym_terms.specs.Values80.{Env80, Load80, LoadedByte, LoadedWord, Byte, Word, OneBit, word_of, Val80}
 use Rattle.sym_block_def.specs.Outcome.{Action, Load8, Load16, Store8, Store16, Way, Goto, ByTerms, Call, Sys, SysReturn, Boot, Leave, In, Out, Exit, One, Two, Held, Outcome}

@@ -11,7 +11,7 @@ use Rattle.i86.specs.declared.Instr86.{Instr86}
 use Rattle.i86.specs.Code.{ReadsCode}
 use Rattle.dialogue.specs.declared.request.Event.TheVariants.{In as AskedIn, Out as AskedOut}
 use Rattle.dialogue.specs.ByteMemory.{put, word_at}
-use Rattle.base_arithmetic_def.specs.Arithmetic.{as_bit}
+use Rattle.base.specs.Arithmetic.{as_bit}
 use Rattle.dialogue.specs.Run.{Asks}
 use Rattle.dialogue.specs.Words.{wrap}
 use Rattle.asm86_line_types.specs.declared.line.Label.{Label}
@@ -19,9 +19,9 @@ use Rattle.asm86_line_types.specs.declared.line.Label.TheVariants.{At, Sys as Sy
 use Rattle.asm86_line_types.specs.declared.line.Line86.{Line86}
 use Rattle.asm86_line_types.specs.Image.{Assembles, image_of, offset_in, statements}
 use Rattle.asm80_program_types.specs.Program.{Program, is_start}
-use Rattle.cpu86_def.specs.State.{State86, Regs86, Flags86, reg8, put_word, push}
-use Rattle.cpu86_def.specs.Call.{call_system}
-use Rattle.cpu86_def.specs.Step.{step86, machine86}
+use Rattle.cpu86.specs.State.{State86, Regs86, Flags86, reg8, put_word, push}
+use Rattle.cpu86.specs.Call.{call_system}
+use Rattle.cpu86.specs.Step.{step86, machine86}
 use Rattle.sym_terms.specs.Term.{Term, High, Low, Loaded16, same_bool}
 use Rattle.sym_terms.specs.Values86.{Env86, Load86, LoadedByte, LoadedWord, Number, Val86, start86}
 use Rattle.sym_block_def.specs.Outcome.{Action, Load8, Load16, Store8, Store16, Way, Goto, ByTerms, Call, Sys, SysReturn, Boot, Leave, In, Out, Exit, One, Two, Held, Outcome}

@@ -10,9 +10,9 @@ use Rattle.asm86_line_types.specs.declared.line.Label.TheVariants.{Sys, End}
 use Rattle.asm86_line_types.specs.declared.line.Stmt86.{Stmt86}
 use Rattle.asm86_line_types.specs.declared.line.Line86.{Line86}
 use Rattle.asm86_line_types.specs.Image.{Assembles, image_of, statements}
-use Rattle.cpu86_def.specs.State.{State86}
-use Rattle.cpu86_def.specs.Call.{call_system}
-use Rattle.cpu86_def.specs.Step.{step86, machine86}
+use Rattle.cpu86.specs.State.{State86}
+use Rattle.cpu86.specs.Call.{call_system}
+use Rattle.cpu86.specs.Step.{step86, machine86}
 use Rattle.templates.specs.Plain.{runtime}
 use Rattle.simulation_def.specs.Steps.{RunsOn}
 use Rattle.simulation_def.specs.States.{IsState86}

@@ -9,12 +9,12 @@ use Rattle.asm86_line_types.specs.Image.{Image}
 use Rattle.dialogue.specs.Replies.{IsReply}
 use Rattle.dialogue.specs.Same.{SameDialogue}
 use Rattle.asm80_program_types.specs.Program.{Program}
-use Rattle.cpu80_tagged_def.specs.State.{State80}
-use Rattle.cpu80_tagged_def.specs.Start.{IsPage, run80}
-use Rattle.cpu86_def.specs.State.{State86}
-use Rattle.cpu86_def.specs.Call.{Stop}
+use Rattle.cpu80_tagged.specs.State.{State80}
+use Rattle.cpu80_tagged.specs.Start.{IsPage, run80}
+use Rattle.cpu86.specs.State.{State86}
+use Rattle.cpu86.specs.Call.{Stop}
 use Rattle.dialogue.specs.Fill.{IsFill}
-use Rattle.cpu86_def.specs.Start.{Start, IsStart, AreChoices, run86}
+use Rattle.cpu86.specs.Start.{Start, IsStart, AreChoices, run86}
 
 -- for every start page, fill of memory, start, list of choices and list of replies the two runs have the same dialogue;
 -- `fetch` is what stands at each place of the image's code: where the image has a reader, that is one

@@ -8,9 +8,9 @@ use Rattle.i80.specs.declared.Reg.{Reg}
 use Rattle.i86.specs.declared.Reg8.{Reg8}
 use Rattle.asm80_program_types.specs.Program.{Program, is_start}
 use Rattle.asm80_program_types.specs.Taken.{takes}
-use Rattle.cpu80_tagged_def.specs.State.{State80, reg80}
-use Rattle.cpu80_tagged_def.specs.Memory.{is_closed}
-use Rattle.cpu86_def.specs.State.{State86, reg8}
+use Rattle.cpu80_tagged.specs.State.{State80, reg80}
+use Rattle.cpu80_tagged.specs.Memory.{is_closed}
+use Rattle.cpu86.specs.State.{State86, reg8}
 
 -- a place that a register or a cell may hold: one that is taken, or EXIT
 abbrev pub IsHeldPlace : Program → Place → Type 0

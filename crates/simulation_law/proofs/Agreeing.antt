@@ -6,7 +6,7 @@ use Rattle.cells.specs.declared.Cell.{Cell}
 use Rattle.cells.specs.declared.Part.TheVariants.{S, Z, Ac, P, Cy}
 use Rattle.cells.specs.Bits.{has_bit}
 use Rattle.cells.specs.Conditions.{Knows, KnowsBits}
-use Rattle.base_arithmetic_def.specs.Arithmetic.{as_bit}
+use Rattle.base.specs.Arithmetic.{as_bit}
 use Rattle.sym_terms.specs.Term.{Term, Join, FlagByte, Unknown, is_byte, is_word, same_term}
 use Rattle.sym_terms.specs.Making.{high, low, bit}
 use Rattle.sym_terms.specs.Values80.{Env80, Byte, Word, OneBit, Val80}

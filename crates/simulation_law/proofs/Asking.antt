@@ -18,11 +18,11 @@ use Rattle.dialogue.specs.Fits.{answer_fits, kind_by, line_fits, writes_fit, fit
 use Rattle.dialogue.specs.ByteMemory.{seen_by as seen_by86}
 use Rattle.dialogue.specs.Run.{Answer, Asks, Ends, Stops}
 use Rattle.asm80_program_types.specs.Program.{Program}
-use Rattle.cpu80_tagged_def.specs.State.{State80, num_of}
-use Rattle.cpu80_tagged_def.specs.Memory.{is_closed}
-use Rattle.cpu80_tagged_def.specs.Call.{Return, is_just_below, byte_seen, may_be_written, seen_by_tagged, ask, ask_after, call_by, call_system}
-use Rattle.cpu86_def.specs.State.{State86}
-use Rattle.cpu86_def.specs.Call.{OddCall, spoiled, ask as ask86, ask_system, call_system as call_system86}
+use Rattle.cpu80_tagged.specs.State.{State80, num_of}
+use Rattle.cpu80_tagged.specs.Memory.{is_closed}
+use Rattle.cpu80_tagged.specs.Call.{Return, is_just_below, byte_seen, may_be_written, seen_by_tagged, ask, ask_after, call_by, call_system}
+use Rattle.cpu86.specs.State.{State86}
+use Rattle.cpu86.specs.Call.{OddCall, spoiled, ask as ask86, ask_system, call_system as call_system86}
 use Rattle.sym_block_def.specs.Stands.{Stands}
 use Rattle.dialogue.specs.Sight.{SeesMore, KnowsMore, WhoSeesMoreAsksTheSame}
 use Rattle.simulation_def.specs.States.{IsCell}

@@ -10,14 +10,14 @@ use Rattle.cells.specs.Parts.{Parts, has}
 use Rattle.cells.specs.Conditions.{Knows, KnowsBits}
 use Rattle.i80.specs.declared.Reg.TheVariants.{A as RegA, B as RegB, C as RegC, D as RegD, E as RegE, H as RegH, L as RegL}
 use Rattle.i86.specs.declared.Reg8.TheVariants.{Al, Cl, Ch, Dl, Dh, Bl, Bh}
-use Rattle.base_arithmetic_def.specs.Arithmetic.{as_bit}
-use Rattle.base_arithmetic_def.proofs.Bytes.{bit_small, flag_bits}
+use Rattle.base.specs.Arithmetic.{as_bit}
+use Rattle.base.proofs.Bytes.{bit_small, flag_bits}
 use Rattle.dialogue.specs.Run.{Run}
 use Rattle.asm86_line_types.specs.declared.line.Label.{Label}
 use Rattle.asm80_program_types.specs.Program.{Program}
-use Rattle.cpu80_tagged_def.specs.State.{State80}
-use Rattle.cpu86_def.specs.State.{State86}
-use Rattle.cpu86_def.specs.Call.{Stop}
+use Rattle.cpu80_tagged.specs.State.{State80}
+use Rattle.cpu86.specs.State.{State86}
+use Rattle.cpu86.specs.Call.{Stop}
 use Rattle.sym_terms.specs.Values86.{Env86, start86}
 use Rattle.sym_block_def.specs.Stands.{IsHalf, Stands}
 use Rattle.block_check_def.specs.BlockMatch.{Keeps, kept_at}

@@ -11,7 +11,7 @@ use Rattle.dialogue.specs.Table.{row_of}
 use Rattle.dialogue.specs.Run.{Going, Over}
 use Rattle.asm80_program_types.specs.declared.program.Placed.{Placed}
 use Rattle.asm80_program_types.specs.Program.{Program, program_of}
-use Rattle.cpu80_tagged_def.specs.Start.{run80}
+use Rattle.cpu80_tagged.specs.Start.{run80}
 use Rattle.dialogue.specs.declared.request.ArgWord.TheVariants.{Byte}
 use Rattle.dialogue.specs.declared.request.Request.{Request}
 use Rattle.asm86_line_types.specs.Layout.{code_of}

@@ -32,14 +32,14 @@ use Rattle.asm80_program_types.specs.Program.{Program, IsProgram, is_start, is_t
 use Rattle.asm80_program_types.specs.Taken.{takes, place_placed, place_in_cell}
 use Rattle.cells.specs.declared.Cell.{Cell}
 use Rattle.cells.specs.declared.Cell.TheVariants.{Num, Lo, Hi, Psw, Junk}
-use Rattle.cpu80_tagged_def.specs.State.{State80}
-use Rattle.cpu80_tagged_def.specs.Step.{machine80}
-use Rattle.cpu80_tagged_def.specs.Start.{IsPage, cell_or_junk, start_cell80, start80, run80}
-use Rattle.cpu86_def.specs.State.{State86, reg8}
-use Rattle.cpu86_def.specs.Call.{Stop}
-use Rattle.cpu86_def.specs.Step.{machine86}
+use Rattle.cpu80_tagged.specs.State.{State80}
+use Rattle.cpu80_tagged.specs.Step.{machine80}
+use Rattle.cpu80_tagged.specs.Start.{IsPage, cell_or_junk, start_cell80, start80, run80}
+use Rattle.cpu86.specs.State.{State86, reg8}
+use Rattle.cpu86.specs.Call.{Stop}
+use Rattle.cpu86.specs.Step.{machine86}
 use Rattle.dialogue.specs.Fill.{IsFill}
-use Rattle.cpu86_def.specs.Start.{Start, IsStart, start_byte, start86, run86}
+use Rattle.cpu86.specs.Start.{Start, IsStart, start_byte, start86, run86}
 use Rattle.block_check_def.specs.BlockMatch.{Keeps, block_reason}
 use Rattle.simulation_def.specs.States.{IsCell, IsState80}
 use Rattle.simulation_def.specs.Runs86.{offsets_of}
@@ -185,7 +185,7 @@ module _ (p : Program) (is : IsProgram p) where
         by_six true = omega arith
         by_six false = by_seven (a == 7)
 
-    junk_cells : (r : Reg) → IsCell p (Rattle.cpu80_tagged_def.specs.State.reg80 Rattle.cpu80_tagged_def.specs.State.junk_regs r)
+    junk_cells : (r : Reg) → IsCell p (Rattle.cpu80_tagged.specs.State.reg80 Rattle.cpu80_tagged.specs.State.junk_regs r)
     junk_cells RegA = tt
     junk_cells RegB = tt
     junk_cells RegC = tt

@@ -10,11 +10,11 @@ use Rattle.dialogue.specs.Run.{Ran, Asks, Ends, Machine, Run, Going, Waiting, ch
 use Rattle.dialogue.proofs.Turns.{turns_add}
 use Rattle.asm86_line_types.specs.declared.line.Line86.{Line86}
 use Rattle.asm80_program_types.specs.Program.{Program}
-use Rattle.cpu80_tagged_def.specs.State.{State80}
-use Rattle.cpu80_tagged_def.specs.Step.{replied80, machine80}
-use Rattle.cpu86_def.specs.State.{State86}
-use Rattle.cpu86_def.specs.Call.{Stop, replied86}
-use Rattle.cpu86_def.specs.Step.{step86, machine86}
+use Rattle.cpu80_tagged.specs.State.{State80}
+use Rattle.cpu80_tagged.specs.Step.{replied80, machine80}
+use Rattle.cpu86.specs.State.{State86}
+use Rattle.cpu86.specs.Call.{Stop, replied86}
+use Rattle.cpu86.specs.Step.{step86, machine86}
 use Rattle.block_check_def.specs.BlockMatch.{Keeps}
 use Rattle.simulation_def.specs.Steps.{RunsOn}
 use Rattle.simulation_def.specs.Runs86.{offsets_of}

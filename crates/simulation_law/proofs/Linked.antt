@@ -21,12 +21,12 @@ use Rattle.asm86_line_types.specs.declared.line.Line86.{Line86}
 use Rattle.asm86_line_types.specs.Layout.{offset_of, place_of}
 use Rattle.asm86_line_types.specs.Image.{image_of, statements, UsesDefined}
 use Rattle.asm80_program_types.specs.Program.{Program}
-use Rattle.cpu80_tagged_def.specs.State.{State80}
-use Rattle.cpu80_tagged_def.specs.Call.{popped_return}
-use Rattle.cpu80_tagged_def.specs.Step.{step80, step_at, machine80}
-use Rattle.cpu86_def.specs.State.{State86}
-use Rattle.cpu86_def.specs.Call.{Stop}
-use Rattle.cpu86_def.specs.Step.{machine86}
+use Rattle.cpu80_tagged.specs.State.{State80}
+use Rattle.cpu80_tagged.specs.Call.{popped_return}
+use Rattle.cpu80_tagged.specs.Step.{step80, step_at, machine80}
+use Rattle.cpu86.specs.State.{State86}
+use Rattle.cpu86.specs.Call.{Stop}
+use Rattle.cpu86.specs.Step.{machine86}
 use Rattle.sym_terms.specs.Values80.{Env80}
 use Rattle.sym_terms.specs.Values86.{Env86}
 use Rattle.sym_block_def.specs.declared.reason.Reason.TheVariants.{Missing}

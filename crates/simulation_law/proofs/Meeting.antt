@@ -11,8 +11,8 @@ use Rattle.i86.specs.declared.Instr86.{Instr86}
 use Rattle.asm86_line_types.specs.declared.line.Line86.{Line86}
 use Rattle.asm86_line_types.specs.Image.{statements}
 use Rattle.asm80_program_types.specs.Program.{Program}
-use Rattle.cpu80_tagged_def.specs.State.{State80}
-use Rattle.cpu86_def.specs.State.{State86}
+use Rattle.cpu80_tagged.specs.State.{State80}
+use Rattle.cpu86.specs.State.{State86}
 use Rattle.sym_terms.specs.Values80.{Env80}
 use Rattle.sym_terms.specs.Values86.{Env86}
 use Rattle.sym_block_def.specs.Outcome.{Outcome, term_in}

@@ -21,11 +21,11 @@ use Rattle.asm86_line_types.specs.Order.{Reading, at_start, in_data, is_free_cel
 use Rattle.asm86_line_types.specs.Image.{word_cells, cells_from, put_cell, by_address}
 use Rattle.asm86_line_types.proofs.Sorting.{rest_stands}
 use Rattle.asm80_program_types.specs.Program.{Program, cell_at}
-use Rattle.cpu80_tagged_def.specs.Start.{cell_or_junk, start_cell80}
+use Rattle.cpu80_tagged.specs.Start.{cell_or_junk, start_cell80}
 use Rattle.dialogue.specs.ByteMemory.{put, put_cells}
 use Rattle.dialogue.specs.Words.{wrap}
-use Rattle.cpu86_def.specs.State.{put_word, back}
-use Rattle.cpu86_def.specs.Start.{start_byte}
+use Rattle.cpu86.specs.State.{put_word, back}
+use Rattle.cpu86.specs.Start.{start_byte}
 use Rattle.sym_block_def.specs.Stands.{Stands}
 use Rattle.sym_sound.proofs.Machine86.Words.{eq_false, put_word_past, put_word_low, put_word_high}
 use Rattle.sym_sound.proofs.Machine86.Denoting.{word_put}

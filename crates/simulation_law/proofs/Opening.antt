@@ -17,10 +17,10 @@ use Rattle.asm86_line_types.specs.declared.line.Line86.{Line86}
 use Rattle.asm86_line_types.specs.Layout.{size_of, place_of, code_of, instr_of, enc_of}
 use Rattle.asm86_line_types.specs.Image.{Assembles, image_of, statements}
 use Rattle.asm80_program_types.specs.Program.{Program}
-use Rattle.cpu86_def.specs.State.{State86}
-use Rattle.cpu86_def.specs.Call.{StackSegment}
-use Rattle.cpu86_def.specs.Effect.{effect}
-use Rattle.cpu86_def.specs.Step.{uses_stack, act, act_from, act_at, step86, machine86}
+use Rattle.cpu86.specs.State.{State86}
+use Rattle.cpu86.specs.Call.{StackSegment}
+use Rattle.cpu86.specs.Effect.{effect}
+use Rattle.cpu86.specs.Step.{uses_stack, act, act_from, act_at, step86, machine86}
 use Rattle.simulation_def.specs.Steps.{RunsOn}
 use Rattle.simulation_def.specs.Runs86.{offsets_of}
 use Rattle.sym_sound.proofs.Machine86.Positions.{Position, position_next, offsets_are, label_here, stands_here, ends_within}

@@ -6,10 +6,10 @@ use Rattle.cells.specs.declared.Place.{Place}
 use Rattle.cells.specs.declared.Cell.{Cell}
 use Rattle.cells.specs.declared.Cell.TheVariants.{Num as NumCell}
 use Rattle.asm80_program_types.specs.Program.{Program}
-use Rattle.cpu80_tagged_def.specs.Memory.{put as put80}
+use Rattle.cpu80_tagged.specs.Memory.{put as put80}
 use Rattle.dialogue.specs.ByteMemory.{put, word_at}
 use Rattle.dialogue.specs.Words.{word, wrap}
-use Rattle.cpu86_def.specs.State.{put_word}
+use Rattle.cpu86.specs.State.{put_word}
 use Rattle.sym_terms.specs.Term.{Term, is_word}
 use Rattle.sym_terms.specs.Values80.{Env80, Load80, LoadedByte, LoadedWord, word_of, Val80}
 use Rattle.sym_terms.specs.Values86.{Env86, Load86, LoadedByte as LoadedByte86, LoadedWord as LoadedWord86, Number, Val86}

@@ -20,11 +20,11 @@ use Rattle.dialogue.specs.ByteMemory.{put_blocks}
 use Rattle.dialogue.specs.Words.{word}
 use Rattle.dialogue.specs.Choice.{byte_of}
 use Rattle.asm80_program_types.specs.Program.{Program}
-use Rattle.cpu80_tagged_def.specs.State.{State80, Regs80, reg80}
-use Rattle.cpu80_tagged_def.specs.Memory.{is_closed}
-use Rattle.cpu80_tagged_def.specs.Call.{is_just_below, put_blocks as put_blocks80, answered as answered80, cells_after, after_reply as after_reply80}
-use Rattle.cpu86_def.specs.State.{State86, Regs86, reg8}
-use Rattle.cpu86_def.specs.Call.{chosen_regs, answered as answered86, after_reply as after_reply86}
+use Rattle.cpu80_tagged.specs.State.{State80, Regs80, reg80}
+use Rattle.cpu80_tagged.specs.Memory.{is_closed}
+use Rattle.cpu80_tagged.specs.Call.{is_just_below, put_blocks as put_blocks80, answered as answered80, cells_after, after_reply as after_reply80}
+use Rattle.cpu86.specs.State.{State86, Regs86, reg8}
+use Rattle.cpu86.specs.Call.{chosen_regs, answered as answered86, after_reply as after_reply86}
 use Rattle.sym_block_def.specs.Stands.{Stands}
 use Rattle.simulation_def.specs.States.{IsCell, IsState80, IsState86}
 use Rattle.simulation_def.specs.Linked.{StandsIn}

@@ -5,8 +5,8 @@ use Rattle.cells.specs.declared.Rule.{Rule}
 use Rattle.dialogue.specs.Run.{Machine, Run, Going, Stopped, choice_at, settle, turn_by, turn, turns, IsNotStopped}
 use Rattle.dialogue.proofs.Turns.{turns_add, still_turns, not_stopped_below}
 use Rattle.asm80_program_types.specs.Program.{Program}
-use Rattle.cpu80_tagged_def.specs.State.{State80}
-use Rattle.cpu80_tagged_def.specs.Step.{machine80}
+use Rattle.cpu80_tagged.specs.State.{State80}
+use Rattle.cpu80_tagged.specs.Step.{machine80}
 use Rattle.simulation_def.specs.Steps.{RunsOn}
 use Rattle.simulation_def.specs.Runs80.{BlockLeaves80}
 

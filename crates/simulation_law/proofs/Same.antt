@@ -10,9 +10,9 @@ use Rattle.cells.specs.declared.Part.{Part}
 use Rattle.cells.specs.declared.Part.TheVariants.{A, B, C, D, E, H, L, S, Z, Ac, P, Cy}
 use Rattle.cells.specs.Bits.{has_bit}
 use Rattle.cells.specs.Conditions.{flags_of_byte, Knows, KnowsBits}
-use Rattle.base_arithmetic_def.specs.Arithmetic.{as_bit, daa_result, daa_carry, daa_excepted}
-use Rattle.base_arithmetic_def.specs.Operations.{flags_by, result_of, flags_of, flags_in}
-use Rattle.base_arithmetic_def.proofs.Bytes.{bit_small}
+use Rattle.base.specs.Arithmetic.{as_bit, daa_result, daa_carry, daa_excepted}
+use Rattle.base.specs.Operations.{flags_by, result_of, flags_of, flags_in}
+use Rattle.base.proofs.Bytes.{bit_small}
 use Rattle.sym_terms.specs.Term.{Term, Num, Start, StartSp, Loaded8, Loaded16, Alu, Flag, Sum16, High, Low, Join, FlagByte, Bit, Turn, Turned, Adjust, Code, Unknown}
 use Rattle.sym_terms.specs.Values80.{Env80, Load80, LoadedByte, LoadedWord, Byte, Word, OneBit, Result, Val80, flag_in, turn_result, turn_flags}
 use Rattle.sym_terms.specs.Values86.{Env86, Load86, LoadedByte as LoadedByte86, LoadedWord as LoadedWord86, Number, Result as Result86, MayBe, Adjusts, Val86}

@@ -13,11 +13,11 @@ use Rattle.dialogue.specs.Choice.{byte_of}
 use Rattle.asm86_line_types.specs.declared.line.Label.{Label}
 use Rattle.asm86_line_types.specs.declared.line.Label.TheVariants.{Sys as SysLabel}
 use Rattle.asm80_program_types.specs.Program.{Program}
-use Rattle.cpu80_tagged_def.specs.State.{State80}
-use Rattle.cpu80_tagged_def.specs.Memory.{is_write_protected, read_word}
-use Rattle.cpu80_tagged_def.specs.Call.{Return, is_just_below, may_be_written, place_in, place_if, is_place, popped_return}
-use Rattle.cpu86_def.specs.State.{State86, put_word, back as below, push}
-use Rattle.cpu86_def.specs.Call.{chosen_six, spoiled}
+use Rattle.cpu80_tagged.specs.State.{State80}
+use Rattle.cpu80_tagged.specs.Memory.{is_write_protected, read_word}
+use Rattle.cpu80_tagged.specs.Call.{Return, is_just_below, may_be_written, place_in, place_if, is_place, popped_return}
+use Rattle.cpu86.specs.State.{State86, put_word, back as below, push}
+use Rattle.cpu86.specs.Call.{chosen_six, spoiled}
 use Rattle.sym_block_def.specs.Stands.{Stands}
 use Rattle.simulation_def.specs.States.{IsCell, IsHeldPlace, IsState80, IsState86}
 use Rattle.simulation_def.specs.Runs80.{going_on}
@@ -25,7 +25,7 @@ use Rattle.simulation_def.specs.Runs86.{GoesOnAt}
 use Rattle.simulation_def.specs.Linked.{IsFirstOf, places}
 use Rattle.simulation_law.specs.Replayed.{MemoryStands}
 use Rattle.dialogue.proofs.Tried.{then_is, ok_is}
-use Rattle.cpu80_tagged_def.proofs.Passing.{place_if_is}
+use Rattle.cpu80_tagged.proofs.Passing.{place_if_is}
 use Rattle.sym_sound.proofs.Machine80.Answering.{read_word_is}
 use Rattle.sym_sound.proofs.Machine80.Leaving.{place_is}
 use Rattle.sym_sound.proofs.Machine86.Words.{back_on, eq_true, lt_true, lt_false, at_least, spoiled_past, pushed_back, call_keeps}

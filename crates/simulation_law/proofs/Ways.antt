@@ -24,14 +24,14 @@ use Rattle.dialogue.specs.Run.{Answer, Ran, Asks, Ends, Stops, Machine, Run, Goi
 use Rattle.asm86_line_types.specs.declared.line.Label.{Label}
 use Rattle.asm86_line_types.specs.declared.line.Label.TheVariants.{End as EndLabel}
 use Rattle.asm86_line_types.specs.Image.{image_of}
-use Rattle.cpu80_tagged_def.specs.State.{State80, num_of, with_a}
-use Rattle.cpu80_tagged_def.specs.Memory.{put as put80, write_word}
-use Rattle.cpu80_tagged_def.specs.Effect.{push as push80}
-use Rattle.cpu80_tagged_def.specs.Call.{Return, seen_by_tagged, call_system, is_place, place_if, after_reply}
-use Rattle.cpu80_tagged_def.specs.Step.{leave_to, replied_to, replied80, return_at, machine80}
-use Rattle.cpu86_def.specs.State.{State86, put_word, back as below}
-use Rattle.cpu86_def.specs.Call.{Stop, spoiled, call_system as call_system86, after_reply as after_reply86, replied86}
-use Rattle.cpu86_def.specs.Step.{step86, machine86}
+use Rattle.cpu80_tagged.specs.State.{State80, num_of, with_a}
+use Rattle.cpu80_tagged.specs.Memory.{put as put80, write_word}
+use Rattle.cpu80_tagged.specs.Effect.{push as push80}
+use Rattle.cpu80_tagged.specs.Call.{Return, seen_by_tagged, call_system, is_place, place_if, after_reply}
+use Rattle.cpu80_tagged.specs.Step.{leave_to, replied_to, replied80, return_at, machine80}
+use Rattle.cpu86.specs.State.{State86, put_word, back as below}
+use Rattle.cpu86.specs.Call.{Stop, spoiled, call_system as call_system86, after_reply as after_reply86, replied86}
+use Rattle.cpu86.specs.Step.{step86, machine86}
 use Rattle.sym_terms.specs.Term.{Term}
 use Rattle.sym_terms.specs.Values80.{Env80}
 use Rattle.sym_terms.specs.Values86.{Env86}
@@ -324,7 +324,7 @@ module _ (matched : Matched) where
         small : (answer : Reply) → fits_event (AskedIn port) answer ≡ true → answer.answer < 256
         small answer fit = ltb-true answer.answer 256 (and_parts (Rattle.std.specs.Prelude.nat_lt answer.answer 256) (writes_nothing answer.writes) fit).0
 
-        regs80 : (k : ℕ) → k < 256 → (r : Reg) → IsCell p (Rattle.cpu80_tagged_def.specs.State.reg80 (with_a t (Num k)).regs r)
+        regs80 : (k : ℕ) → k < 256 → (r : Reg) → IsCell p (Rattle.cpu80_tagged.specs.State.reg80 (with_a t (Num k)).regs r)
         regs80 k lt RegA = lt
         regs80 k lt RegB = n.is80.regs RegB
         regs80 k lt RegC = n.is80.regs RegC
@@ -333,7 +333,7 @@ module _ (matched : Matched) where
         regs80 k lt RegH = n.is80.regs RegH
         regs80 k lt RegL = n.is80.regs RegL
 
-        regs86 : (k : ℕ) → k < 256 → (r : Reg8) → Rattle.cpu86_def.specs.State.reg8 (record (u.regs) { al = k }) r < 256
+        regs86 : (k : ℕ) → k < 256 → (r : Reg8) → Rattle.cpu86.specs.State.reg8 (record (u.regs) { al = k }) r < 256
         regs86 k lt Al = lt
         regs86 k lt Ah = n.is86.regs Ah
         regs86 k lt Cl = n.is86.regs Cl
@@ -405,7 +405,7 @@ module _ (matched : Matched) where
         moves : (a : AsksSystem p t back) (c : CallsSystem fetch choices used w) (asked_at choice later : ℕ) (answer : Reply) → fits_event (CallEvent (asked a)) answer ≡ true → BlocksAreBytes answer.writes → Lands beside (16 * count) (replied80 p t (CallEvent (asked a)) answer) (after_reply86 (record w { flags = c.asking.flags; ip = c.back; mem = spoiled w.mem w.sp asked_at }) (asked a) answer choice) later
         moves a c asked_at choice later answer fit bytes =
             let v : State86 = record w { flags = c.asking.flags; ip = c.back; mem = spoiled w.mem w.sp asked_at } in
-            let passes = Rattle.cpu80_tagged_def.specs.Call.may_be_written p t a.return.is_popped in
+            let passes = Rattle.cpu80_tagged.specs.Call.may_be_written p t a.return.is_popped in
             let rf = reply_fits p t back a answer fit in
             let vs : IsState86 v = record { regs = s.state.regs; mem = (s.sight asked_at).bytes; sp = s.state.sp; si = s.state.si; ds = s.state.ds } in
             let is = state86_after p (places offset) t v (asked a) answer passes rf bytes (s.sight asked_at) choice vs in
@@ -434,12 +434,12 @@ module _ (matched : Matched) where
 
         resets_there : num_of t.regs.c ≡ Some 0 → Then Ends
         resets_there c =
-            ends_after 4 (runs_there.resets s.at_label (ap (λ (r : Rattle.cpu86_def.specs.State.Regs86). r.cl) s.regs ∙ (number_stands p (places offset) t.regs.c 0 u.regs.cl c (n.is80.regs RegC) c_stands).1))
+            ends_after 4 (runs_there.resets s.at_label (ap (λ (r : Rattle.cpu86.specs.State.Regs86). r.cl) s.regs ∙ (number_stands p (places offset) t.regs.c 0 u.regs.cl c (n.is80.regs RegC) c_stands).1))
             (omega (arith, few, some_count))
 
         asks_there : (a : AsksSystem p t back) → Then (Asks (CallEvent (asked a)) t)
         asks_there a =
-            let c = runs_there.calls s.at_label (λ z. a.some (sym (function_in a) ∙ sym (ap (λ (r : Rattle.cpu86_def.specs.State.Regs86). r.cl) s.regs) ∙ z)) in
+            let c = runs_there.calls s.at_label (λ z. a.some (sym (function_in a) ∙ sym (ap (λ (r : Rattle.cpu86.specs.State.Regs86). r.cl) s.regs) ∙ z)) in
             asks (CallEvent (asked a)) 2 c.asking (λ choice. record w { flags = c.asking.flags; ip = c.back; mem = spoiled w.mem w.sp choice }) c.runs
             (λ choice. c.calls choice ∙ asks_same same p (places offset) t (record w { flags = c.asking.flags; ip = c.back }) (call_stands (record w { flags = c.asking.flags; ip = c.back }) s.regs s.dma) back a choice (s.sight choice))
             (omega (arith, few, some_count))
@@ -475,7 +475,7 @@ module _ (matched : Matched) where
         stays : (a : AsksSystem p t back) (asked_at choice later : ℕ) (answer : Reply) → fits_event (CallEvent (asked a)) answer ≡ true → BlocksAreBytes answer.writes → Lands beside (16 * count) (replied80 p t (CallEvent (asked a)) answer) (after_reply86 (record u { ip = ip; mem = spoiled u.mem u.sp asked_at }) (asked a) answer choice) later
         stays a asked_at choice later answer fit bytes =
             let v : State86 = record u { ip = ip; mem = spoiled u.mem u.sp asked_at } in
-            let passes = Rattle.cpu80_tagged_def.specs.Call.may_be_written p t a.return.is_popped in
+            let passes = Rattle.cpu80_tagged.specs.Call.may_be_written p t a.return.is_popped in
             let rf = reply_fits p t back a answer fit in
             let vs : IsState86 v = record { regs = n.is86.regs; mem = (sight asked_at).bytes; sp = n.is86.sp; si = n.is86.si; ds = n.is86.ds } in
             let z = after_reply86 v (asked a) answer choice in

@@ -10,8 +10,8 @@ use Rattle.dialogue.proofs.Within.{AreWithin}
 use Rattle.dialogue.specs.ByteMemory.{put, put_bytes, put_blocks}
 use Rattle.dialogue.specs.Words.{wrap}
 use Rattle.asm80_program_types.specs.Program.{Program}
-use Rattle.cpu80_tagged_def.specs.Memory.{put as put80}
-use Rattle.cpu80_tagged_def.specs.Call.{put_bytes as put_bytes80, put_blocks as put_blocks80}
+use Rattle.cpu80_tagged.specs.Memory.{put as put80}
+use Rattle.cpu80_tagged.specs.Call.{put_bytes as put_bytes80, put_blocks as put_blocks80}
 use Rattle.simulation_def.specs.States.{IsCell}
 use Rattle.sym_sound.proofs.Machine86.Words.{eq_false}
 use Rattle.simulation_law.specs.Replayed.{MemoryStands}

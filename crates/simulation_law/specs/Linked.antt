@@ -5,7 +5,7 @@ use Rattle.cells.specs.declared.Cell.{Cell}
 use Rattle.cells.specs.declared.Part.{Part}
 use Rattle.cells.specs.declared.Part.TheVariants.{A, B, C, D, E, H, L, S, Z, Ac, P, Cy}
 use Rattle.cells.specs.Conditions.{Knows}
-use Rattle.base_arithmetic_def.specs.Arithmetic.{as_bit}
+use Rattle.base.specs.Arithmetic.{as_bit}
 use Rattle.sym_terms.specs.Term.{Term, is_byte, is_word}
 use Rattle.sym_terms.specs.Values80.{Env80, Load80, LoadedByte, LoadedWord, Byte, Word, OneBit, Val80}
 use Rattle.sym_terms.specs.Values86.{Env86, Load86, LoadedByte as LoadedByte86, LoadedWord as LoadedWord86, Number, Val86}

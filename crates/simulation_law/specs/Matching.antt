@@ -10,9 +10,9 @@ use Rattle.dialogue.specs.Run.{Run}
 use Rattle.asm86_line_types.specs.declared.line.Line86.{Line86}
 use Rattle.asm86_line_types.specs.Image.{Assembles, image_of, statements}
 use Rattle.asm80_program_types.specs.Program.{Program, IsProgram}
-use Rattle.cpu80_tagged_def.specs.State.{State80}
-use Rattle.cpu86_def.specs.State.{State86}
-use Rattle.cpu86_def.specs.Call.{Stop}
+use Rattle.cpu80_tagged.specs.State.{State80}
+use Rattle.cpu86.specs.State.{State86}
+use Rattle.cpu86.specs.Call.{Stop}
 use Rattle.sym_terms.specs.Values86.{Env86}
 use Rattle.sym_block_def.specs.Outcome.{Outcome}
 use Rattle.sym_block_def.specs.Block80.{MayRun, block80}

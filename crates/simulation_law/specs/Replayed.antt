@@ -3,7 +3,7 @@ use Rattle.std.specs.Prelude.{◌≡◌, ◌<◌, ℕ, true, false, List, ◌++�
 use Rattle.cells.specs.declared.Place.{Place}
 use Rattle.cells.specs.declared.Cell.{Cell}
 use Rattle.asm80_program_types.specs.Program.{Program}
-use Rattle.cpu80_tagged_def.specs.Memory.{is_closed}
+use Rattle.cpu80_tagged.specs.Memory.{is_closed}
 use Rattle.sym_terms.specs.Values80.{Env80, Load80}
 use Rattle.sym_terms.specs.Values86.{Env86, Load86}
 use Rattle.sym_block_def.specs.Outcome.{Action}

@@ -16,8 +16,8 @@ use Rattle.i80.specs.declared.Instr80.TheVariants.{Mov, Mvi, Lxi, Stax, Dad, Pus
 use Rattle.i80.specs.declared.Src.TheVariants.{Mem}
 use Rattle.i80.specs.declared.Reg.TheVariants.{A as RegA}
 use Rattle.asm80_program_types.specs.Program.{Program, program_of}
-use Rattle.cpu80_tagged_def.specs.State.{State80, junk_regs}
-use Rattle.cpu80_tagged_def.specs.Step.{machine80}
+use Rattle.cpu80_tagged.specs.State.{State80, junk_regs}
+use Rattle.cpu80_tagged.specs.Step.{machine80}
 use Rattle.templates.specs.Plain.{plain_statements}
 use Rattle.sym_terms.specs.Term.{Num, StartSp}
 use Rattle.sym_block_def.specs.Outcome.{Goto, One, held_at_start}
@@ -72,6 +72,6 @@ unfolding stacked copier
 other_does_not = refl
 
 -- PUSH PSW where no flag is known stores a byte of unknown flags under A
-push_stores : (mem : ℕ → Rattle.cells.specs.declared.Cell.Cell) → RunsOn (machine80 stacked) [] 1 0 (unknown_state mem 0x101) (record (unknown_state mem 0x102) { sp = 0xEFFC; mem = Rattle.cpu80_tagged_def.specs.Memory.put (Rattle.cpu80_tagged_def.specs.Memory.put mem 0xEFFC (PswCell unknown_flags)) 0xEFFD Junk })
+push_stores : (mem : ℕ → Rattle.cells.specs.declared.Cell.Cell) → RunsOn (machine80 stacked) [] 1 0 (unknown_state mem 0x101) (record (unknown_state mem 0x102) { sp = 0xEFFC; mem = Rattle.cpu80_tagged.specs.Memory.put (Rattle.cpu80_tagged.specs.Memory.put mem 0xEFFC (PswCell unknown_flags)) 0xEFFD Junk })
 unfolding stacked
-push_stores mem = (record (unknown_state mem 0x102) { sp = 0xEFFC; mem = Rattle.cpu80_tagged_def.specs.Memory.put (Rattle.cpu80_tagged_def.specs.Memory.put mem 0xEFFC (PswCell unknown_flags)) 0xEFFD Junk }, refl, refl)
+push_stores mem = (record (unknown_state mem 0x102) { sp = 0xEFFC; mem = Rattle.cpu80_tagged.specs.Memory.put (Rattle.cpu80_tagged.specs.Memory.put mem 0xEFFC (PswCell unknown_flags)) 0xEFFD Junk }, refl, refl)

@@ -10,8 +10,8 @@ use Rattle.cells.specs.declared.Part.{Part}
 use Rattle.cells.specs.declared.Part.TheVariants.{S, Z, Ac, P, Cy}
 use Rattle.i80.specs.declared.Op.{Op}
 use Rattle.i80.specs.declared.Op.TheVariants.{Add, Adc, Ana, Xra, Ora}
-use Rattle.base_arithmetic_def.specs.Arithmetic.{as_bit}
-use Rattle.base_arithmetic_def.specs.Operations.{flags_of, flags_in}
+use Rattle.base.specs.Arithmetic.{as_bit}
+use Rattle.base.specs.Operations.{flags_of, flags_in}
 use Rattle.sym_terms.specs.Term.{Term, Num, Start, Alu, Flag, Sum16, High, Low, Join, FlagByte, Bit, Turn, Turned, Adjust, Unknown, is_adjusted, is_open, shows_open, is_word, is_byte, is_bit, leaves_flag, is_flag, same_term}
 use Rattle.sym_terms.specs.Making.{IsTermMade, alu, flag, flag_term_of, carry_flag, half_carry_flag, is_logic, is_addition, sum16, sum_of, regrouped, plus, high, low, join, bit, chosen_flag, turn, adjust}
 use Rattle.sym_terms.specs.Values80.{Value80, Byte, Word, OneBit, Result, Env80, Val80, word_by, bit_by, result_by, number80, flag_in, word_of}

@@ -8,8 +8,8 @@ use Rattle.cells.specs.declared.Part.TheVariants.{S, Z, Ac, P, Cy}
 use Rattle.cells.specs.Bits.{has_bit}
 use Rattle.i80.specs.declared.Op.{Op}
 use Rattle.i80.specs.declared.Op.TheVariants.{Ana, Xra, Ora}
-use Rattle.base_arithmetic_def.specs.Arithmetic.{as_bit}
-use Rattle.base_arithmetic_def.specs.Operations.{flags_of}
+use Rattle.base.specs.Arithmetic.{as_bit}
+use Rattle.base.specs.Operations.{flags_of}
 use Rattle.sym_terms.specs.Term.{Term, Num, Alu, Flag, Sum16, High, Low, Join, FlagByte, Bit, Turn, Turned, Adjust, Unknown, is_open, is_byte, is_adjusted, same_term}
 use Rattle.sym_terms.specs.Making.{flag_term_of, carry_flag, half_carry_flag, is_logic, is_addition, sum_of, regrouped, plus, high, low, join, bit, chosen_flag}
 use Rattle.sym_terms.specs.Values80.{flag_in}

@@ -6,8 +6,8 @@ use Rattle.cells.specs.declared.Cell.TheVariants.{Num as NumCell, Psw}
 use Rattle.cells.specs.declared.Part.{Part}
 use Rattle.cells.specs.declared.Part.TheVariants.{A, B, C, D, E, H, L, S, Z, Ac, P, Cy}
 use Rattle.i80.specs.declared.Op.{Op}
-use Rattle.base_arithmetic_def.specs.Arithmetic.{as_bit, daa_result, daa_carry, daa_excepted}
-use Rattle.base_arithmetic_def.specs.Operations.{flags_by, result_of, flags_of, flags_in}
+use Rattle.base.specs.Arithmetic.{as_bit, daa_result, daa_carry, daa_excepted}
+use Rattle.base.specs.Operations.{flags_by, result_of, flags_of, flags_in}
 use Rattle.sym_terms.specs.Term.{Term, Num, Start, StartSp, Loaded8, Loaded16, Alu, Flag, Sum16, High, Low, Join, FlagByte, Bit, Turn, Turned, Adjust, Code, Unknown}
 use Rattle.sym_terms.specs.Values80.{Byte, OneBit, Result, Env80, LoadedByte, LoadedWord, Val80, byte_by, word_by, bit_by, result_by, number80, start80, flag_in, turn_result, turn_flags}
 use Rattle.sym_terms.specs.Laws.{OneValue80}

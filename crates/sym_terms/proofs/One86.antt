@@ -7,8 +7,8 @@ use Rattle.cells.specs.declared.Part.TheVariants.{S, Z, Ac, P, Cy}
 use Rattle.cells.specs.Conditions.{flags_of_byte}
 use Rattle.i80.specs.declared.Op.{Op}
 use Rattle.i80.specs.declared.Op.TheVariants.{Add, Adc, Sub, Sbb, Ana, Xra, Ora, Cmp}
-use Rattle.base_arithmetic_def.specs.Arithmetic.{as_bit}
-use Rattle.base_arithmetic_def.specs.Operations.{flags_by, result_of, flags_of}
+use Rattle.base.specs.Arithmetic.{as_bit}
+use Rattle.base.specs.Operations.{flags_by, result_of, flags_of}
 use Rattle.sym_terms.specs.Term.{Term, Num, Start, StartSp, Loaded8, Loaded16, Alu, Flag, Sum16, High, Low, Join, FlagByte, Bit, Turn, Turned, Adjust, Code, Unknown, is_open, is_adjusted, leaves_flag, is_flag}
 use Rattle.sym_terms.specs.Making.{IsTermMade, flag, is_addition}
 use Rattle.sym_terms.specs.Values80.{flag_in, turn_result, turn_flags, turn_carry}

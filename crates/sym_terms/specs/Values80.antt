@@ -6,8 +6,8 @@ use Rattle.cells.specs.declared.Cell.TheVariants.{Num as NumCell, Lo, Hi, Psw}
 use Rattle.cells.specs.declared.Part.{Part}
 use Rattle.cells.specs.declared.Part.TheVariants.{A, B, C, D, E, H, L, S, Z, Ac, P, Cy}
 use Rattle.cells.specs.Conditions.{unknown_flags}
-use Rattle.base_arithmetic_def.specs.Arithmetic.{as_bit, turned_left, turned_right, bit7, bit0, daa_result, daa_carry, daa_excepted}
-use Rattle.base_arithmetic_def.specs.Operations.{flags_by, result_of, flags_of, flags_in}
+use Rattle.base.specs.Arithmetic.{as_bit, turned_left, turned_right, bit7, bit0, daa_result, daa_carry, daa_excepted}
+use Rattle.base.specs.Operations.{flags_by, result_of, flags_of, flags_in}
 use Rattle.sym_terms.specs.Term.{Term, Num, Start, StartSp, Loaded8, Loaded16, Alu, Flag, Sum16, High, Low, Join, FlagByte, Bit, Turn, Turned, Adjust, Code, Unknown}
 
 -- a byte is a cell, a word two cells, and a bit 0, 1 or unknown; an operation that leaves flags is a number with its five flags

@@ -6,8 +6,8 @@ use Rattle.cells.specs.declared.Part.{Part}
 use Rattle.cells.specs.declared.Part.TheVariants.{A, B, C, D, E, H, L, S, Z, Ac, P, Cy}
 use Rattle.cells.specs.Bits.{has_bit}
 use Rattle.cells.specs.Conditions.{flags_of_byte}
-use Rattle.base_arithmetic_def.specs.Arithmetic.{as_bit, daa_result, daa_carry, daa_excepted}
-use Rattle.base_arithmetic_def.specs.Operations.{flags_by, result_of, flags_of}
+use Rattle.base.specs.Arithmetic.{as_bit, daa_result, daa_carry, daa_excepted}
+use Rattle.base.specs.Operations.{flags_by, result_of, flags_of}
 use Rattle.sym_terms.specs.Term.{Term, Num, Start, StartSp, Loaded8, Loaded16, Alu, Flag, Sum16, High, Low, Join, FlagByte, Bit, Turn, Turned, Adjust, Code, Unknown}
 use Rattle.sym_terms.specs.Values80.{flag_in, turn_result, turn_flags}
 

@@ -4,9 +4,9 @@ use Rattle.cells.specs.declared.Rule.{Rule}
 use Rattle.dialogue.specs.Run.{Run, Going, Waiting, Over}
 use Rattle.asm86_line_types.specs.declared.line.Label.{Label}
 use Rattle.asm80_program_types.specs.Program.{Program}
-use Rattle.cpu80_tagged_def.specs.State.{State80}
-use Rattle.cpu86_def.specs.State.{State86}
-use Rattle.cpu86_def.specs.Call.{Stop}
+use Rattle.cpu80_tagged.specs.State.{State80}
+use Rattle.cpu86.specs.State.{State86}
+use Rattle.cpu86.specs.Call.{Stop}
 use Rattle.block_check_def.specs.BlockMatch.{Keeps}
 use Rattle.simulation_def.specs.Linked.{Linked, Paired, linked, ended, waiting}
 

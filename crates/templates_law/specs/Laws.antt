@@ -7,9 +7,9 @@ use Rattle.dialogue.specs.declared.request.Reply.{Reply}
 use Rattle.asm80_program_types.specs.Program.{Program, IsProgram}
 use Rattle.asm86_line_types.specs.declared.line.Line86.{Line86}
 use Rattle.asm86_line_types.specs.Image.{image_of}
-use Rattle.cpu80_tagged_def.specs.Start.{IsPage, run80}
+use Rattle.cpu80_tagged.specs.Start.{IsPage, run80}
 use Rattle.dialogue.specs.Fill.{IsFill}
-use Rattle.cpu86_def.specs.Start.{Start, IsStart, AreChoices, run86}
+use Rattle.cpu86.specs.Start.{Start, IsStart, AreChoices, run86}
 use Rattle.flow.specs.Blocks.{blocks}
 use Rattle.flow.specs.Solving.{Needs, AreAllNeeds}
 use Rattle.simulation_def.specs.Runs86.{offsets_of}

@@ -1,5 +1,5 @@
 // Sets of addresses.
-use base_types::AddressSet;
+use base::AddressSet;
 use std::test::Fail;
 
 #[test]

@@ -1,5 +1,5 @@
 // How a line loses its CR, and how it is held while it is not complete.
-use base_types::{HeldLine, without_cr};
+use base::{HeldLine, without_cr};
 
 fn held(bytes: &[u8]) -> HeldLine {
     let mut line = HeldLine::new();

@@ -2,7 +2,7 @@
 ghost use Rattle.std.specs.Prelude.{◌≡◌, ◌+◌, ◌≤◌};
 ghost use Rattle.flow.specs.Graph.{edge_count};
 
-use base_types::Steps;
+use base::Steps;
 use flow::Graph;
 use std::sync::ledger::Ledger;
 

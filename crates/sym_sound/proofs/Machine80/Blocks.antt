@@ -11,10 +11,10 @@ use Rattle.i80.specs.declared.Instr80.TheVariants.{Pchl, Jmp, Jif, Call, Cif, Re
 use Rattle.i80.specs.Columns.{length80, ends80}
 use Rattle.dialogue.specs.Run.{Answer, Ran, Stops}
 use Rattle.asm80_program_types.specs.Program.{Program, IsProgram, instr_at, is_start}
-use Rattle.cpu80_tagged_def.specs.State.{State80, reg80}
-use Rattle.cpu80_tagged_def.specs.Effect.{effect}
-use Rattle.cpu80_tagged_def.specs.Call.{popped_return}
-use Rattle.cpu80_tagged_def.specs.Step.{go_to, go_on, go_back, jump as jump80, call as call80, act, act_at, step80, return_of, return_at, machine80}
+use Rattle.cpu80_tagged.specs.State.{State80, reg80}
+use Rattle.cpu80_tagged.specs.Effect.{effect}
+use Rattle.cpu80_tagged.specs.Call.{popped_return}
+use Rattle.cpu80_tagged.specs.Step.{go_to, go_on, go_back, jump as jump80, call as call80, act, act_at, step80, return_of, return_at, machine80}
 use Rattle.sym_terms.specs.Values80.{Load80, Byte, word_of, Val80}
 use Rattle.sym_terms.specs.Laws.{MadeTermsKeepValues, MadeTermsHaveSorts}
 use Rattle.sym_block_def.specs.Outcome.{Way, Exit, One, Outcome, held_at_start}
@@ -36,7 +36,7 @@ pub step_is : (p : Program) (s : State80) (at : ℕ) (i : Instr80) → s.place �
 step_is p s at i place here = ap (at_place) place ∙ ap (λ o. act_at p s at o) here
   where
     at_place : Place → Answer State80 Rule
-    at_place q = Rattle.cpu80_tagged_def.specs.Step.step_at p s q
+    at_place q = Rattle.cpu80_tagged.specs.Step.step_at p s q
 
 return_is : (p : Program) (s : State80) (at : ℕ) (i : Instr80) → s.place ≡ At at → instr_at p at ≡ Some i → return_at p s s.place ≡ return_of p s at (Some i)
 return_is p s at i place here = ap (return_at p s) place ∙ ap (λ o. return_of p s at o) here

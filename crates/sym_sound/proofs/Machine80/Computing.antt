@@ -12,12 +12,12 @@ use Rattle.i80.specs.declared.Reg.{Reg}
 use Rattle.i80.specs.declared.Reg.TheVariants.{A, B, C, D, E, H, L}
 use Rattle.i80.specs.declared.Op.{Op}
 use Rattle.i80.specs.declared.Op.TheVariants.{Add, Adc, Sub, Sbb, Ana, Xra, Ora, Cmp}
-use Rattle.base_arithmetic_def.specs.Arithmetic.{as_bit, daa_result, daa_carry, daa_excepted}
-use Rattle.base_arithmetic_def.specs.Operations.{flags_by, result_of, flags_of}
-use Rattle.base_arithmetic_def.proofs.Bytes.{result_small}
+use Rattle.base.specs.Arithmetic.{as_bit, daa_result, daa_carry, daa_excepted}
+use Rattle.base.specs.Operations.{flags_by, result_of, flags_of}
+use Rattle.base.proofs.Bytes.{result_small}
 use Rattle.asm80_program_types.specs.Program.{Program}
-use Rattle.cpu80_tagged_def.specs.State.{State80, reg80, with_a, with_flags, num_or}
-use Rattle.cpu80_tagged_def.specs.Effect.{known, carry_for, a_after as a_after80, alu_with}
+use Rattle.cpu80_tagged.specs.State.{State80, reg80, with_a, with_flags, num_or}
+use Rattle.cpu80_tagged.specs.Effect.{known, carry_for, a_after as a_after80, alu_with}
 use Rattle.sym_terms.specs.Term.{Term, Num, Alu, Adjust, is_byte, is_bit, is_flag, leaves_flag, is_open}
 use Rattle.sym_terms.specs.Making.{alu, flag, adjust}
 use Rattle.sym_terms.specs.Values80.{Env80, Load80, Byte, OneBit, Result as ResultOf, Val80, flag_in}

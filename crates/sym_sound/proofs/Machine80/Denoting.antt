@@ -4,8 +4,8 @@ use Rattle.std.proofs.lemmas.List.{length-append, append-nil}
 use Rattle.cells.specs.declared.Flags.{Flags}
 use Rattle.cells.specs.declared.Cell.{Cell}
 use Rattle.asm80_program_types.specs.Program.{Program}
-use Rattle.cpu80_tagged_def.specs.State.{State80, Regs80, reg80}
-use Rattle.cpu80_tagged_def.specs.Memory.{is_closed, is_write_protected, put}
+use Rattle.cpu80_tagged.specs.State.{State80, Regs80, reg80}
+use Rattle.cpu80_tagged.specs.Memory.{is_closed, is_write_protected, put}
 use Rattle.sym_terms.specs.Term.{Term, Loaded8, Loaded16}
 use Rattle.sym_terms.specs.Values80.{Load80, LoadedByte, LoadedWord, Byte, Word, OneBit, word_of, Val80}
 use Rattle.sym_terms.proofs.Places.{get_last_at}

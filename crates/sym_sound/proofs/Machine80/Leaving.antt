@@ -20,15 +20,15 @@ use Rattle.dialogue.specs.Run.{Answer, Ran, Asks, Stops}
 use Rattle.dialogue.specs.Words.{wrap}
 use Rattle.asm80_program_types.specs.Program.{Program, is_start}
 use Rattle.asm80_program_types.specs.Taken.{takes}
-use Rattle.cpu80_tagged_def.specs.State.{State80, num_or}
-use Rattle.cpu80_tagged_def.specs.Memory.{read_word}
-use Rattle.cpu80_tagged_def.specs.Effect.{push}
+use Rattle.cpu80_tagged.specs.State.{State80, num_or}
+use Rattle.cpu80_tagged.specs.Memory.{read_word}
+use Rattle.cpu80_tagged.specs.Effect.{push}
 use Rattle.cells.specs.Conditions.{is_clear, holds}
 use Rattle.cells.specs.Places.{same_place}
 use Rattle.cells.proofs.SamePlace.{same_place_is}
-use Rattle.cpu80_tagged_def.specs.Call.{Return, is_place, place_in, popped_return, return_after}
-use Rattle.cpu80_tagged_def.specs.Step.{go_to, leave_to, go_by, go_back, jump as jump80, enter, call as call80, where_holds as where_holds80, ask_event, ask_port, sent, return_at}
-use Rattle.cpu80_tagged_def.proofs.Passing.{place_if_is}
+use Rattle.cpu80_tagged.specs.Call.{Return, is_place, place_in, popped_return, return_after}
+use Rattle.cpu80_tagged.specs.Step.{go_to, leave_to, go_by, go_back, jump as jump80, enter, call as call80, where_holds as where_holds80, ask_event, ask_port, sent, return_at}
+use Rattle.cpu80_tagged.proofs.Passing.{place_if_is}
 use Rattle.sym_terms.specs.Term.{High, Low, Loaded16, same_bool}
 use Rattle.sym_terms.specs.Values80.{Env80, Load80, Byte, OneBit, Val80}
 use Rattle.sym_block_def.specs.Outcome.{Way, Goto, ByTerms, Call, Leave, In, Out, Exit, One, Held}

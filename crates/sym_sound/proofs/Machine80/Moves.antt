@@ -13,12 +13,12 @@ use Rattle.i80.specs.declared.Pair.TheVariants.{B as PairB, D as PairD, H as Pai
 use Rattle.i80.specs.declared.StackPair.{StackPair}
 use Rattle.i80.specs.declared.StackPair.TheVariants.{B as StackB, D as StackD, H as StackH, Psw}
 use Rattle.i80.specs.declared.Word.TheVariants.{Code as CodeAt}
-use Rattle.base_arithmetic_def.specs.Operations.{flags_in}
+use Rattle.base.specs.Operations.{flags_in}
 use Rattle.asm80_program_types.specs.Program.{Program}
 use Rattle.dialogue.specs.Words.{wrap}
-use Rattle.cpu80_tagged_def.specs.State.{State80, reg80, with_a as with_a80, with_num}
-use Rattle.cpu80_tagged_def.specs.Memory.{put, read_at, write_at, Halves, read_word, write_word}
-use Rattle.cpu80_tagged_def.specs.Effect.{source as source80, into as into80, lxi as lxi80, lda as lda80, lhld as lhld80, xchg as xchg80, xthl as xthl80, push as push80, push_pair, popped as popped80, pop_pair}
+use Rattle.cpu80_tagged.specs.State.{State80, reg80, with_a as with_a80, with_num}
+use Rattle.cpu80_tagged.specs.Memory.{put, read_at, write_at, Halves, read_word, write_word}
+use Rattle.cpu80_tagged.specs.Effect.{source as source80, into as into80, lxi as lxi80, lda as lda80, lhld as lhld80, xchg as xchg80, xthl as xthl80, push as push80, push_pair, popped as popped80, pop_pair}
 use Rattle.sym_terms.specs.Term.{Term, Num, Code, is_word}
 use Rattle.sym_terms.specs.Making.{high, low, join, sum16}
 use Rattle.sym_terms.specs.Values80.{Env80, Load80, LoadedByte, LoadedWord, Byte, Word, OneBit, word_of, Val80}

@@ -14,15 +14,15 @@ use Rattle.i80.specs.declared.Pair.{Pair}
 use Rattle.i80.specs.declared.Pair.TheVariants.{B as PairB, D as PairD, H as PairH, Sp}
 use Rattle.i80.specs.declared.Op.{Op}
 use Rattle.i80.specs.declared.Op.TheVariants.{Add, Adc, Sub, Xra}
-use Rattle.base_arithmetic_def.specs.Arithmetic.{as_bit, has_even_parity, sum8, carry8, difference8, bit0, daa_result, daa_carry, daa_excepted}
-use Rattle.base_arithmetic_def.specs.Operations.{flags_by, result_of, flags_of}
-use Rattle.base_arithmetic_def.proofs.Bytes.{turned_round, carry_is, inverted_is}
+use Rattle.base.specs.Arithmetic.{as_bit, has_even_parity, sum8, carry8, difference8, bit0, daa_result, daa_carry, daa_excepted}
+use Rattle.base.specs.Operations.{flags_by, result_of, flags_of}
+use Rattle.base.proofs.Bytes.{turned_round, carry_is, inverted_is}
 use Rattle.dialogue.specs.Tried.{try_then}
 use Rattle.dialogue.specs.Words.{wrap}
 use Rattle.asm80_program_types.specs.Program.{Program}
-use Rattle.cpu80_tagged_def.specs.State.{State80, reg80, high_of, low_of, with_a as with_a80, with_num, with_flags, with_cy, num_or}
-use Rattle.cpu80_tagged_def.specs.Memory.{put, address, read_at, may_write}
-use Rattle.cpu80_tagged_def.specs.Effect.{source as source80, into as into80, known, counted, inr, dcr, pair_num, add_to_pair as add80, dad as dad80, daa as daa80, cma, cmc, rlc, rrc, ral, rar, cleared as cleared80}
+use Rattle.cpu80_tagged.specs.State.{State80, reg80, high_of, low_of, with_a as with_a80, with_num, with_flags, with_cy, num_or}
+use Rattle.cpu80_tagged.specs.Memory.{put, address, read_at, may_write}
+use Rattle.cpu80_tagged.specs.Effect.{source as source80, into as into80, known, counted, inr, dcr, pair_num, add_to_pair as add80, dad as dad80, daa as daa80, cma, cmc, rlc, rrc, ral, rar, cleared as cleared80}
 use Rattle.sym_terms.specs.Term.{Term, Num, Start, Alu, Flag, Bit, Turn, Unknown, is_bit, is_word, leaves_flag, is_open}
 use Rattle.sym_terms.specs.Making.{alu, flag, sum16, high, low, turn, adjust, carry_of}
 use Rattle.sym_terms.specs.Values80.{Env80, Load80, Byte, OneBit, Result as ResultOf, word_of, Val80, turn_result, turn_carry, turn_flags}

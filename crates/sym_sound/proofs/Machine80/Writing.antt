@@ -2,7 +2,7 @@
 use Rattle.cells.specs.declared.Cell.{Cell}
 use Rattle.i80.specs.declared.Reg.{Reg}
 use Rattle.i80.specs.declared.Reg.TheVariants.{A, B, C, D, E, H, L}
-use Rattle.cpu80_tagged_def.specs.State.{Regs80, reg80, with_reg80}
+use Rattle.cpu80_tagged.specs.State.{Regs80, reg80, with_reg80}
 use Rattle.sym_terms.specs.Term.{Term}
 use Rattle.sym_block_def.specs.Outcome.{Held}
 use Rattle.sym_block_def.specs.Block80.{reg_term, with_reg}

@@ -11,12 +11,12 @@ use Rattle.i86.specs.declared.Reg8.{Reg8}
 use Rattle.i86.specs.declared.Reg8.TheVariants.{Al, Cl, Dl, Bl, Ah, Ch, Dh, Bh}
 use Rattle.i86.specs.declared.AluOp.{AluOp}
 use Rattle.i86.specs.declared.AluOp.TheVariants.{Add as Add86, Or, Adc, Sbb, And, Sub as Sub86, Xor, Cmp}
-use Rattle.base_arithmetic_def.specs.Arithmetic.{as_bit, borrow4}
-use Rattle.base_arithmetic_def.specs.Operations.{result_of, flags_of}
-use Rattle.base_arithmetic_def.proofs.Bytes.{bit_small}
-use Rattle.cpu86_def.specs.State.{State86, Flags86}
-use Rattle.cpu86_def.specs.Flags.{alu_result, alu_flags}
-use Rattle.cpu86_def.specs.Effect.{set8, stores_result, alu_al as alu_al86}
+use Rattle.base.specs.Arithmetic.{as_bit, borrow4}
+use Rattle.base.specs.Operations.{result_of, flags_of}
+use Rattle.base.proofs.Bytes.{bit_small}
+use Rattle.cpu86.specs.State.{State86, Flags86}
+use Rattle.cpu86.specs.Flags.{alu_result, alu_flags}
+use Rattle.cpu86.specs.Effect.{set8, stores_result, alu_al as alu_al86}
 use Rattle.sym_terms.specs.Term.{Term, Num, Alu, is_byte, is_bit, is_flag, leaves_flag, is_open}
 use Rattle.sym_terms.specs.Making.{alu, flag}
 use Rattle.sym_terms.specs.Values80.{flag_in}

@@ -15,13 +15,13 @@ use Rattle.i86.specs.declared.Count.{Count}
 use Rattle.i86.specs.declared.Count.TheVariants.{Inc, Dec}
 use Rattle.i86.specs.declared.Rotate.{Rotate}
 use Rattle.i86.specs.declared.Rotate.TheVariants.{Rol, Ror, Rcl, Rcr}
-use Rattle.base_arithmetic_def.specs.Arithmetic.{as_bit, has_even_parity, sum8, carry8, difference8, borrow4, turned_left, turned_right, bit7, bit0, daa_adds_6, daa_result, daa_carry, daa_excepted}
-use Rattle.base_arithmetic_def.specs.Operations.{flags_by as flags_by80, result_of, flags_of}
-use Rattle.base_arithmetic_def.proofs.Bytes.{bit_small, turned_round, flag_bits, carry_is, inverted_is}
+use Rattle.base.specs.Arithmetic.{as_bit, has_even_parity, sum8, carry8, difference8, borrow4, turned_left, turned_right, bit7, bit0, daa_adds_6, daa_result, daa_carry, daa_excepted}
+use Rattle.base.specs.Operations.{flags_by as flags_by80, result_of, flags_of}
+use Rattle.base.proofs.Bytes.{bit_small, turned_round, flag_bits, carry_is, inverted_is}
 use Rattle.dialogue.specs.Choice.{byte_of}
-use Rattle.cpu86_def.specs.State.{State86, Flags86, reg8, reg16, with16, operand8 as operand86, with_operand8}
-use Rattle.cpu86_def.specs.Flags.{flags_by, alu_flags, count8_flags, count16_flags, add16_flags, rotate8_result, rotate8_carry, rotate16_result, bit15, chosen_flags, flag_byte as flag_byte86, flags_of_byte}
-use Rattle.cpu86_def.specs.Effect.{set8, with_flags, with_cf as with_cf86, or_cl as or_cl86, count8 as count8_86, count16 as count16_86, add16 as add16_86, rotate8 as rotate8_86, rotate16 as rotate16_86, daa as daa86}
+use Rattle.cpu86.specs.State.{State86, Flags86, reg8, reg16, with16, operand8 as operand86, with_operand8}
+use Rattle.cpu86.specs.Flags.{flags_by, alu_flags, count8_flags, count16_flags, add16_flags, rotate8_result, rotate8_carry, rotate16_result, bit15, chosen_flags, flag_byte as flag_byte86, flags_of_byte}
+use Rattle.cpu86.specs.Effect.{set8, with_flags, with_cf as with_cf86, or_cl as or_cl86, count8 as count8_86, count16 as count16_86, add16 as add16_86, rotate8 as rotate8_86, rotate16 as rotate16_86, daa as daa86}
 use Rattle.sym_terms.specs.Term.{Term, Num, Turn, Turned, Adjust, Unknown, is_bit, is_word, leaves_flag, is_open}
 use Rattle.sym_terms.specs.Making.{alu, flag, sum16, high, low, turn, adjust, carry_of}
 use Rattle.sym_terms.specs.Values80.{turn_result, turn_carry as turn_carry80, turn_flags}

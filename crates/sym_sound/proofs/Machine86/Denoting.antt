@@ -3,11 +3,11 @@ use Rattle.std.proofs.Common.{◌≡◌, ℕ, ◌+◌, ◌/◌, ◌%◌, ◌<◌
 use Rattle.std.proofs.lemmas.List.{length-append, append-nil}
 use Rattle.i86.specs.declared.Reg8.{Reg8}
 use Rattle.i86.specs.declared.Reg8.TheVariants.{Al, Cl, Dl, Bl, Ah, Ch, Dh, Bh}
-use Rattle.base_arithmetic_def.specs.Arithmetic.{as_bit}
+use Rattle.base.specs.Arithmetic.{as_bit}
 use Rattle.dialogue.specs.ByteMemory.{put, word_at}
 use Rattle.dialogue.specs.Words.{wrap}
-use Rattle.cpu86_def.specs.State.{State86, Flags86, reg8, put_word}
-use Rattle.cpu86_def.specs.Effect.{set8, with_flags}
+use Rattle.cpu86.specs.State.{State86, Flags86, reg8, put_word}
+use Rattle.cpu86.specs.Effect.{set8, with_flags}
 use Rattle.sym_terms.specs.Term.{Term, Loaded8, Loaded16}
 use Rattle.sym_terms.specs.Values86.{Env86, Load86, LoadedByte, LoadedWord, Number, Val86}
 use Rattle.sym_terms.proofs.Places.{get_last_at}

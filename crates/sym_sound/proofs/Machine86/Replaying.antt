@@ -2,7 +2,7 @@
 use Rattle.std.proofs.Common.{◌≡◌, ℕ, List, [], ◌∷◌, ◌++◌, sym, ap, subst, append_assoc}
 use Rattle.std.proofs.lemmas.List.{append-nil}
 use Rattle.dialogue.specs.ByteMemory.{put}
-use Rattle.cpu86_def.specs.State.{put_word}
+use Rattle.cpu86.specs.State.{put_word}
 use Rattle.sym_terms.specs.Values86.{Env86, Load86, LoadedByte, LoadedWord}
 use Rattle.sym_block_def.specs.Outcome.{Action, Load8, Load16, Store8, Store16}
 use Rattle.simulation_def.specs.Runs86.{with_load86, Replays86}

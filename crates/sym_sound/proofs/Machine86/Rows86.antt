@@ -11,10 +11,10 @@ use Rattle.i86.specs.declared.AluOp.TheVariants.{Sub as Sub86, Xor}
 use Rattle.i86.specs.declared.Instr86.{Instr86}
 use Rattle.i86.specs.declared.Instr86.TheVariants.{MovReg8, MovMem8, MovAlDirect, MovDirectAl, MovNum8, MovNum16, MovMemNum, MovReg16, MovDirect16, MovAxDs, MovSsAx, Alu as AluWith, AluNum, OrClCl, Add16, Count8, Count16, Push, Pop, Xchg8, Xchg16, Rotate8, Rotate16, Not8, Daa, Sahf, Lahf, Cmc, Stc, Nop, Jcc, JmpNear, JmpShort, JmpBx, CallNear, Ret, Int224, InAl, OutAl}
 use Rattle.i86.specs.Enc86.{reg_of_stack}
-use Rattle.base_arithmetic_def.specs.Arithmetic.{difference8, borrow4, borrow8}
-use Rattle.cpu86_def.specs.State.{State86, reg8, reg16, pointed as pointed86, operand8 as operand86}
-use Rattle.cpu86_def.specs.Flags.{flags_by, alu_result}
-use Rattle.cpu86_def.specs.Effect.{set8, with_flags, effect, alu_al as alu_al86}
+use Rattle.base.specs.Arithmetic.{difference8, borrow4, borrow8}
+use Rattle.cpu86.specs.State.{State86, reg8, reg16, pointed as pointed86, operand8 as operand86}
+use Rattle.cpu86.specs.Flags.{flags_by, alu_result}
+use Rattle.cpu86.specs.Effect.{set8, with_flags, effect, alu_al as alu_al86}
 use Rattle.sym_terms.specs.Term.{Num, Unknown}
 use Rattle.sym_terms.specs.Values86.{Load86, Env86}
 use Rattle.sym_terms.specs.Laws.{MadeTermsKeepValues, MadeTermsHaveSorts}

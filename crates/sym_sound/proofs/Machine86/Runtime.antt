@@ -15,10 +15,10 @@ use Rattle.asm86_line_types.specs.declared.line.Stmt86.TheVariants.{Mark, Run, J
 use Rattle.asm86_line_types.specs.declared.line.Line86.{Line86}
 use Rattle.asm86_line_types.specs.Layout.{sizes_of, offset_of, place_of, distance8}
 use Rattle.asm86_line_types.specs.Image.{Assembles, image_of, statements}
-use Rattle.cpu86_def.specs.State.{State86}
-use Rattle.cpu86_def.specs.Effect.{distance, jump_by, effect}
-use Rattle.cpu86_def.specs.Call.{call_system}
-use Rattle.cpu86_def.specs.Step.{step86}
+use Rattle.cpu86.specs.State.{State86}
+use Rattle.cpu86.specs.Effect.{distance, jump_by, effect}
+use Rattle.cpu86.specs.Call.{call_system}
+use Rattle.cpu86.specs.Step.{step86}
 use Rattle.templates.specs.Plain.{runtime, call_code, end_code}
 use Rattle.simulation_def.specs.Runtime.{HasRuntime, answers_moved, CallsSystem, EndsAfter, RuntimesRun86}
 use Rattle.sym_sound.proofs.Machine86.Words.{eq_false}

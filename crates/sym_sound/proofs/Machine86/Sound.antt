@@ -11,7 +11,7 @@ use Rattle.i86.specs.declared.Reg8.TheVariants.{Al, Cl, Dl, Bl, Ah, Ch, Dh, Bh}
 use Rattle.asm86_line_types.specs.declared.line.Label.TheVariants.{At}
 use Rattle.asm86_line_types.specs.declared.line.Stmt86.{Stmt86}
 use Rattle.asm86_line_types.specs.Image.{statements}
-use Rattle.cpu86_def.specs.State.{State86, reg8}
+use Rattle.cpu86.specs.State.{State86, reg8}
 use Rattle.templates.specs.Template.{reg_of}
 use Rattle.sym_terms.specs.Term.{Start, Unknown}
 use Rattle.sym_terms.specs.Values86.{Env86, Number, Val86, start86 as started}

@@ -17,10 +17,10 @@ use Rattle.asm86_line_types.specs.declared.line.Stmt86.{Stmt86}
 use Rattle.asm86_line_types.specs.declared.line.Line86.{Line86}
 use Rattle.asm86_line_types.specs.Layout.{size_of, place_of, distance8, instr_of, enc_of, code_of}
 use Rattle.asm86_line_types.specs.Image.{Assembles, image_of, statements, jump_reaches}
-use Rattle.cpu86_def.specs.State.{State86, reg16, with16, with_operand8}
-use Rattle.cpu86_def.specs.Effect.{distance, effect}
-use Rattle.cpu86_def.specs.Call.{StackSegment}
-use Rattle.cpu86_def.specs.Step.{uses_stack, act, act_from, act_at, step86}
+use Rattle.cpu86.specs.State.{State86, reg16, with16, with_operand8}
+use Rattle.cpu86.specs.Effect.{distance, effect}
+use Rattle.cpu86.specs.Call.{StackSegment}
+use Rattle.cpu86.specs.Step.{uses_stack, act, act_from, act_at, step86}
 use Rattle.sym_sound.proofs.Machine86.Words.{eq_true}
 use Rattle.sym_sound.proofs.Machine86.Positions.{Position, stands_here, ends_within}
 use Rattle.sym_sound.proofs.Machine86.Rows86.{goes_on}
@@ -86,7 +86,7 @@ keeps_ip (Add16 r q) s choice g = word_keeps_ip s r _
 keeps_ip (Count8 c o) s choice g = operand_keeps_ip s o _
 keeps_ip (Count16 c r) s choice g = word_keeps_ip s r _
 keeps_ip (Push r) s choice g = refl
-keeps_ip (Pop r) s choice g = word_keeps_ip (Rattle.cpu86_def.specs.Effect.with_pop s) (reg_of_stack r) _
+keeps_ip (Pop r) s choice g = word_keeps_ip (Rattle.cpu86.specs.Effect.with_pop s) (reg_of_stack r) _
 keeps_ip (Xchg8 r q) s choice g = refl
 keeps_ip (Xchg16 r q) s choice g = word_keeps_ip (with16 s r (reg16 s q)) q (reg16 s r) ∙ word_keeps_ip s r (reg16 s q)
 keeps_ip (Rotate8 k r) s choice g = refl

@@ -11,7 +11,7 @@ use Rattle.i86.specs.declared.Instr86.{Instr86}
 use Rattle.i86.specs.declared.Instr86.TheVariants.{Jcc, JmpNear, JmpShort, JmpBx, CallNear, Ret}
 use Rattle.i86.specs.Code.{ReadsCode}
 use Rattle.dialogue.proofs.Tried.{ok_is, err_is_not}
-use Rattle.base_arithmetic_def.specs.Arithmetic.{as_bit}
+use Rattle.base.specs.Arithmetic.{as_bit}
 use Rattle.dialogue.specs.Run.{Ran, choice_at}
 use Rattle.dialogue.specs.Words.{word, wrap}
 use Rattle.dialogue.specs.ByteMemory.{word_at}
@@ -23,9 +23,9 @@ use Rattle.asm86_line_types.specs.declared.line.Line86.{Line86}
 use Rattle.asm86_line_types.specs.Layout.{offset_of, place_of, distance16, distance8}
 use Rattle.asm86_line_types.specs.Image.{Assembles, image_of, statements, AllDefined, used_in}
 use Rattle.asm80_program_types.specs.Program.{Program, is_start}
-use Rattle.cpu86_def.specs.State.{State86, Flags86, push}
-use Rattle.cpu86_def.specs.Flags.{jumps}
-use Rattle.cpu86_def.specs.Step.{step86, machine86}
+use Rattle.cpu86.specs.State.{State86, Flags86, push}
+use Rattle.cpu86.specs.Flags.{jumps}
+use Rattle.cpu86.specs.Step.{step86, machine86}
 use Rattle.sym_terms.specs.Term.{High, Low, Loaded16, same_bool}
 use Rattle.sym_terms.specs.Values86.{Env86, Load86, Number, Val86}
 use Rattle.sym_terms.specs.Laws.{MadeTermsKeepValues, MadeTermsHaveSorts}

@@ -18,10 +18,10 @@ use Rattle.asm86_line_types.specs.declared.line.Stmt86.{Stmt86}
 use Rattle.asm86_line_types.specs.declared.line.Stmt86.TheVariants.{Run, MovOffset, Jmp, Jmps, Jcc as JccTo, Call as CallTo}
 use Rattle.asm86_line_types.specs.Layout.{offset_of, place_of}
 use Rattle.asm86_line_types.specs.Image.{statements}
-use Rattle.cpu86_def.specs.State.{State86}
-use Rattle.cpu86_def.specs.Flags.{jumps}
-use Rattle.cpu86_def.specs.Effect.{effect}
-use Rattle.cpu86_def.specs.Step.{step86, machine86}
+use Rattle.cpu86.specs.State.{State86}
+use Rattle.cpu86.specs.Flags.{jumps}
+use Rattle.cpu86.specs.Effect.{effect}
+use Rattle.cpu86.specs.Step.{step86, machine86}
 use Rattle.sym_terms.specs.Term.{Term, Num, Code, is_word}
 use Rattle.sym_terms.specs.Making.{low}
 use Rattle.sym_terms.specs.Values86.{Env86, Load86, Number, Val86}

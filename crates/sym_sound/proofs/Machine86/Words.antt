@@ -2,11 +2,11 @@
 use Rattle.std.proofs.Common.{◌≡◌, ◌≢◌, ℕ, ◌+◌, ◌-◌, ◌/◌, ◌%◌, ◌≤◌, ◌<◌, List, [], ◌∷◌, length, refl, ap, ◌∙◌, arith, true, false, cond, ◌==◌, nat_lt}
 use Rattle.std.proofs.lemmas.Bool.Decides.{nat_tests}
 use Rattle.asm86_line_types.specs.Layout.{distance16}
-use Rattle.cpu80_tagged_def.specs.Call.{is_just_below}
+use Rattle.cpu80_tagged.specs.Call.{is_just_below}
 use Rattle.dialogue.specs.ByteMemory.{put, put_bytes, word_at}
 use Rattle.dialogue.specs.Words.{word, wrap}
-use Rattle.cpu86_def.specs.State.{back, put_word}
-use Rattle.cpu86_def.specs.Call.{chosen_six, spoiled}
+use Rattle.cpu86.specs.State.{back, put_word}
+use Rattle.cpu86.specs.Call.{chosen_six, spoiled}
 
 pub jump_lands : (from to : ℕ) → from < 0x10000 → to < 0x10000 → wrap (from + distance16 from to) ≡ to
 jump_lands from to h g = omega arith

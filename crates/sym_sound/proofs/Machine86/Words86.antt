@@ -12,8 +12,8 @@ use Rattle.i86.specs.declared.Operand16.{Operand16}
 use Rattle.i86.specs.declared.Operand16.TheVariants.{Reg as Reg_16, Direct}
 use Rattle.dialogue.specs.Words.{word, wrap}
 use Rattle.dialogue.specs.ByteMemory.{word_at}
-use Rattle.cpu86_def.specs.State.{State86, reg8, reg16, with16, back, put_word, pointed as pointed86, operand8 as operand86, with_operand8, operand16 as operand16_86, push as push86}
-use Rattle.cpu86_def.specs.Effect.{set8, popped, with_pop, xchg8 as xchg8_86, xchg16 as xchg16_86}
+use Rattle.cpu86.specs.State.{State86, reg8, reg16, with16, back, put_word, pointed as pointed86, operand8 as operand86, with_operand8, operand16 as operand16_86, push as push86}
+use Rattle.cpu86.specs.Effect.{set8, popped, with_pop, xchg8 as xchg8_86, xchg16 as xchg16_86}
 use Rattle.sym_terms.specs.Term.{Term, Num, is_byte, is_word}
 use Rattle.sym_terms.specs.Making.{high, low, join, sum16}
 use Rattle.sym_terms.specs.Values86.{Load86, LoadedByte, LoadedWord, Env86, Number, Val86}

@@ -2,7 +2,7 @@
 use Rattle.std.proofs.Common.{ℕ}
 use Rattle.i86.specs.declared.Reg8.{Reg8}
 use Rattle.i86.specs.declared.Reg8.TheVariants.{Al, Cl, Dl, Bl, Ah, Ch, Dh, Bh}
-use Rattle.cpu86_def.specs.State.{Regs86, reg8, with8}
+use Rattle.cpu86.specs.State.{Regs86, reg8, with8}
 use Rattle.sym_terms.specs.Term.{Term}
 use Rattle.sym_block_def.specs.Symbolic86.{Symbolic86, reg8_term, with_reg8}
 

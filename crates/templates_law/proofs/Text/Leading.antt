@@ -3,7 +3,7 @@ use Rattle.std.proofs.Common.{◌≡◌, ℕ, ◌+◌, ◌-◌, ◌≤◌, List,
 use Rattle.std.specs.Prelude.{is_some, IfSome, filter, filter_map}
 use Rattle.std.proofs.lemmas.Bool.{or_left, or_right, eqb-true, eq-eqb, ne_eqb}
 use Rattle.std.proofs.lemmas.List.Folds.{list_any-append}
-use Rattle.base_types.specs.Addresses.{is_among}
+use Rattle.base.specs.Addresses.{is_among}
 use Rattle.cells.specs.declared.Place.TheVariants.{At as AtPlace}
 use Rattle.cells.specs.declared.Cell.TheVariants.{Lo}
 use Rattle.i80.specs.declared.Word.TheVariants.{Num as Number, Code}

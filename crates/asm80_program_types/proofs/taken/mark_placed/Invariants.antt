@@ -1,5 +1,5 @@
 use Rattle.std.proofs.Common.{◌≡◌, ◌||◌, ℕ, filter_map, take}
-use Rattle.base_types.specs.Addresses.{has_address, is_among}
+use Rattle.base.specs.Addresses.{has_address, is_among}
 use Rattle.asm80_program_types.specs.Taken.{place_placed}
 use Rattle.asm80_program_types.proofs.taken.mark_placed.Given as goal
 

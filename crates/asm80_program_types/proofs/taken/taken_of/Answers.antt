@@ -1,6 +1,6 @@
 use Rattle.std.proofs.Common.{◌≡◌, ℕ, Bool, filter, IfOk, subst}
 use Rattle.std.proofs.Math.Path.{fun_ext}
-use Rattle.base_types.specs.Addresses.{has_address}
+use Rattle.base.specs.Addresses.{has_address}
 use Rattle.asm80_program_types.specs.Taken.{is_taken_place}
 use Rattle.asm80_program_types.proofs.taken.taken_of.Goals as goal
 use Rattle.asm80_program_types.proofs.Marks.{found_all}

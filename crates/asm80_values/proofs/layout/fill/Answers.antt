@@ -1,5 +1,5 @@
 use Rattle.std.proofs.Common.{ℕ, ◌==◌, ◌||◌, ap, ◌∙◌}
-use Rattle.base_types.specs.Addresses.{has_address}
+use Rattle.base.specs.Addresses.{has_address}
 use Rattle.asm80_values.proofs.layout.fill.Goals as goal
 use Rattle.asm80_values.proofs.Cells.{cell_added}
 

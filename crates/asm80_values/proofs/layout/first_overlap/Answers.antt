@@ -1,6 +1,6 @@
 use Rattle.std.proofs.Common.{◌≡◌, ◌++◌, true, false, sym, ap, ◌∙◌}
 use Rattle.std.specs.List.{list_any}
-use Rattle.base_types.specs.Addresses.{has_address}
+use Rattle.base.specs.Addresses.{has_address}
 use Rattle.asm80_source_def.specs.declared.rule.AsmRule.TheVariants.{S6}
 use Rattle.asm80_values.specs.Items.{cells_of_item, refused_item}
 use Rattle.asm80_values.proofs.layout.first_overlap.Goals as goal

@@ -1,5 +1,5 @@
 use Rattle.std.proofs.Common.{◌≡◌, ℕ, List, [], drop}
-use Rattle.base_types.specs.Addresses.{IsSetOf}
+use Rattle.base.specs.Addresses.{IsSetOf}
 use Rattle.asm80_values.specs.Items.{overlap_from}
 use Rattle.asm80_values.proofs.layout.first_overlap.Given as goal
 

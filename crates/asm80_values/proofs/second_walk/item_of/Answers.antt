@@ -2,7 +2,7 @@ use Rattle.std.proofs.Common.{◌≡◌, map, Some, Ok, ap, sym, ◌∙◌}
 use Rattle.asm80_statement_types.specs.Tree.{Statement, operand_of}
 use Rattle.asm80_source_def.specs.Walk.{row_operation, meaning_in}
 use Rattle.asm80_source_def.specs.Items.{Setting}
-use Rattle.base_types.specs.Addresses.{has_address}
+use Rattle.base.specs.Addresses.{has_address}
 use Rattle.asm80_values.specs.Forms.{GivesForm}
 use Rattle.asm80_values.specs.Second.{seen_in}
 use Rattle.asm80_values.proofs.second_walk.item_of.Goals as goal

@@ -1,7 +1,7 @@
 use Rattle.std.proofs.Common.{◌==◌, ◌||◌, Bool, cond, Some, None, sym, ap, ◌∙◌}
 use Rattle.std.proofs.Math.Bool.{or-false}
 use Rattle.std.specs.Option.{option_to_list}
-use Rattle.base_types.specs.Addresses.{has_address, is_among}
+use Rattle.base.specs.Addresses.{has_address, is_among}
 use Rattle.asm80_values.proofs.second_walk.mark_start.Goals as goal
 
 pub returns-then-is_instruction : goal.returns-then-is_instruction

@@ -2,7 +2,7 @@ use Rattle.std.proofs.Common.{◌≡◌, List, ℕ, length, take, map, ap, ◌�
 use Rattle.std.specs.List.{filter_map}
 use Rattle.std.proofs.Math.Seq.{take-length}
 use Rattle.asm80_statement_types.specs.Tree.{statement_of}
-use Rattle.base_types.specs.Addresses.{is_among}
+use Rattle.base.specs.Addresses.{is_among}
 use Rattle.asm80_first_walk.specs.declared.walked.Taken.{Taken}
 use Rattle.asm80_source_def.specs.Walk.{rows}
 use Rattle.asm80_values.specs.Second.{start_of_row}

@@ -1,6 +1,6 @@
 use Rattle.std.proofs.Common.{◌≡◌, ℕ, take}
 use Rattle.std.specs.List.{filter_map}
-use Rattle.base_types.specs.Addresses.{has_address, is_among}
+use Rattle.base.specs.Addresses.{has_address, is_among}
 use Rattle.asm80_values.specs.Second.{start_of_row}
 use Rattle.asm80_values.proofs.second_walk.starts_of.Given as goal
 

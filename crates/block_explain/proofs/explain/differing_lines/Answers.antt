@@ -1,7 +1,7 @@
 use Rattle.std.proofs.Common.{◌∙◌, ap}
 use Rattle.std.specs.String.{string_bytes}
 use Rattle.std.proofs.lemmas.Result.{IfOk-weaker}
-use Rattle.sym_words.specs.Words.{words}
+use Rattle.block_explain.specs.Words.{words}
 use Rattle.block_explain.specs.Explained.{differs_lines}
 use Rattle.block_explain.specs.Pairs.{trees_of}
 use Rattle.block_explain.proofs.explain.differing_lines.Goals as goal

@@ -1,4 +1,4 @@
-use Rattle.base_types.proofs.Fronts.{member_goes_on, one_place}
+use Rattle.base.proofs.Fronts.{member_goes_on, one_place}
 use Rattle.cmd_file.proofs.Files.{one_reading}
 use Rattle.cmd_file.proofs.laws.command_file_has_one_reading.Goals as goal
 

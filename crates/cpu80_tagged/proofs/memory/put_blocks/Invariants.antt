@@ -1,6 +1,6 @@
 use Rattle.std.proofs.Common.{◌≡◌, drop}
-use Rattle.cpu80_tagged_def.specs.Call.{put_blocks}
-use Rattle.cpu80_tagged_step.specs.Draft.{memory_of}
+use Rattle.cpu80_tagged.specs.Call.{put_blocks}
+use Rattle.cpu80_tagged.specs.Draft.{memory_of}
 use Rattle.cpu80_tagged.proofs.memory.put_blocks.Given as goal
 
 abbrev pub invariant-loop-block : goal.invariant-loop-block

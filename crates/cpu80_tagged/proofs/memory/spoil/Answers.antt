@@ -1,11 +1,11 @@
 use Rattle.std.proofs.Common.{◌≡◌, ℕ, ◌<◌, ◌≤◌, Bool, true, false, length, sym, ap, ◌∙◌, arith}
 use Rattle.std.proofs.lemmas.List.{get_or_default, get_or_past}
 use Rattle.cells.specs.declared.Cell.TheVariants.{Junk}
-use Rattle.cpu80_tagged_def.specs.Memory.{put}
-use Rattle.cpu80_tagged_step.specs.declared.area.CellUse.TheVariants.{Open, Closed}
-use Rattle.cpu80_tagged_step.specs.Area.{is_closed_use}
-use Rattle.cpu80_tagged_step.specs.Draft.{memory_of}
-use Rattle.cpu80_tagged_step.specs.Sight.{closed_in}
+use Rattle.cpu80_tagged.specs.Memory.{put}
+use Rattle.cpu80_tagged.specs.declared.area.CellUse.TheVariants.{Open, Closed}
+use Rattle.cpu80_tagged.specs.Area.{is_closed_use}
+use Rattle.cpu80_tagged.specs.Draft.{memory_of}
+use Rattle.cpu80_tagged.specs.Sight.{closed_in}
 use Rattle.cpu80_tagged.proofs.Writes.{memory_of-set}
 use Rattle.cpu80_tagged.proofs.Spoils.{cell_below, spoil_first, spoil_more, spoil_none}
 use Rattle.cpu80_tagged.proofs.memory.spoil.Goals as goal

@@ -1,6 +1,6 @@
 use Rattle.std.proofs.Common.{◌≡◌}
-use Rattle.cpu80_tagged_step.specs.Draft.{memory_of}
-use Rattle.cpu80_tagged_step.specs.Sight.{closed_in}
+use Rattle.cpu80_tagged.specs.Draft.{memory_of}
+use Rattle.cpu80_tagged.specs.Sight.{closed_in}
 use Rattle.cpu80_tagged.specs.Reply.{spoiled_cells}
 use Rattle.cpu80_tagged.proofs.memory.spoil.Given as goal
 

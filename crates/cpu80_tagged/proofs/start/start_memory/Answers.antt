@@ -3,7 +3,7 @@ use mathlib.Core.Path.{fun_ext}
 use Rattle.std.proofs.lemmas.Bool.Decides.{nat_tests}
 use Rattle.std.proofs.lemmas.List.{get_or_past}
 use Rattle.cells.specs.declared.Cell.TheVariants.{Junk}
-use Rattle.cpu80_tagged_def.specs.Start.{start_cell80}
+use Rattle.cpu80_tagged.specs.Start.{start_cell80}
 use Rattle.cpu80_tagged.proofs.Starts.{filled_more, start_past}
 use Rattle.cpu80_tagged.proofs.start.start_memory.Goals as goal
 

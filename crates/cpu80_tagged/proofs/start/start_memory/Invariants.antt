@@ -1,6 +1,6 @@
 use Rattle.std.proofs.Common.{◌≡◌}
 use Rattle.cells.specs.declared.Cell.TheVariants.{Junk}
-use Rattle.cpu80_tagged_def.specs.Start.{start_cell80}
+use Rattle.cpu80_tagged.specs.Start.{start_cell80}
 use Rattle.cpu80_tagged.proofs.Starts.{Filled}
 use Rattle.cpu80_tagged.proofs.start.start_memory.Given as goal
 

@@ -2,9 +2,9 @@ use Rattle.std.proofs.Common.{◌≡◌, ℕ, ◌≤◌, Bool, true, false, nat_
 use Rattle.std.proofs.lemmas.Bool.Decides.{nat_tests}
 use Rattle.std.proofs.lemmas.List.{get_or_past}
 use Rattle.asm80_program_types.specs.Program.{is_start}
-use Rattle.cpu80_tagged_def.specs.Memory.{is_closed}
-use Rattle.cpu80_tagged_step.specs.declared.area.CellUse.TheVariants.{Closed}
-use Rattle.cpu80_tagged_step.specs.Area.{is_closed_use, is_start_use}
+use Rattle.cpu80_tagged.specs.Memory.{is_closed}
+use Rattle.cpu80_tagged.specs.declared.area.CellUse.TheVariants.{Closed}
+use Rattle.cpu80_tagged.specs.Area.{is_closed_use, is_start_use}
 use Rattle.cpu80_tagged.proofs.Starts.{IsUseOf, filled_more, closed_past, no_start_past}
 use Rattle.cpu80_tagged.proofs.start.uses_of_cells.Goals as goal
 

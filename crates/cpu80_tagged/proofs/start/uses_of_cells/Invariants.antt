@@ -1,4 +1,4 @@
-use Rattle.cpu80_tagged_step.specs.declared.area.CellUse.TheVariants.{Closed}
+use Rattle.cpu80_tagged.specs.declared.area.CellUse.TheVariants.{Closed}
 use Rattle.cpu80_tagged.proofs.Starts.{IsUseOf, Filled}
 use Rattle.cpu80_tagged.proofs.start.uses_of_cells.Given as goal
 

@@ -1,5 +1,5 @@
 use Rattle.dialogue.proofs.Called.{calls_run}
-use Rattle.cpu80_untagged_def.specs.Step.{untagged_machine}
+use Rattle.cpu80_untagged.specs.Step.{untagged_machine}
 use Rattle.cpu80_untagged.specs.Histories.{CallsGiveRuns}
 use Rattle.cpu80_untagged.proofs.laws.calls_give_runs.Goals as goal
 

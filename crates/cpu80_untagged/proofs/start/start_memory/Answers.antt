@@ -1,5 +1,5 @@
 use Rattle.std.proofs.Common.{◌≡◌, subst, arith}
-use Rattle.cpu80_untagged_def.specs.Start.{start_byte}
+use Rattle.cpu80_untagged.specs.Start.{start_byte}
 use Rattle.cpu80_untagged.proofs.Starts.{Filled, filled, filled_more}
 use Rattle.cpu80_untagged.proofs.start.start_memory.Goals as goal
 

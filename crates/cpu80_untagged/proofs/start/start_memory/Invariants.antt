@@ -1,4 +1,4 @@
-use Rattle.cpu80_untagged_def.specs.Start.{start_byte}
+use Rattle.cpu80_untagged.specs.Start.{start_byte}
 use Rattle.cpu80_untagged.proofs.Starts.{Filled}
 use Rattle.cpu80_untagged.proofs.start.start_memory.Given as goal
 

@@ -1,7 +1,7 @@
 use Rattle.std.proofs.lemmas.List.{at_drop_all}
 use Rattle.std.proofs.Common.{ap, ◌∙◌, sym}
 use Rattle.dialogue.specs.ByteMemory.{put_cells}
-use Rattle.cpu86.specs.State.{memory_of_86}
+use Rattle.cpu86.specs.ProcessorState.{memory_of_86}
 use Rattle.dialogue.proofs.ByteMemory.{put_cells_more}
 use Rattle.cpu86.proofs.initial_memory.start_memory.Goals as goal
 

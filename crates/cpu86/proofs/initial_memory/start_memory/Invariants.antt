@@ -1,6 +1,6 @@
 use Rattle.std.proofs.Common.{◌≡◌, drop}
-use Rattle.cpu86.specs.State.{memory_of_86}
-use Rattle.cpu86_def.specs.Start.{start_byte}
+use Rattle.cpu86.specs.ProcessorState.{memory_of_86}
+use Rattle.cpu86.specs.Start.{start_byte}
 use Rattle.dialogue.specs.ByteMemory.{put_cells}
 use Rattle.cpu86.proofs.initial_memory.start_memory.Given as goal
 

@@ -1,6 +1,6 @@
 use Rattle.dialogue.proofs.Called.{calls_run}
-use Rattle.cpu86_def.specs.Step.{machine86}
-use Rattle.cpu86_def.specs.Start.{start86}
+use Rattle.cpu86.specs.Step.{machine86}
+use Rattle.cpu86.specs.Start.{start86}
 use Rattle.cpu86.specs.Histories.{CallsGiveRuns}
 use Rattle.cpu86.proofs.laws.calls_give_runs.Goals as goal
 

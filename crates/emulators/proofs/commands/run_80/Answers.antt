@@ -1,9 +1,9 @@
 use Rattle.std.proofs.Common.{◌≡◌, ℕ, List, [], sym, ap, ◌∙◌, subst}
 use Rattle.std.specs.Prelude.{IfOk, IfErr}
 use Rattle.dialogue.specs.declared.request.Reply.{Reply}
-use Rattle.cpu80_tagged_def.specs.Start.{start80}
-use Rattle.cpu80_tagged_def.specs.Step.{machine80}
-use Rattle.cpu80_tagged.specs.State.{tagged_state}
+use Rattle.cpu80_tagged.specs.Start.{start80}
+use Rattle.cpu80_tagged.specs.Step.{machine80}
+use Rattle.cpu80_tagged.specs.ProcessorState.{tagged_state}
 use Rattle.host.proofs.HostLemmas.{SameFaults-refl}
 use Rattle.emulator_loop.specs.declared.fault.TalkFault.TheVariants.{Memory}
 use Rattle.emulator_loop.specs.Talk.{SeenRun, SaysRun, IsCutOff}

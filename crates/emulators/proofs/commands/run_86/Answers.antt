@@ -3,8 +3,8 @@ use Rattle.std.proofs.lemmas.Result.{IfOk-weaker, IfErr-weaker}
 use Rattle.i86.specs.declared.Instr86.{Instr86}
 use Rattle.i86.specs.Code.{ReadsCode}
 use Rattle.dialogue.specs.declared.request.Reply.{Reply}
-use Rattle.cpu86_def.specs.Start.{start86}
-use Rattle.cpu86_def.specs.Step.{machine86}
+use Rattle.cpu86.specs.Start.{start86}
+use Rattle.cpu86.specs.Step.{machine86}
 use Rattle.cpu86.specs.Standing.{standing, code_kept}
 use Rattle.host.proofs.HostLemmas.{SameFaults-refl}
 use Rattle.emulator_loop.specs.declared.fault.TalkFault.TheVariants.{Memory}

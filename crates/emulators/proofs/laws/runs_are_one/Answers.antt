@@ -1,10 +1,10 @@
 use Rattle.std.proofs.Common.{[]}
-use Rattle.cpu80_tagged_def.specs.Start.{start80}
-use Rattle.cpu80_tagged_def.specs.Step.{machine80}
-use Rattle.cpu80_untagged_def.specs.Step.{untagged_machine}
+use Rattle.cpu80_tagged.specs.Start.{start80}
+use Rattle.cpu80_tagged.specs.Step.{machine80}
+use Rattle.cpu80_untagged.specs.Step.{untagged_machine}
 use Rattle.i80_bytes.specs.Start.{start_of_bytes}
-use Rattle.cpu86_def.specs.Start.{start86}
-use Rattle.cpu86_def.specs.Step.{machine86}
+use Rattle.cpu86.specs.Start.{start86}
+use Rattle.cpu86.specs.Step.{machine86}
 use Rattle.emulator_loop.proofs.OneRun.{one_run}
 use Rattle.emulators.specs.Courses.{why80, why86}
 use Rattle.emulators.specs.ByteCourses.{why_bytes}

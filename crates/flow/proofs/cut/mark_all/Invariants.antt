@@ -1,5 +1,5 @@
 use Rattle.std.proofs.Common.{◌≡◌, ◌||◌, ℕ, take}
-use Rattle.base_types.specs.Addresses.{has_address, is_among}
+use Rattle.base.specs.Addresses.{has_address, is_among}
 use Rattle.flow.proofs.cut.mark_all.Given as goal
 
 abbrev pub invariant-loop-address : goal.invariant-loop-address

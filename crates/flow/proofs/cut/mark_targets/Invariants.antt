@@ -1,6 +1,6 @@
 use Rattle.std.proofs.Common.{◌≡◌, ◌||◌, ℕ, take}
 use Rattle.std.specs.Prelude.{filter_map}
-use Rattle.base_types.specs.Addresses.{has_address, is_among}
+use Rattle.base.specs.Addresses.{has_address, is_among}
 use Rattle.flow.specs.Blocks.{target_placed}
 use Rattle.flow.proofs.cut.mark_targets.Given as goal
 

@@ -1,5 +1,5 @@
 use Rattle.std.proofs.Common.{◌∙◌}
-use Rattle.cpu80_untagged.specs.State.{untagged_memory}
+use Rattle.cpu80_untagged.specs.ProcessorState.{untagged_memory}
 use Rattle.dialogue.proofs.ByteMemory.{put_cells_more}
 use Rattle.i80_bytes.proofs.start.with_cells.Goals as goal
 

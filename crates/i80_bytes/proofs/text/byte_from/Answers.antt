@@ -1,6 +1,6 @@
 use Rattle.std.proofs.Common.{◌≡◌, ℕ, ◌+◌, ◌-◌, ◌%◌, ◌≤◌, ◌<◌, List, length, get_or, Some, sym, ap, subst, ◌∙◌, arith}
 use Rattle.std.specs.Prelude.{slice_index}
-use Rattle.i80_encoding.specs.Enc80.{enc80}
+use Rattle.i80_bytes.specs.Enc80.{enc80}
 use Rattle.asm80_program_types.specs.Program.{instr_at}
 use Rattle.i80_bytes.proofs.Texts.{byte_is}
 use Rattle.i80_bytes.proofs.text.byte_from.Goals as goal

@@ -1,7 +1,7 @@
 use Rattle.std.proofs.Common.{◌≡◌, ◌≤◌, subst, refl, arith}
 use Rattle.asm86_line_types.specs.Image.{image_of}
-use Rattle.cpu80_tagged_def.specs.Start.{run80}
-use Rattle.cpu86_def.specs.Start.{run86}
+use Rattle.cpu80_tagged.specs.Start.{run80}
+use Rattle.cpu86.specs.Start.{run86}
 use Rattle.flow.specs.Blocks.{blocks}
 use Rattle.simulation_def.specs.Runs86.{offsets_of}
 use Rattle.simulation_def.specs.Linked.{Paired}

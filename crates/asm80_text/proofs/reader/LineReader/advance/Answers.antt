@@ -1,6 +1,6 @@
 use Rattle.std.proofs.Common.{ℕ, List, ◌∷◌, ◌++◌, [], ◌+◌, take, get_or, subst}
 use Rattle.asm80_text.specs.Reader.{Adds}
-use Rattle.base_types.proofs.Pieces.{byte_front, line_front, rest_of}
+use Rattle.base.proofs.Pieces.{byte_front, line_front, rest_of}
 use Rattle.asm80_text.proofs.Steps.{after_whole, all_plain}
 use Rattle.asm80_text.proofs.reader.LineReader.advance.Goals as goal
 

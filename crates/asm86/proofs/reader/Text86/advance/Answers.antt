@@ -1,6 +1,6 @@
 use Rattle.std.proofs.Common.{ℕ, List, ◌∷◌, ◌++◌, [], ◌+◌, take, get_or, subst}
 use Rattle.asm86.specs.Reader.{ReadsLine}
-use Rattle.base_types.proofs.Pieces.{byte_front, line_front, rest_of}
+use Rattle.base.proofs.Pieces.{byte_front, line_front, rest_of}
 use Rattle.asm86.proofs.Steps.{not_done, opened, after_whole, all_plain}
 use Rattle.asm86.proofs.reader.Text86.advance.Goals as goal
 

@@ -1,5 +1,5 @@
 use Rattle.std.proofs.Common.{◌∙◌, sym}
-use Rattle.base_types.specs.Cut.{without_cr}
+use Rattle.base.specs.Cut.{without_cr}
 use Rattle.asm86.proofs.Steps.{not_done, opened, given, after_done, after_byte, after_line}
 use Rattle.asm86.proofs.reader.Text86.step.Goals as goal
 

@@ -1,7 +1,7 @@
 use Rattle.std.proofs.Common.{◌≡◌, ◌+◌, ◌-◌, ◌<◌, Result, Ok, Err, sym, subst, arith}
 use Rattle.std.specs.Prelude.{IsErrAnd, MatchResult}
 use Rattle.std.proofs.lemmas.List.Elements.{All-from_get_or}
-use Rattle.base_types.specs.Prefixes.{CannotGoOn}
+use Rattle.base.specs.Prefixes.{CannotGoOn}
 use Rattle.cmd_file.specs.CommandFile.{IsCommandFile, IsFile}
 use Rattle.cmd_file.specs.Header.{groups_end}
 use Rattle.cmd_file.specs.Reading.{IsCmdFaultOf}

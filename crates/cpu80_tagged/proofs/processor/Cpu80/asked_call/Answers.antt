@@ -1,6 +1,6 @@
 use Rattle.std.proofs.Common.{◌≡◌, Ok, Err, sym, ap, ◌∙◌, subst}
 use Rattle.dialogue.specs.Shape.{request_of}
-use Rattle.cpu80_tagged.specs.State.{tagged_state, tagged_shape, waits}
+use Rattle.cpu80_tagged.specs.ProcessorState.{tagged_state, tagged_shape, waits}
 use Rattle.cpu80_tagged.specs.Machine.{IsPhase, IsCalling}
 use Rattle.cpu80_tagged.proofs.Replied.{asked_is, no_shape}
 use Rattle.cpu80_tagged.proofs.processor.Cpu80.asked_call.Goals as goal

@@ -3,11 +3,11 @@ use Rattle.dialogue.specs.declared.request.Request.{Request}
 use Rattle.dialogue.specs.declared.request.Event.{Event}
 use Rattle.dialogue.specs.Shape.{request_of}
 use Rattle.dialogue.specs.Fits.{fits, fits_event}
-use Rattle.cpu80_tagged_def.specs.State.{State80}
-use Rattle.cpu80_tagged_def.specs.Call.{is_place, seen_by_tagged}
-use Rattle.cpu80_tagged_def.specs.Step.{replied80}
-use Rattle.cpu80_tagged_step.specs.Sight.{closed_in}
-use Rattle.cpu80_tagged.specs.State.{tagged_state, tagged_shape, waits}
+use Rattle.cpu80_tagged.specs.State.{State80}
+use Rattle.cpu80_tagged.specs.Call.{is_place, seen_by_tagged}
+use Rattle.cpu80_tagged.specs.Step.{replied80}
+use Rattle.cpu80_tagged.specs.Sight.{closed_in}
+use Rattle.cpu80_tagged.specs.ProcessorState.{tagged_state, tagged_shape, waits}
 use Rattle.cpu80_tagged.specs.Machine.{IsPhase, IsCalling, IsMachineOf}
 use Rattle.cpu80_tagged.proofs.Steps.{runs_on}
 use Rattle.cpu80_tagged.proofs.Replied.{of_call, same_shape, asked_shape, fits_by, fits_within, return_place, taken_by, replied}

@@ -1,7 +1,7 @@
 use Rattle.std.proofs.Common.{refl, sym, ap, ◌∙◌, subst}
 use Rattle.dialogue.specs.declared.request.Event.{Event}
 use Rattle.dialogue.specs.declared.request.Event.TheVariants.{In}
-use Rattle.cpu80_tagged.specs.State.{tagged_state, waits}
+use Rattle.cpu80_tagged.specs.ProcessorState.{tagged_state, waits}
 use Rattle.cpu80_tagged.specs.Machine.{IsPhase, IsAtPort}
 use Rattle.cpu80_tagged.proofs.Replied.{port_refused, port_taken}
 use Rattle.cpu80_tagged.proofs.processor.Cpu80.reply_to_in.Goals as goal

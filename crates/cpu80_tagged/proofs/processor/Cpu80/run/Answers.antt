@@ -1,10 +1,10 @@
 use Rattle.std.proofs.Common.{◌≡◌, List, refl, ap}
 use Rattle.cells.specs.declared.Cell.{Cell}
 use Rattle.dialogue.specs.Run.{Ran}
-use Rattle.cpu80_tagged_def.specs.State.{State80}
-use Rattle.cpu80_tagged_def.specs.Step.{step80}
-use Rattle.cpu80_tagged_step.specs.Draft.{memory_of, state_of_draft as draft_state}
-use Rattle.cpu80_tagged.specs.State.{tagged_state}
+use Rattle.cpu80_tagged.specs.State.{State80}
+use Rattle.cpu80_tagged.specs.Step.{step80}
+use Rattle.cpu80_tagged.specs.Draft.{memory_of, state_of_draft as draft_state}
+use Rattle.cpu80_tagged.specs.ProcessorState.{tagged_state}
 use Rattle.cpu80_tagged.proofs.Steps.{ran_answer, ran_place, asked_waits, runs_on, waiting_step}
 use Rattle.cpu80_tagged.proofs.processor.Cpu80.run.Goals as goal
 

@@ -4,10 +4,10 @@ use Rattle.i80.specs.declared.Goal.{Goal}
 use Rattle.i80.specs.declared.Instr80.{Instr80}
 use Rattle.i80.specs.declared.Instr80.TheVariants.{Pchl, Jmp, Jif, Call, Cif, Ret, Rif, Rst0, In, Out}
 use Rattle.dialogue.specs.Calls.{settled}
-use Rattle.cpu80_untagged_def.specs.State.{UntaggedState}
-use Rattle.cpu80_untagged_def.specs.Effect.{effect}
-use Rattle.cpu80_untagged_def.specs.Step.{act, go_to}
-use Rattle.cpu80_untagged.specs.State.{untagged_state}
+use Rattle.cpu80_untagged.specs.State.{UntaggedState}
+use Rattle.cpu80_untagged.specs.Effect.{effect}
+use Rattle.cpu80_untagged.specs.Step.{act, go_to}
+use Rattle.cpu80_untagged.specs.ProcessorState.{untagged_state}
 use Rattle.cpu80_untagged.proofs.machine.Untagged80.act.Goals as goal
 
 runs_on : (u : UntaggedState) (a : ℕ) (i : Instr80) (choice : ℕ) → (i ≡ Pchl → ⊥) → ((x : Goal) → i ≡ Jmp x → ⊥) → ((x : Cond) (y : Goal) → i ≡ Jif x y → ⊥) → ((x : Goal) → i ≡ Call x → ⊥) → ((x : Cond) (y : Goal) → i ≡ Cif x y → ⊥) → (i ≡ Ret → ⊥) → ((x : Cond) → i ≡ Rif x → ⊥) → (i ≡ Rst0 → ⊥) → ((x : ℕ) → i ≡ In x → ⊥) → ((x : ℕ) → i ≡ Out x → ⊥) → go_to (effect u i choice) a ≡ act u a i choice

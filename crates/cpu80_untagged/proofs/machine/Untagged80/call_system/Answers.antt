@@ -1,4 +1,4 @@
-use Rattle.cpu80_untagged.specs.State.{untagged_state}
+use Rattle.cpu80_untagged.specs.ProcessorState.{untagged_state}
 use Rattle.cpu80_untagged.proofs.Asking.{asked_is, stopped_is, same_asked}
 use Rattle.cpu80_untagged.proofs.machine.Untagged80.call_system.Goals as goal
 

@@ -1,7 +1,7 @@
-use Rattle.cpu80_untagged.specs.State.{untagged_state, untagged_memory}
+use Rattle.cpu80_untagged.specs.ProcessorState.{untagged_state, untagged_memory}
 use Rattle.cpu80_untagged.specs.Standing.{standing, said_by}
 use Rattle.dialogue.proofs.Called.{taken}
-use Rattle.cpu80_untagged_def.specs.Step.{replied_untagged}
+use Rattle.cpu80_untagged.specs.Step.{replied_untagged}
 use Rattle.cpu80_untagged.proofs.machine.Untagged80.reply.Goals as goal
 
 pub returns-in-Answer-clause-taken : goal.returns-in-Answer-clause-taken

@@ -1,5 +1,5 @@
-use Rattle.cpu80_untagged_def.specs.Step.{step_untagged}
-use Rattle.cpu80_untagged.specs.State.{untagged_state}
+use Rattle.cpu80_untagged.specs.Step.{step_untagged}
+use Rattle.cpu80_untagged.specs.ProcessorState.{untagged_state}
 use Rattle.dialogue.proofs.Called.{told}
 use Rattle.cpu80_untagged.specs.Standing.{standing, status_of}
 use Rattle.cpu80_untagged.proofs.machine.Untagged80.step.Goals as goal

@@ -1,7 +1,7 @@
 use Rattle.std.proofs.Common.{ap, ◌∙◌}
 use Rattle.dialogue.specs.ByteMemory.{put_bytes}
 use Rattle.dialogue.proofs.ByteMemory.{put_blocks_more}
-use Rattle.cpu80_untagged.specs.State.{untagged_memory}
+use Rattle.cpu80_untagged.specs.ProcessorState.{untagged_memory}
 use Rattle.cpu80_untagged.proofs.memory.Memory.set_blocks.Goals as goal
 
 pub loop-block-preserved : goal.loop-block-preserved

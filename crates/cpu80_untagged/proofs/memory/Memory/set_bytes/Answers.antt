@@ -1,6 +1,6 @@
 use Rattle.std.proofs.Common.{◌∙◌, arith}
 use Rattle.dialogue.proofs.ByteMemory.{put_bytes_more}
-use Rattle.cpu80_untagged.specs.State.{untagged_memory}
+use Rattle.cpu80_untagged.specs.ProcessorState.{untagged_memory}
 use Rattle.cpu80_untagged.proofs.memory.Memory.set_bytes.Goals as goal
 
 pub loop-byte-preserved : goal.loop-byte-preserved

@@ -1,5 +1,5 @@
 use Rattle.std.proofs.Common.{◌≡◌, drop}
-use Rattle.cpu80_untagged.specs.State.{untagged_memory}
+use Rattle.cpu80_untagged.specs.ProcessorState.{untagged_memory}
 use Rattle.dialogue.specs.ByteMemory.{put_bytes}
 use Rattle.cpu80_untagged.proofs.memory.Memory.set_bytes.Given as goal
 

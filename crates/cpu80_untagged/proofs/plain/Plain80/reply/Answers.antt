@@ -1,4 +1,4 @@
-use Rattle.cpu80_untagged_def.specs.Step.{program_fetch}
+use Rattle.cpu80_untagged.specs.Step.{program_fetch}
 use Rattle.cpu80_untagged.proofs.plain.Plain80.reply.Goals as goal
 
 pub returns-clause-machine : goal.returns-clause-machine

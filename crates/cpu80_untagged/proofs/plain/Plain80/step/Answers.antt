@@ -1,4 +1,4 @@
-use Rattle.cpu80_untagged_def.specs.Call.{NoInstruction, OddCall}
+use Rattle.cpu80_untagged.specs.Call.{NoInstruction, OddCall}
 use Rattle.cpu80_untagged.proofs.plain.Plain80.step.Goals as goal
 
 pub returns-in-NoInstruction-clause-step : goal.returns-in-NoInstruction-clause-step

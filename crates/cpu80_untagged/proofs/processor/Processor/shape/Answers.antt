@@ -1,6 +1,6 @@
 use Rattle.std.proofs.Common.{ap, ◌∙◌}
 use Rattle.std.specs.Result.{result_ok}
-use Rattle.cpu80_untagged.specs.State.{untagged_state}
+use Rattle.cpu80_untagged.specs.ProcessorState.{untagged_state}
 use Rattle.cpu80_untagged.proofs.Asking.{shape_is}
 use Rattle.cpu80_untagged.proofs.processor.Processor.shape.Goals as goal
 

@@ -1,5 +1,5 @@
 use Rattle.std.proofs.Common.{sym, ap, ◌∙◌}
-use Rattle.cpu86.specs.State.{state_of_86}
+use Rattle.cpu86.specs.ProcessorState.{state_of_86}
 use Rattle.dialogue.specs.Calls.{settled}
 use Rattle.cpu86.proofs.Steps.{interrupts}
 use Rattle.cpu86.proofs.cpu.Cpu86.act.Goals as goal

@@ -1,7 +1,7 @@
-use Rattle.cpu86.specs.State.{state_of_86, memory_of_86}
+use Rattle.cpu86.specs.ProcessorState.{state_of_86, memory_of_86}
 use Rattle.cpu86.specs.Standing.{standing, said_by}
 use Rattle.dialogue.proofs.Called.{taken}
-use Rattle.cpu86_def.specs.Call.{replied86}
+use Rattle.cpu86.specs.Call.{replied86}
 use Rattle.cpu86.proofs.cpu.Cpu86.reply.Goals as goal
 
 pub returns-in-Answer-clause-taken : goal.returns-in-Answer-clause-taken

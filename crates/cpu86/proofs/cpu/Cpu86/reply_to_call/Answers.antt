@@ -3,7 +3,7 @@ use Rattle.dialogue.specs.declared.request.Request.{Request}
 use Rattle.dialogue.specs.declared.request.Event.TheVariants.{Call}
 use Rattle.dialogue.specs.Shape.{request_of}
 use Rattle.dialogue.specs.ByteMemory.{seen_by}
-use Rattle.cpu86.specs.State.{state_of_86, memory_of_86}
+use Rattle.cpu86.specs.ProcessorState.{state_of_86, memory_of_86}
 use Rattle.cpu86.proofs.Replies.{fits_same, said_call, not_taken}
 use Rattle.cpu86.proofs.cpu.Cpu86.reply_to_call.Goals as goal
 

@@ -1,7 +1,7 @@
 use Rattle.std.proofs.Common.{Bool, true, None, sym, ap, ◌∙◌}
 use Rattle.dialogue.specs.declared.request.Event.TheVariants.{In}
-use Rattle.cpu86_def.specs.State.{State86}
-use Rattle.cpu86.specs.State.{state_of_86, memory_of_86}
+use Rattle.cpu86.specs.State.{State86}
+use Rattle.cpu86.specs.ProcessorState.{state_of_86, memory_of_86}
 use Rattle.dialogue.specs.Calls.{Standing}
 use Rattle.cpu86.proofs.Replies.{said_in, is_taken}
 use Rattle.cpu86.proofs.cpu.Cpu86.reply_to_in.Goals as goal

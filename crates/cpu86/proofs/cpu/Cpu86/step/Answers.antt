@@ -1,6 +1,6 @@
 use Rattle.std.proofs.Common.{sym, ap, ◌∙◌}
-use Rattle.cpu86.specs.State.{state_of_86, memory_of_86}
-use Rattle.cpu86_def.specs.Step.{step86}
+use Rattle.cpu86.specs.ProcessorState.{state_of_86, memory_of_86}
+use Rattle.cpu86.specs.Step.{step86}
 use Rattle.dialogue.specs.Calls.{stepped_by}
 use Rattle.dialogue.proofs.Called.{told}
 use Rattle.cpu86.specs.Standing.{standing, said_by, status_of}

@@ -1,7 +1,7 @@
 use Rattle.std.proofs.Common.{ap, ◌∙◌}
 use Rattle.dialogue.specs.ByteMemory.{put_bytes}
 use Rattle.dialogue.proofs.ByteMemory.{put_blocks_more}
-use Rattle.cpu86.specs.State.{memory_of_86}
+use Rattle.cpu86.specs.ProcessorState.{memory_of_86}
 use Rattle.cpu86.proofs.memory.Memory.set_blocks.Goals as goal
 
 pub loop-block-preserved : goal.loop-block-preserved

@@ -1,6 +1,6 @@
 use Rattle.std.proofs.Common.{◌∙◌, arith}
 use Rattle.dialogue.proofs.ByteMemory.{put_bytes_more}
-use Rattle.cpu86.specs.State.{memory_of_86}
+use Rattle.cpu86.specs.ProcessorState.{memory_of_86}
 use Rattle.cpu86.proofs.memory.Memory.set_bytes.Goals as goal
 
 pub loop-byte-preserved : goal.loop-byte-preserved

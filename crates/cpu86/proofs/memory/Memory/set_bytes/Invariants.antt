@@ -1,5 +1,5 @@
 use Rattle.std.proofs.Common.{◌≡◌, drop}
-use Rattle.cpu86.specs.State.{memory_of_86}
+use Rattle.cpu86.specs.ProcessorState.{memory_of_86}
 use Rattle.dialogue.specs.ByteMemory.{put_bytes}
 use Rattle.cpu86.proofs.memory.Memory.set_bytes.Given as goal
 

@@ -1,8 +1,8 @@
 use Rattle.std.proofs.Common.{◌≡◌, ℕ, [], ◌∷◌, ap, ◌∙◌}
 use Rattle.dialogue.specs.ByteMemory.{put_bytes}
-use Rattle.cpu86_def.specs.State.{back}
-use Rattle.cpu86_def.specs.Call.{spoiled}
-use Rattle.cpu86.specs.State.{memory_of_86}
+use Rattle.cpu86.specs.State.{back}
+use Rattle.cpu86.specs.Call.{spoiled}
+use Rattle.cpu86.specs.ProcessorState.{memory_of_86}
 use Rattle.cpu86.proofs.memory.Memory.spoil.Goals as goal
 
 six : (a b c d e f a' b' c' d' e' f' : ℕ) → a ≡ a' → b ≡ b' → c ≡ c' → d ≡ d' → e ≡ e' → f ≡ f' → a ∷ (b ∷ (c ∷ (d ∷ (e ∷ (f ∷ []))))) ≡ a' ∷ (b' ∷ (c' ∷ (d' ∷ (e' ∷ (f' ∷ [])))))

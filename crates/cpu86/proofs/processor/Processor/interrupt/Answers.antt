@@ -1,7 +1,7 @@
 use Rattle.std.proofs.Common.{ap, ◌∙◌, sym}
 use Rattle.dialogue.specs.ByteMemory.{put_bytes}
-use Rattle.cpu86_def.specs.State.{back}
-use Rattle.cpu86.specs.State.{state_of_86, memory_of_86, with_mem}
+use Rattle.cpu86.specs.State.{back}
+use Rattle.cpu86.specs.ProcessorState.{state_of_86, memory_of_86, with_mem}
 use Rattle.cpu86.proofs.Calls.{asked, odd, written_back}
 use Rattle.cpu86.proofs.processor.Processor.interrupt.Goals as goal
 

@@ -1,6 +1,6 @@
 use Rattle.std.proofs.Common.{subst, ap, sym, ◌∙◌}
 use Rattle.std.proofs.lemmas.Bool.{false≢true}
-use Rattle.cpu80_tagged.specs.State.{tagged_state}
+use Rattle.cpu80_tagged.specs.ProcessorState.{tagged_state}
 use Rattle.cpu80_tagged.specs.Machine.{IsEventAsked}
 use Rattle.emulators.specs.Courses.{course80_from}
 use Rattle.emulators.proofs.Machine80.{ran80, ended80, left80, stayed80, still80, asked80}

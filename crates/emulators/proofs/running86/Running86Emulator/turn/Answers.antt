@@ -4,9 +4,9 @@ use Rattle.i86.specs.Decoder.{decoded}
 use Rattle.dialogue.specs.declared.request.Event.{Event}
 use Rattle.dialogue.specs.Run.{Asks}
 use Rattle.dialogue.specs.Calls.{Standing}
-use Rattle.cpu86_def.specs.State.{State86}
-use Rattle.cpu86_def.specs.Call.{NoInstruction, StackSegment, OddCall, replied86}
-use Rattle.cpu86_def.specs.Step.{step86}
+use Rattle.cpu86.specs.State.{State86}
+use Rattle.cpu86.specs.Call.{NoInstruction, StackSegment, OddCall, replied86}
+use Rattle.cpu86.specs.Step.{step86}
 use Rattle.cpu86.specs.Standing.{standing, code_kept}
 use Rattle.emulator_loop.specs.declared.emulator.Why.TheVariants.{OddCall as HasOdd}
 use Rattle.emulator_loop.specs.declared.emulator.Turn.TheVariants.{Ran, Asks as HasAsked, Stopped}

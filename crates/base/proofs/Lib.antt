@@ -1,0 +1,5 @@
+pub mod Bytes
+pub mod Cuts
+pub mod Holding
+pub mod Fronts
+pub mod Pieces

@@ -1,0 +1,6 @@
+pub mod Arithmetic
+pub mod Operations
+pub mod Prefixes
+pub mod Addresses
+pub mod Cut
+pub mod Held

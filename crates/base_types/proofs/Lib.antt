@@ -1,4 +1,0 @@
-pub mod Cuts
-pub mod Holding
-pub mod Fronts
-pub mod Pieces

@@ -1,4 +1,0 @@
-pub mod Prefixes
-pub mod Addresses
-pub mod Cut
-pub mod Held

@@ -1,0 +1,63 @@
+use Rattle.std.proofs.Common.{◌≡◌, ◌∙◌, ℕ, ◌+◌, Some, refl, sym, ap, subst}
+use Rattle.i80.specs.declared.Instr80.{Instr80}
+use Rattle.i80.specs.declared.Instr80.TheVariants.{Jmp, Jif, Cif, Rif}
+use Rattle.i80.specs.Columns.{length80}
+use Rattle.asm80_program_types.specs.Program.{Program}
+use Rattle.cpu80_tagged.specs.State.{State80}
+use Rattle.cpu80_tagged.specs.Step.{act, go_to, where_holds, return_of}
+use Rattle.cpu80_tagged.specs.Conditional.{condition_of, unconditional, return_by}
+use Rattle.cpu80_tagged.specs.Draft.{state_of_draft}
+use Rattle.cpu80_tagged.specs.Turn.{IsAsking}
+use Rattle.cpu80_tagged.proofs.Turns.{no_asking}
+use Rattle.cpu80_tagged.proofs.draft.Draft.act.Goals as goal
+
+-- an instruction is its condition and the instruction without it
+by_condition : (p : Program) (s : State80) (a : ℕ) (i : Instr80) → act p s a i ≡ where_holds p s a (condition_of s.flags i) (act p s a (unconditional i))
+by_condition p s a (Jif c t) = refl
+by_condition p s a (Cif c t) = refl
+by_condition p s a (Rif c) = refl
+by_condition p s a i = refl
+
+return_is : (p : Program) (s : State80) (at : ℕ) (i : Instr80) → return_by p s (at + length80 i) i ≡ return_of p s at (Some i)
+return_is p s at (Jmp t) = refl
+return_is p s at (Jif c t) = refl
+return_is p s at i = refl
+
+pub returns-in-Some-true-clause-answer : goal.returns-in-Some-true-clause-answer
+returns-in-Some-true-clause-answer c =
+    let p = c.args.area.now.program.now in
+    let s = state_of_draft c.args.self.now in
+    let i = c.args.instr in
+    let a = c.args.at + length80 i in
+    let d = c.in-Some-true in
+    c.go.ensures.answer
+    ∙ ap (λ k. act p s (c.args.at + k) (unconditional i)) c.length.ensures
+    ∙ sym (by_condition p s a i ∙ ap (λ h. where_holds p s a h (act p s a (unconditional i))) (sym c.condition.ensures ∙ d.is ∙ ap Some d.field-0-test))
+
+pub returns-in-Some-true-clause-asking : goal.returns-in-Some-true-clause-asking
+returns-in-Some-true-clause-asking c =
+    let p = c.args.area.now.program.now in
+    let s = state_of_draft c.args.self.now in
+    subst (λ back. IsAsking p s back c.go.result) (ap (λ k. return_by p s (c.args.at + k) c.args.instr) c.length.ensures ∙ return_is p s c.args.at c.args.instr) c.go.ensures.asking
+
+pub returns-in-Some-false-clause-answer : goal.returns-in-Some-false-clause-answer
+returns-in-Some-false-clause-answer c =
+    let p = c.args.area.now.program.now in
+    let s = state_of_draft c.args.self.now in
+    let i = c.args.instr in
+    let a = c.args.at + length80 i in
+    let d = c.in-Some-false in
+    c.go_to.ensures.answer s
+    ∙ ap (λ k. go_to p s (c.args.at + k)) c.length.ensures
+    ∙ sym (by_condition p s a i ∙ ap (λ h. where_holds p s a h (act p s a (unconditional i))) (sym c.condition.ensures ∙ d.is ∙ ap Some d.field-0-test))
+
+pub returns-in-Some-false-clause-asking : goal.returns-in-Some-false-clause-asking
+returns-in-Some-false-clause-asking c = no_asking c.args.area.now.program.now (state_of_draft c.args.self.now) _ c.go_to.result c.go_to.ensures.nothing_asked
+
+pub returns-in-None-clause-answer : goal.returns-in-None-clause-answer
+returns-in-None-clause-answer c =
+    let p = c.args.area.now.program.now in
+    let s = state_of_draft c.args.self.now in
+    let i = c.args.instr in
+    let a = c.args.at + length80 i in
+    sym (by_condition p s a i ∙ ap (λ h. where_holds p s a h (act p s a (unconditional i))) (sym c.condition.ensures ∙ c.in-None.is))

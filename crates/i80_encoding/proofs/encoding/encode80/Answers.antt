@@ -1,5 +1,0 @@
-use Rattle.i80_encoding.proofs.Readers.{encoding_length}
-use Rattle.i80_encoding.proofs.encoding.encode80.Goals as goal
-
-pub returns-clause-length : goal.returns-clause-length
-returns-clause-length c = encoding_length c.args.i

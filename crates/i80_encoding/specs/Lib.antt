@@ -1,3 +1,0 @@
-pub mod Enc80
-pub mod Decoded
-pub mod Decoder
