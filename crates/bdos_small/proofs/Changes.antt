@@ -1,6 +1,6 @@
 -- What a call that changes the disk comes to.
-use Rattle.std.proofs.Common.{◌≡◌, refl, ◌∙◌, ◌&&◌, ℕ, ◌+◌, ◌<◌, ◌≤◌, List, [], length, nat_le, nat_lt, Some, true, sym, ap}
-use Rattle.std.proofs.lemmas.Bool.{and_from, and_parts, lt-ltb, le-leb, cond-true}
+use Rattle.std.proofs.Common.{◌≡◌, refl, ◌∙◌, ◌&&◌, ℕ, ◌+◌, ◌<◌, ◌≤◌, List, [], length, nat_le, nat_lt, Some, true, false, sym, ap}
+use Rattle.std.proofs.lemmas.Bool.{and_from, and_parts, lt-ltb, le-ltb, le-leb, lt-leb, cond-true, cond-false}
 use Rattle.std.specs.Prelude.{Option, None, is_none}
 use Rattle.dialogue.specs.declared.request.Request.{Request}
 use Rattle.dialogue.specs.declared.request.Reply.{Reply}
@@ -8,7 +8,7 @@ use Rattle.bdos_disk.specs.Stored.{Stored}
 use Rattle.bdos_disk.specs.Names.{is_file_name, name_in_block}
 use Rattle.bdos_disk.specs.Disks.{file_named, with_file, with_records, written_at, growth, records_in}
 use Rattle.bdos_small.specs.Fcb.{drive_in, extent_in, fields_at, opened_fcb}
-use Rattle.bdos_small.specs.Calls.{fcb_of, reply_writing}
+use Rattle.bdos_small.specs.Calls.{fcb_of, telling, reply_writing, not_found}
 use Rattle.bdos_small.specs.Files.{Changed, is_free, make_file, file_written, write_at}
 
 changed : (y z : Reply) (d e : List Stored) → y ≡ z → d ≡ e → ◌≡◌ {A = Changed} (record { reply = y; disk = d }) (record { reply = z; disk = e })
@@ -31,6 +31,15 @@ pub made : (d : List Stored) (q : Request) (y : Reply) (new : List Stored) → i
 made d q y new free room e f =
     changed y _ new _ e f ∙ sym (cond-true (is_free (name_in_block (fcb_of q)) d && nat_lt (length d) 64) _ _ (and_from (is_free (name_in_block (fcb_of q)) d) (nat_lt (length d) 64) free (lt-ltb (length d) 64 room)))
 
+-- none was made: the name is not free, or the disk has no room for a file
+pub not_free : (d : List Stored) (q : Request) (y : Reply) → is_free (name_in_block (fcb_of q)) d ≡ false → y ≡ not_found → ◌≡◌ {A = Changed} (record { reply = y; disk = d }) (make_file d q)
+not_free d q y taken e =
+    changed y _ d d e refl ∙ sym (cond-false (is_free (name_in_block (fcb_of q)) d && nat_lt (length d) 64) _ _ (ap (λ b. b && nat_lt (length d) 64) taken))
+
+pub full : (d : List Stored) (q : Request) (y : Reply) → is_free (name_in_block (fcb_of q)) d ≡ true → 64 ≤ length d → y ≡ not_found → ◌≡◌ {A = Changed} (record { reply = y; disk = d }) (make_file d q)
+full d q y free many e =
+    changed y _ d d e refl ∙ sym (cond-false (is_free (name_in_block (fcb_of q)) d && nat_lt (length d) 64) _ _ (ap (λ b. b && nat_lt (length d) 64) free ∙ le-ltb (length d) 64 many))
+
 -- a record was written
 pub written : (d : List Stored) (q : Request) (position after : ℕ) (r : List ℕ) (f : Stored) (y : Reply) (new : List Stored) → Some f ≡ file_named (name_in_block (fcb_of q)) d → records_in d + growth position f.records ≤ 8000
     → y ≡ reply_writing q 0 (fields_at after (length (written_at position r f.records))) → new ≡ with_records (name_in_block (fcb_of q)) (written_at position r f.records) d
@@ -38,4 +47,14 @@ pub written : (d : List Stored) (q : Request) (position after : ℕ) (r : List �
 written d q position after r f y new named room e g =
     changed y _ new _ e g
     ∙ (sym (cond-true (nat_le (records_in d + growth position f.records) 8000) _ _ (le-leb (records_in d + growth position f.records) 8000 room))
+    ∙ ap (file_written d q position after r) named)
+
+-- none was written: there is no file, or the disk has no room
+pub unwritten_file : (d : List Stored) (q : Request) (position after : ℕ) (r : List ℕ) (y : Reply) → None ≡ file_named (name_in_block (fcb_of q)) d → y ≡ telling 2 → ◌≡◌ {A = Changed} (record { reply = y; disk = d }) (write_at d q position after r)
+unwritten_file d q position after r y none e = changed y _ d d e refl ∙ ap (file_written d q position after r) none
+
+pub unwritten : (d : List Stored) (q : Request) (position after : ℕ) (r : List ℕ) (f : Stored) (y : Reply) → Some f ≡ file_named (name_in_block (fcb_of q)) d → 8000 < records_in d + growth position f.records → y ≡ telling 2 → ◌≡◌ {A = Changed} (record { reply = y; disk = d }) (write_at d q position after r)
+unwritten d q position after r f y named over e =
+    changed y _ d d e refl
+    ∙ (sym (cond-false (nat_le (records_in d + growth position f.records) 8000) _ _ (lt-leb (records_in d + growth position f.records) 8000 over))
     ∙ ap (file_written d q position after r) named)

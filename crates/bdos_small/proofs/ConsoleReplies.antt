@@ -1,10 +1,12 @@
 -- Replies that fit, and the place of a line.
-use Rattle.std.proofs.Common.{◌≡◌, ◌≢◌, ℕ, ◌+◌, ◌<◌, ◌≤◌, ◌==◌, ◌&&◌, nat_lt, true, false, cond, List, [], ◌∷◌, length, refl, sym, ap, ◌∙◌, subst, arith}
+use Rattle.std.proofs.Common.{◌≡◌, ◌≢◌, ℕ, ◌+◌, ◌<◌, ◌≤◌, ◌==◌, ◌&&◌, nat_lt, Bool, true, false, cond, List, [], ◌∷◌, length, refl, sym, ap, ◌∙◌, subst, arith, rules}
 use Rattle.std.specs.Prelude.{Option, Some, None}
 use Rattle.std.proofs.lemmas.List.{length-take}
-use Rattle.std.proofs.lemmas.Bool.{eq-eqb, lt-ltb, and_from}
+use Rattle.std.proofs.lemmas.Bool.{false≢true, eq-eqb, lt-ltb, and_from}
 use Rattle.dialogue.specs.declared.blocks.Block.{Block}
 use Rattle.dialogue.specs.declared.request.Range.{Range}
+use Rattle.dialogue.specs.declared.request.ArgWord.{ArgWord}
+use Rattle.dialogue.specs.declared.request.ArgWord.TheVariants.{None as NoWord, Byte, Word}
 use Rattle.dialogue.specs.declared.request.Request.{Request}
 use Rattle.dialogue.specs.declared.request.Reply.{Reply}
 use Rattle.dialogue.specs.declared.table.Argument.TheVariants.{InDE}
@@ -15,7 +17,7 @@ use Rattle.dialogue.specs.Table.{Row, row_of}
 use Rattle.dialogue.specs.Shape.{argument_address, ranges}
 use Rattle.dialogue.specs.Fits.{kind_by, answer_fits, fits_row, fits, writes_fit, line_fits}
 use Rattle.dialogue.specs.Lawful.{AreRangesOf, first_byte, IsLawfulRequest}
-use Rattle.bdos_small.specs.Console.{ConsoleAnswered, place_in, line_read, line_left, read_console_line, console_status, told, FitsRequest, IsByte, IsDirect}
+use Rattle.bdos_small.specs.Console.{ConsoleAnswered, place_in, line_read, line_left, read_byte, read_console_line, console_answer, console_status, disk_selected, told, FitsRequest, IsByte, IsDirect, TakesInputByReply}
 use Rattle.bdos_small.specs.declared.console.Answer.{Answer}
 use Rattle.bdos_small.specs.declared.console.Answer.TheVariants.{Reply as Replies, InputEnded, NoDrive}
 
@@ -61,6 +63,17 @@ version_told q n is lt = told_fits q n 12 _ is refl refl (lt-ltb n 0x10000 lt)
 
 pub version_fits : (q : Request) (a : Answer) → q.shape.function ≡ 12 → a ≡ told 0x22 → FitsRequest q a
 version_fits q a is e = subst (FitsRequest q) (sym e) (version_told q 0x22 is (omega arith))
+
+-- function 14
+selected_told : (q : Request) → q.shape.function ≡ 14 → (b : Bool) → FitsRequest q (cond b (told 0) NoDrive)
+unfolding row_of
+selected_told q is true = told_fits q 0 14 _ is refl refl refl
+selected_told q is false = tt
+
+pub selected_fits : (q : Request) (arg : ArgWord) (a : Answer) → q.shape.function ≡ 14 → a ≡ disk_selected arg → FitsRequest q a
+selected_fits q (Byte b) a is e = subst (FitsRequest q) (sym e) (selected_told q is (b == 0))
+selected_fits q NoWord a is e = subst (FitsRequest q) (sym e) tt
+selected_fits q (Word w) a is e = subst (FitsRequest q) (sym e) tt
 
 -- the row of function 10
 line_row : Row
@@ -132,3 +145,40 @@ module _ (q : Request) (input line left : List ℕ) (l : IsLawfulRequest q) (is 
   line_answer_fits y e =
       let short : length line ≤ first_byte q.blocks = omega (arith, ap length reads, length-take {A = ℕ}) in
       ap (fits q) e ∙ ap (λ at. fits q (line_reply at line)) place ∙ line_reply_fits q line l is short
+
+-- the answer to a call of a function that is known
+pub by_function : (input : List ℕ) (q : Request) (k : ℕ) → q.shape.function ≡ k → console_answer input q ≡ console_answer input (record q { shape = record q.shape { function = k } })
+by_function input q k is = ap (λ f. console_answer input (record q { shape = record q.shape { function = f } })) is
+
+-- only a reply takes input
+pub byte_takes : (a : Answer) (input left : List ℕ) → ◌≡◌ {A = ConsoleAnswered} (record { answer = a; left = left }) (read_byte input) → TakesInputByReply a input left
+byte_takes a [] left e = subst (λ (x : ConsoleAnswered). TakesInputByReply x.answer [] x.left) (sym e) refl
+byte_takes a (b ∷ bs) left e = subst (λ (x : ConsoleAnswered). TakesInputByReply x.answer (b ∷ bs) x.left) (sym e) tt
+
+pub direct_takes : (arg : ArgWord) (a : Answer) (input left : List ℕ) → IsDirect arg a → TakesInputByReply a input left
+direct_takes arg (Replies y) input left h = tt
+direct_takes arg InputEnded input left h = absurd h
+direct_takes arg NoDrive input left h = absurd h
+
+pub line_takes : (at mx : ℕ) (a : Answer) (input left : List ℕ) → ◌≡◌ {A = ConsoleAnswered} (record { answer = a; left = left }) (read_console_line at mx input) → TakesInputByReply a input left
+line_takes at mx a [] left e = subst (λ (x : ConsoleAnswered). TakesInputByReply x.answer [] x.left) (sym e) refl
+line_takes at mx a (b ∷ bs) left e = subst (λ (x : ConsoleAnswered). TakesInputByReply x.answer (b ∷ bs) x.left) (sym e) tt
+
+pub told_takes : (a : Answer) (n : ℕ) (input : List ℕ) → a ≡ told n → TakesInputByReply a input input
+told_takes a n input e = subst (λ x. TakesInputByReply x input input) (sym e) tt
+
+selected_takes_none : (b : Bool) (input : List ℕ) → TakesInputByReply (cond b (told 0) NoDrive) input input
+selected_takes_none true input = tt
+selected_takes_none false input = refl
+
+pub selected_takes : (arg : ArgWord) (a : Answer) (input : List ℕ) → a ≡ disk_selected arg → TakesInputByReply a input input
+selected_takes (Byte b) a input e = subst (λ x. TakesInputByReply x input input) (sym e) (selected_takes_none (b == 0) input)
+selected_takes NoWord a input e = subst (λ x. TakesInputByReply x input input) (sym e) refl
+selected_takes (Word w) a input e = subst (λ x. TakesInputByReply x input input) (sym e) refl
+
+-- no input is left for a line
+pub line_ends : (at mx : ℕ) (input : List ℕ) → (length input == 0) ≡ true → ◌≡◌ {A = ConsoleAnswered} (record { answer = InputEnded; left = input }) (read_console_line at mx input)
+line_ends at mx [] e = refl
+line_ends at mx (b ∷ bs) e =
+    let no : (length (b ∷ bs) == 0) ≡ false = search rules in
+    absurd (false≢true (sym no ∙ e))

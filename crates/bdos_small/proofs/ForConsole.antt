@@ -1,11 +1,16 @@
 -- The functions that are the console's, and what is answered to one.
-use Rattle.std.proofs.Common.{◌≡◌, ◌≢◌, ◌∙◌, ◌==◌, ℕ, ◌<◌, ◌≤◌, true, false, refl, ap, arith}
+use Rattle.std.proofs.Common.{◌≡◌, ◌≢◌, ◌∙◌, ◌==◌, ℕ, ◌<◌, ◌≤◌, List, true, false, refl, ap, arith}
+use Rattle.std.specs.Prelude.{Option, Result, Ok, Err, OnErr}
 use Rattle.std.proofs.lemmas.Bool.Decides.{nat_tests}
 use Rattle.std.proofs.lemmas.Bool.{ne_eqb, or_from, cond-true, cond-false}
 use Rattle.dialogue.specs.declared.request.Request.{Request}
 use Rattle.bdos_small.specs.Calls.{takes_fcb}
-use Rattle.bdos_small.specs.Console.{console_answer}
-use Rattle.bdos_small.specs.Small.{Small, replying, with_search, with_input, fcb_answer, small_answer}
+use Rattle.bdos_small.specs.declared.console.Answer.{Answer}
+use Rattle.bdos_small.specs.declared.console.Answer.TheVariants.{Reply, InputEnded, NoDrive}
+use Rattle.bdos_small.specs.declared.directory.Search.{Search}
+use Rattle.bdos_disk.specs.Stored.{Stored}
+use Rattle.bdos_small.specs.Console.{console_answer, TakesInputByReply}
+use Rattle.bdos_small.specs.Small.{Small, small_of, replying, with_search, with_input, file_answer, fcb_answer, small_answer, ChangesByReply}
 use Rattle.bdos_small.specs.Files.{search_next, set_random_record}
 
 pub record IsConsoles (f : ℕ) : Type 0 where
@@ -59,3 +64,18 @@ by_record s q e =
     cond-false (takes_fcb f) _ _ (ap takes_fcb e)
     ∙ (cond-false (f == 18) _ _ (ap (λ n. n == 18) e)
     ∙ cond-true (f == 36) _ _ (ap (λ n. n == 36) e))
+
+-- a BDOS changes as its console does
+pub changes_by_reply : (a : Answer) (disk : List Stored) (search : Option Search) (before after : List ℕ) → TakesInputByReply a before after → ChangesByReply a (small_of disk before search) (small_of disk after search)
+changes_by_reply (Reply y) disk search before after h = tt
+changes_by_reply InputEnded disk search before after h = ap (λ input. small_of disk input search) h
+changes_by_reply NoDrive disk search before after h = ap (λ input. small_of disk input search) h
+
+-- the answer to a call of a function of files that is known
+pub file_by : (s : Small) (q : Request) (k : ℕ) → q.shape.function ≡ k → file_answer s q ≡ file_answer s (record q { shape = record q.shape { function = k } })
+file_by s q k is = ap (λ f. file_answer s (record q { shape = record q.shape { function = f } })) is
+
+-- what stands, whether an error is answered or not
+pub still : {T E P : Type 0} (r : Result T E) → P → OnErr r P
+still (Ok x) p = tt
+still (Err e) p = p

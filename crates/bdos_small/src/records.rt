@@ -74,15 +74,8 @@ fn file_read(
     let Some(file) = file else {
         return Ok(telling(alloc, NO_RECORD));
     };
-    let record = record_at(file, position);
-    record_read(alloc, request, file.records().len(), after, record)
-}
-
-// The record of a file at a position.
-fn record_at(file: &File, position: usize) -> Option<&Record>
-    ensures { option_copied result ≡ slice_get file.now.records position }
-{
-    file.records().get(position)
+    let records = file.records();
+    record_read(alloc, request, records.len(), after, records.get(position))
 }
 
 // The same of a record of a file with `count` records, if there is one.

@@ -62,19 +62,13 @@ pub fn writing_both(
 fn written(alloc: Global, range: Option<Range>, bytes: &[u8]) -> Result<Block, AllocError>
     ensures { IfOk result (λ b. b ≡ record { at = place_in (range ∷ []); bytes = bytes.now }) }
 {
-    let bytes = Vec::from_slice(alloc, bytes)?;
-    Ok(Block {
-        at: place(range),
-        bytes: Bytes::from_vec(bytes),
-    })
-}
-
-// Where a range begins.
-fn place(range: Option<Range>) -> u16
-    ensures { result ≡ place_in (range ∷ []) }
-{
-    match range {
+    let at = match range {
         None => 0,
         Some(range) => range.at,
-    }
+    };
+    let bytes = Vec::from_slice(alloc, bytes)?;
+    Ok(Block {
+        at,
+        bytes: Bytes::from_vec(bytes),
+    })
 }

@@ -1,30 +1,52 @@
-use Rattle.std.proofs.Common.{◌≡◌, ◌≢◌, ◌+◌, [], List, ℕ, ◌≤◌, length, drop, sym, ap, ◌∙◌, arith}
-use Rattle.std.proofs.lemmas.Grind.{common_steps}
-use Rattle.std.proofs.lemmas.List.{drop-drop, length-drop}
+use Rattle.std.proofs.Common.{◌≡◌, ◌+◌, ◌==◌, List, ℕ, ◌≤◌, length, drop, refl, sym, ap, ◌∙◌, arith}
+use Rattle.std.proofs.lemmas.Bool.{false≢true}
+use Rattle.std.proofs.lemmas.List.{drop-drop, length-drop, length-take}
+use Rattle.std.proofs.lemmas.Result.{IfOk-from_err, MatchResult-from_err}
+use Rattle.dialogue.specs.Shape.{argument_address}
 use Rattle.dialogue.specs.Lawful.{first_byte}
 use Rattle.bdos_small.specs.Console.{line_read, line_left}
-use Rattle.bdos_small.proofs.ConsoleReplies.{line_answer, line_answer_fits}
+use Rattle.bdos_small.proofs.ConsoleReplies.{line_answer, line_answer_fits, line_ends}
 use Rattle.bdos_small.proofs.console.Console.read_line.Goals as goal
 
-pub returns-clause-answer : goal.returns-clause-answer
-returns-clause-answer c =
+pub returns-in_err-bytes : goal.returns-in_err-bytes
+returns-in_err-bytes c =
+    let r = c.from_residual in
+    record {
+      answer = IfOk-from_err r.result _ r.ensures.0;
+      fits = IfOk-from_err r.result _ r.ensures.0;
+      memory = MatchResult-from_err r.result _ _ r.ensures.0 (λ _. refl);
+      wanted = MatchResult-from_err r.result _ _ r.ensures.0 (λ _. λ e. absurd (false≢true (sym c.if-is_empty.false ∙ c.is_empty.ensures ∙ ap (λ (xs : List ℕ). length xs == 0) (c.left.ensures ∙ e))));
+    }
+
+pub returns-in_err-reply : goal.returns-in_err-reply
+returns-in_err-reply c =
+    let r = c.from_residual-in_err-reply in
+    record {
+      answer = IfOk-from_err r.result _ r.ensures.0;
+      fits = IfOk-from_err r.result _ r.ensures.0;
+      memory = MatchResult-from_err r.result _ _ r.ensures.0 (λ _. refl);
+      wanted = MatchResult-from_err r.result _ _ r.ensures.0 (λ _. λ e. absurd (false≢true (sym c.if-is_empty.false ∙ c.is_empty.ensures ∙ ap (λ (xs : List ℕ). length xs == 0) (c.left.ensures ∙ e))));
+    }
+
+pub returns : goal.returns
+returns c =
     let q = c.args.request.now in
     let input = c.args.self.now in
-    let line = c.as_slice.result.now in
+    let items = c.self.inside.input.items in
+    let mx = first_byte q.blocks in
     let used = c.in_ok-bytes.field-0.used in
-    let left : List ℕ = drop (c.self.inside.taken + used) c.self.inside.input.items in
-    let seen : drop c.self.inside.taken c.self.inside.input.items ≡ input = c.self.view_is in
-    let reads : line ≡ line_read (first_byte q.blocks) input = cc (c.in_ok-bytes.ensures.bytes) in
-    let rest : left ≡ line_left (first_byte q.blocks) input = sym (drop-drop used c.self.inside.taken c.self.inside.input.items) ∙ ap (drop used) seen ∙ cc (c.in_ok-bytes.ensures.left) in
-    let some : input ≢ [] = λ e. grind (arith, common_steps) in
-    line_answer q input line left c.requires.lawful c.requires.line reads c.in_ok-reply.reply (cc (c.in_ok-reply.ensures)) some rest
-
-pub returns-clause-fits : goal.returns-clause-fits
-returns-clause-fits c =
-    let q = c.args.request.now in
-    let line = c.as_slice.result.now in
-    let reads : line ≡ line_read (first_byte q.blocks) c.args.self.now = cc (c.in_ok-bytes.ensures.bytes) in
-    line_answer_fits q c.args.self.now line c.args.self.now c.requires.lawful c.requires.line reads c.in_ok-reply.reply (cc (c.in_ok-reply.ensures))
+    let bytes = c.in_ok-bytes.ensures in
+    let shown : c.left-2.result.now ≡ input = c.left-2.ensures in
+    let reads : c.as_slice.result.now ≡ line_read mx input =
+    c.as_slice.ensures.value ∙ bytes.bytes ∙ ap (λ m. line_read m c.left-2.result.now) c.room_of.ensures ∙ ap (line_read mx) shown in
+    let rest : drop (c.self.inside.taken + used) items ≡ line_left mx input =
+    sym (drop-drop used c.self.inside.taken items) ∙ ap (drop used) (c.self.view_is ∙ sym shown) ∙ bytes.left ∙ ap (λ m. line_left m c.left-2.result.now) c.room_of.ensures ∙ ap (line_left mx) shown in
+    record {
+      answer = line_answer q input c.as_slice.result.now (drop (c.self.inside.taken + used) items) c.requires.lawful c.requires.line reads c.in_ok-reply.reply c.in_ok-reply.ensures (λ e. absurd (false≢true (sym c.if-is_empty.false ∙ c.is_empty.ensures ∙ ap (λ (xs : List ℕ). length xs == 0) (c.left.ensures ∙ e)))) rest;
+      fits = line_answer_fits q input c.as_slice.result.now input c.requires.lawful c.requires.line reads c.in_ok-reply.reply c.in_ok-reply.ensures;
+      memory = tt;
+      wanted = tt;
+    }
 
 -- what is taken stays within the input
 still_within : (taken used : ℕ) (items left : List ℕ) → left ≡ drop taken items → used ≤ length left → taken ≤ length items → taken + used ≤ length items
@@ -34,3 +56,17 @@ pub invariant_of-self : goal.invariant_of-self
 invariant_of-self c =
     still_within c.self.inside.taken c.in_ok-bytes.field-0.used c.self.inside.input.items c.left-2.result.now
     (c.left-2.ensures ∙ sym c.self.view_is) c.in_ok-bytes.ensures.within c.self.invariant
+
+pub written-requires : goal.written-requires
+written-requires c = omega (arith, ap length (c.as_slice.ensures.value ∙ c.in_ok-bytes.ensures.bytes), length-take {A = ℕ})
+
+pub returns-then-is_empty : goal.returns-then-is_empty
+returns-then-is_empty c =
+    let q = c.args.request.now in
+    let none = sym c.is_empty.ensures ∙ c.if-is_empty.true in
+    record {
+      answer = line_ends (argument_address q.shape.arg + 1) (first_byte q.blocks) c.args.self.now (ap (λ (xs : List ℕ). length xs == 0) (sym c.left.ensures) ∙ none);
+      fits = tt;
+      memory = tt;
+      wanted = tt;
+    }
