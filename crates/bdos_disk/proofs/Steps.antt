@@ -201,6 +201,23 @@ pub record StillReading (count : ℕ) (bytes : List ℕ) (files : List Stored) (
   pub whole : (fs : List Stored) → AreFiles last (count - index) room fs → AreFiles None count 8000 (files ++ fs)
   pub breaks : (k : ℕ) → BreaksAt (AreFiles last (count - index) room) files_bytes (drop at bytes) k → BreaksAt (AreFiles None count 8000) files_bytes bytes (at + k)
 
+pub none_read : (count : ℕ) (bytes : List ℕ) → StillReading count bytes [] None 8000 0 0
+none_read count bytes =
+    let all : count - 0 ≡ count = omega arith in
+    record {
+      within = omega arith;
+      stands = refl;
+      small = omega arith;
+      can = λ _. refl;
+      whole = λ fs h. subst (λ n. AreFiles None n 8000 fs) all h;
+      breaks = λ k h.
+          let same : k ≡ 0 + k = omega arith in
+          subst (λ j. BreaksAt (AreFiles None count 8000) files_bytes bytes j) same (subst (λ n. BreaksAt (AreFiles None n 8000) files_bytes bytes k) all h);
+    }
+
+pub few_after : (count index : ℕ) → count ≤ 64 → index < count → count - 1 - index ≤ 63
+few_after count index few more = omega arith
+
 module _ (count : ℕ) (few : count ≤ 64) (bytes : List ℕ) (files : List Stored) (last : Option (List ℕ)) (room at index : ℕ) (s : StillReading count bytes files last room at index) (more : index < count) where
   left : count - index ≡ count - 1 - index + 1
   left = omega (arith, more)

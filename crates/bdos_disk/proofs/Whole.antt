@@ -1,6 +1,6 @@
 -- Disk files as a whole.
 use Rattle.std.proofs.Common.{◌≡◌, ℕ, zero, suc, ◌+◌, ◌*◌, ◌<◌, ◌≤◌, ◌^◌, List, [], ◌∷◌, ◌++◌, length, take, drop, refl, sym, ap, ◌∙◌, subst, arith, append_assoc}
-use Rattle.std.specs.Prelude.{Option, Some, None}
+use Rattle.std.specs.Prelude.{Option, Some, None, Result, Ok, Err, MatchResult, IsErrAnd}
 use Rattle.std.proofs.lemmas.List.{append-nil, length-append, length-take-le, length-drop, take-append-drop, take-take, take_at}
 use Rattle.std.proofs.lemmas.List.Elements.{All-nil}
 use Rattle.std.proofs.lemmas.List.Sums.{sum_by-cons}
@@ -25,6 +25,11 @@ stops_behind P Q n Memory h f = tt
 pub stops_weaker : (P Q : ℕ → Type 0) (s : Stop) → StopsBy P s → ((k : ℕ) → P k → Q k) → StopsBy Q s
 stops_weaker P Q (At k) h f = f k h
 stops_weaker P Q Memory h f = tt
+
+-- want of memory stops a reading
+pub memory_stops : {T : Type 0} (P : T → Type 0) (Q : ℕ → Type 0) (r : Result T Stop) → IsErrAnd r (λ stop. stop ≡ Memory) → MatchResult r P (StopsBy Q)
+memory_stops P Q (Ok x) h = absurd h
+memory_stops P Q (Err stop) h = subst (StopsBy Q) (sym h) tt
 
 -- how long a disk file is
 length-files_bytes : (last : Option (List ℕ)) (fs : List Stored) → AreFilesAfter last fs → length (files_bytes fs) ≡ 13 * length fs + 128 * records_in fs

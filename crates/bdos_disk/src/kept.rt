@@ -37,9 +37,7 @@ pub fn disks_read_back()
 fn push_word(bytes: &mut Vec<u8>, number: u16) -> Result<(), AllocError>
     ensures { OnOk result (bytes.new.items ≡ bytes.old.items ++ word_bytes number) }
 {
-    bytes.push((number % 256) as u8)?;
-    bytes.push((number / 256) as u8)?;
-    Ok(())
+    bytes.extend_from_slice(&[(number % 256) as u8, (number / 256) as u8])
 }
 
 // The bytes of files.

@@ -1,8 +1,8 @@
 // Names of files and patterns.
-ghost use Rattle.std.specs.Prelude.{◌≡◌, ◌≤◌, length, map};
+ghost use Rattle.std.specs.Prelude.{◌≡◌, ◌≤◌, length};
 ghost use Rattle.std.specs.List.{list_all};
 ghost use Rattle.std.specs.Str.{bytes_eq};
-ghost use Rattle.bdos_disk.specs.Names.{is_name_byte, is_file_name, is_before, is_after, matches, low_seven, name_in_block, highest, top_byte};
+ghost use Rattle.bdos_disk.specs.Names.{is_name_byte, is_file_name, is_before, is_after, matches, name_in_block, highest, top_byte};
 
 use std::marker::Model;
 
@@ -38,9 +38,11 @@ impl Name {
         requires { 12 ≤ length block.now }
         ensures { result ≡ name_in_block block.now }
     {
-        Name {
-            bytes: low_sevens(&block[1..12]),
+        let mut bytes = [0; NAME_LENGTH];
+        for (k, byte) in block[1..12].iter().enumerate() {
+            bytes[k] = byte % 128;
         }
+        Name { bytes }
     }
 
     /// The highest name that `after` more names of files can follow in ascending order.
@@ -121,18 +123,6 @@ fn are_name_bytes(bytes: &[u8]) -> bool
     ensures { result ≡ list_all is_name_byte bytes.now }
 {
     bytes.iter().all(|byte| is_name_byte(*byte))
-}
-
-// Eleven bytes with bit 7 dropped.
-fn low_sevens(block: &[u8]) -> [u8; NAME_LENGTH]
-    requires { length block.now ≡ 11 }
-    ensures { result ≡ map low_seven block.now }
-{
-    let mut bytes = [0; NAME_LENGTH];
-    for (k, byte) in block.iter().enumerate() {
-        bytes[k] = byte % 128;
-    }
-    bytes
 }
 
 // The highest bytes of names, from the top down.

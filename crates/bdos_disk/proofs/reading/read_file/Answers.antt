@@ -5,6 +5,7 @@ use Rattle.bdos_disk.proofs.Going.{name_parts}
 use Rattle.bdos_disk.specs.DiskFile.{word_bytes, files_bytes}
 use Rattle.bdos_disk.specs.Reading.{AreFiles}
 use Rattle.bdos_disk.proofs.Steps.{name_breaks, count_breaks, records_break, named_front, next_file}
+use Rattle.bdos_disk.proofs.Whole.{memory_stops}
 use Rattle.bdos_disk.proofs.reading.read_file.Goals as goal
 
 pub returns-in-Err : goal.returns-in-Err
@@ -35,6 +36,9 @@ returns-then-bytes-end c =
     let front = named_front last after name bytes c.in-Ok.ensures.read.1 ∙ ap (λ l. name ++ l) counted in
     let short : length (drop 13 bytes) < 128 * count = omega (arith, length-drop 13 bytes, length-drop 11 bytes, ap length counted, c.if-bytes-end.true) in
     records_break last after room c.requires.few name c.in-Ok.ensures.read.0 count c.in-Ok-read_word.ensures.0 bytes (drop 13 bytes) front short
+
+pub returns-in_err-records : goal.returns-in_err-records
+returns-in_err-records c = memory_stops _ _ c.from_residual.result c.from_residual.ensures.1
 
 pub returns : goal.returns
 returns c =

@@ -2,8 +2,18 @@ use Rattle.std.proofs.Common.{◌≡◌, ◌+◌, ◌-◌, ◌*◌, length, take
 use Rattle.std.specs.List.{All}
 use Rattle.std.proofs.lemmas.List.{length_push, length-take-le, length-drop}
 use Rattle.std.proofs.lemmas.List.Elements.{All-push}
+use Rattle.std.proofs.lemmas.Result.{IfOk-from_err}
 use Rattle.bdos_disk.proofs.Languages.{records_more}
 use Rattle.bdos_disk.proofs.reading.read_records.Goals as goal
+
+pub returns-in_err-push : goal.returns-in_err-push
+returns-in_err-push c =
+    let r = c.from_residual in
+    record {
+      bytes = IfOk-from_err r.result _ r.ensures.0;
+      count = IfOk-from_err r.result _ r.ensures.0;
+      records = IfOk-from_err r.result _ r.ensures.0;
+    }
 
 pub loop-k-preserved : goal.loop-k-preserved
 loop-k-preserved c =
