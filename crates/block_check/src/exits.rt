@@ -1,18 +1,11 @@
 // Whether the exits of two outcomes agree.
 
 ghost use Rattle.std.specs.Prelude.{◌≡◌};
-ghost use Rattle.sym_terms.specs.Term.{same_bool};
 ghost use Rattle.block_check_def.specs.Agree.{way_agrees, ways_agree, exit_agrees};
 ghost use Rattle.sym_micro.specs.Exits.{tree_of_way, tree_of_exit, WayIsGiven, ExitIsGiven};
 
 use crate::pairs::pairs_agree;
 use sym_run::{Exit, Way, Work};
-
-fn same_value(one: bool, other: bool) -> bool
-    ensures { result ≡ same_bool one other }
-{
-    if one { other } else { !other }
-}
 
 // Whether a way agrees with its partner.
 fn way_agrees(work: &Work, one: Way, other: Way) -> bool
@@ -63,7 +56,7 @@ pub fn exit_agrees(work: &Work, one: Exit, other: Exit) -> bool
         (Exit::One(way), Exit::One(partner)) => way_agrees(work, way, partner),
         (Exit::Two(f, v, a, b), Exit::Two(g, w, x, y)) => {
             let flags = work.agree(f, g);
-            let ways = ways_agree(work, same_value(v, w), (a, b), (x, y));
+            let ways = ways_agree(work, v == w, (a, b), (x, y));
             flags && ways
         }
         _ => false,

@@ -1,9 +1,7 @@
 // The parts that are kept at the places of a program, and by the ways that go there.
 
 ghost use Rattle.std.specs.Prelude.{◌≡◌, IsTrue};
-ghost use Rattle.flow.specs.declared.node.Node.TheVariants.{Start};
 ghost use Rattle.flow.specs.Blocks.{block_at};
-ghost use Rattle.flow.specs.Solving.{AreNeeds};
 ghost use Rattle.xlt_pool.specs.Contents.{Contents};
 ghost use Rattle.block_check_def.specs.BlockMatch.{Keeps, kept_at, kept_after_way, kept_by_exit};
 ghost use Rattle.sym_micro.specs.Exits.{tree_of_way, tree_of_exit};
@@ -24,25 +22,17 @@ pub enum Kept<'a> {
     Needed(&'a Graph),
 }
 
-// What is needed at an address: nothing where no instruction starts.
-fn need_at(graph: &Graph, at: u16) -> Keep
-    requires { IsTrue graph.now.is_solved }
-    ensures { AreNeeds graph.now.program (Start at) result }
-{
-    needs_are_closed();
-    match graph.need(at) {
-        Some(keep) => keep,
-        None => Keep::none(),
-    }
-}
-
 // What is needed at an address, if a block begins there.
 fn needed_at(graph: &Graph, at: u16) -> Keep
     requires { IsTrue graph.now.is_solved }
     ensures { AreKept graph.now.program at (block_at graph.now.program at) result }
 {
+    needs_are_closed();
     match graph.block(at) {
-        Some(_) => need_at(graph, at),
+        Some(_) => match graph.need(at) {
+            Some(keep) => keep,
+            None => Keep::none(),
+        },
         None => Keep::none(),
     }
 }

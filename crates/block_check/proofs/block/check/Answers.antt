@@ -1,7 +1,8 @@
-use Rattle.std.proofs.Common.{◌≡◌, Some, Ok, ap, sym, subst, ◌∙◌}
+use Rattle.std.proofs.Common.{◌≡◌, ℕ, Some, Ok, ap, sym, subst, ◌∙◌}
 use Rattle.std.proofs.lemmas.Option.{same_Some}
 use Rattle.asm80_program_types.specs.Program.{Program}
 use Rattle.flow.specs.Blocks.{block_at}
+use Rattle.flow.specs.Solving.{Needs, AreAllNeeds}
 use Rattle.sym_block_def.specs.Block80.{MayRun, block80}
 use Rattle.sym_block_def.specs.Walk86.{walk86}
 use Rattle.block_check_def.specs.BlockMatch.{block_reason}
@@ -28,30 +29,22 @@ unreachable-requires c =
     let here = c.in-None.ensures in
     cc
 
-pub returns-clause-verdict : goal.returns-clause-verdict
-returns-clause-verdict c = λ n count needs e.
-    let k = needed_by c.args.program.now n in
+pub returns : goal.returns
+returns c =
     let p = c.args.program.now in
-    let at : block_at c.args.graph.now.program c.args.leader ≡ block_at p c.args.leader = ap (λ (q : Program). block_at q c.args.leader) c.requires.program in
-    let same : c.in-Some.count ≡ count = same_Some c.in-Some.count count (c.in-Some.ensures ∙ at ∙ e) in
-    subst (λ n. c.check_kept.result ≡ verdict_of (block_reason p c.args.text.now k c.args.leader n)) same
-    (c.check_kept.ensures.verdict k (subst (λ q. KeepsNeeds q k) (sym c.requires.program) (needed_keeps p n needs)))
-
-pub returns-clause-outcomes : goal.returns-clause-outcomes
-returns-clause-outcomes c = λ n count needs e.
-    let k = needed_by c.args.program.now n in
-    let p = c.args.program.now in
-    let at : block_at c.args.graph.now.program c.args.leader ≡ block_at p c.args.leader = ap (λ (q : Program). block_at q c.args.leader) c.requires.program in
-    let same : c.in-Some.count ≡ count = same_Some c.in-Some.count count (c.in-Some.ensures ∙ at ∙ e) in
-    subst (λ n. AfterShown c.check_kept.result (HoldsOutcomes c.check_kept.new.work (block80 p c.args.leader n) (walk86 p c.args.text.now (k.at c.args.leader) c.args.leader n))) same
-    (c.check_kept.ensures.outcomes k (subst (λ q. KeepsNeeds q k) (sym c.requires.program) (needed_keeps p n needs)))
-
-pub returns-clause-compared : goal.returns-clause-compared
-returns-clause-compared c = λ n count y needs e walked.
-    let k = needed_by c.args.program.now n in
-    let p = c.args.program.now in
-    let at : block_at c.args.graph.now.program c.args.leader ≡ block_at p c.args.leader = ap (λ (q : Program). block_at q c.args.leader) c.requires.program in
-    let same : c.in-Some.count ≡ count = same_Some c.in-Some.count count (c.in-Some.ensures ∙ at ∙ e) in
-    let keeps = subst (λ q. KeepsNeeds q k) (sym c.requires.program) (needed_keeps p n needs) in
-    subst (λ m. walk86 p c.args.text.now (k.at c.args.leader) c.args.leader m ≡ Ok y → AreCompared c.check_kept.new.work (block80 p c.args.leader m) y) same
-    (c.check_kept.ensures.compared k y keeps) walked
+    let is = λ (count : ℕ) (e : block_at p c.args.leader ≡ Some count). same_Some c.in-Some.count count (c.in-Some.ensures ∙ ap (λ (q : Program). block_at q c.args.leader) c.requires.program ∙ e) in
+    let keeps = λ (n : Needs) (needs : AreAllNeeds p n). subst (λ q. KeepsNeeds q (needed_by p n)) (sym c.requires.program) (needed_keeps p n needs) in
+    record {
+      verdict = λ n count needs e.
+          subst (λ m. c.check_kept.result ≡ verdict_of (block_reason p c.args.text.now (needed_by p n) c.args.leader m)) (is count e)
+          (c.check_kept.ensures.verdict (needed_by p n) (keeps n needs));
+      outcomes = λ n count needs e.
+          let k = needed_by p n in
+          subst (λ m. AfterShown c.check_kept.result (HoldsOutcomes c.check_kept.new.work (block80 p c.args.leader m) (walk86 p c.args.text.now (k.at c.args.leader) c.args.leader m))) (is count e)
+          (c.check_kept.ensures.outcomes k (keeps n needs));
+      ready = c.check_kept.ensures.ready;
+      compared = λ n count y needs e walked.
+          let k = needed_by p n in
+          subst (λ m. walk86 p c.args.text.now (k.at c.args.leader) c.args.leader m ≡ Ok y → AreCompared c.check_kept.new.work (block80 p c.args.leader m) y) (is count e)
+          (c.check_kept.ensures.compared k y (keeps n needs)) walked;
+    }
