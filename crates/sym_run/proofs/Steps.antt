@@ -19,7 +19,7 @@ use Rattle.sym_block_def.specs.Symbolic86.{Symbolic86, start86}
 use Rattle.sym_block_def.specs.Walk86.{Surroundings, Instruction, surroundings, after_label, one_way, outcome86, walk_by, walk_through, walk_behind, walk86, met, way_from, jump_to, two_ways, flag_of_jump, jumps_at}
 use Rattle.sym_micro.specs.declared.outcome.Exit.{Exit as ExitIds}
 use Rattle.sym_micro.specs.declared.run.Run.{Run}
-use Rattle.sym_micro.specs.Machine.{as86}
+use Rattle.sym_micro.specs.Machine.{Machine, as86}
 use Rattle.sym_micro.specs.Stands.{machine_of, IsReady, Runs}
 use Rattle.sym_micro.specs.Exits.{FindsExit}
 use Rattle.dialogue.specs.Tried.{try_then}
@@ -191,3 +191,16 @@ walks_from p text keep first count w old mid new r s end ew begun walk =
     walks_more old new s (16 + 24 * (10 * count)) (240 * count + 32) (walk86 p text keep first count) end few
     (then_walks old mid new s 16 (24 * (10 * count)) (walk86 p text keep first count) end begun.grows
     (subst (λ x. WalksTo mid new s (24 * (10 * count)) x end) (ap₂ (λ v x. walk_behind v (10 * count) x (after_label text (At first))) ew begun.gives.is) walk))
+
+-- no node was left for what a walk begins with
+pub begin_missing : (old new : Contents) (r : Run) (P : Machine → Type 0) (t : Result Outcome Reason) (count : ℕ) → Runs old new r 16 0 P None → WalksTo old new r (240 * count + 32) t None
+begin_missing old new r P t count begin = record {
+  grows = more old new 16 (240 * count + 32) (omega arith) begin.grows;
+  terms = begin.terms;
+  capacity = begin.capacity;
+  gives = begin.gives;
+  enough = λ q. begin.enough (omega arith);
+}
+
+pub room_for_walk : (n count : ℕ) → n ≤ 0 → count ≤ 16 → n + 2 * (10 * count) ≤ 512
+room_for_walk n count none few = omega arith

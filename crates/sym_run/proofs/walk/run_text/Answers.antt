@@ -1,8 +1,9 @@
-use Rattle.std.proofs.Common.{◌∙◌, ◌-◌, take, drop, ap}
+use Rattle.std.proofs.Common.{◌∙◌, ◌+◌, ◌-◌, ◌*◌, take, drop, sym, ap, subst}
 use Rattle.std.specs.Prelude.{is_some}
 use Rattle.sym_block_def.specs.Block80.{instrs_from}
-use Rattle.sym_block_def.specs.Walk86.{Surroundings}
-use Rattle.sym_run.proofs.Steps.{surroundings_are, walks_from}
+use Rattle.sym_block_def.specs.Walk86.{Surroundings, walk86}
+use Rattle.sym_run.specs.Ends.{WalksTo}
+use Rattle.sym_run.proofs.Steps.{surroundings_are, walks_from, begin_missing, room_for_walk}
 use Rattle.sym_run.proofs.walk.run_text.Goals as goal
 
 pub returns : goal.returns
@@ -19,3 +20,12 @@ returns c =
     (surroundings_are p text first (instrs_from p first count) later after goes_on c.addresses-after.ensures.later c.addresses-after.ensures.after (c.is_some.ensures ∙ ap is_some c.instr_at.ensures.value))
     c.in_ok-begin.ensures
     c.walk_label.ensures
+
+pub returns-in_err-begin : goal.returns-in_err-begin
+returns-in_err-begin c =
+    let tree = walk86 c.args.program.now c.args.text.now c.args.keep c.args.first c.args.count in
+    subst (WalksTo c.args.terms.now c.begin.new.terms c.begin.new.run (240 * c.args.count + 32) tree) (sym c.from_residual.ensures)
+    (begin_missing c.args.terms.now c.begin.new.terms c.begin.new.run _ tree c.args.count c.in_err-begin.ensures)
+
+pub walk_label-requires-clause-room : goal.walk_label-requires-clause-room
+walk_label-requires-clause-room c = room_for_walk _ c.args.count c.in_ok-begin.ensures.gives.few c.requires.block.few
