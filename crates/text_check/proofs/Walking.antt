@@ -34,6 +34,10 @@ abbrev pub LastIs : List (ℕ × ℕ) → ℕ × ℕ → Type 0 → Type 0
 LastIs [] b claim = claim
 LastIs (c ∷ cs) b claim = last_of (c ∷ cs) ≡ Some b
 
+pub all_left : (bs : List (ℕ × ℕ)) (b : ℕ × ℕ) (claim : Type 0) → last_of bs ≡ Some b → LastIs bs b claim
+all_left [] b claim e = absurd (cc)
+all_left (c ∷ cs) b claim e = e
+
 last_step : (c : ℕ × ℕ) (rest : List (ℕ × ℕ)) (b : ℕ × ℕ) (claim : ℕ × ℕ → Type 0) → last_of (c ∷ rest) ≡ Some b → claim c → LastIs rest b (claim b)
 last_step c [] b claim e h = subst claim (same_Some c b e) h
 last_step c (d ∷ ds) b claim e h = e

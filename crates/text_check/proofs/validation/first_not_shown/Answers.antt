@@ -1,4 +1,4 @@
-use Rattle.std.proofs.Common.{◌≡◌, ◌∙◌, [], get_or, sym, ap}
+use Rattle.std.proofs.Common.{◌≡◌, ◌∙◌, [], get_or, refl, sym, ap}
 use Rattle.std.specs.Prelude.{drop}
 use Rattle.flow.specs.Blocks.{blocks, leaders}
 use Rattle.simulation_def.specs.Matches.{blocks_reason}
@@ -7,7 +7,7 @@ use Rattle.block_check.specs.declared.block.Verdict.TheVariants.{Shown}
 use Rattle.text_check.specs.Findings.{HoldsBlock}
 use Rattle.flow.proofs.Indexed.{block_at_index, all_passed}
 use Rattle.std.proofs.lemmas.List.{drop_all}
-use Rattle.text_check.proofs.Walking.{shown_on, not_shown, last_on, last_left, held}
+use Rattle.text_check.proofs.Walking.{all_left, shown_on, not_shown, last_on, last_left, held}
 use Rattle.text_check.proofs.validation.first_not_shown.Goals as goal
 
 pub returns-in-NotShown-clause-reason : goal.returns-in-NotShown-clause-reason
@@ -54,3 +54,18 @@ returns-clause-reason c = λ n h.
     let passed : drop c.loop-leader.leader-index (blocks p) ≡ [] = drop_all c.loop-leader.leader-index (blocks p)
     (all_passed p c.leaders-leader-items.result.now c.loop-leader.leader-index (c.leaders-leader-items.ensures ∙ ap leaders c.requires.program) c.loop-leader-test.false) in
     ap (blocks_reason p c.args.text.now (needed_by p n)) (sym passed) ∙ c.loop-leader.invariant.reasons n h
+
+pub loop-leader-init : goal.loop-leader-init
+loop-leader-init c = record {
+  reasons = λ n h. refl;
+  last = λ n b h e. all_left (blocks c.args.program.now) b (HoldsBlock c.args.program.now c.args.text.now n c.args.work.now b) e;
+}
+
+pub check-requires-clause-solved : goal.check-requires-clause-solved
+check-requires-clause-solved c = c.requires.solved
+
+pub check-requires-clause-program : goal.check-requires-clause-program
+check-requires-clause-program c = c.requires.program
+
+pub returns-in-NotShown-clause-work : goal.returns-in-NotShown-clause-work
+returns-in-NotShown-clause-work c = tt
