@@ -1,15 +1,17 @@
 -- What a call that changes the disk comes to.
 use Rattle.std.proofs.Common.{◌≡◌, refl, ◌∙◌, ◌&&◌, ℕ, ◌+◌, ◌<◌, ◌≤◌, List, [], length, nat_le, nat_lt, Some, true, false, sym, ap}
-use Rattle.std.proofs.lemmas.Bool.{and_from, and_parts, lt-ltb, le-ltb, le-leb, lt-leb, cond-true, cond-false}
-use Rattle.std.specs.Prelude.{Option, None, is_none}
+use Rattle.std.proofs.lemmas.Bool.{and_from, and_parts, lt-ltb, le-ltb, le-leb, lt-leb, cond-true, cond-false, false≢true}
+use Rattle.std.proofs.Common.{Bor}
+use Rattle.std.specs.Option.{option_copied}
+use Rattle.std.specs.Prelude.{Option, None, is_none, is_some, IfSome}
 use Rattle.dialogue.specs.declared.request.Request.{Request}
 use Rattle.dialogue.specs.declared.request.Reply.{Reply}
 use Rattle.bdos_disk.specs.Stored.{Stored}
 use Rattle.bdos_disk.specs.Names.{is_file_name, name_in_block}
-use Rattle.bdos_disk.specs.Disks.{file_named, with_file, with_records, written_at, growth, records_in}
+use Rattle.bdos_disk.specs.Disks.{file_named, with_file, without_file, with_records, written_at, growth, records_in}
 use Rattle.bdos_small.specs.Fcb.{drive_in, extent_in, fields_at, opened_fcb}
-use Rattle.bdos_small.specs.Calls.{fcb_of, telling, reply_writing, not_found}
-use Rattle.bdos_small.specs.Files.{Changed, is_free, make_file, file_written, write_at}
+use Rattle.bdos_small.specs.Calls.{block_read, fcb_of, telling, reply_writing, done, not_found}
+use Rattle.bdos_small.specs.Files.{Changed, is_free, make_file, renamed, rename_file, file_written, write_at}
 
 changed : (y z : Reply) (d e : List Stored) → y ≡ z → d ≡ e → ◌≡◌ {A = Changed} (record { reply = y; disk = d }) (record { reply = z; disk = e })
 changed y z d e p q = λ i. record { reply = p i; disk = q i }
@@ -39,6 +41,33 @@ not_free d q y taken e =
 pub full : (d : List Stored) (q : Request) (y : Reply) → is_free (name_in_block (fcb_of q)) d ≡ true → 64 ≤ length d → y ≡ not_found → ◌≡◌ {A = Changed} (record { reply = y; disk = d }) (make_file d q)
 full d q y free many e =
     changed y _ d d e refl ∙ sym (cond-false (is_free (name_in_block (fcb_of q)) d && nat_lt (length d) 64) _ _ (ap (λ b. b && nat_lt (length d) 64) free ∙ le-ltb (length d) 64 many))
+
+-- a file was renamed; or none was: no file has the first name, or the second is not free
+pub none_copied : {A : Type 0} (o : Option (Bor A)) → is_some o ≡ false → option_copied o ≡ None
+none_copied None e = refl
+none_copied (Some x) e = absurd (false≢true (sym e))
+
+pub no_first : (d : List Stored) (q : Request) (y : Reply) → file_named (name_in_block (fcb_of q)) d ≡ None → y ≡ not_found → ◌≡◌ {A = Changed} (record { reply = y; disk = d }) (rename_file d q)
+no_first d q y none e =
+    changed y _ d d e refl ∙ sym (ap (renamed d (name_in_block (fcb_of q)) (name_in_block (block_read 1 q))) none)
+
+second_taken : (d : List Stored) (from to : List ℕ) (o : Option Stored) (y : Reply) → is_free to d ≡ false → y ≡ not_found → ◌≡◌ {A = Changed} (record { reply = y; disk = d }) (renamed d from to o)
+second_taken d from to None y taken e = changed y _ d d e refl
+second_taken d from to (Some f) y taken e = changed y _ d d e refl ∙ sym (cond-false (is_free to d) _ _ taken)
+
+pub no_second : (d : List Stored) (q : Request) (y : Reply) → is_free (name_in_block (block_read 1 q)) d ≡ false → y ≡ not_found → ◌≡◌ {A = Changed} (record { reply = y; disk = d }) (rename_file d q)
+no_second d q y taken e =
+    let from = name_in_block (fcb_of q) in
+    second_taken d from (name_in_block (block_read 1 q)) (file_named from d) y taken e
+
+pub some_copied : {A : Type 0} (o : Option (Bor A)) → is_some o ≡ true → is_some (option_copied o) ≡ true
+some_copied None e = e
+some_copied (Some x) e = e
+
+pub renamed_by : (d : List Stored) (from to : List ℕ) (o : Option Stored) (y : Reply) (new : List Stored) → is_some o ≡ true → is_free to d ≡ true → y ≡ done
+    → IfSome o (λ f. new ≡ with_file (record { name = to; records = f.records }) (without_file from d)) → ◌≡◌ {A = Changed} (record { reply = y; disk = new }) (renamed d from to o)
+renamed_by d from to None y new some free e h = absurd (false≢true some)
+renamed_by d from to (Some f) y new some free e h = changed y _ new _ e h ∙ sym (cond-true (is_free to d) _ _ free)
 
 -- a record was written
 pub written : (d : List Stored) (q : Request) (position after : ℕ) (r : List ℕ) (f : Stored) (y : Reply) (new : List Stored) → Some f ≡ file_named (name_in_block (fcb_of q)) d → records_in d + growth position f.records ≤ 8000
