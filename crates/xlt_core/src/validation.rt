@@ -30,8 +30,11 @@ pub fn validate(alloc: Global, program: &Program80, lines: &[Line86]) -> Result<
     ensures finding { IfOk result (IsFinding program.now lines.now) }
     ensures same { IfOk result (λ finding. IfShown finding (Same program.now (image_of lines.now))) }
 {
-    let image = image_of(alloc, lines)?;
-    validate_loaded(alloc, program, lines, &image)
+    match image(alloc, lines) {
+        Ok(image) => validate_loaded(alloc, program, lines, &image),
+        // the lines have an image, so that memory alone can be wanting
+        Err(_) => Err(AllocError),
+    }
 }
 
 /// The same of lines whose image was made before.
@@ -99,16 +102,4 @@ fn look_at(
 {
     let mut work = Work::new(alloc)?;
     Ok(validate_in(&mut work, program, graph, text, image))
-}
-
-// The image of lines that have one, so that memory alone can be wanting.
-fn image_of(alloc: Global, lines: &[Line86]) -> Result<Image86, AllocError>
-    requires assembles { Assembles lines.now }
-    requires few { length lines.now < 2 ^ 28 }
-    ensures { IfOk result (IsImage lines.now) }
-{
-    match image(alloc, lines) {
-        Ok(image) => Ok(image),
-        Err(_) => Err(AllocError),
-    }
 }
