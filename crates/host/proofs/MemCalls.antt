@@ -1,6 +1,6 @@
 -- What the calls of a host in memory answer, put together.
 use Rattle.std.proofs.Common.{◌≡◌, ℕ, Bool, true, false, ◌+◌, ◌<◌, min, arith, List, take, length, ◌↔◌, Result, Ok, Err, IsOk, IfErr, OnOk, OnErr, refl, ap, sym, subst, ◌∙◌}
-use Rattle.std.specs.Prelude.{is_ok, if◌then◌else◌}
+use Rattle.std.specs.Prelude.{is_ok, if◌then◌else◌, IsErrAnd}
 use Rattle.std.proofs.lemmas.Bool.{false≢true}
 use Rattle.std.proofs.lemmas.List.{length-take}
 use Rattle.std.proofs.lemmas.Bool.Decides.{nat_tests}
@@ -90,3 +90,8 @@ taken false old more new is done = absurd (false≢true done)
 pub not_taken : (ok : Bool) (old more new : List ℕ) → new ≡ if ok then more else old → (ok ≡ true → false ≡ true) → new ≡ old
 not_taken true old more new is failed = absurd (false≢true (failed refl))
 not_taken false old more new is failed = is
+
+-- the fault that a call hands on
+pub handed_fault : {T : Type 0} (r : Result T HostFault) (d : HostFault) → IsErrAnd r (λ x. x ≡ d) → r ≡ Err d
+handed_fault (Ok x) d is = absurd is
+handed_fault (Err e) d is = ap Err is

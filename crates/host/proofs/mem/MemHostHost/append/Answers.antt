@@ -2,12 +2,12 @@
 use Rattle.std.proofs.Common.{◌≡◌, ℕ, ◌++◌, ◌↔◌, [], take, Some, unwrap_or, Result, Err, refl, ap, sym, subst, ◌∙◌}
 use Rattle.std.proofs.lemmas.Bool.{false≢true}
 use Rattle.std.proofs.lemmas.List.{length-take, take_min}
-use Rattle.std.proofs.lemmas.Result.{err_from_is_err_and, IfOk-from_err}
+use Rattle.std.proofs.lemmas.Result.{IfOk-from_err}
 use Rattle.host.specs.declared.HostFault.{HostFault}
 use Rattle.host.specs.declared.mem.MemHost.{MemHost}
 use Rattle.host.specs.Host.{failures_after, wants_by, wants_after}
 use Rattle.host.specs.MemHost.{file_in_mem_host, said_of, fails_of, calls_of, read_faults_of, write_faults_of, memory_faults_of, NextFails, KeepsFiles}
-use Rattle.host.proofs.MemCalls.{Fault, at_ok, at_err, any_err, same_fault, other_fault, no_fault, no_want, piece_length}
+use Rattle.host.proofs.MemCalls.{Fault, handed_fault, at_ok, at_err, any_err, same_fault, other_fault, no_fault, no_want, piece_length}
 use Rattle.host.proofs.mem.MemHostHost.append.Goals as goal
 
 -- the call is one that fails
@@ -16,8 +16,7 @@ returns-in_err-start_write c =
     let r = c.from_residual in
     let d = c.in_err-start_write.field-0.0 in
     let refused = c.in_err-start_write.ensures in
-    let p = err_from_is_err_and r.result r.ensures.1 in
-    let e : r.result ≡ Err d = p.1 ∙ ap Err p.2 in
+    let e : r.result ≡ Err d = handed_fault r.result d r.ensures.1 in
     record {
       failed = subst (λ r. Fault ℕ r ↔ NextFails c.args.self.now) (sym e) (same_fault d (NextFails c.args.self.now) refused.failed);
       count = IfOk-from_err r.result _ r.ensures.0;
@@ -41,8 +40,7 @@ returns-in_err-counted c =
     let started = c.in_ok-start_write.ensures in
     let added = c.add-added in
     let counted = c.in_err-counted.ensures in
-    let p = err_from_is_err_and r.result r.ensures.1 in
-    let e : r.result ≡ Err d = p.1 ∙ ap Err p.2 in
+    let e : r.result ≡ Err d = handed_fault r.result d r.ensures.1 in
     let kept : KeepsFiles c.start_write.new.self added.new.self = at_err added.result (λ ok. false≢true (counted.answer.1 ok)) added.ensures.err in
     record {
       failed = subst (λ r. Fault ℕ r ↔ NextFails c.args.self.now) (sym e) (other_fault d c.in_ok-start_write.field-0 (NextFails c.args.self.now) (λ failed. let is = counted.memory in cc) started.failed);

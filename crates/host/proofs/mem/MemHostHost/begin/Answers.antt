@@ -1,10 +1,10 @@
 use Rattle.std.proofs.Common.{◌≡◌, ◌↔◌, Result, Err, ap, sym, subst, ◌∙◌}
-use Rattle.std.proofs.lemmas.Result.{err_from_is_err_and, IfOk-from_err}
+use Rattle.std.proofs.lemmas.Result.{IfOk-from_err}
 use Rattle.host.specs.declared.HostFault.{HostFault}
 use Rattle.host.specs.declared.mem.MemHost.{MemHost}
 use Rattle.host.specs.Host.{failures_after, wants_after}
 use Rattle.host.specs.MemHost.{file_in_mem_host, said_of, fails_of, calls_of, read_faults_of, write_faults_of, memory_faults_of, NextFails, KeepsFiles}
-use Rattle.host.proofs.MemCalls.{Fault, at_ok, at_err, any_err, same_fault, no_want, no_failure, not_failed, on_ok_then, on_err_then}
+use Rattle.host.proofs.MemCalls.{Fault, handed_fault, at_ok, at_err, any_err, same_fault, no_want, no_failure, not_failed, on_ok_then, on_err_then}
 use Rattle.host.proofs.mem.MemHostHost.begin.Goals as goal
 
 -- the call is one that fails
@@ -13,8 +13,7 @@ returns-in_err-start_write c =
     let r = c.from_residual in
     let d = c.in_err-start_write.field-0.0 in
     let refused = c.in_err-start_write.ensures in
-    let p = err_from_is_err_and r.result r.ensures.1 in
-    let e : r.result ≡ Err d = p.1 ∙ ap Err p.2 in
+    let e : r.result ≡ Err d = handed_fault r.result d r.ensures.1 in
     record {
       failed = subst (λ r. Fault (Unit {0}) r ↔ NextFails c.args.self.now) (sym e) (same_fault d (NextFails c.args.self.now) refused.failed);
       ok = IfOk-from_err r.result _ r.ensures.0;
