@@ -53,7 +53,10 @@ other_fault d u P other h = (λ q. absurd (other (ap Err (fault_is d Failed q)))
 pub no_fault : (n : ℕ) (u : Unit {0}) (P : Type 0) → Fault (Unit {0}) (Ok u) ↔ P → Fault ℕ (Ok n) ↔ P
 no_fault n u P h = (λ q. absurd (unlike n Failed q), λ p. absurd (unlike u Failed (h.1 p)))
 
--- a failure is no want of memory
+-- want of memory is no failure, and a failure is no want of memory
+pub no_failed_call : {T : Type 0} (d : HostFault) → d ≡ Memory → Fault T (Err d) → ⊥
+no_failed_call d is q = failure_is_no_want (sym (fault_is d Failed q) ∙ is)
+
 pub no_want : (d : HostFault) (n : ℕ) → (d ≡ Memory → ⊥) → n ≡ wants_by d n
 no_want Failed n other = refl
 no_want Memory n other = absurd (other refl)

@@ -7,7 +7,7 @@ use Rattle.host.specs.declared.HostFault.{HostFault}
 use Rattle.host.specs.declared.mem.MemHost.{MemHost}
 use Rattle.host.specs.Host.{failures_after, wants_by, wants_after}
 use Rattle.host.specs.MemHost.{file_in_mem_host, said_of, fails_of, calls_of, read_faults_of, write_faults_of, memory_faults_of, NextFails, KeepsFiles}
-use Rattle.host.proofs.MemCalls.{Fault, handed_fault, at_ok, at_err, any_err, same_fault, other_fault, no_fault, no_want, piece_length}
+use Rattle.host.proofs.MemCalls.{Fault, handed_fault, at_ok, at_err, any_err, same_fault, other_fault, no_fault, no_failed_call, no_want, piece_length}
 use Rattle.host.proofs.mem.MemHostHost.append.Goals as goal
 
 -- the call is one that fails
@@ -43,7 +43,7 @@ returns-in_err-counted c =
     let e : r.result ≡ Err d = handed_fault r.result d r.ensures.1 in
     let kept : KeepsFiles c.start_write.new.self added.new.self = at_err added.result (λ ok. false≢true (counted.answer.1 ok)) added.ensures.err in
     record {
-      failed = subst (λ r. Fault ℕ r ↔ NextFails c.args.self.now) (sym e) (other_fault d c.in_ok-start_write.field-0 (NextFails c.args.self.now) (λ failed. let is = counted.memory in cc) started.failed);
+      failed = subst (λ r. Fault ℕ r ↔ NextFails c.args.self.now) (sym e) (other_fault d c.in_ok-start_write.field-0 (NextFails c.args.self.now) (no_failed_call d counted.memory) started.failed);
       count = IfOk-from_err r.result _ r.ensures.0;
       ok = IfOk-from_err r.result _ r.ensures.0;
       fault = any_err r.result (λ name.

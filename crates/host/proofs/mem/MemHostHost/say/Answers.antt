@@ -5,7 +5,7 @@ use Rattle.host.specs.declared.HostFault.{HostFault}
 use Rattle.host.specs.declared.mem.MemHost.{MemHost}
 use Rattle.host.specs.Host.{failures_after, wants_by, wants_after}
 use Rattle.host.specs.MemHost.{file_in_mem_host, said_of, fails_of, calls_of, read_faults_of, write_faults_of, memory_faults_of, NextFails}
-use Rattle.host.proofs.MemCalls.{Fault, handed_fault, any_err, same_fault, other_fault, no_fault, no_want, piece_length, taken, not_taken}
+use Rattle.host.proofs.MemCalls.{Fault, handed_fault, any_err, same_fault, other_fault, no_fault, no_failed_call, no_want, piece_length, taken, not_taken}
 use Rattle.host.proofs.mem.MemHostHost.say.Goals as goal
 
 -- the call is one that fails
@@ -39,7 +39,7 @@ returns-in_err-counted c =
     let counted = c.in_err-counted.ensures in
     let e : r.result ≡ Err d = handed_fault r.result d r.ensures.1 in
     record {
-      failed = subst (λ r. Fault ℕ r ↔ NextFails c.args.self.now) (sym e) (other_fault d c.in_ok-start_write.field-0 (NextFails c.args.self.now) (λ failed. let is = counted.memory in cc) started.failed);
+      failed = subst (λ r. Fault ℕ r ↔ NextFails c.args.self.now) (sym e) (other_fault d c.in_ok-start_write.field-0 (NextFails c.args.self.now) (no_failed_call d counted.memory) started.failed);
       count = IfOk-from_err r.result _ r.ensures.0;
       ok = IfOk-from_err r.result _ r.ensures.0;
       fault = any_err r.result (ap said_of counted.change ∙ not_taken _ _ _ _ c.extend_from_slice-said.ensures.items counted.answer.1 ∙ ap said_of started.change);
