@@ -64,7 +64,3 @@ three_files_of None = None
 abbrev pub count_and_file_of : Option (ℕ × Bor Word) → Option (ℕ × Word)
 count_and_file_of (Some names) = Some (names.0, names.1.now)
 count_and_file_of None = None
-
-abbrev pub input_of : Option (Option (Bor Word)) → Option (Option Word)
-input_of (Some name) = Some (option_copied name)
-input_of None = None

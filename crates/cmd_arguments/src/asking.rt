@@ -2,7 +2,8 @@
 
 ghost use Rattle.std.specs.Prelude.{◌≡◌, false, fold, map, IfOk};
 ghost use Rattle.clap.specs.Words.{app_of, rule_of, with_rule};
-ghost use Rattle.cmd_arguments.specs.Asked.{clap_command, bare_command, names_rule, rule_with};
+ghost use Rattle.cmd_arguments.specs.Asked.{clap_command, bare_command, flag_rule, names_rule, rule_with};
+ghost use Rattle.cmd_arguments.specs.Table.{flag_words};
 
 use crate::table::{CommandName, OptionName};
 use clap::{Arg, ArgAction, Command};
@@ -15,12 +16,19 @@ pub const NAMES: &str = "names";
 pub fn asked<'a>(alloc: Global, command: CommandName) -> Result<Command<'a>, AllocError>
     ensures { IfOk result (λ asked_of. app_of asked_of ≡ clap_command command) }
 {
-    let with_names = with_names(alloc, command)?;
-    let with_flags = with_options(alloc, with_names, command.flags(), ArgAction::SetTrue)?;
+    let with_flags = with_flags(alloc, command)?;
     with_options(alloc, with_flags, command.options(), ArgAction::Set)
 }
 
-// The command with its names, before its options.
+// The command with its names and flags, before its options with a value.
+fn with_flags<'a>(alloc: Global, command: CommandName) -> Result<Command<'a>, AllocError>
+    ensures { IfOk result (λ asked_of. app_of asked_of ≡ fold with_rule (with_rule (bare_command command) names_rule) (map flag_rule (flag_words command))) }
+{
+    let with_names = with_names(alloc, command)?;
+    with_options(alloc, with_names, command.flags(), ArgAction::SetTrue)
+}
+
+// The command with its names, before its flags and options.
 fn with_names<'a>(alloc: Global, command: CommandName) -> Result<Command<'a>, AllocError>
     ensures { IfOk result (λ asked_of. app_of asked_of ≡ with_rule (bare_command command) names_rule) }
 {
@@ -33,17 +41,16 @@ fn with_names<'a>(alloc: Global, command: CommandName) -> Result<Command<'a>, Al
 // The command with options more, of which each does the same: takes a value, or is a flag.
 fn with_options<'a>(
     alloc: Global,
-    command: Command<'a>,
+    mut command: Command<'a>,
     options: &[OptionName],
     action: ArgAction,
 ) -> Result<Command<'a>, AllocError>
     ensures { IfOk result (λ r. app_of r ≡ fold with_rule (app_of command.entry) (map (rule_with action) options.now)) }
 {
-    let mut asked = command;
     for option in options {
-        asked = asked.arg(option_argument(alloc, *option, action))?;
+        command = command.arg(option_argument(alloc, *option, action))?;
     }
-    Ok(asked)
+    Ok(command)
 }
 
 fn names_argument<'a>(alloc: Global) -> Arg<'a>

@@ -1,15 +1,15 @@
 //! The commands with their values.
 
-ghost use Rattle.std.specs.Prelude.{◌≡◌, ℕ, List, Some, map, option_copied, option_map, IfOk, MatchOption};
+ghost use Rattle.std.specs.Prelude.{◌≡◌, ℕ, List, Some, None, cond, map, option_copied, option_map, IfOk, MatchOption};
 ghost use Rattle.std.specs.String.{string_bytes};
-ghost use Rattle.cmd_arguments.specs.Read.{count_and_file_of, files_of, three_files_of, input_of, names_read, option_read};
+ghost use Rattle.cmd_arguments.specs.Read.{count_and_file_of, files_of, three_files_of, names_read, option_read};
 ghost use Rattle.cmd_arguments.specs.ReadCommands.{both_read, check_read, cmd_read, cmd_show_read, command_read, listing_read, hex80_read, run80_read, run86_read, run_hex_read, run_options_read, sample_read, shrink_read, translate_read};
 ghost use Rattle.cmd_arguments.specs.Words.{both_of, check_of, cmd_of, cmd_show_of, choice_of, command_of, count_and_file, listing_of, flag_of, hex80_of, input_file, one_file, page_of, run80_of, run86_of, run_hex_of, run_options_of, sample_of, shrink_of, steps_of, text_or, top_of, translate_of, two_files, three_files, Command as CommandValue, IsCommand, IsNoCommand};
 
 use crate::given::{Given, Names};
 use crate::items::first_word;
 use crate::table::CommandName;
-use crate::values::{choice_value, count_value, file_name, steps_value, top_value};
+use crate::values::{choice_value, count_value, steps_value, top_value};
 use dialogue::Page;
 use std::alloc::{AllocError, Global};
 
@@ -158,8 +158,8 @@ impl<'a> Names<'a> {
         ensures { option_copied result ≡ one_file (names_read self.entry) }
     {
         match self {
-            Names::One(name) => file_name(name),
-            Names::Zero | Names::Two(..) | Names::Three(..) | Names::More => None,
+            Names::One(name) if !name.is_empty() => Some(name),
+            _ => None,
         }
     }
 
@@ -167,11 +167,10 @@ impl<'a> Names<'a> {
         ensures { files_of result ≡ two_files (names_read self.entry) }
     {
         match self {
-            Names::Two(first, second) => match (file_name(first), file_name(second)) {
-                (Some(first), Some(second)) => Some((first, second)),
-                _ => None,
-            },
-            Names::Zero | Names::One(_) | Names::Three(..) | Names::More => None,
+            Names::Two(first, second) if !first.is_empty() && !second.is_empty() => {
+                Some((first, second))
+            }
+            _ => None,
         }
     }
 
@@ -179,13 +178,11 @@ impl<'a> Names<'a> {
         ensures { three_files_of result ≡ three_files (names_read self.entry) }
     {
         match self {
-            Names::Three(first, second, third) => {
-                match (file_name(first), file_name(second), file_name(third)) {
-                    (Some(first), Some(second), Some(third)) => Some((first, second, third)),
-                    _ => None,
-                }
+            Names::Three(first, second, third)
+                if !first.is_empty() && !second.is_empty() && !third.is_empty() => {
+                Some((first, second, third))
             }
-            Names::Zero | Names::One(_) | Names::Two(..) | Names::More => None,
+            _ => None,
         }
     }
 
@@ -194,11 +191,8 @@ impl<'a> Names<'a> {
         ensures { count_and_file_of result ≡ count_and_file (names_read self.entry) }
     {
         match self {
-            Names::Two(first, second) => match (count_value(first), file_name(second)) {
-                (Some(count), Some(file)) => Some((count, file)),
-                _ => None,
-            },
-            Names::Zero | Names::One(_) | Names::Three(..) | Names::More => None,
+            Names::Two(count, file) if !file.is_empty() => Some((count_value(count)?, file)),
+            _ => None,
         }
     }
 }
@@ -213,13 +207,13 @@ fn text_or<'a>(text: Option<&'a str>, default: &'static str) -> &'a str
     }
 }
 
-// A file that a run reads or writes, if there is one.
-fn input_file<'a>(text: Option<&'a str>) -> Option<Option<&'a str>>
-    ensures { input_of result ≡ input_file (option_read text.entry) }
+// Whether a file that a run reads or writes is given an empty name.
+fn is_nameless(text: Option<&str>) -> bool
+    ensures { input_file (option_read text.entry) ≡ cond result None (Some (option_copied text.entry)) }
 {
     match text {
-        None => Some(None),
-        Some(text) => Some(Some(file_name(text)?)),
+        None => false,
+        Some(text) => text.is_empty(),
     }
 }
 
@@ -272,17 +266,20 @@ impl<'a> Given<'a> {
     fn run_options(&self) -> Option<RunOptions<'a>>
         ensures { option_map run_options_read result ≡ run_options_of self.now }
     {
-        let input = input_file(self.input)?;
-        let disk = input_file(self.disk)?;
-        let ports = input_file(self.ports)?;
-        let out_disk = input_file(self.out_disk)?;
+        if is_nameless(self.input)
+            || is_nameless(self.disk)
+            || is_nameless(self.ports)
+            || is_nameless(self.out_disk)
+        {
+            return None;
+        }
         let steps = self.steps()?;
         let page = self.page()?;
         Some(RunOptions {
-            input,
-            disk,
-            ports,
-            out_disk,
+            input: self.input,
+            disk: self.disk,
+            ports: self.ports,
+            out_disk: self.out_disk,
             page,
             steps,
         })

@@ -1,7 +1,7 @@
 //! The values that the texts of options stand for.
 
-ghost use Rattle.std.specs.Prelude.{◌≡◌, ◌<◌, ◌≤◌, option_copied};
-ghost use Rattle.cmd_arguments.specs.Values.{choice_value, file_name, number_in, steps_value, count_value, top_value};
+ghost use Rattle.std.specs.Prelude.{◌≡◌, ◌<◌, ◌≤◌};
+ghost use Rattle.cmd_arguments.specs.Values.{choice_value, number_in, steps_value, count_value, top_value};
 
 /// The most steps that a run may be given.
 const MOST_STEPS: u128 = 10_000_000;
@@ -58,13 +58,6 @@ pub fn count_value(text: &str) -> Option<u32>
     } else {
         None
     }
-}
-
-/// The name of a file, which is not empty.
-pub fn file_name(text: &str) -> Option<&str>
-    ensures { option_copied result ≡ file_name text.now }
-{
-    if text.is_empty() { None } else { Some(text) }
 }
 
 // The number that digits of a base write.

@@ -186,32 +186,43 @@ fn byte_digits(alloc: Global, byte: u8) -> Result<String, AllocError>
 pub fn not_shown_line(alloc: Global, at: u16, reason: &str) -> Result<String, AllocError>
     ensures { IfOk result (λ line. string_bytes line ≡ not_shown_line at reason.now) }
 {
-    let digits = word_digits(alloc, at)?;
-    not_shown_at(alloc, digits.as_str(), reason)
-}
-
-// The same by the digits of its address.
-fn not_shown_at(alloc: Global, digits: &str, reason: &str) -> Result<String, AllocError>
-    ensures { IfOk result (λ line. string_bytes line
-        ≡ codes "not shown: block " ++ (digits.now ++ (codes ", " ++ (reason.now ++ codes "\n")))) }
-{
-    format!(in alloc; "not shown: block {digits}, {reason}\n")
+    address_line(alloc, "not shown: block ", at, ", ", reason)
 }
 
 // Where a machine stopped, and why.
 fn stopped_line(alloc: Global, offset: u16, why: &str) -> Result<String, AllocError>
     ensures { IfOk result (λ line. string_bytes line ≡ stopped_line offset why.now) }
 {
-    let digits = word_digits(alloc, offset)?;
-    stopped_at(alloc, digits.as_str(), why)
+    address_line(alloc, "machine stopped at ", offset, ": ", why)
 }
 
-// The same by the digits of the offset.
-fn stopped_at(alloc: Global, digits: &str, why: &str) -> Result<String, AllocError>
+// A text, an address in hexadecimal digits, a mark, and why.
+fn address_line(
+    alloc: Global,
+    text: &str,
+    address: u16,
+    mark: &str,
+    why: &str,
+) -> Result<String, AllocError>
     ensures { IfOk result (λ line. string_bytes line
-        ≡ codes "machine stopped at " ++ (digits.now ++ (codes ": " ++ (why.now ++ codes "\n")))) }
+        ≡ text.now ++ (word_digits address ++ (mark.now ++ (why.now ++ codes "\n")))) }
 {
-    format!(in alloc; "machine stopped at {digits}: {why}\n")
+    let digits = word_digits(alloc, address)?;
+    digits_line(alloc, text, digits.as_str(), mark, why)
+}
+
+// The same by the digits.
+fn digits_line(
+    alloc: Global,
+    text: &str,
+    digits: &str,
+    mark: &str,
+    why: &str,
+) -> Result<String, AllocError>
+    ensures { IfOk result (λ line. string_bytes line
+        ≡ text.now ++ (digits.now ++ (mark.now ++ (why.now ++ codes "\n")))) }
+{
+    format!(in alloc; "{text}{digits}{mark}{why}\n")
 }
 
 // Where a machine stopped at a call of this function.

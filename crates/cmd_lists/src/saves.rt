@@ -1,12 +1,12 @@
 // The command `flags`: the flags that a text has to save.
-ghost use Rattle.std.specs.Prelude.{◌≡◌, ◌++◌, true, codes, map, IfOk, OnOk};
+ghost use Rattle.std.specs.Prelude.{◌≡◌, ◌++◌, true, codes, map, IfOk};
 ghost use Rattle.std.specs.Fmt.{decimal};
 ghost use Rattle.std.specs.String.{string_bytes};
 ghost use Rattle.host.specs.Host.{SameFiles};
 ghost use Rattle.asm80_program_types.specs.Program.{is_top};
 ghost use Rattle.cmd_arguments.specs.ReadCommands.{listing_read};
 ghost use Rattle.cmd_common.specs.Makes.{MakeGives, MakeCompletes};
-ghost use Rattle.cmd_lists.specs.Saves.{letter_if, letters, save_text, save_line, report_lines, flags_kind};
+ghost use Rattle.cmd_lists.specs.Saves.{letter_if, save_text, save_line, report_lines, flags_kind};
 
 use crate::list::{Listed, list};
 use crate::savings::{Saving, saved_among, saves_any, savings_of};
@@ -79,27 +79,16 @@ fn save_text(alloc: Global, keep: Keep) -> Result<String, AllocError>
     if !saves_any(keep) {
         return String::from_str(alloc, "no save");
     }
-    let mut text = String::from_str(alloc, "save ")?;
-    push_letters(&mut text, keep)?;
-    Ok(text)
+    let s = letter_if(keep.has(Part::S), "S");
+    let z = letter_if(keep.has(Part::Z), "Z");
+    let ac = letter_if(keep.has(Part::Ac), "A");
+    let p = letter_if(keep.has(Part::P), "P");
+    format!(in alloc; "save {s}{z}{ac}{p}")
 }
 
-// The letters of the flags that are saved.
-fn push_letters(text: &mut String, keep: Keep) -> Result<(), AllocError>
-    ensures { OnOk result (string_bytes text.new ≡ string_bytes text.old ++ letters keep) }
+// The letter of a flag that is saved.
+fn letter_if(is_saved: bool, letter: &'static str) -> &'static str
+    ensures { result.now ≡ letter_if is_saved letter.now }
 {
-    push_letter(text, keep.has(Part::S), "S")?;
-    push_letter(text, keep.has(Part::Z), "Z")?;
-    push_letter(text, keep.has(Part::Ac), "A")?;
-    push_letter(text, keep.has(Part::P), "P")
-}
-
-fn push_letter(text: &mut String, is_saved: bool, letter: &str) -> Result<(), AllocError>
-    ensures { OnOk result (string_bytes text.new ≡ string_bytes text.old ++ letter_if is_saved letter.now) }
-{
-    if is_saved {
-        text.push_str(letter)
-    } else {
-        Ok(())
-    }
+    if is_saved { letter } else { "" }
 }

@@ -32,54 +32,49 @@ fn prefixed_line(alloc: Global, prefix: &[u8], event: &Event) -> Result<Vec<u8>,
     ensures { IfOk result (λ line. line.items ≡ prefixed_line prefix.now event.now) }
 {
     let mut line = Vec::from_slice(alloc, prefix)?;
-    let rest = event_line(alloc, event)?;
-    line.extend_from_slice(rest.as_slice())?;
+    push_event(alloc, &mut line, event)?;
     Ok(line)
 }
 
 // The line of an event.
-fn event_line(alloc: Global, event: &Event) -> Result<Vec<u8>, AllocError>
-    ensures { IfOk result (λ line. line.items ≡ event_line event.now) }
+fn push_event(alloc: Global, line: &mut Vec<u8>, event: &Event) -> Result<(), AllocError>
+    ensures { OnOk result (line.new.items ≡ line.old.items ++ event_line event.now) }
 {
     match event {
-        Event::Call(request) => call_line(alloc, request),
-        Event::In(port) => in_line(alloc, *port),
-        Event::Out(port, byte) => out_line(alloc, *port, *byte),
-        Event::End => Vec::from_slice(alloc, b"end\n"),
+        Event::Call(request) => push_call(alloc, line, request),
+        Event::In(port) => push_in(alloc, line, *port),
+        Event::Out(port, byte) => push_out(alloc, line, *port, *byte),
+        Event::End => line.extend_from_slice(b"end\n"),
     }
 }
 
 // The line of an IN: the port.
-fn in_line(alloc: Global, port: u8) -> Result<Vec<u8>, AllocError>
-    ensures { IfOk result (λ line. line.items ≡ in_line port) }
+fn push_in(alloc: Global, line: &mut Vec<u8>, port: u8) -> Result<(), AllocError>
+    ensures { OnOk result (line.new.items ≡ line.old.items ++ in_line port) }
 {
-    let mut line = Vec::from_slice(alloc, b"in")?;
-    push_spaced(alloc, &mut line, &[port])?;
-    line.push(b'\n')?;
-    Ok(line)
+    line.extend_from_slice(b"in")?;
+    push_spaced(alloc, line, &[port])?;
+    line.extend_from_slice(b"\n")
 }
 
 // The line of an OUT: the port, and then the byte.
-fn out_line(alloc: Global, port: u8, byte: u8) -> Result<Vec<u8>, AllocError>
-    ensures { IfOk result (λ line. line.items ≡ out_line port byte) }
+fn push_out(alloc: Global, line: &mut Vec<u8>, port: u8, byte: u8) -> Result<(), AllocError>
+    ensures { OnOk result (line.new.items ≡ line.old.items ++ out_line port byte) }
 {
-    let mut line = Vec::from_slice(alloc, b"out")?;
-    push_spaced(alloc, &mut line, &[port])?;
-    push_spaced(alloc, &mut line, &[byte])?;
-    line.push(b'\n')?;
-    Ok(line)
+    line.extend_from_slice(b"out")?;
+    push_spaced(alloc, line, &[port])?;
+    push_spaced(alloc, line, &[byte])?;
+    line.extend_from_slice(b"\n")
 }
 
 // The line of a call.
-fn call_line(alloc: Global, request: &Request) -> Result<Vec<u8>, AllocError>
-    ensures { IfOk result (λ line. line.items ≡ call_line request.now) }
+fn push_call(alloc: Global, line: &mut Vec<u8>, request: &Request) -> Result<(), AllocError>
+    ensures { OnOk result (line.new.items ≡ line.old.items ++ call_line request.now) }
 {
-    let mut line = Vec::new(alloc);
-    push_digits(alloc, &mut line, &[request.shape.function])?;
-    push_argument(alloc, &mut line, request.shape.arg)?;
-    push_blocks(alloc, &mut line, request.blocks.as_slice())?;
-    line.push(b'\n')?;
-    Ok(line)
+    push_digits(alloc, line, &[request.shape.function])?;
+    push_argument(alloc, line, request.shape.arg)?;
+    push_blocks(alloc, line, request.blocks.as_slice())?;
+    line.extend_from_slice(b"\n")
 }
 
 // Bytes in hexadecimal digits.

@@ -13,7 +13,7 @@ use crate::replies::reply_is_in_range;
 use bdos_small::{Devices, EventAnswer};
 use dialogue::Event;
 use host::Host;
-use std::alloc::{AllocError, Global};
+use std::alloc::Global;
 
 /// What a run over devices comes to.
 #[derive(Clone, Copy)]
@@ -103,7 +103,7 @@ fn turn<E: Emulator, H: Host>(
         Turn::Stopped(why) => Ok(Some(RunEnd::Stopped(why))),
         Turn::Asks(event) => {
             say_event(alloc, host, prefix, &event)?;
-            Ok(answer(alloc, machine, devices, &event)?)
+            answer(alloc, machine, devices, &event)
         }
     }
 }
@@ -114,11 +114,12 @@ fn answer<E: Emulator>(
     machine: &mut E,
     devices: &mut Devices,
     event: &Event,
-) -> Result<Option<RunEnd>, AllocError>
+) -> Result<Option<RunEnd>, TalkFault>
     requires waits { E.waits machine.old event.now }
     requires lawful { IsLawfulEvent event.now }
     ensures answered { IfOk result (λ o. IsAnswered event.now (E.answered machine.old event.now) (E.course machine.new) devices.old devices.new o) }
     ensures ready { result ≡ Ok None → E.runs machine.new }
+    ensures memory { IfErr result (λ fault. fault ≡ TalkFault.Memory) }
 {
     match devices.answer(alloc, event)? {
         EventAnswer::Reply(reply) => {

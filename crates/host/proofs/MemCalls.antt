@@ -1,11 +1,13 @@
 -- What the calls of a host in memory answer, put together.
-use Rattle.std.proofs.Common.{◌≡◌, ℕ, ◌+◌, ◌<◌, min, arith, ◌↔◌, Result, Ok, Err, IsOk, IfErr, OnOk, OnErr, refl, ap, sym, subst, ◌∙◌}
-use Rattle.std.specs.Prelude.{is_ok}
+use Rattle.std.proofs.Common.{◌≡◌, ℕ, Bool, true, false, ◌+◌, ◌<◌, min, arith, List, take, length, ◌↔◌, Result, Ok, Err, IsOk, IfErr, OnOk, OnErr, refl, ap, sym, subst, ◌∙◌}
+use Rattle.std.specs.Prelude.{is_ok, if◌then◌else◌, IsErrAnd}
 use Rattle.std.proofs.lemmas.Bool.{false≢true}
+use Rattle.std.proofs.lemmas.List.{length-take}
 use Rattle.std.proofs.lemmas.Bool.Decides.{nat_tests}
 use Rattle.host.specs.declared.HostFault.{HostFault}
 use Rattle.host.specs.declared.HostFault.TheVariants.{Failed, Memory}
 use Rattle.host.specs.Host.{one_more, failures_after, wants_by}
+use Rattle.host.specs.MemHost.{piece_of}
 
 -- a count after one more
 pub counted_on : (n r : ℕ) → n < 18446744073709551616 → r ≡ min (n + 1) 18446744073709551615 → r ≡ one_more n
@@ -28,7 +30,7 @@ abbrev pub Fault : (T : Type 0) → Result T HostFault → Type 0
 Fault T r = r ≡ Err Failed
 
 -- no answer is a fault
-unlike : {T : Type 0} (x : T) (d : HostFault) → ◌≡◌ {A = Result T HostFault} (Ok x) (Err d) → ⊥
+pub unlike : {T : Type 0} (x : T) (d : HostFault) → ◌≡◌ {A = Result T HostFault} (Ok x) (Err d) → ⊥
 unlike x d e = false≢true (sym (ap is_ok e))
 
 -- the fault of an error
@@ -37,6 +39,9 @@ fault_is d e q = subst (λ r. IfErr r (λ x. d ≡ x)) q refl
 
 failure_is_no_want : Failed ≡ Memory → ⊥
 failure_is_no_want e = cc
+
+pub failed_not_wanted : {T : Type 0} → ◌≡◌ {A = Result T HostFault} (Err Failed) (Err Memory) → ⊥
+failed_not_wanted e = failure_is_no_want (fault_is Failed Memory e)
 
 -- a fault that is handed on, one that the first call did not meet, and no fault
 pub same_fault : {T U : Type 0} (d : HostFault) (P : Type 0) → Fault T (Err d) ↔ P → Fault U (Err d) ↔ P
@@ -48,7 +53,10 @@ other_fault d u P other h = (λ q. absurd (other (ap Err (fault_is d Failed q)))
 pub no_fault : (n : ℕ) (u : Unit {0}) (P : Type 0) → Fault (Unit {0}) (Ok u) ↔ P → Fault ℕ (Ok n) ↔ P
 no_fault n u P h = (λ q. absurd (unlike n Failed q), λ p. absurd (unlike u Failed (h.1 p)))
 
--- a failure is no want of memory
+-- want of memory is no failure, and a failure is no want of memory
+pub no_failed_call : {T : Type 0} (d : HostFault) → d ≡ Memory → Fault T (Err d) → ⊥
+no_failed_call d is q = failure_is_no_want (sym (fault_is d Failed q) ∙ is)
+
 pub no_want : (d : HostFault) (n : ℕ) → (d ≡ Memory → ⊥) → n ≡ wants_by d n
 no_want Failed n other = refl
 no_want Memory n other = absurd (other refl)
@@ -72,3 +80,21 @@ on_ok_then (Err d) f = tt
 pub on_err_then : {T E P : Type 0} (r : Result T E) → ((IsOk r → ⊥) → P) → OnErr r P
 on_err_then (Ok x) f = tt
 on_err_then (Err d) f = f (λ ok. false≢true ok)
+
+-- how many bytes a piece has
+pub piece_length : (m : ℕ) (bytes : List ℕ) → m ≡ min 4096 (length bytes) → length (take m bytes) ≡ piece_of (length bytes)
+piece_length m bytes is = omega (arith, length-take m bytes)
+
+-- what a list is that took more, and one that did not
+pub taken : (ok : Bool) (old more new : List ℕ) → new ≡ if ok then more else old → ok ≡ true → new ≡ more
+taken true old more new is done = is
+taken false old more new is done = absurd (false≢true done)
+
+pub not_taken : (ok : Bool) (old more new : List ℕ) → new ≡ if ok then more else old → (ok ≡ true → false ≡ true) → new ≡ old
+not_taken true old more new is failed = absurd (false≢true (failed refl))
+not_taken false old more new is failed = is
+
+-- the fault that a call hands on
+pub handed_fault : {T : Type 0} (r : Result T HostFault) (d : HostFault) → IsErrAnd r (λ x. x ≡ d) → r ≡ Err d
+handed_fault (Ok x) d is = absurd is
+handed_fault (Err e) d is = ap Err is

@@ -1,9 +1,10 @@
 -- What a call of a host that tells nothing counts, by its answer.
-use Rattle.std.proofs.Common.{◌≡◌, ℕ, ◌≤◌, List, Result, Ok, Err, IfErr, OnOk, OnErr, refl, ap, ◌∙◌, arith}
+use Rattle.std.proofs.Common.{◌≡◌, ℕ, ◌≤◌, List, Result, Ok, Err, IfOk, IfErr, OnOk, OnErr, IsErr, MatchResult, refl, sym, ap, subst, ◌∙◌, arith}
+use Rattle.std.proofs.lemmas.Bool.{false≢true}
 use Rattle.std.proofs.lemmas.Bool.Decides.{nat_tests}
 use Rattle.host.specs.declared.HostFault.{HostFault}
 use Rattle.host.specs.declared.HostFault.TheVariants.{Failed, Memory}
-use Rattle.host.specs.Host.{HasRisen, one_more, failures_after, wants_after, SameFaults, IsUndisturbed, OnlyReads, OnlyWrites, OnlySays, WriteFault, CountsAlone}
+use Rattle.host.specs.Host.{Untold, Missing, HasRisen, one_more, failures_after, wants_after, SameFaults, IsUndisturbed, OnlyReads, OnlyWrites, OnlySays, WriteFault, CountsAlone}
 use Rattle.host.specs.RealHost.{untold}
 
 one_more-le : (n : ℕ) → n ≤ one_more n
@@ -67,3 +68,17 @@ failed_risen count failures r f is = rw (f ∙ ap (λ x. failures_after x count)
 
 pub wanted_risen : {T : Type 0} (count wanted : ℕ) (r : Result T HostFault) → wanted ≡ wants_after r count → r ≡ Err Memory → HasRisen count wanted
 wanted_risen count wanted r w is = rw (w ∙ ap (λ x. wants_after x count) is) (one_more-risen count)
+
+-- what holds of each value, and what holds of the value that is handed on
+pub of_each : {T E : Type 0} (r : Result T E) (P : T → Type 0) → ((x : T) → P x) → IfOk r P
+of_each (Ok x) P all = all x
+of_each (Err d) P all = tt
+
+pub of_handed : {T E F : Type 0} (done : Result T E) (r : Result T F) (P : T → Type 0) → MatchResult done (λ x. r ≡ Ok x) (λ _. IsErr r) → IfOk done P → IfOk r P
+of_handed (Ok x) r P is p = subst (λ q. IfOk q P) (sym is) p
+of_handed (Err e) (Ok x) P err p = absurd (false≢true err)
+of_handed (Err e) (Err d) P err p = tt
+
+-- what is not told is not told to be missing
+pub not_missing : Untold ≡ Missing → ⊥
+not_missing is = cc

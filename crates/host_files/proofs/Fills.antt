@@ -45,3 +45,9 @@ pub fills-all : (old more piece : List ℕ) (taken : ℕ) → length old < 4096 
 fills-all old more piece taken room count e not_full =
     let size : length piece ≡ length old + length (take taken more) = ap length e ∙ length-append old (take taken more) in
     e ∙ ap (λ x. old ++ x) (take_all taken more (omega (arith, size, count, room, not_full, length-take taken more)))
+
+-- the piece has room still
+pub fills-room : (old more piece : List ℕ) (taken : ℕ) → length old < 4096 → taken ≡ min (length more) (4096 - length old) → piece ≡ old ++ take taken more → length piece ≢ 4096 → length piece < 4096
+fills-room old more piece taken room count e not_full =
+    let size : length piece ≡ length old + length (take taken more) = ap length e ∙ length-append old (take taken more) in
+    omega (arith, size, count, room, not_full, length-take taken more)

@@ -26,26 +26,22 @@ gives-in-Err g c = stopped (g.H.Host.state c.work.new.host) c.in-Err.stop c.in-E
 pub say_report-requires : goal.say_report-requires
 say_report-requires g c = subst (λ ls. All (λ (l : List ℕ). 0 < length l) (map string_bytes ls)) (sym c.as_slice.ensures.value) c.in-Ok.ensures.some
 
-pub returns-in-Ok-clause-gives : goal.returns-in-Ok-clause-gives
-returns-in-Ok-clause-gives g c = gives-in-Ok g c
-
-pub returns-in-Ok-clause-files : goal.returns-in-Ok-clause-files
-returns-in-Ok-clause-files g c = files_stay (list_kind g.L.Listed.are_lines (listing_read c.args.command.now)) (g.H.Host.state c.args.host.now) (g.H.Host.state c.say_report.new.host) refl c.say_report.result (gives-in-Ok g c)
-
-pub returns-in-Ok-clause-completes : goal.returns-in-Ok-clause-completes
-returns-in-Ok-clause-completes g c =
+pub returns-in-Ok : goal.returns-in-Ok
+returns-in-Ok g c =
     let command = listing_read c.args.command.now in
-    completes (list_kind g.L.Listed.are_lines command) (g.H.Host.state c.args.host.now) (g.H.Host.state c.say_report.new.host)
-    (laws_of_list g.L.Listed.are_lines c.lines_are_one.ensures command (c.sources_have_one_outcome.ensures command.zilog)) c.say_report.result (gives-in-Ok g c)
+    let given = gives-in-Ok g c in
+    record {
+      gives = given;
+      files = files_stay (list_kind g.L.Listed.are_lines (listing_read c.args.command.now)) (g.H.Host.state c.args.host.now) (g.H.Host.state c.say_report.new.host) refl c.say_report.result given;
+      completes = completes (list_kind g.L.Listed.are_lines command) (g.H.Host.state c.args.host.now) (g.H.Host.state c.say_report.new.host) (laws_of_list g.L.Listed.are_lines c.lines_are_one.ensures command (c.sources_have_one_outcome.ensures command.zilog)) c.say_report.result given;
+    }
 
-pub returns-in-Err-clause-gives : goal.returns-in-Err-clause-gives
-returns-in-Err-clause-gives g c = gives-in-Err g c
-
-pub returns-in-Err-clause-files : goal.returns-in-Err-clause-files
-returns-in-Err-clause-files g c = files_stay (list_kind g.L.Listed.are_lines (listing_read c.args.command.now)) (g.H.Host.state c.args.host.now) (g.H.Host.state c.say_stop.new.host) refl c.say_stop.result (gives-in-Err g c)
-
-pub returns-in-Err-clause-completes : goal.returns-in-Err-clause-completes
-returns-in-Err-clause-completes g c =
+pub returns-in-Err : goal.returns-in-Err
+returns-in-Err g c =
     let command = listing_read c.args.command.now in
-    completes (list_kind g.L.Listed.are_lines command) (g.H.Host.state c.args.host.now) (g.H.Host.state c.say_stop.new.host)
-    (laws_of_list g.L.Listed.are_lines c.lines_are_one.ensures command (c.sources_have_one_outcome.ensures command.zilog)) c.say_stop.result (gives-in-Err g c)
+    let given = gives-in-Err g c in
+    record {
+      gives = given;
+      files = files_stay (list_kind g.L.Listed.are_lines (listing_read c.args.command.now)) (g.H.Host.state c.args.host.now) (g.H.Host.state c.say_stop.new.host) refl c.say_stop.result given;
+      completes = completes (list_kind g.L.Listed.are_lines command) (g.H.Host.state c.args.host.now) (g.H.Host.state c.say_stop.new.host) (laws_of_list g.L.Listed.are_lines c.lines_are_one.ensures command (c.sources_have_one_outcome.ensures command.zilog)) c.say_stop.result given;
+    }

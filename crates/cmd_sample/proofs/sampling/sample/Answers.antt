@@ -22,14 +22,18 @@ gives-in-Err g c =
     stopped (sample_read c.args.command.now) (g.H.Host.state c.args.host.now) (g.H.Host.state c.work.new.host) (g.H.Host.state c.say_stop.new.host)
     (names_read c.one.result) c.in-Err.stop c.in-Err.ensures.stopped c.say_stop.result c.say_stop.ensures
 
-pub returns-in-Ok-clause-gives : goal.returns-in-Ok-clause-gives
-returns-in-Ok-clause-gives g c = gives-in-Ok g c
+pub returns-in-Ok : goal.returns-in-Ok
+returns-in-Ok g c =
+    let given = gives-in-Ok g c in
+    record {
+      gives = given;
+      completes = completes (sample_read c.args.command.now) (g.H.Host.state c.args.host.now) (g.H.Host.state c.say_done.new.host) c.say_done.result given;
+    }
 
-pub returns-in-Ok-clause-completes : goal.returns-in-Ok-clause-completes
-returns-in-Ok-clause-completes g c = completes (sample_read c.args.command.now) (g.H.Host.state c.args.host.now) (g.H.Host.state c.say_done.new.host) c.say_done.result (gives-in-Ok g c)
-
-pub returns-in-Err-clause-gives : goal.returns-in-Err-clause-gives
-returns-in-Err-clause-gives g c = gives-in-Err g c
-
-pub returns-in-Err-clause-completes : goal.returns-in-Err-clause-completes
-returns-in-Err-clause-completes g c = completes (sample_read c.args.command.now) (g.H.Host.state c.args.host.now) (g.H.Host.state c.say_stop.new.host) c.say_stop.result (gives-in-Err g c)
+pub returns-in-Err : goal.returns-in-Err
+returns-in-Err g c =
+    let given = gives-in-Err g c in
+    record {
+      gives = given;
+      completes = completes (sample_read c.args.command.now) (g.H.Host.state c.args.host.now) (g.H.Host.state c.say_stop.new.host) c.say_stop.result given;
+    }

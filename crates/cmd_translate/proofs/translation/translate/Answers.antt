@@ -24,20 +24,18 @@ gives-in-Err g c =
     stopped (translate_read c.args.command.now) (g.H.Host.state c.args.host.now) (g.H.Host.state c.work.new.host) (g.H.Host.state c.say_stop.new.host)
     c.in-Err.stop c.in-Err.ensures.stopped c.say_stop.result (named c.one.ensures c.say_stop.ensures)
 
-pub returns-in-Ok-clause-gives : goal.returns-in-Ok-clause-gives
-returns-in-Ok-clause-gives g c = gives-in-Ok g c
+pub returns-in-Ok : goal.returns-in-Ok
+returns-in-Ok g c =
+    let given = gives-in-Ok g c in
+    record {
+      gives = given;
+      completes = λ none bytes told memory. decides (translate_read c.args.command.now) (c.sources_have_one_outcome.ensures (translate_read c.args.command.now).zilog) c.own_texts_are_same.ensures.one (g.H.Host.state c.args.host.now) (g.H.Host.state c.say_done.new.host) none bytes told c.say_done.result memory given;
+    }
 
-pub returns-in-Ok-clause-completes : goal.returns-in-Ok-clause-completes
-returns-in-Ok-clause-completes g c = λ none bytes told memory.
-    decides (translate_read c.args.command.now) (c.sources_have_one_outcome.ensures (translate_read c.args.command.now).zilog) c.own_texts_are_same.ensures.one
-    (g.H.Host.state c.args.host.now) (g.H.Host.state c.say_done.new.host)
-    none bytes told c.say_done.result memory (gives-in-Ok g c)
-
-pub returns-in-Err-clause-gives : goal.returns-in-Err-clause-gives
-returns-in-Err-clause-gives g c = gives-in-Err g c
-
-pub returns-in-Err-clause-completes : goal.returns-in-Err-clause-completes
-returns-in-Err-clause-completes g c = λ none bytes told memory.
-    decides (translate_read c.args.command.now) (c.sources_have_one_outcome.ensures (translate_read c.args.command.now).zilog) c.own_texts_are_same.ensures.one
-    (g.H.Host.state c.args.host.now) (g.H.Host.state c.say_stop.new.host)
-    none bytes told c.say_stop.result memory (gives-in-Err g c)
+pub returns-in-Err : goal.returns-in-Err
+returns-in-Err g c =
+    let given = gives-in-Err g c in
+    record {
+      gives = given;
+      completes = λ none bytes told memory. decides (translate_read c.args.command.now) (c.sources_have_one_outcome.ensures (translate_read c.args.command.now).zilog) c.own_texts_are_same.ensures.one (g.H.Host.state c.args.host.now) (g.H.Host.state c.say_stop.new.host) none bytes told c.say_stop.result memory given;
+    }

@@ -1,6 +1,6 @@
-use Rattle.std.proofs.Common.{◌≡◌, sym, subst, arith}
-use Rattle.std.proofs.lemmas.Grind.{common_steps}
-use Rattle.host.proofs.HostLemmas.{OnlySays-refl, OnlySays-trans, SameFaults-refl}
+use Rattle.std.proofs.Common.{◌≡◌, Ok, sym, ap, subst, arith}
+use Rattle.std.proofs.lemmas.Result.{IfOk-from_err}
+use Rattle.host.proofs.HostLemmas.{OnlySays-refl, OnlySays-trans, SameFaults-refl, SameFaults-trans}
 use Rattle.emulator_loop.specs.declared.running.RunEnd.TheVariants.{StepLimit}
 use Rattle.emulator_loop.specs.Talk.{SaysRun, IsCutOff}
 use Rattle.emulator_loop.specs.Turns.{no_past}
@@ -32,15 +32,15 @@ loop-count-preserved g c =
     let new = g.H.Host.state c.turn.new.host in
     let done : Advance c.args.prefix.now 1 before after c.loop-count.devices c.turn.new.devices mid new = subst (IsTurnDone c.args.prefix.now before after c.loop-count.devices c.turn.new.devices mid new) c.in_default.is c.in_ok-end.ensures.done in
     record {
-      runs = c.in_ok-end.ensures.ready (cc);
+      runs = c.in_ok-end.ensures.ready (ap Ok c.in_default.is);
       advance = advance_then c.args.prefix.now j first before after c.args.devices.now c.loop-count.devices c.turn.new.devices old mid new c.loop-count.invariant.advance done;
       only = OnlySays-trans c.loop-count.invariant.only c.turn.ensures.only;
-      counted = grind (arith, common_steps, c.in_ok-end.ensures.counted);
+      counted = SameFaults-trans c.loop-count.invariant.counted c.in_ok-end.ensures.counted;
     }
 
 -- the last turn
-pub returns-in-Some-clause-run : goal.returns-in-Some-clause-run
-returns-in-Some-clause-run g c =
+pub returns-in-Some : goal.returns-in-Some
+returns-in-Some g c =
     let j = c.loop-count.count in
     let end = c.in-Some.end in
     let first = g.E.Emulator.course c.args.machine.now in
@@ -52,22 +52,35 @@ returns-in-Some-clause-run g c =
     let supply = c.args.devices.now in
     let left = c.loop-count.devices in
     let done : Rest c.args.prefix.now end before left c.turn.new.devices mid new = subst (IsTurnDone c.args.prefix.now before after left c.turn.new.devices mid new) c.in-Some.is c.in_ok-end.ensures.done in
-    subst (λ n. SaysRun (first no_past) supply c.args.limit c.args.prefix.now (record { end = end; steps = n }) c.turn.new.devices old new) (sym c.steps_by-steps.ensures.steps)
-    (says_end c.args.prefix.now first before (g.met.E.Emulator.single c.args.machine.now) supply left old mid new j c.loop-count.invariant.advance end c.args.limit (g.met.E.Emulator.begins c.loop-count.machine) (omega arith) c.turn.new.devices done)
+    record {
+      run =
+          subst (λ n. SaysRun (first no_past) supply c.args.limit c.args.prefix.now (record { end = end; steps = n }) c.turn.new.devices old new) (sym c.steps_by-steps.ensures.steps)
+          (says_end c.args.prefix.now first before (g.met.E.Emulator.single c.args.machine.now) supply left old mid new j c.loop-count.invariant.advance end c.args.limit (g.met.E.Emulator.begins c.loop-count.machine) (omega arith) c.turn.new.devices done);
+      cut = tt;
+      only = OnlySays-trans c.loop-count.invariant.only c.turn.ensures.only;
+      within = omega arith;
+      counted = SameFaults-trans c.loop-count.invariant.counted c.in_ok-end.ensures.counted;
+    }
 
 -- no turn is left
-pub returns-clause-run : goal.returns-clause-run
-returns-clause-run g c =
+pub returns : goal.returns
+returns g c =
     let first = g.E.Emulator.course c.args.machine.now in
     let before = g.E.Emulator.course c.loop-count.machine in
     let old = g.H.Host.state c.args.host.now in
     let mid = g.H.Host.state c.loop-count.host in
     let all : c.loop-count.count ≡ c.args.limit = omega arith in
-    subst (λ n. SaysRun (first no_past) c.args.devices.now n c.args.prefix.now (record { end = StepLimit; steps = n }) c.loop-count.devices old mid) all (says_limit c.args.prefix.now first before (g.met.E.Emulator.single c.args.machine.now) c.args.devices.now c.loop-count.devices old mid mid c.loop-count.count c.loop-count.invariant.advance (g.met.E.Emulator.begins c.loop-count.machine))
+    record {
+      run = subst (λ n. SaysRun (first no_past) c.args.devices.now n c.args.prefix.now (record { end = StepLimit; steps = n }) c.loop-count.devices old mid) all (says_limit c.args.prefix.now first before (g.met.E.Emulator.single c.args.machine.now) c.args.devices.now c.loop-count.devices old mid mid c.loop-count.count c.loop-count.invariant.advance (g.met.E.Emulator.begins c.loop-count.machine));
+      cut = tt;
+      only = c.loop-count.invariant.only;
+      within = omega arith;
+      counted = c.loop-count.invariant.counted;
+    }
 
 -- a fault
-pub returns-in_err-end-clause-cut : goal.returns-in_err-end-clause-cut
-returns-in_err-end-clause-cut g c =
+pub returns-in_err-end : goal.returns-in_err-end
+returns-in_err-end g c =
     let first = g.E.Emulator.course c.args.machine.now in
     let before = g.E.Emulator.course c.loop-count.machine in
     let old = g.H.Host.state c.args.host.now in
@@ -75,6 +88,14 @@ returns-in_err-end-clause-cut g c =
     let new = g.H.Host.state c.turn.new.host in
     let e = c.in_err-end in
     let known = c.loop-count.invariant in
-    on_fault c.from_residual.result (λ h. h ≡ e.field-0.0) (IsCutOff (first no_past) c.args.devices.now c.args.limit c.args.prefix.now old new) c.from_residual.ensures.1
-    (λ h is. subst (IsCutOff (first no_past) c.args.devices.now c.args.limit c.args.prefix.now old new) (sym is)
-    (cut_off c.args.prefix.now first before (g.met.E.Emulator.single c.args.machine.now) c.args.devices.now c.loop-count.devices old mid new c.loop-count.count known.advance c.args.limit (omega arith) known.counted e.field-0.0 e.ensures.cut))
+    let r = c.from_residual in
+    record {
+      run = IfOk-from_err r.result _ r.ensures.0;
+      cut =
+          on_fault r.result (λ h. h ≡ e.field-0.0) (IsCutOff (first no_past) c.args.devices.now c.args.limit c.args.prefix.now old new) r.ensures.1
+          (λ h is. subst (IsCutOff (first no_past) c.args.devices.now c.args.limit c.args.prefix.now old new) (sym is)
+          (cut_off c.args.prefix.now first before (g.met.E.Emulator.single c.args.machine.now) c.args.devices.now c.loop-count.devices old mid new c.loop-count.count known.advance c.args.limit (omega arith) known.counted e.field-0.0 e.ensures.cut));
+      only = OnlySays-trans known.only c.turn.ensures.only;
+      within = IfOk-from_err r.result _ r.ensures.0;
+      counted = IfOk-from_err r.result _ r.ensures.0;
+    }

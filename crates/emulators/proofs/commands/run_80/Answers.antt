@@ -1,10 +1,11 @@
 use Rattle.std.proofs.Common.{◌≡◌, ℕ, List, [], sym, ap, ◌∙◌, subst}
+use Rattle.std.proofs.lemmas.Result.{IfOk-from_err}
 use Rattle.std.specs.Prelude.{IfOk, IfErr}
 use Rattle.dialogue.specs.declared.request.Reply.{Reply}
 use Rattle.cpu80_tagged.specs.Start.{start80}
 use Rattle.cpu80_tagged.specs.Step.{machine80}
 use Rattle.cpu80_tagged.specs.ProcessorState.{tagged_state}
-use Rattle.host.proofs.HostLemmas.{SameFaults-refl}
+use Rattle.host.proofs.HostLemmas.{OnlySays-refl, SameFaults-refl}
 use Rattle.emulator_loop.specs.declared.fault.TalkFault.TheVariants.{Memory}
 use Rattle.emulator_loop.specs.Talk.{SeenRun, SaysRun, IsCutOff}
 use Rattle.emulator_loop.specs.Turns.{no_past}
@@ -14,15 +15,23 @@ use Rattle.emulator_loop.proofs.Said.{on_fault}
 use Rattle.emulators.specs.Courses.{why80, course80, course80_from}
 use Rattle.emulators.proofs.commands.run_80.Goals as goal
 
-pub returns-in_err-machine-clause-cut : goal.returns-in_err-machine-clause-cut
-returns-in_err-machine-clause-cut g c =
+pub returns-in_err-machine : goal.returns-in_err-machine
+returns-in_err-machine g c =
     let p = c.args.program.now in
     let page = c.args.page.now in
     let limit = c.args.limit in
     let host = g.H.Host.state c.args.host.now in
-    on_fault c.from_residual.result (λ h. h ≡ Memory) (IsCutOff (course80 p page) c.args.devices.now limit c.args.prefix.now host host) c.from_residual.ensures.1
-    (λ h is. subst (IsCutOff (course80 p page) c.args.devices.now limit c.args.prefix.now host host) (sym is)
-    (says_none (course80 p page) (one_run (machine80 p) [] why80 (start80 p page)) c.args.devices.now limit c.args.prefix.now host, SameFaults-refl host))
+    let r = c.from_residual in
+    record {
+      run = IfOk-from_err r.result _ r.ensures.0;
+      cut =
+          on_fault r.result (λ h. h ≡ Memory) (IsCutOff (course80 p page) c.args.devices.now limit c.args.prefix.now host host) r.ensures.1
+          (λ h is. subst (IsCutOff (course80 p page) c.args.devices.now limit c.args.prefix.now host host) (sym is)
+          (says_none (course80 p page) (one_run (machine80 p) [] why80 (start80 p page)) c.args.devices.now limit c.args.prefix.now host, SameFaults-refl host));
+      only = OnlySays-refl host;
+      within = IfOk-from_err r.result _ r.ensures.0;
+      counted = IfOk-from_err r.result _ r.ensures.0;
+    }
 
 pub returns : goal.returns
 returns g c =

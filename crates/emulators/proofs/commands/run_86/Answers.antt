@@ -1,12 +1,12 @@
 use Rattle.std.proofs.Common.{◌≡◌, ℕ, List, [], ◌∷◌, Option, sym, ap, ◌∙◌, subst}
-use Rattle.std.proofs.lemmas.Result.{IfOk-weaker, IfErr-weaker}
+use Rattle.std.proofs.lemmas.Result.{IfOk-from_err, IfOk-weaker, IfErr-weaker}
 use Rattle.i86.specs.declared.Instr86.{Instr86}
 use Rattle.i86.specs.Code.{ReadsCode}
 use Rattle.dialogue.specs.declared.request.Reply.{Reply}
 use Rattle.cpu86.specs.Start.{start86}
 use Rattle.cpu86.specs.Step.{machine86}
 use Rattle.cpu86.specs.Standing.{standing, code_kept}
-use Rattle.host.proofs.HostLemmas.{SameFaults-refl}
+use Rattle.host.proofs.HostLemmas.{OnlySays-refl, SameFaults-refl}
 use Rattle.emulator_loop.specs.declared.fault.TalkFault.TheVariants.{Memory}
 use Rattle.emulator_loop.specs.Talk.{SeenRun, SaysRun, IsCutOff}
 use Rattle.emulator_loop.specs.Turns.{no_past}
@@ -46,8 +46,8 @@ returns g c =
       counted = c.converse.ensures.counted;
     }
 
-pub returns-in_err-machine-clause-cut : goal.returns-in_err-machine-clause-cut
-returns-in_err-machine-clause-cut g c =
+pub returns-in_err-machine : goal.returns-in_err-machine
+returns-in_err-machine g c =
     let image = c.args.image.now in
     let page = c.args.page.now in
     let fill = c.args.fill.now in
@@ -55,6 +55,14 @@ returns-in_err-machine-clause-cut g c =
     let limit = c.args.limit in
     let host = g.H.Host.state c.args.host.now in
     let run : (fetch : ℕ → Option Instr86) → List Reply → ℕ → SeenRun = λ fetch. course86 fetch image page fill (start_by choice) (choice ∷ []) in
-    on_fault c.from_residual.result (λ h. h ≡ Memory) (λ fault. (fetch : ℕ → Option Instr86) → ReadsCode image.code fetch → IsCutOff (run fetch) c.args.devices.now limit c.args.prefix.now host host fault) c.from_residual.ensures.1
-    (λ h is fetch reads. subst (IsCutOff (run fetch) c.args.devices.now limit c.args.prefix.now host host) (sym is)
-    (says_none (run fetch) (one_run (machine86 fetch) (choice ∷ []) why86 (start86 image page fill (start_by choice))) c.args.devices.now limit c.args.prefix.now host, SameFaults-refl host))
+    let r = c.from_residual in
+    record {
+      run = IfOk-from_err r.result _ r.ensures.0;
+      cut =
+          on_fault r.result (λ h. h ≡ Memory) (λ fault. (fetch : ℕ → Option Instr86) → ReadsCode image.code fetch → IsCutOff (run fetch) c.args.devices.now limit c.args.prefix.now host host fault) r.ensures.1
+          (λ h is fetch reads. subst (IsCutOff (run fetch) c.args.devices.now limit c.args.prefix.now host host) (sym is)
+          (says_none (run fetch) (one_run (machine86 fetch) (choice ∷ []) why86 (start86 image page fill (start_by choice))) c.args.devices.now limit c.args.prefix.now host, SameFaults-refl host));
+      only = OnlySays-refl host;
+      within = IfOk-from_err r.result _ r.ensures.0;
+      counted = IfOk-from_err r.result _ r.ensures.0;
+    }

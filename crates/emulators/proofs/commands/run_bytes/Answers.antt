@@ -1,11 +1,12 @@
 use Rattle.std.proofs.Common.{◌≡◌, ℕ, List, [], ◌∷◌, sym, ap, ◌∙◌, subst}
+use Rattle.std.proofs.lemmas.Result.{IfOk-from_err}
 use Rattle.std.specs.Prelude.{IfOk, IfErr}
 use Rattle.dialogue.specs.declared.request.Reply.{Reply}
 use Rattle.cpu80_untagged.specs.Step.{untagged_machine}
 use Rattle.i80_bytes.specs.Start.{start_of_bytes}
 use Rattle.i80_bytes.specs.Fetch.{fetch_of_bytes}
 use Rattle.i80_bytes.specs.Standing.{byte_standing}
-use Rattle.host.proofs.HostLemmas.{SameFaults-refl}
+use Rattle.host.proofs.HostLemmas.{OnlySays-refl, SameFaults-refl}
 use Rattle.emulator_loop.specs.declared.fault.TalkFault.TheVariants.{Memory}
 use Rattle.emulator_loop.specs.Talk.{SeenRun, SaysRun, IsCutOff}
 use Rattle.emulator_loop.specs.Turns.{no_past}
@@ -15,16 +16,24 @@ use Rattle.emulator_loop.proofs.Exact.{says_none}
 use Rattle.emulator_loop.proofs.Said.{on_fault}
 use Rattle.emulators.proofs.commands.run_bytes.Goals as goal
 
-pub returns-in_err-machine-clause-cut : goal.returns-in_err-machine-clause-cut
-returns-in_err-machine-clause-cut g c =
+pub returns-in_err-machine : goal.returns-in_err-machine
+returns-in_err-machine g c =
     let start = start_of_bytes c.args.hex.now c.args.top c.args.page.now c.args.fill.now in
     let choices : List ℕ = c.args.choice ∷ [] in
     let course : List Reply → ℕ → SeenRun = course_bytes fetch_of_bytes c.args.hex.now c.args.top c.args.page.now c.args.fill.now choices in
     let limit = c.args.limit in
     let host = g.H.Host.state c.args.host.now in
-    on_fault c.from_residual.result (λ h. h ≡ Memory) (IsCutOff course c.args.devices.now limit c.args.prefix.now host host) c.from_residual.ensures.1
-    (λ h is. subst (IsCutOff course c.args.devices.now limit c.args.prefix.now host host) (sym is)
-    (says_none course (one_run (untagged_machine fetch_of_bytes) choices why_bytes start) c.args.devices.now limit c.args.prefix.now host, SameFaults-refl host))
+    let r = c.from_residual in
+    record {
+      run = IfOk-from_err r.result _ r.ensures.0;
+      cut =
+          on_fault r.result (λ h. h ≡ Memory) (IsCutOff course c.args.devices.now limit c.args.prefix.now host host) r.ensures.1
+          (λ h is. subst (IsCutOff course c.args.devices.now limit c.args.prefix.now host host) (sym is)
+          (says_none course (one_run (untagged_machine fetch_of_bytes) choices why_bytes start) c.args.devices.now limit c.args.prefix.now host, SameFaults-refl host));
+      only = OnlySays-refl host;
+      within = IfOk-from_err r.result _ r.ensures.0;
+      counted = IfOk-from_err r.result _ r.ensures.0;
+    }
 
 pub returns : goal.returns
 returns g c =
