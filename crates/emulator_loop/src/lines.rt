@@ -36,7 +36,7 @@ fn prefixed_line(alloc: Global, prefix: &[u8], event: &Event) -> Result<Vec<u8>,
     Ok(line)
 }
 
-// The line of an event.
+// Adds the line of an event.
 fn push_event(alloc: Global, line: &mut Vec<u8>, event: &Event) -> Result<(), AllocError>
     ensures { OnOk result (line.new.items ≡ line.old.items ++ event_line event.now) }
 {
@@ -48,7 +48,7 @@ fn push_event(alloc: Global, line: &mut Vec<u8>, event: &Event) -> Result<(), Al
     }
 }
 
-// The line of an IN: the port.
+// Adds the line of an IN: the port.
 fn push_in(alloc: Global, line: &mut Vec<u8>, port: u8) -> Result<(), AllocError>
     ensures { OnOk result (line.new.items ≡ line.old.items ++ in_line port) }
 {
@@ -57,7 +57,7 @@ fn push_in(alloc: Global, line: &mut Vec<u8>, port: u8) -> Result<(), AllocError
     line.extend_from_slice(b"\n")
 }
 
-// The line of an OUT: the port, and then the byte.
+// Adds the line of an OUT: the port, and then the byte.
 fn push_out(alloc: Global, line: &mut Vec<u8>, port: u8, byte: u8) -> Result<(), AllocError>
     ensures { OnOk result (line.new.items ≡ line.old.items ++ out_line port byte) }
 {
@@ -67,7 +67,7 @@ fn push_out(alloc: Global, line: &mut Vec<u8>, port: u8, byte: u8) -> Result<(),
     line.extend_from_slice(b"\n")
 }
 
-// The line of a call.
+// Adds the line of a call.
 fn push_call(alloc: Global, line: &mut Vec<u8>, request: &Request) -> Result<(), AllocError>
     ensures { OnOk result (line.new.items ≡ line.old.items ++ call_line request.now) }
 {

@@ -39,6 +39,9 @@ OnlySays-trans p q = record {
 pub OnlyReads-refl : (a : HostState) → OnlyReads a a
 OnlyReads-refl a = record { files = λ name. refl; said = refl; writes = refl; reads = omega arith; memory = omega arith }
 
+pub OnlyWrites-refl : (a : HostState) (name : List ℕ) → OnlyWrites a a name
+OnlyWrites-refl a name = record { files = λ other apart. refl; said = refl; reads = refl; writes = omega arith; memory = omega arith }
+
 pub OnlySays-refl : (a : HostState) → OnlySays a a
 OnlySays-refl a = record { files = λ name. refl; reads = refl; writes = omega arith; memory = omega arith }
 

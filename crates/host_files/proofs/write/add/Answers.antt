@@ -3,15 +3,10 @@ use Rattle.std.proofs.lemmas.Grind.{common_steps}
 use Rattle.std.proofs.lemmas.List.{take_all, length-drop}
 use Rattle.std.proofs.lemmas.Result.{IfOk-from_err}
 use Rattle.std.proofs.lemmas.Bool.{eqb-false}
-use Rattle.host.proofs.HostLemmas.{SameFaults-refl, handed_on}
-use Rattle.host.specs.Host.{HostState, OnlyWrites}
+use Rattle.host.proofs.HostLemmas.{OnlyWrites-refl, SameFaults-refl, handed_on}
 use Rattle.host_files.specs.Transfer.{extended}
 use Rattle.host_files.proofs.Fills.{fills-take, fills-drop, fills-part, fills-all, fills-room, on_err}
 use Rattle.host_files.proofs.write.add.Goals as goal
-
--- nothing was written
-none_written : (host : HostState) (name : List ℕ) → OnlyWrites host host name
-none_written host name = record { files = λ other apart. refl; said = refl; reads = refl; writes = omega arith; memory = omega arith }
 
 -- some first bytes of the full piece were appended
 pub returns-in_err-append_all : goal.returns-in_err-append_all
@@ -61,7 +56,7 @@ returns-else-is_full g c =
     let filled = c.fill-taken.ensures in
     let not_full : length piece ≢ 4096 = eqb-false _ _ (sym c.if-is_full.ensures) in
     record {
-      only = none_written host c.args.name.now;
+      only = OnlyWrites-refl host c.args.name.now;
       ok = (0, refl, fills-all old more piece c.fill-taken.result c.requires.room filled.count filled.bytes not_full);
       room = fills-room old more piece c.fill-taken.result c.requires.room filled.count filled.bytes not_full;
       counted = SameFaults-refl host;
