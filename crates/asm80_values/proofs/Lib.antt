@@ -31,3 +31,4 @@ pub mod Lines80
 pub mod Sources80
 pub mod Streams80
 pub mod Tokens80
+pub mod Mapped
