@@ -31,4 +31,3 @@ pub mod Lines80
 pub mod Sources80
 pub mod Streams80
 pub mod Tokens80
-pub mod Mapped

@@ -4,7 +4,7 @@ ghost use Rattle.asm80_statement_types.specs.Tree.{operand_of};
 ghost use Rattle.asm80_program_types.specs.Program.{IsCoded};
 ghost use Rattle.asm80_values.specs.Settings.{setting_of};
 ghost use Rattle.asm80_source_def.specs.Items.{goal, instruction, word_of};
-ghost use Rattle.asm80_values.specs.Instructions.{pair_instruction, register_instruction, target_instruction};
+ghost use Rattle.asm80_values.specs.Instructions.{register_instruction, target_instruction};
 
 use crate::registers::{indirect_of, pair_of, src_of, stack_of};
 use crate::setting::{Setting, byte, code_address, value};
@@ -76,33 +76,23 @@ fn bare(setting: &Setting<'_>, operation: Operation) -> Option<Instr80>
     }
 }
 
-// An instruction with one operand, which is a pair.
-fn with_pair(operation: Operation, arg: &Arg) -> Option<Instr80>
-    ensures instr { result ≡ pair_instruction operation (operand_of arg.now) }
-    ensures coded { IfSome result (λ x. IsCoded x) }
-{
-    match operation {
-        Operation::Ldax => indirect_of(arg).map(Instr80::Ldax),
-        Operation::Stax => indirect_of(arg).map(Instr80::Stax),
-        Operation::Inx => pair_of(arg).map(Instr80::Inx),
-        Operation::Dcx => pair_of(arg).map(Instr80::Dcx),
-        Operation::Dad => pair_of(arg).map(Instr80::Dad),
-        Operation::Push => stack_of(arg).map(Instr80::Push),
-        Operation::Pop => stack_of(arg).map(Instr80::Pop),
-        _ => None,
-    }
-}
-
 // An instruction with one operand, which is a register or a pair.
 fn with_register(operation: Operation, arg: &Arg) -> Option<Instr80>
     ensures instr { result ≡ register_instruction operation (operand_of arg.now) }
     ensures coded { IfSome result (λ x. IsCoded x) }
 {
     match operation {
+        Operation::Ldax => indirect_of(arg).map(Instr80::Ldax),
+        Operation::Stax => indirect_of(arg).map(Instr80::Stax),
         Operation::Alu(op) => Some(Instr80::Alu(op, src_of(arg)?)),
         Operation::Inr => src_of(arg).map(Instr80::Inr),
         Operation::Dcr => src_of(arg).map(Instr80::Dcr),
-        _ => with_pair(operation, arg),
+        Operation::Inx => pair_of(arg).map(Instr80::Inx),
+        Operation::Dcx => pair_of(arg).map(Instr80::Dcx),
+        Operation::Dad => pair_of(arg).map(Instr80::Dad),
+        Operation::Push => stack_of(arg).map(Instr80::Push),
+        Operation::Pop => stack_of(arg).map(Instr80::Pop),
+        _ => None,
     }
 }
 

@@ -1,5 +1,5 @@
 // The rules of the layout and of this project's profile that operands break: S1, S2, S4 and S5.
-ghost use Rattle.std.specs.Prelude.{◌≡◌, ◌||◌, false, Some, map, zip};
+ghost use Rattle.std.specs.Prelude.{◌≡◌, false, Some, map, zip};
 ghost use Rattle.std.specs.List.{list_any};
 ghost use Rattle.asm80_statement_types.specs.Tree.{operand_of};
 ghost use Rattle.asm80_values.specs.Settings.{setting_of};
@@ -76,36 +76,23 @@ const NO_STRAYS: Strays = Strays {
     loads_code: false,
 };
 
-// Which rules an operand breaks, or others.
-fn strays_with(setting: &Setting<'_>, kind: Kind, arg: &Arg, others: Strays) -> Strays
-    ensures misses { result.misses ≡ (misses_by (setting_of setting.now) kind (operand_of arg.now) || others.misses) }
-    ensures computes { result.computes ≡ (computes_by (setting_of setting.now) kind (operand_of arg.now) || others.computes) }
-    ensures loads_code { result.loads_code ≡ (loads_code_by (setting_of setting.now) kind (operand_of arg.now) || others.loads_code) }
-{
-    Strays {
-        misses: misses(setting, kind, arg) || others.misses,
-        computes: computes(setting, kind, arg) || others.computes,
-        loads_code: loads_code(setting, kind, arg) || others.loads_code,
-    }
-}
-
 // Which rules operands of these kinds break.
 fn strays_among(setting: &Setting<'_>, kinds: &[Kind], args: &[Arg]) -> Strays
     ensures misses { result.misses ≡ list_any (misses (setting_of setting.now)) (zip kinds.now (map operand_of args.now)) }
     ensures computes { result.computes ≡ list_any (computes (setting_of setting.now)) (zip kinds.now (map operand_of args.now)) }
     ensures loads_code { result.loads_code ≡ list_any (loads_code (setting_of setting.now)) (zip kinds.now (map operand_of args.now)) }
 {
-    let Some((kind, kinds)) = kinds.split_first() else {
-        return NO_STRAYS;
-    };
-    let Some((arg, args)) = args.split_first() else {
+    let (Some((kind, kinds)), Some((arg, args))) = (kinds.split_first(), args.split_first()) else {
         return NO_STRAYS;
     };
     let rest = strays_among(setting, kinds, args);
-    if is_value_kind(*kind) {
-        strays_with(setting, *kind, arg, rest)
-    } else {
-        rest
+    if !is_value_kind(*kind) {
+        return rest;
+    }
+    Strays {
+        misses: misses(setting, *kind, arg) || rest.misses,
+        computes: computes(setting, *kind, arg) || rest.computes,
+        loads_code: loads_code(setting, *kind, arg) || rest.loads_code,
     }
 }
 
