@@ -1,5 +1,5 @@
 -- What the functions on bodies and statements found.
-use Rattle.std.proofs.Common.{◌≡◌, ◌≢◌, ℕ, List, [], ◌∷◌, Option, Some, None, Err, refl, sym, ◌∙◌, inl, inr, ◌⊎◌}
+use Rattle.std.proofs.Common.{◌≡◌, ℕ, List, [], ◌∷◌, Option, Some, None, Err, refl, sym, ◌∙◌, inl, inr, ◌⊎◌}
 use Rattle.asm80_statement_types.specs.Tree.{Operand, Statement}
 use Rattle.asm80_tokens.specs.declared.token.Token.{Token}
 use Rattle.asm80_tokens.specs.declared.token.Token.TheVariants.{Digits, Word, Colon}
@@ -10,7 +10,7 @@ use Rattle.asm80_tokens.specs.Words.{as_operation}
 use Rattle.asm80_tokens.specs.TokenResults.{GivesOperation}
 use Rattle.asm80_text.proofs.Operations.{CanOperate, word, operator, inverse, can_operate}
 use Rattle.asm80_text.specs.Statement.{IsBody, nothing, operated, IsLabeled, unlabeled, labeled, with_colon, IsStatement, unnumbered, numbered, IsStatementOf}
-use Rattle.asm80_text.specs.Results.{GivesBody, GivesStatement, past_number, past_colon}
+use Rattle.asm80_text.specs.Results.{GivesBody, GivesStatement, past_number, past_colon, label_of, past_label}
 
 -- ---- bodies
 
@@ -55,8 +55,18 @@ body_stays : {s : Spelling} {ts : List Token} {p : Option (List ℕ)} {bs : List
 body_stays nothing = refl
 body_stays {s} (operated {t = t} {ts = ts} {word = w} e x) = no_colon (can_operate s t w e) ts
 
-labeled_is : {s : Spelling} {w : List ℕ} {ts : List Token} {l o : Option (List ℕ)} {bs : List Operand} → IsLabeled s (Word w ∷ ts) l o bs → IsBody s (past_colon ts) o bs
-labeled_is (unlabeled b) = absurd (no_word b)
+no_label : {t : Token} → CanOperate t → (ts : List Token) → past_label (t ∷ ts) ≡ t ∷ ts
+no_label word ts = refl
+no_label operator ts = refl
+no_label inverse ts = refl
+
+-- nor with a label
+body_unlabeled : {s : Spelling} {ts : List Token} {p : Option (List ℕ)} {bs : List Operand} → IsBody s ts p bs → past_label ts ≡ ts
+body_unlabeled nothing = refl
+body_unlabeled {s} (operated {t = t} {ts = ts} {word = w} e x) = no_label (can_operate s t w e) ts
+
+labeled_is : {s : Spelling} {ts : List Token} {l o : Option (List ℕ)} {bs : List Operand} → IsLabeled s ts l o bs → IsBody s (past_label ts) o bs
+labeled_is (unlabeled b) = rw (body_unlabeled b) b
 labeled_is (labeled b) = rw (body_stays b) b
 labeled_is (with_colon b) = b
 
@@ -71,10 +81,10 @@ labeled_holds w ts o bs b = elim (colon_or_not ts) [
   | inr e ↦ labeled (rw e at b)
 ]
 
-unlabeled_is : {s : Spelling} {ts : List Token} {l o : Option (List ℕ)} {bs : List Operand} → IsLabeled s ts l o bs → ((w : List ℕ) (rest : List Token) → ts ≢ Word w ∷ rest) → IsBody s ts o bs
-unlabeled_is (unlabeled b) none = b
-unlabeled_is (labeled {name = w} {ts = rest} b) none = absurd (none w rest refl)
-unlabeled_is (with_colon {name = w} {ts = rest} b) none = absurd (none w (Colon ∷ rest) refl)
+label_holds : {s : Spelling} (ts : List Token) (o : Option (List ℕ)) (bs : List Operand) → IsBody s (past_label ts) o bs → IsLabeled s ts (label_of ts) o bs
+label_holds [] o bs b = unlabeled b
+label_holds (Word w ∷ ts) o bs b = labeled_holds w ts o bs b
+label_holds (t ∷ ts) o bs b = unlabeled b
 
 -- ---- line numbers
 
@@ -112,16 +122,9 @@ statement_is (numbered x) = x
 
 -- ---- statements
 
-pub unlabeled_read : (spelling : Spelling) (n : ℕ) (ts front : List Token) (s : Statement) → front ≡ past_number ts → s.line ≡ n → s.label ≡ None → IsBody spelling front s.op s.args → IsStatementOf spelling n ts s
-unlabeled_read spelling n ts front s p line e b = record { numbers = line; words = statement_holds ts s.label s.op s.args (rw (e, ← p) (unlabeled b)) }
+pub statement_read : (spelling : Spelling) (n : ℕ) (ts front rest : List Token) (s : Statement) → front ≡ past_number ts → s.line ≡ n → s.label ≡ label_of front → rest ≡ past_label front → IsBody spelling rest s.op s.args → IsStatementOf spelling n ts s
+statement_read spelling n ts front rest s p line e q b = record { numbers = line; words = statement_holds ts s.label s.op s.args (rw (e, ← p) (label_holds front s.op s.args (rw q at b))) }
 
-pub labeled_read : (spelling : Spelling) (n : ℕ) (ts front rest : List Token) (w : List ℕ) (s : Statement) → front ≡ past_number ts → front ≡ Word w ∷ rest → s.line ≡ n → s.label ≡ Some w → IsBody spelling (past_colon rest) s.op s.args → IsStatementOf spelling n ts s
-labeled_read spelling n ts front rest w s p q line e b = record { numbers = line; words = statement_holds ts s.label s.op s.args (rw (e, ← p, q) (labeled_holds w rest s.op s.args b)) }
-
-pub unlabeled_fails : (spelling : Spelling) (n : ℕ) (ts front : List Token) (f : ParseFault) → front ≡ past_number ts → ((w : List ℕ) (rest : List Token) → front ≢ Word w ∷ rest) → GivesBody spelling front (Err f) → GivesStatement spelling n ts (Err f)
-unlabeled_fails spelling n ts front faults.Memory p none g = tt
-unlabeled_fails spelling n ts front faults.Malformed p none g = λ s x. g s.op s.args (unlabeled_is (rw (← p) at (statement_is x.words)) none)
-
-pub labeled_fails : (spelling : Spelling) (n : ℕ) (ts front rest after : List Token) (w : List ℕ) (f : ParseFault) → front ≡ past_number ts → front ≡ Word w ∷ rest → after ≡ past_colon rest → GivesBody spelling after (Err f) → GivesStatement spelling n ts (Err f)
-labeled_fails spelling n ts front rest after w faults.Memory p q e g = tt
-labeled_fails spelling n ts front rest after w faults.Malformed p q e g = λ s x. g s.op s.args (rw e (labeled_is (rw (← p, q) at (statement_is x.words))))
+pub statement_fails : (spelling : Spelling) (n : ℕ) (ts front rest : List Token) (f : ParseFault) → front ≡ past_number ts → rest ≡ past_label front → GivesBody spelling rest (Err f) → GivesStatement spelling n ts (Err f)
+statement_fails spelling n ts front rest faults.Memory p q g = tt
+statement_fails spelling n ts front rest faults.Malformed p q g = λ s x. g s.op s.args (rw (q, p) (labeled_is (statement_is x.words)))

@@ -1,11 +1,11 @@
 -- What the functions on statements and lines return, by the definitions.
-use Rattle.std.specs.Prelude.{◌≡◌, ℕ, List, ◌∷◌, ◌++◌, map, Option, Result, Ok, Err}
+use Rattle.std.specs.Prelude.{◌≡◌, ℕ, List, ◌∷◌, ◌++◌, map, Option, Some, None, Result, Ok, Err}
 use Rattle.std.specs.Borrow.{Bor}
 use Rattle.std.specs.Global.{Vec}
 use Rattle.asm80_statement_types.specs.declared.arg.Arg.{Arg}
 use Rattle.asm80_statement_types.specs.declared.stmt.Stmt80.{Stmt80}
 use Rattle.asm80_tokens.specs.declared.token.Token.{Token}
-use Rattle.asm80_tokens.specs.declared.token.Token.TheVariants.{Digits, Colon}
+use Rattle.asm80_tokens.specs.declared.token.Token.TheVariants.{Digits, Word, Colon}
 use Rattle.asm80_statement_types.specs.declared.fault.LineRule.{LineRule}
 use Rattle.asm80_tokens.specs.declared.fault.ParseFault.{ParseFault}
 use Rattle.asm80_tokens.specs.declared.fault.ParseFault.TheVariants as parse
@@ -68,6 +68,16 @@ past_number ts = ts
 abbrev pub past_colon : List Token → List Token
 past_colon (Colon ∷ ts) = ts
 past_colon ts = ts
+
+-- the label at the front of the tokens, if there is one
+abbrev pub label_of : List Token → Option (List ℕ)
+label_of (Word name ∷ ts) = Some name
+label_of ts = None
+
+-- the tokens without a label and its colon at the front
+abbrev pub past_label : List Token → List Token
+past_label (Word name ∷ ts) = past_colon ts
+past_label ts = ts
 
 -- what was read of the statements of a line, which were added to others
 abbrev pub ReadsText : Spelling → ℕ → List (List Token) → Option LineRule → List Stmt80 → List Stmt80 → Result (Unit {0}) ReadFault → Type 0

@@ -6,7 +6,7 @@ ghost use Rattle.asm80_tokens.specs.Tokens.{IsLawful};
 ghost use Rattle.asm80_statement_types.specs.Tree.{Operand, statement_of};
 ghost use Rattle.asm80_statement_types.specs.WellFormed.{IsWellFormed};
 ghost use Rattle.asm80_text.specs.Statement.{IsStatement};
-ghost use Rattle.asm80_text.specs.Results.{GivesBody, GivesOperand, GivesOperandList, GivesOperands, GivesStatement, past_colon, past_number};
+ghost use Rattle.asm80_text.specs.Results.{GivesBody, GivesOperand, GivesOperandList, GivesOperands, GivesStatement, label_of, past_colon, past_label, past_number};
 
 use crate::{expression, first};
 use asm80_statement_types::{Arg, Args, Bytes, Name80, Stmt80};
@@ -24,20 +24,11 @@ pub fn statement<N: Notation>(
     ensures well_formed { IfOk result (λ s. IsWellFormed (statement_of s)) }
 {
     N::spelling_is_coherent();
-    let tokens = past_number(tokens);
-    let Some((name, rest)) = word_of(tokens) else {
-        let (op, args) = body::<N>(alloc, tokens)?;
-        return Ok(Stmt80 {
-            line,
-            label: None,
-            op,
-            args: Args::from_vec(args),
-        });
-    };
-    let (op, args) = body::<N>(alloc, past_colon(rest))?;
+    let (label, rest) = label_of(past_number(tokens));
+    let (op, args) = body::<N>(alloc, rest)?;
     Ok(Stmt80 {
         line,
-        label: Some(*name),
+        label,
         op,
         args: Args::from_vec(args),
     })
@@ -121,23 +112,14 @@ fn after_comma(tokens: &[Token]) -> Option<&[Token]>
     }
 }
 
-// The name that is the next token, and the tokens after it.
-fn word_of(tokens: &[Token]) -> Option<(&Name80, &[Token])>
-    ensures { MatchOption result ((name : List ℕ) (rest : List Token) → tokens.now ≢ Token.Word name ∷ rest) (λ p. tokens.now ≡ Token.Word p.0.now ∷ p.1.now) }
+// The label at the front of the tokens, if there is one, and the tokens after it and its colon.
+fn label_of(tokens: &[Token]) -> (Option<Name80>, &[Token])
+    ensures label { result.0 ≡ label_of tokens.now }
+    ensures rest { result.1.now ≡ past_label tokens.now }
 {
     match tokens {
-        [Token::Word(name), rest @ ..] => Some((name, rest)),
-        _ => None,
-    }
-}
-
-// The tokens, without a line number at the front.
-fn past_number(tokens: &[Token]) -> &[Token]
-    ensures { result.now ≡ past_number tokens.now }
-{
-    match tokens {
-        [Token::Digits(_), rest @ ..] => rest,
-        _ => tokens,
+        [Token::Word(name), rest @ ..] => (Some(*name), past_colon(rest)),
+        _ => (None, tokens),
     }
 }
 
@@ -147,6 +129,16 @@ fn past_colon(tokens: &[Token]) -> &[Token]
 {
     match tokens {
         [Token::Colon, rest @ ..] => rest,
+        _ => tokens,
+    }
+}
+
+// The tokens, without a line number at the front.
+fn past_number(tokens: &[Token]) -> &[Token]
+    ensures { result.now ≡ past_number tokens.now }
+{
+    match tokens {
+        [Token::Digits(_), rest @ ..] => rest,
         _ => tokens,
     }
 }

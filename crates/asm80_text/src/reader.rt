@@ -224,11 +224,8 @@ impl<N: Notation> LineReader<N> {
         self.is_closed = true;
         let held = mem::replace(&mut self.held, HeldLine::new());
         match held.line() {
-            Some(line) => {
-                if !line.is_empty() {
-                    self.read(line);
-                }
-            }
+            Some([]) => {}
+            Some(line) => self.read(line),
             None => self.refuse_long(),
         }
     }

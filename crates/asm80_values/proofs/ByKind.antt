@@ -1,6 +1,7 @@
 -- Operands with their kinds, one more at the front.
-use Rattle.std.proofs.Common.{◌≡◌, ℕ, Option, None, Some, ◌||◌, ◌&&◌, Bool, true, false, List, [], ◌∷◌, length, map, zip, refl, sym, ap, ◌∙◌}
+use Rattle.std.proofs.Common.{◌≡◌, ℕ, Option, None, Some, ◌||◌, ◌&&◌, Bool, true, false, eqb, List, [], ◌∷◌, length, map, zip, refl, sym, ap, ◌∙◌}
 use Rattle.std.specs.List.{list_any}
+use Rattle.std.proofs.lemmas.Bool.{ne_eqb}
 use Rattle.asm80_statement_types.specs.declared.arg.Arg.{Arg}
 use Rattle.asm80_statement_types.specs.Tree.{Operand, operand_of}
 use Rattle.asm80_source_def.specs.declared.operation.Kind.{Kind}
@@ -16,6 +17,12 @@ module _ (kinds : List Kind) (args : List Arg) (k : Kind) (ks : List Kind) (a : 
 
   pub kinds_more : true ≡ is_of_kind k (operand_of a) → true ≡ are_of_kinds ks (map operand_of others) → true ≡ are_of_kinds kinds (map operand_of args)
   kinds_more mine rest = rest ∙ ap (λ (b : Bool). b && are_of_kinds ks (map operand_of others)) mine ∙ whole are_of_kinds
+
+  pub kind_fails : false ≡ is_of_kind k (operand_of a) → false ≡ are_of_kinds kinds (map operand_of args)
+  kind_fails mine = ap (λ (b : Bool). b && are_of_kinds ks (map operand_of others)) mine ∙ whole are_of_kinds
+
+  pub later_fail : true ≡ is_of_kind k (operand_of a) → false ≡ are_of_kinds ks (map operand_of others) → false ≡ are_of_kinds kinds (map operand_of args)
+  later_fail mine rest = rest ∙ ap (λ (b : Bool). b && are_of_kinds ks (map operand_of others)) mine ∙ whole are_of_kinds
 
   pub any_more :
       (test : Kind × Operand → Bool) (x mine rest : Bool) → x ≡ (mine || rest) → mine ≡ test (k, operand_of a) → rest ≡ list_any test (zip ks (map operand_of others))
@@ -34,6 +41,16 @@ module _ (kinds : List Kind) (args : List Arg) (k : Kind) (ks : List Kind) (a : 
 
   pub value_same : (test : Operand → Bool) (rest : Bool) → false ≡ is_value_kind k → rest ≡ values_break test (zip ks (map operand_of others)) → rest ≡ values_break test (zip kinds (map operand_of args))
   value_same test rest is later = any_same (λ (y : Kind × Operand). is_value_kind y.0 && test y.1) rest (ap (λ (b : Bool). b && test (operand_of a)) (sym is)) later
+
+-- no operands are of no kinds, and of no others
+pub no_kinds : (kinds : List Kind) (args : List Arg) (b : Bool) → length kinds ≡ 0 → eqb (length args) 0 ≡ b → b ≡ are_of_kinds kinds (map operand_of args)
+no_kinds [] [] b none e = sym e
+no_kinds [] (a ∷ args) b none e = sym e ∙ ne_eqb (length (a ∷ args)) 0 (λ h. cc)
+no_kinds (k ∷ kinds) args b none e = absurd cc
+
+pub no_operands : (kinds : List Kind) (args : List Arg) (k : Kind) (ks : List Kind) → kinds ≡ k ∷ ks → length args ≡ 0 → false ≡ are_of_kinds kinds (map operand_of args)
+no_operands kinds [] k ks is none = rw is refl
+no_operands kinds (a ∷ args) k ks is none = absurd cc
 
 -- no operand has one of no kinds
 pub any_none : (test : Kind × Operand → Bool) (kinds : List Kind) (args : List Arg) → length kinds ≡ 0 → false ≡ list_any test (zip kinds (map operand_of args))

@@ -5,7 +5,7 @@ ghost use Rattle.asm80_tokens.specs.declared.token.Token.{Token};
 ghost use Rattle.zilog80.specs.Operands.{atom_of, has_reserved, is_reserved};
 ghost use Rattle.zilog80.specs.Read.{GivesEnclosed, GivesSpelt, GivesWhole, spelt_of};
 
-use asm80_text::{Expr, Name80, ParseFault, Token, expression, first};
+use asm80_text::{Expr, Name80, ParseFault, Token, expression};
 use std::alloc::{AllocError, Global};
 
 /// An operand as it is spelt.
@@ -56,41 +56,11 @@ fn composed(alloc: Global, tokens: &[Token]) -> Result<Spelt, ParseFault>
 fn atom_of(tokens: &[Token]) -> Option<Spelt>
     ensures { option_map spelt_of result ≡ atom_of tokens.now }
 {
-    if let Some(name) = name_at(tokens) {
-        return Some(Spelt::AtName(name));
-    }
-    let (token, rest) = first(tokens)?;
-    if rest.is_empty() { alone(token) } else { None }
-}
-
-// A name or a number.
-fn alone(token: &Token) -> Option<Spelt>
-    ensures { option_map spelt_of result ≡ atom_of (token.now ∷ []) }
-{
-    match token {
-        Token::Register(name) => Some(Spelt::Name(*name)),
-        Token::Digits(n) => Some(Spelt::Literal(*n)),
-        Token::Num(n) => Some(Spelt::Literal(*n)),
-        _ => None,
-    }
-}
-
-// The reserved name in the one pair of parentheses that all of the tokens are.
-fn name_at(tokens: &[Token]) -> Option<Name80>
-    ensures { MatchOption result ((n : List ℕ) → tokens.now ≢ Token.Open ∷ Token.Register n ∷ Token.Close ∷ []) (λ n. tokens.now ≡ Token.Open ∷ Token.Register n ∷ Token.Close ∷ []) }
-{
-    let inside = after_open(tokens)?;
-    let (name, rest) = name_of(inside)?;
-    if is_close(rest) { Some(*name) } else { None }
-}
-
-// The reserved name that is the next token, and the tokens after it.
-fn name_of(tokens: &[Token]) -> Option<(&Name80, &[Token])>
-    ensures { MatchOption result ((n : List ℕ) (rest : List Token) → tokens.now ≢ Token.Register n ∷ rest) (λ p. tokens.now ≡ Token.Register p.0.now ∷ p.1.now) }
-{
-    let (token, rest) = first(tokens)?;
-    match token {
-        Token::Register(name) => Some((name, rest)),
+    match tokens {
+        [Token::Register(name)] => Some(Spelt::Name(*name)),
+        [Token::Digits(n)] => Some(Spelt::Literal(*n)),
+        [Token::Num(n)] => Some(Spelt::Literal(*n)),
+        [Token::Open, Token::Register(name), Token::Close] => Some(Spelt::AtName(*name)),
         _ => None,
     }
 }
@@ -99,11 +69,8 @@ fn name_of(tokens: &[Token]) -> Option<(&Name80, &[Token])>
 fn is_close(tokens: &[Token]) -> bool
     ensures { IsTrue result ↔ (tokens.now ≡ Token.Close ∷ []) }
 {
-    let Some((token, rest)) = first(tokens) else {
-        return false;
-    };
-    match token {
-        Token::Close => rest.is_empty(),
+    match tokens {
+        [Token::Close] => true,
         _ => false,
     }
 }
@@ -148,9 +115,8 @@ fn enclosed(alloc: Global, tokens: &[Token]) -> Result<Option<Expr>, AllocError>
 fn after_open(tokens: &[Token]) -> Option<&[Token]>
     ensures { MatchOption result ((rest : List Token) → tokens.now ≢ Token.Open ∷ rest) (λ rest. tokens.now ≡ Token.Open ∷ rest.now) }
 {
-    let (token, rest) = first(tokens)?;
-    match token {
-        Token::Open => Some(rest),
+    match tokens {
+        [Token::Open, rest @ ..] => Some(rest),
         _ => None,
     }
 }

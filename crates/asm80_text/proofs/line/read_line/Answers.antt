@@ -1,5 +1,6 @@
 use Rattle.std.proofs.Common.{Result, Ok, Err, List, All, Bor, ◌∙◌, [], refl, ap, sym, subst, ◌∷◌}
 use Rattle.std.proofs.lemmas.Bool.{false≢true}
+use Rattle.std.proofs.lemmas.Result.{err_from_is_err_and}
 use Rattle.std.specs.Prelude.{OnOk}
 use Rattle.std.specs.List.{list_any}
 use Rattle.std.proofs.lemmas.List.{append-nil}
@@ -58,3 +59,13 @@ returns-then-has_bang-clause-well_formed g c = c.read_text.ensures.well_formed
 
 pub returns-clause-well_formed : goal.returns-clause-well_formed
 returns-clause-well_formed g c = c.read_text-2.ensures.well_formed
+
+pub returns-in_err-fault : goal.returns-in_err-fault
+returns-in_err-fault g c =
+    let p = err_from_is_err_and c.from_residual.result c.from_residual.ensures.1 in
+    record { value = rw (p.1, p.2) tt; few = rw p.1 tt; well_formed = c.requires }
+
+pub returns-in_err-parts : goal.returns-in_err-parts
+returns-in_err-parts g c =
+    let p = err_from_is_err_and c.from_residual-in_err-parts.result c.from_residual-in_err-parts.ensures.1 in
+    record { value = rw (p.1, p.2) tt; few = rw p.1 tt; well_formed = c.requires }

@@ -1,4 +1,4 @@
-use Rattle.std.proofs.Common.{◌≡◌, ◌≢◌, ◌==◌, ℕ, [], ◌∷◌, cond, Some, None, refl, sym, ap, ◌∙◌}
+use Rattle.std.proofs.Common.{◌≡◌, ◌≢◌, ◌==◌, ℕ, [], ◌∷◌, cond, Some, None, refl, sym, ap, ◌∙◌, rules}
 use Rattle.i80.specs.declared.Instr80.TheVariants as i80
 use Rattle.i80.specs.declared.Op.{Op}
 use Rattle.asm80_statement_types.specs.Tree.{Operand, operand_of}
@@ -13,29 +13,61 @@ use Rattle.asm80_values.proofs.instruction.with_one.Goals as goal
 of_operation : (t : Setting) (a : Operand) {o p : Operation} → o ≡ p → instruction t p (a ∷ []) ≡ instruction t o (a ∷ [])
 of_operation t a is = ap (λ (o : Operation). instruction t o (a ∷ [])) (sym is)
 
-pub returns-in-Lda-clause-instr : goal.returns-in-Lda-clause-instr
-returns-in-Lda-clause-instr c = ap (λ (n : ℕ). Some (i80.Lda n)) c.value.ensures ∙ of_operation (setting_of c.args.setting.now) (operand_of c.args.arg.now) c.in-Lda.is
+pub returns-in-Lda : goal.returns-in-Lda
+returns-in-Lda c =
+    record {
+      instr = ap (λ (n : ℕ). Some (i80.Lda n)) c.value.ensures ∙ of_operation (setting_of c.args.setting.now) (operand_of c.args.arg.now) c.in-Lda.is;
+      coded = search rules;
+    }
 
-pub returns-in-Sta-clause-instr : goal.returns-in-Sta-clause-instr
-returns-in-Sta-clause-instr c = ap (λ (n : ℕ). Some (i80.Sta n)) c.value-in-Sta.ensures ∙ of_operation (setting_of c.args.setting.now) (operand_of c.args.arg.now) c.in-Sta.is
+pub returns-in-Sta : goal.returns-in-Sta
+returns-in-Sta c =
+    record {
+      instr = ap (λ (n : ℕ). Some (i80.Sta n)) c.value-in-Sta.ensures ∙ of_operation (setting_of c.args.setting.now) (operand_of c.args.arg.now) c.in-Sta.is;
+      coded = search rules;
+    }
 
-pub returns-in-Lhld-clause-instr : goal.returns-in-Lhld-clause-instr
-returns-in-Lhld-clause-instr c = ap (λ (n : ℕ). Some (i80.Lhld n)) c.value-in-Lhld.ensures ∙ of_operation (setting_of c.args.setting.now) (operand_of c.args.arg.now) c.in-Lhld.is
+pub returns-in-Lhld : goal.returns-in-Lhld
+returns-in-Lhld c =
+    record {
+      instr = ap (λ (n : ℕ). Some (i80.Lhld n)) c.value-in-Lhld.ensures ∙ of_operation (setting_of c.args.setting.now) (operand_of c.args.arg.now) c.in-Lhld.is;
+      coded = search rules;
+    }
 
-pub returns-in-Shld-clause-instr : goal.returns-in-Shld-clause-instr
-returns-in-Shld-clause-instr c = ap (λ (n : ℕ). Some (i80.Shld n)) c.value-in-Shld.ensures ∙ of_operation (setting_of c.args.setting.now) (operand_of c.args.arg.now) c.in-Shld.is
+pub returns-in-Shld : goal.returns-in-Shld
+returns-in-Shld c =
+    record {
+      instr = ap (λ (n : ℕ). Some (i80.Shld n)) c.value-in-Shld.ensures ∙ of_operation (setting_of c.args.setting.now) (operand_of c.args.arg.now) c.in-Shld.is;
+      coded = search rules;
+    }
 
-pub returns-in-AluI-clause-instr : goal.returns-in-AluI-clause-instr
-returns-in-AluI-clause-instr c = ap (λ (n : ℕ). Some (i80.AluI c.in-AluI.op n)) c.byte.ensures ∙ of_operation (setting_of c.args.setting.now) (operand_of c.args.arg.now) c.in-AluI.is
+pub returns-in-AluI : goal.returns-in-AluI
+returns-in-AluI c =
+    record {
+      instr = ap (λ (n : ℕ). Some (i80.AluI c.in-AluI.op n)) c.byte.ensures ∙ of_operation (setting_of c.args.setting.now) (operand_of c.args.arg.now) c.in-AluI.is;
+      coded = search rules;
+    }
 
-pub returns-in-In-clause-instr : goal.returns-in-In-clause-instr
-returns-in-In-clause-instr c = ap (λ (n : ℕ). Some (i80.In n)) c.byte-in-In.ensures ∙ of_operation (setting_of c.args.setting.now) (operand_of c.args.arg.now) c.in-In.is
+pub returns-in-In : goal.returns-in-In
+returns-in-In c =
+    record {
+      instr = ap (λ (n : ℕ). Some (i80.In n)) c.byte-in-In.ensures ∙ of_operation (setting_of c.args.setting.now) (operand_of c.args.arg.now) c.in-In.is;
+      coded = search rules;
+    }
 
-pub returns-in-Out-clause-instr : goal.returns-in-Out-clause-instr
-returns-in-Out-clause-instr c = ap (λ (n : ℕ). Some (i80.Out n)) c.byte-in-Out.ensures ∙ of_operation (setting_of c.args.setting.now) (operand_of c.args.arg.now) c.in-Out.is
+pub returns-in-Out : goal.returns-in-Out
+returns-in-Out c =
+    record {
+      instr = ap (λ (n : ℕ). Some (i80.Out n)) c.byte-in-Out.ensures ∙ of_operation (setting_of c.args.setting.now) (operand_of c.args.arg.now) c.in-Out.is;
+      coded = search rules;
+    }
 
-pub returns-in-Rst-clause-instr : goal.returns-in-Rst-clause-instr
-returns-in-Rst-clause-instr c = c.restart.ensures.instr ∙ ap (λ (n : ℕ). cond (n == 0) (Some i80.Rst0) None) c.value-in-Rst.ensures ∙ of_operation (setting_of c.args.setting.now) (operand_of c.args.arg.now) c.in-Rst.is
+pub returns-in-Rst : goal.returns-in-Rst
+returns-in-Rst c =
+    record {
+      instr = c.restart.ensures.instr ∙ ap (λ (n : ℕ). cond (n == 0) (Some i80.Rst0) None) c.value-in-Rst.ensures ∙ of_operation (setting_of c.args.setting.now) (operand_of c.args.arg.now) c.in-Rst.is;
+      coded = c.restart.ensures.coded;
+    }
 
 -- an operation that with_one leaves to with_target
 record IsLeft (o : Operation) : Type 0 where
@@ -86,14 +118,18 @@ target_is t op.Rst a n = absurd (n.rst refl)
 target_is t op.In a n = absurd (n.in_ refl)
 target_is t op.Out a n = absurd (n.out refl)
 
-pub returns-in_default-clause-instr : goal.returns-in_default-clause-instr
-returns-in_default-clause-instr c = c.with_target.ensures.instr ∙ target_is (setting_of c.args.setting.now) c.args.operation (operand_of c.args.arg.now) (record {
-  lda = c.in_default.not-Lda;
-  sta = c.in_default.not-Sta;
-  lhld = c.in_default.not-Lhld;
-  shld = c.in_default.not-Shld;
-  alui = c.in_default.not-AluI;
-  in_ = c.in_default.not-In;
-  out = c.in_default.not-Out;
-  rst = c.in_default.not-Rst;
-})
+pub returns-in_default : goal.returns-in_default
+returns-in_default c =
+    record {
+      instr = c.with_target.ensures.instr ∙ target_is (setting_of c.args.setting.now) c.args.operation (operand_of c.args.arg.now) (record {
+        lda = c.in_default.not-Lda;
+        sta = c.in_default.not-Sta;
+        lhld = c.in_default.not-Lhld;
+        shld = c.in_default.not-Shld;
+        alui = c.in_default.not-AluI;
+        in_ = c.in_default.not-In;
+        out = c.in_default.not-Out;
+        rst = c.in_default.not-Rst;
+      });
+      coded = c.with_target.ensures.coded;
+    }
