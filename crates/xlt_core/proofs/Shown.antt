@@ -13,7 +13,7 @@ use Rattle.sym_block_def.specs.Sorts.{StatementsAreCoded}
 use Rattle.sym_block_def.specs.Stands.{Stands}
 use Rattle.simulation_def.specs.Runtime.{HasRuntime}
 use Rattle.simulation_def.specs.Linked.{places}
-use Rattle.simulation_def.specs.Matches.{HasOpening, byte_at, blocks_reason, Matches, DataAreCoded, Finds, opening, runtime, cells, blocks as by_blocks}
+use Rattle.simulation_def.specs.Matches.{HasOpening, byte_at, blocks_reason, Matches, DataAreCoded, Finds, blocks as by_blocks}
 use Rattle.simulation_def.specs.Needed.{needed_by}
 use Rattle.templates_law.specs.Names.{Same, IsMatch}
 use Rattle.text_check.specs.declared.finding.Finding.{Finding}
