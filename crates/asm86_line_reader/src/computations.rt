@@ -1,7 +1,7 @@
 //! The forms of operations on registers: ADD and the like, INC and DEC, NOT, the rotations, XCHG, PUSH and POP.
 
 ghost use Rattle.std.specs.Prelude.{◌≡◌};
-ghost use Rattle.asm86_line_reader.specs.Forms.{computed, counted, exchanged, inverted, on_al, on_reg16, on_reg8, or_cl, popped, pushed, rotated, stacked};
+ghost use Rattle.asm86_line_reader.specs.Forms.{computed, counted, exchanged, inverted, on_al, popped, pushed, rotated, stacked};
 ghost use Rattle.asm86_line_reader.specs.Results.{checked, or_m2};
 
 use crate::bytes::byte;
@@ -9,23 +9,18 @@ use crate::token::Operand;
 use asm86_line_types::{Stmt86, TextRule};
 use i86::{AluOp, Count, Instr86, Operand8, Reg8, Reg16, Rotate, StackReg};
 
-/// ADD and the like.
+/// ADD and the like: on AL, `OR CL,CL`, and `ADD r16,r16`.
 pub fn computed(op: AluOp, to: Operand, from: Operand) -> Result<Stmt86, TextRule>
     ensures { result ≡ checked (computed op to from) }
 {
-    match to {
-        Operand::Reg8(reg) => on_reg8(op, reg, from),
-        Operand::Reg16(reg) => on_reg16(op, reg, from),
-        _ => Err(TextRule::M2),
-    }
-}
-
-fn on_reg8(op: AluOp, to: Reg8, from: Operand) -> Result<Stmt86, TextRule>
-    ensures { result ≡ checked (on_reg8 op to from) }
-{
-    match to {
-        Reg8::Al => on_al(op, from),
-        Reg8::Cl => or_cl(op, from),
+    match (op, to, from) {
+        (_, Operand::Reg8(Reg8::Al), _) => on_al(op, from),
+        (AluOp::Or, Operand::Reg8(Reg8::Cl), Operand::Reg8(Reg8::Cl)) => Ok(Stmt86::Run(
+            Instr86::OrClCl,
+        )),
+        (AluOp::Add, Operand::Reg16(to), Operand::Reg16(from)) => Ok(Stmt86::Run(Instr86::Add16(
+            to, from,
+        ))),
         _ => Err(TextRule::M2),
     }
 }
@@ -37,26 +32,6 @@ fn on_al(op: AluOp, from: Operand) -> Result<Stmt86, TextRule>
         Operand::Reg8(reg) => Ok(Stmt86::Run(Instr86::Alu(op, Operand8::Reg(reg)))),
         Operand::Mem(ptr) => Ok(Stmt86::Run(Instr86::Alu(op, Operand8::Mem(ptr)))),
         Operand::Number(n) => Ok(Stmt86::Run(Instr86::AluNum(op, byte(n)?))),
-        _ => Err(TextRule::M2),
-    }
-}
-
-// `OR CL,CL`
-fn or_cl(op: AluOp, from: Operand) -> Result<Stmt86, TextRule>
-    ensures { result ≡ checked (or_cl op from) }
-{
-    match (op, from) {
-        (AluOp::Or, Operand::Reg8(Reg8::Cl)) => Ok(Stmt86::Run(Instr86::OrClCl)),
-        _ => Err(TextRule::M2),
-    }
-}
-
-// `ADD r16,r16`
-fn on_reg16(op: AluOp, to: Reg16, from: Operand) -> Result<Stmt86, TextRule>
-    ensures { result ≡ checked (on_reg16 op to from) }
-{
-    match (op, from) {
-        (AluOp::Add, Operand::Reg16(reg)) => Ok(Stmt86::Run(Instr86::Add16(to, reg))),
         _ => Err(TextRule::M2),
     }
 }

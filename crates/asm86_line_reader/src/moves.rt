@@ -1,7 +1,7 @@
 //! The forms of MOV.
 
 ghost use Rattle.std.specs.Prelude.{◌≡◌};
-ghost use Rattle.asm86_line_reader.specs.Forms.{into_byte, into_mem, into_reg16, into_reg8, into_ss, into_word, moved};
+ghost use Rattle.asm86_line_reader.specs.Forms.{into_mem, into_reg16, into_reg8, moved};
 ghost use Rattle.asm86_line_reader.specs.Results.{checked};
 
 use crate::bytes::byte;
@@ -12,13 +12,17 @@ use i86::{Instr86, Operand8, Operand16, Ptr, Reg8, Reg16};
 pub fn moved(to: Operand, from: Operand) -> Result<Stmt86, TextRule>
     ensures { result ≡ checked (moved to from) }
 {
-    match to {
-        Operand::Reg8(reg) => into_reg8(reg, from),
-        Operand::Reg16(reg) => into_reg16(reg, from),
-        Operand::Mem(ptr) => into_mem(ptr, from),
-        Operand::DirectByte(address) => into_byte(address, from),
-        Operand::DirectWord(address) => into_word(address, from),
-        Operand::Ss => into_ss(from),
+    match (to, from) {
+        (Operand::Reg8(reg), _) => into_reg8(reg, from),
+        (Operand::Reg16(reg), _) => into_reg16(reg, from),
+        (Operand::Mem(ptr), _) => into_mem(ptr, from),
+        (Operand::DirectByte(address), Operand::Reg8(Reg8::Al)) => Ok(Stmt86::Run(
+            Instr86::MovDirectAl(address),
+        )),
+        (Operand::DirectWord(address), Operand::Reg16(reg)) => Ok(Stmt86::Run(Instr86::MovDirect16(
+            address, reg,
+        ))),
+        (Operand::Ss, Operand::Reg16(Reg16::Ax)) => Ok(Stmt86::Run(Instr86::MovSsAx)),
         _ => Err(TextRule::M2),
     }
 }
@@ -59,33 +63,6 @@ fn into_mem(to: Ptr, from: Operand) -> Result<Stmt86, TextRule>
     match from {
         Operand::Reg8(reg) => Ok(Stmt86::Run(Instr86::MovMem8(to, reg))),
         Operand::Number(n) => Ok(Stmt86::Run(Instr86::MovMemNum(to, byte(n)?))),
-        _ => Err(TextRule::M2),
-    }
-}
-
-fn into_byte(address: u16, from: Operand) -> Result<Stmt86, TextRule>
-    ensures { result ≡ checked (into_byte address from) }
-{
-    match from {
-        Operand::Reg8(Reg8::Al) => Ok(Stmt86::Run(Instr86::MovDirectAl(address))),
-        _ => Err(TextRule::M2),
-    }
-}
-
-fn into_word(address: u16, from: Operand) -> Result<Stmt86, TextRule>
-    ensures { result ≡ checked (into_word address from) }
-{
-    match from {
-        Operand::Reg16(reg) => Ok(Stmt86::Run(Instr86::MovDirect16(address, reg))),
-        _ => Err(TextRule::M2),
-    }
-}
-
-fn into_ss(from: Operand) -> Result<Stmt86, TextRule>
-    ensures { result ≡ checked (into_ss from) }
-{
-    match from {
-        Operand::Reg16(Reg16::Ax) => Ok(Stmt86::Run(Instr86::MovSsAx)),
         _ => Err(TextRule::M2),
     }
 }

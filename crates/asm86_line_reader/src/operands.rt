@@ -2,7 +2,7 @@
 
 ghost use Rattle.std.specs.Prelude.{◌≡◌, ◌≤◌, ◌∷◌, [], IfOk, MatchOption, length, map, not, option_map};
 ghost use Rattle.std.specs.List.{prefix_len, slice_split};
-ghost use Rattle.asm86_line_reader.specs.Operands.{byte_cell, each, is_comma, operand_in, operands_in, plain_operand, pointer, word_cell};
+ghost use Rattle.asm86_line_reader.specs.Operands.{byte_cell, each, is_comma, operand_in, operands_in, plain_operand, word_cell};
 
 use crate::token::{Operand, Token};
 use i86::{Ptr, Reg16};
@@ -101,7 +101,8 @@ fn byte_cell(tokens: &[Token]) -> Option<Operand>
 {
     match tokens {
         [Token::Dot, Token::Number(n)] => Some(Operand::DirectByte(*n)),
-        [Token::Open, Token::Reg16(reg), Token::Close] => Some(Operand::Mem(pointer(*reg)?)),
+        [Token::Open, Token::Reg16(Reg16::Bx), Token::Close] => Some(Operand::Mem(Ptr::Bx)),
+        [Token::Open, Token::Reg16(Reg16::Si), Token::Close] => Some(Operand::Mem(Ptr::Si)),
         _ => None,
     }
 }
@@ -112,16 +113,6 @@ fn word_cell(tokens: &[Token]) -> Option<Operand>
 {
     match tokens {
         [Token::Dot, Token::Number(n)] => Some(Operand::DirectWord(*n)),
-        _ => None,
-    }
-}
-
-fn pointer(reg: Reg16) -> Option<Ptr>
-    ensures { result ≡ pointer reg }
-{
-    match reg {
-        Reg16::Bx => Some(Ptr::Bx),
-        Reg16::Si => Some(Ptr::Si),
         _ => None,
     }
 }

@@ -18,3 +18,7 @@ no_asking p s back (Err r) h = tt
 pub row_is : (row : Result State80 Rule) (u : Unit {0}) (s t : State80) → IsRow row (Ok u) s t → row ≡ Ok t
 row_is (Ok x) u s t h = ap Ok (sym h)
 row_is (Err r) u s t h = absurd h
+
+pub row_stops : (row : Result State80 Rule) (r : Rule) (s t : State80) → IsRow {X = Unit {0}} row (Err r) s t → row ≡ Err r
+row_stops (Ok x) r s t h = absurd h
+row_stops (Err q) r s t h = ap Err (sym h.0)

@@ -1,7 +1,7 @@
 // The statements of each instruction: A is AL, BC CX, DE DX, HL BX; AH and SI are scratch.
 ghost use Rattle.std.specs.Prelude.{◌≡◌, [], ◌∷◌, true, IsTrue};
 ghost use Rattle.i80.specs.Columns.{is_well_formed};
-ghost use Rattle.templates.specs.Template.{mov, mvi, lxi, saved, dad, push, pop, call, where_holds, template};
+ghost use Rattle.templates.specs.Template.{word_register, mov, mvi, lxi, saved, dad, push, pop, call, where_holds, template};
 
 use crate::operands::{label_of, op_of, operand_of, pair_of, reg_of, unless};
 use crate::sequence::Sequence;
@@ -46,23 +46,13 @@ fn lxi(pair: Pair, word: Word) -> Sequence
     }
 }
 
-// LDAX: the address goes through SI.
-fn ldax(pair: Pair) -> Sequence
-    ensures { result ≡ template (Instr80.Ldax pair) 0 true }
+// LDAX and STAX: the address goes through SI, and the byte by this instruction.
+fn through_si(pair: Pair, i: Instr86) -> Sequence
+    ensures { result ≡ Stmt86.Run (Instr86.MovReg16 Reg16.Si (Operand16.Reg (word_register pair))) ∷ (Stmt86.Run i ∷ []) }
 {
     Sequence::of(&[
         Stmt86::Run(Instr86::MovReg16(Reg16::Si, Operand16::Reg(pair_of(pair)))),
-        Stmt86::Run(Instr86::MovReg8(Reg8::Al, Operand8::Mem(Ptr::Si))),
-    ])
-}
-
-// STAX likewise.
-fn stax(pair: Pair) -> Sequence
-    ensures { result ≡ template (Instr80.Stax pair) 0 true }
-{
-    Sequence::of(&[
-        Stmt86::Run(Instr86::MovReg16(Reg16::Si, Operand16::Reg(pair_of(pair)))),
-        Stmt86::Run(Instr86::MovMem8(Ptr::Si, Reg8::Al)),
+        Stmt86::Run(i),
     ])
 }
 
@@ -177,8 +167,8 @@ pub fn template(i: Instr80, at: u16, save: bool) -> Sequence
         Instr80::Sta(address) => run(Instr86::MovDirectAl(address)),
         Instr80::Lhld(address) => run(Instr86::MovReg16(Reg16::Bx, Operand16::Direct(address))),
         Instr80::Shld(address) => run(Instr86::MovDirect16(address, Reg16::Bx)),
-        Instr80::Ldax(pair) => ldax(pair),
-        Instr80::Stax(pair) => stax(pair),
+        Instr80::Ldax(pair) => through_si(pair, Instr86::MovReg8(Reg8::Al, Operand8::Mem(Ptr::Si))),
+        Instr80::Stax(pair) => through_si(pair, Instr86::MovMem8(Ptr::Si, Reg8::Al)),
         Instr80::Xchg => run(Instr86::Xchg16(Reg16::Bx, Reg16::Dx)),
         Instr80::Xthl => xthl(),
         Instr80::Sphl => run(Instr86::MovReg16(Reg16::Sp, Operand16::Reg(Reg16::Bx))),

@@ -1,4 +1,5 @@
 use Rattle.std.proofs.Common.{ap, sym}
+use Rattle.std.proofs.lemmas.Result.{IfOk-from_err, err_from_is_err_and}
 use Rattle.std.specs.List.{fold}
 use Rattle.asm86_line_types.specs.Image.{put_cell}
 use Rattle.asm86.specs.Places.{label_place}
@@ -22,3 +23,25 @@ pub returns-in_default-clause-cells : goal.returns-in_default-clause-cells
 returns-in_default-clause-cells c =
     let n = c.in_default in
     ap (fold put_cell c.args.cells.now.entries) (sym (stays (label_place c.args.offsets.now) c.args.at c.args.stmt n.not-Dseg n.not-Org n.not-Rb n.not-Db n.not-Dw).1)
+
+pub returns-in_err-insert-in-Db : goal.returns-in_err-insert-in-Db
+returns-in_err-insert-in-Db c =
+    let r = c.from_residual in
+    let e = err_from_is_err_and r.result r.ensures.1 in
+    record {
+      near = IfOk-from_err r.result _ r.ensures.0;
+      next = IfOk-from_err r.result _ r.ensures.0;
+      cells = IfOk-from_err r.result _ r.ensures.0;
+      memory = rw e.1 e.2;
+    }
+
+pub returns-in_err-put_word-in-Dw : goal.returns-in_err-put_word-in-Dw
+returns-in_err-put_word-in-Dw c =
+    let r = c.from_residual-in_err-put_word-in-Dw in
+    let e = err_from_is_err_and r.result r.ensures.1 in
+    record {
+      near = IfOk-from_err r.result _ r.ensures.0;
+      next = IfOk-from_err r.result _ r.ensures.0;
+      cells = IfOk-from_err r.result _ r.ensures.0;
+      memory = rw e.1 e.2;
+    }

@@ -1,4 +1,5 @@
-use Rattle.std.proofs.Common.{◌≡◌, rules}
+use Rattle.std.proofs.Common.{◌≡◌, ◌∙◌, Err, inl, inr, ap, rules}
+use Rattle.std.proofs.lemmas.Result.{err_from_is_err_and}
 use Rattle.asm86_line_types.specs.Image.{Image, image_of}
 use Rattle.asm86.proofs.Exclusion.{image_not_refused}
 use Rattle.asm86.proofs.Made.{image_made, assembled_answer, refused_answer}
@@ -24,3 +25,23 @@ pub returns-clause-refused : goal.returns-clause-refused
 returns-clause-refused c = λ fault r.
     absurd (image_not_refused c.args.lines.now (record { code = c.in_ok-code.code.items; cells = c.in_ok-cells.cells.items; labels = c.in_ok-labels.labels }) fault
     (image_made c.args.lines.now c.in_ok-code.code.items c.in_ok-cells.cells.items c.in_ok-labels.labels c.requires.order c.in_ok-labels.ensures c.in_ok-code.ensures.bytes c.in_ok-cells.ensures.cells) r)
+
+pub returns-in_err-code : goal.returns-in_err-code
+returns-in_err-code c =
+    let r = c.from_residual-in_err-code in
+    let e = err_from_is_err_and r.result r.ensures.1 in
+    record {
+      answer = rw e.1 (inl e.2);
+      assembled = λ _. rw e.1 e.2;
+      refused = λ fault h. inr (e.1 ∙ ap Err e.2);
+    }
+
+pub returns-in_err-cells : goal.returns-in_err-cells
+returns-in_err-cells c =
+    let r = c.from_residual-in_err-cells in
+    let e = err_from_is_err_and r.result r.ensures.1 in
+    record {
+      answer = rw e.1 (inl (e.2 ∙ c.in_err-cells.ensures.memory));
+      assembled = λ _. rw e.1 (e.2 ∙ c.in_err-cells.ensures.memory);
+      refused = λ fault h. inr (e.1 ∙ ap Err (e.2 ∙ c.in_err-cells.ensures.memory));
+    }

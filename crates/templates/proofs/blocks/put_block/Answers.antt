@@ -1,6 +1,6 @@
 use Rattle.std.proofs.Common.{◌≡◌, ℕ, ◌+◌, ◌*◌, ◌<◌, ◌≤◌, List, ◌∷◌, [], ◌++◌, length, ap, arith}
 use Rattle.std.proofs.lemmas.List.{length_push}
-use Rattle.std.proofs.lemmas.Result.{on_ok_weaker}
+use Rattle.std.proofs.lemmas.Result.{on_ok_weaker, IfOk-from_err}
 use Rattle.asm86_line_types.specs.declared.line.Stmt86.{Stmt86}
 use Rattle.asm80_program_types.specs.declared.program.Placed.{Placed}
 use Rattle.templates.specs.Jumps.{style_by}
@@ -26,3 +26,11 @@ pub returns-in_ok-push-in-Some-clause-most : goal.returns-in_ok-push-in-Some-cla
 returns-in_ok-push-in-Some-clause-most c = on_ok_weaker c.put_instrs.result
     (most c.put_instrs.new.text c.args.text.now c.push.new.self _ c.in-Some.placed.now c.args.block.now c.in-Some.field-0-1.now c.in-Some.ensures.cases.0 c.in_ok-push-in-Some.ensures)
     c.put_instrs.ensures.most
+
+pub returns-in_err-push-in-Some : goal.returns-in_err-push-in-Some
+returns-in_err-push-in-Some c =
+    let r = c.from_residual in
+    record {
+      value = λ n all. IfOk-from_err r.result _ r.ensures.0;
+      most = IfOk-from_err r.result _ r.ensures.0;
+    }

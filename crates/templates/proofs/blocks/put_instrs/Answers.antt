@@ -1,4 +1,5 @@
 use Rattle.std.proofs.Common.{arith}
+use Rattle.std.proofs.lemmas.Result.{IfOk-from_err}
 use Rattle.flow.specs.Cut.{EndsInMemory}
 use Rattle.templates.proofs.Joined.{put_one, all_behind, first_of}
 use Rattle.templates.proofs.blocks.put_instrs.Goals as goal
@@ -22,3 +23,11 @@ put_written-requires-clause-whole c = first_of EndsInMemory c.in-Some.placed.now
 
 pub knows_function-known-requires : goal.knows_function-known-requires
 knows_function-known-requires c = (first_of EndsInMemory c.in-Some.placed.now c.loop-placed.rest.now c.in-Some.after.now c.in-Some.ensures.cases.0 c.loop-placed.invariant.whole).0
+
+pub returns-in_err-put_written : goal.returns-in_err-put_written
+returns-in_err-put_written c =
+    let r = c.from_residual in
+    record {
+      value = λ n all. IfOk-from_err r.result _ r.ensures.0;
+      most = IfOk-from_err r.result _ r.ensures.0;
+    }

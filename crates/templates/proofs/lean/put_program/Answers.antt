@@ -1,6 +1,6 @@
 -- How the text grows, part by part. Searches find all of this too, but take long.
 use Rattle.std.proofs.Common.{◌∙◌, ◌+◌, ◌*◌, ◌^◌, ◌≤◌, [], ◌∷◌, ◌++◌, length, ap, le_refl, lit<}
-use Rattle.std.proofs.lemmas.Result.{on_ok_weaker}
+use Rattle.std.proofs.lemmas.Result.{on_ok_weaker, IfOk-from_err}
 use Rattle.asm86_line_types.specs.declared.line.Stmt86.TheVariants.{Cseg}
 use Rattle.templates.specs.Plain.{prologue, runtime, data_from, ending}
 use Rattle.templates.proofs.Growing.{few, longer, more, none, below, room, all_parts, before_dseg, before_data}
@@ -92,3 +92,51 @@ returns-clause-most c =
     on_ok_weaker c.append-3.result
     (λ e. below (length x7) (13 + 13 * 65022 + 12 + 1 + 2 * 65022 + 12) (2 ^ 20) (longer x6 x7 z (13 + 13 * 65022 + 12 + 1 + 2 * 65022) 12 b6 (few z c.ending.result 12 c.as_slice-3.ensures.value c.as_slice-3.ensures.most) e) (lit< tt))
     c.append-3.ensures
+
+pub returns-in_err-push : goal.returns-in_err-push
+returns-in_err-push c =
+    let r = c.from_residual in
+    record {
+      value = λ n all. IfOk-from_err r.result _ r.ensures.0;
+      most = IfOk-from_err r.result _ r.ensures.0;
+    }
+
+pub returns-in_err-append : goal.returns-in_err-append
+returns-in_err-append c =
+    let r = c.from_residual-in_err-append in
+    record {
+      value = λ n all. IfOk-from_err r.result _ r.ensures.0;
+      most = IfOk-from_err r.result _ r.ensures.0;
+    }
+
+pub returns-in_err-put_blocks : goal.returns-in_err-put_blocks
+returns-in_err-put_blocks c =
+    let r = c.from_residual-in_err-put_blocks in
+    record {
+      value = λ n all. IfOk-from_err r.result _ r.ensures.0;
+      most = IfOk-from_err r.result _ r.ensures.0;
+    }
+
+pub returns-in_err-append-2 : goal.returns-in_err-append-2
+returns-in_err-append-2 c =
+    let r = c.from_residual-in_err-append-2 in
+    record {
+      value = λ n all. IfOk-from_err r.result _ r.ensures.0;
+      most = IfOk-from_err r.result _ r.ensures.0;
+    }
+
+pub returns-in_err-push-2 : goal.returns-in_err-push-2
+returns-in_err-push-2 c =
+    let r = c.from_residual-in_err-push-2 in
+    record {
+      value = λ n all. IfOk-from_err r.result _ r.ensures.0;
+      most = IfOk-from_err r.result _ r.ensures.0;
+    }
+
+pub returns-in_err-put_data : goal.returns-in_err-put_data
+returns-in_err-put_data c =
+    let r = c.from_residual-in_err-put_data in
+    record {
+      value = λ n all. IfOk-from_err r.result _ r.ensures.0;
+      most = IfOk-from_err r.result _ r.ensures.0;
+    }

@@ -33,10 +33,10 @@ pub returns-in-Shld : goal.returns-in-Shld
 returns-in-Shld c = of_arm c.args.at c.args.save c.in-Shld.is c.run-in-Shld.ensures
 
 pub returns-in-Ldax : goal.returns-in-Ldax
-returns-in-Ldax c = of_arm c.args.at c.args.save c.in-Ldax.is c.ldax.ensures
+returns-in-Ldax c = of_arm c.args.at c.args.save c.in-Ldax.is c.through_si.ensures
 
 pub returns-in-Stax : goal.returns-in-Stax
-returns-in-Stax c = of_arm c.args.at c.args.save c.in-Stax.is c.stax.ensures
+returns-in-Stax c = of_arm c.args.at c.args.save c.in-Stax.is c.through_si-in-Stax.ensures
 
 pub returns-in-Xchg : goal.returns-in-Xchg
 returns-in-Xchg c = of_arm c.args.at c.args.save c.in-Xchg.is c.run-in-Xchg.ensures

@@ -23,41 +23,44 @@ return_is p s at (Jmp t) = refl
 return_is p s at (Jif c t) = refl
 return_is p s at i = refl
 
-pub returns-in-Some-true-clause-answer : goal.returns-in-Some-true-clause-answer
-returns-in-Some-true-clause-answer c =
+pub returns-in-Some-true : goal.returns-in-Some-true
+returns-in-Some-true c =
     let p = c.args.area.now.program.now in
     let s = state_of_draft c.args.self.now in
     let i = c.args.instr in
     let a = c.args.at + length80 i in
     let d = c.in-Some-true in
-    c.go.ensures.answer
-    ∙ ap (λ k. act p s (c.args.at + k) (unconditional i)) c.length.ensures
-    ∙ sym (by_condition p s a i ∙ ap (λ h. where_holds p s a h (act p s a (unconditional i))) (sym c.condition.ensures ∙ d.is ∙ ap Some d.field-0-test))
+    record {
+      answer = c.go.ensures.answer
+          ∙ ap (λ k. act p s (c.args.at + k) (unconditional i)) c.length.ensures
+          ∙ sym (by_condition p s a i ∙ ap (λ h. where_holds p s a h (act p s a (unconditional i))) (sym c.condition.ensures ∙ d.is ∙ ap Some d.field-0-test));
+      asking = subst (λ back. IsAsking p s back c.go.result) (ap (λ k. return_by p s (c.args.at + k) c.args.instr) c.length.ensures ∙ return_is p s c.args.at c.args.instr) c.go.ensures.asking;
+      memory = c.go.ensures.memory;
+    }
 
-pub returns-in-Some-true-clause-asking : goal.returns-in-Some-true-clause-asking
-returns-in-Some-true-clause-asking c =
-    let p = c.args.area.now.program.now in
-    let s = state_of_draft c.args.self.now in
-    subst (λ back. IsAsking p s back c.go.result) (ap (λ k. return_by p s (c.args.at + k) c.args.instr) c.length.ensures ∙ return_is p s c.args.at c.args.instr) c.go.ensures.asking
-
-pub returns-in-Some-false-clause-answer : goal.returns-in-Some-false-clause-answer
-returns-in-Some-false-clause-answer c =
+pub returns-in-Some-false : goal.returns-in-Some-false
+returns-in-Some-false c =
     let p = c.args.area.now.program.now in
     let s = state_of_draft c.args.self.now in
     let i = c.args.instr in
     let a = c.args.at + length80 i in
     let d = c.in-Some-false in
-    c.go_to.ensures.answer s
-    ∙ ap (λ k. go_to p s (c.args.at + k)) c.length.ensures
-    ∙ sym (by_condition p s a i ∙ ap (λ h. where_holds p s a h (act p s a (unconditional i))) (sym c.condition.ensures ∙ d.is ∙ ap Some d.field-0-test))
+    record {
+      answer = c.go_to.ensures.answer s
+          ∙ ap (λ k. go_to p s (c.args.at + k)) c.length.ensures
+          ∙ sym (by_condition p s a i ∙ ap (λ h. where_holds p s a h (act p s a (unconditional i))) (sym c.condition.ensures ∙ d.is ∙ ap Some d.field-0-test));
+      asking = no_asking c.args.area.now.program.now (state_of_draft c.args.self.now) _ c.go_to.result c.go_to.ensures.nothing_asked;
+      memory = c.go_to.ensures.memory;
+    }
 
-pub returns-in-Some-false-clause-asking : goal.returns-in-Some-false-clause-asking
-returns-in-Some-false-clause-asking c = no_asking c.args.area.now.program.now (state_of_draft c.args.self.now) _ c.go_to.result c.go_to.ensures.nothing_asked
-
-pub returns-in-None-clause-answer : goal.returns-in-None-clause-answer
-returns-in-None-clause-answer c =
+pub returns-in-None : goal.returns-in-None
+returns-in-None c =
     let p = c.args.area.now.program.now in
     let s = state_of_draft c.args.self.now in
     let i = c.args.instr in
     let a = c.args.at + length80 i in
-    sym (by_condition p s a i ∙ ap (λ h. where_holds p s a h (act p s a (unconditional i))) (sym c.condition.ensures ∙ c.in-None.is))
+    record {
+      answer = sym (by_condition p s a i ∙ ap (λ h. where_holds p s a h (act p s a (unconditional i))) (sym c.condition.ensures ∙ c.in-None.is));
+      asking = tt;
+      memory = refl;
+    }

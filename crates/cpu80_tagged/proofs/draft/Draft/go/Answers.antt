@@ -1,4 +1,4 @@
-use Rattle.std.proofs.Common.{◌≡◌, ◌∙◌, ◌⊎◌, inl, inr, ℕ, refl, sym, ap, subst}
+use Rattle.std.proofs.Common.{◌≡◌, ◌∙◌, ◌⊎◌, inl, inr, ℕ, Ok, refl, sym, ap, subst}
 use Rattle.std.proofs.lemmas.Result.{err_from_is_err_and}
 use Rattle.cells.specs.declared.Cond.{Cond}
 use Rattle.i80.specs.declared.Goal.{Goal}
@@ -49,19 +49,27 @@ return_of_call : (p : Program) (s : State80) (a : ℕ) (i : Instr80) (t : Goal) 
 return_of_call p s a i t (inl e) = sym (ap (return_by p s a) e)
 return_of_call p s a i t (inr h) = sym (ap (return_by p s a) h.1)
 
-pub returns-in_err-place-in-Pchl-clause-answer : goal.returns-in_err-place-in-Pchl-clause-answer
-returns-in_err-place-in-Pchl-clause-answer c =
+pub returns-in_err-place-in-Pchl : goal.returns-in_err-place-in-Pchl
+returns-in_err-place-in-Pchl c =
     let p = c.args.area.now.program.now in
     let s = state_of_draft c.args.self.now in
     let e = err_from_is_err_and c.from_residual.result c.from_residual.ensures.1 in
-    rw (e.1, e.2) (ap (go_by s s.sp) c.in_err-place-in-Pchl.ensures ∙ sym (ap (λ i. act p s c.args.after (unconditional i)) c.in-Pchl.is))
+    record {
+      answer = rw (e.1, e.2) (ap (go_by s s.sp) c.in_err-place-in-Pchl.ensures ∙ sym (ap (λ i. act p s c.args.after (unconditional i)) c.in-Pchl.is));
+      asking = rw e.1 tt;
+      memory = refl;
+    }
 
-pub returns-in_ok-place-in-Pchl-clause-answer : goal.returns-in_ok-place-in-Pchl-clause-answer
-returns-in_ok-place-in-Pchl-clause-answer c =
+pub returns-in_ok-place-in-Pchl : goal.returns-in_ok-place-in-Pchl
+returns-in_ok-place-in-Pchl c =
     let p = c.args.area.now.program.now in
     let s = state_of_draft c.args.self.now in
-    c.leave_to.ensures.answer
-    ∙ (ap (go_by s s.sp) c.in_ok-place-in-Pchl.ensures ∙ sym (ap (λ i. act p s c.args.after (unconditional i)) c.in-Pchl.is))
+    record {
+      answer = c.leave_to.ensures.answer
+          ∙ (ap (go_by s s.sp) c.in_ok-place-in-Pchl.ensures ∙ sym (ap (λ i. act p s c.args.after (unconditional i)) c.in-Pchl.is));
+      asking = no_asking p s _ (Ok c.leave_to.result) c.leave_to.ensures.nothing_asked;
+      memory = c.leave_to.ensures.memory;
+    }
 
 pub returns-in_default : goal.returns-in_default
 returns-in_default c =
@@ -74,62 +82,62 @@ returns-in_default c =
       memory = c.go_on.ensures.memory;
     }
 
-pub returns-in-Jmp-clause-answer : goal.returns-in-Jmp-clause-answer
-returns-in-Jmp-clause-answer c =
+pub returns-in-Jmp : goal.returns-in-Jmp
+returns-in-Jmp c =
     let p = c.args.area.now.program.now in
     let s = state_of_draft c.args.self.now in
-    c.jump.ensures.answer ∙ sym (ap (act p s c.args.after) (as_jump c.args.instr c.in-Jmp.goal c.in-Jmp.is))
+    record {
+      answer = c.jump.ensures.answer ∙ sym (ap (act p s c.args.after) (as_jump c.args.instr c.in-Jmp.goal c.in-Jmp.is));
+      asking = subst (λ back. IsAsking p s back c.jump.result) (return_of_jump p s c.args.after c.args.instr c.in-Jmp.goal c.in-Jmp.is) c.jump.ensures.asking;
+      memory = c.jump.ensures.memory;
+    }
 
-pub returns-in-Jmp-clause-asking : goal.returns-in-Jmp-clause-asking
-returns-in-Jmp-clause-asking c =
+pub returns-in-Call : goal.returns-in-Call
+returns-in-Call c =
     let p = c.args.area.now.program.now in
     let s = state_of_draft c.args.self.now in
-    subst (λ back. IsAsking p s back c.jump.result) (return_of_jump p s c.args.after c.args.instr c.in-Jmp.goal c.in-Jmp.is) c.jump.ensures.asking
+    record {
+      answer = c.call.ensures.answer ∙ sym (ap (act p s c.args.after) (as_call c.args.instr c.in-Call.goal c.in-Call.is));
+      asking = subst (λ back. IsAsking p s back c.call.result) (return_of_call p s c.args.after c.args.instr c.in-Call.goal c.in-Call.is) c.call.ensures.asking;
+      memory = c.call.ensures.memory;
+    }
 
-pub returns-in-Call-clause-answer : goal.returns-in-Call-clause-answer
-returns-in-Call-clause-answer c =
+pub returns-in-Ret : goal.returns-in-Ret
+returns-in-Ret c =
     let p = c.args.area.now.program.now in
     let s = state_of_draft c.args.self.now in
-    c.call.ensures.answer ∙ sym (ap (act p s c.args.after) (as_call c.args.instr c.in-Call.goal c.in-Call.is))
+    record {
+      answer = c.go_back.ensures.answer ∙ sym (ap (act p s c.args.after) (as_return c.args.instr c.in-Ret.is));
+      asking = no_asking p s _ c.go_back.result c.go_back.ensures.nothing_asked;
+      memory = c.go_back.ensures.memory;
+    }
 
-pub returns-in-Call-clause-asking : goal.returns-in-Call-clause-asking
-returns-in-Call-clause-asking c =
+pub returns-in-In : goal.returns-in-In
+returns-in-In c =
     let p = c.args.area.now.program.now in
     let s = state_of_draft c.args.self.now in
-    subst (λ back. IsAsking p s back c.call.result) (return_of_call p s c.args.after c.args.instr c.in-Call.goal c.in-Call.is) c.call.ensures.asking
+    record {
+      answer = c.read_port.ensures.answer ∙ sym (ap (λ i. act p s c.args.after (unconditional i)) c.in-In.is);
+      asking = subst (λ back. IsAsking p s back c.read_port.result) (sym (ap (return_by p s c.args.after) c.in-In.is)) c.read_port.ensures.asking;
+      memory = refl;
+    }
 
-pub returns-in-Ret-clause-answer : goal.returns-in-Ret-clause-answer
-returns-in-Ret-clause-answer c =
+pub returns-in-Out : goal.returns-in-Out
+returns-in-Out c =
     let p = c.args.area.now.program.now in
     let s = state_of_draft c.args.self.now in
-    c.go_back.ensures.answer ∙ sym (ap (act p s c.args.after) (as_return c.args.instr c.in-Ret.is))
+    record {
+      answer = c.write_port.ensures.answer ∙ sym (ap (λ i. act p s c.args.after (unconditional i)) c.in-Out.is);
+      asking = subst (λ back. IsAsking p s back c.write_port.result) (sym (ap (return_by p s c.args.after) c.in-Out.is)) c.write_port.ensures.asking;
+      memory = refl;
+    }
 
-pub returns-in-Ret-clause-asking : goal.returns-in-Ret-clause-asking
-returns-in-Ret-clause-asking c =
+pub returns-in-Rst0 : goal.returns-in-Rst0
+returns-in-Rst0 c =
     let p = c.args.area.now.program.now in
     let s = state_of_draft c.args.self.now in
-    no_asking p s _ c.go_back.result c.go_back.ensures.nothing_asked
-
-pub returns-in-In-clause-answer : goal.returns-in-In-clause-answer
-returns-in-In-clause-answer c =
-    let p = c.args.area.now.program.now in
-    let s = state_of_draft c.args.self.now in
-    c.read_port.ensures.answer ∙ sym (ap (λ i. act p s c.args.after (unconditional i)) c.in-In.is)
-
-pub returns-in-In-clause-asking : goal.returns-in-In-clause-asking
-returns-in-In-clause-asking c =
-    let p = c.args.area.now.program.now in
-    let s = state_of_draft c.args.self.now in
-    subst (λ back. IsAsking p s back c.read_port.result) (sym (ap (return_by p s c.args.after) c.in-In.is)) c.read_port.ensures.asking
-
-pub returns-in-Out-clause-answer : goal.returns-in-Out-clause-answer
-returns-in-Out-clause-answer c =
-    let p = c.args.area.now.program.now in
-    let s = state_of_draft c.args.self.now in
-    c.write_port.ensures.answer ∙ sym (ap (λ i. act p s c.args.after (unconditional i)) c.in-Out.is)
-
-pub returns-in-Out-clause-asking : goal.returns-in-Out-clause-asking
-returns-in-Out-clause-asking c =
-    let p = c.args.area.now.program.now in
-    let s = state_of_draft c.args.self.now in
-    subst (λ back. IsAsking p s back c.write_port.result) (sym (ap (return_by p s c.args.after) c.in-Out.is)) c.write_port.ensures.asking
+    record {
+      answer = sym (ap (λ i. act p s c.args.after (unconditional i)) c.in-Rst0.is);
+      asking = tt;
+      memory = refl;
+    }
