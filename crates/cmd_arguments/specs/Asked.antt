@@ -10,7 +10,7 @@ use Rattle.cmd_arguments.specs.declared.table.OptionName.{OptionName}
 use Rattle.cmd_arguments.specs.Table.{Word, command_word, long_name, options_of, flag_words}
 use Rattle.cmd_arguments.specs.Items.{end_of_options}
 use Rattle.cmd_arguments.specs.Given.{Gathered, AreSorted}
-use Rattle.cmd_arguments.specs.Words.{command_of}
+use Rattle.cmd_arguments.specs.Words.{Command, command_of}
 
 -- any number of names, each a word
 abbrev pub names_rule : Rule
@@ -49,3 +49,7 @@ has_short (w ∷ ws) = not (bytes_eq w end_of_options) && (is_short w || has_sho
 -- whatever a command's words give, it is no command
 abbrev pub GiveNoCommand : CommandName → List Word → Type 0
 GiveNoCommand c ws = (g : Gathered) → AreSorted c ws g → command_of c g ≡ None
+
+-- a command's words give this command
+abbrev pub GiveCommand : CommandName → List Word → Command → Type 0
+GiveCommand name ws command = (g : Gathered) × AreSorted name ws g × (command_of name g ≡ Some command)

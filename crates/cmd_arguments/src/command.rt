@@ -2,14 +2,17 @@
 
 ghost use Rattle.std.specs.Prelude.{◌≡◌, ℕ, List, Some, None, cond, map, option_copied, option_map, IfOk, MatchOption};
 ghost use Rattle.std.specs.String.{string_bytes};
+ghost use Rattle.cmd_arguments.specs.Asked.{GiveCommand, GiveNoCommand};
 ghost use Rattle.cmd_arguments.specs.Read.{count_and_file_of, files_of, three_files_of, names_read, option_read};
-ghost use Rattle.cmd_arguments.specs.ReadCommands.{both_read, check_read, cmd_read, cmd_show_read, command_read, listing_read, hex80_read, run80_read, run86_read, run_hex_read, run_options_read, sample_read, shrink_read, translate_read};
-ghost use Rattle.cmd_arguments.specs.Words.{both_of, check_of, cmd_of, cmd_show_of, choice_of, command_of, count_and_file, listing_of, flag_of, hex80_of, input_file, one_file, page_of, run80_of, run86_of, run_hex_of, run_options_of, sample_of, shrink_of, steps_of, text_or, top_of, translate_of, two_files, three_files, Command as CommandValue, IsCommand, IsNoCommand};
+ghost use Rattle.cmd_arguments.specs.ReadCommands.{check_read, command_read, listing_read, run_options_read};
+ghost use Rattle.cmd_arguments.specs.Words.{MakesCmd, MakesSample, RunsBoth, RunsHex, Runs80, Runs86, ShowsCmd, ShrinksText, Translates, WritesHex, both_of, check_of, cmd_of, cmd_show_of, choice_of, command_of, count_and_file, listing_of, hex80_of, input_file, one_file, page_of, run80_of, run86_of, run_hex_of, run_options_of, sample_of, shrink_of, steps_of, text_or, top_of, translate_of, two_files, three_files, Command as CommandValue, IsCommand, IsNoCommand};
 
+use crate::asking::asked;
 use crate::given::{Given, Names};
-use crate::items::first_word;
+use crate::items::{first_word, has_short};
 use crate::table::CommandName;
 use crate::values::{choice_value, count_value, steps_value, top_value};
+use clap::error::ErrorKind;
 use dialogue::Page;
 use std::alloc::{AllocError, Global};
 
@@ -242,27 +245,6 @@ impl<'a> Given<'a> {
         Page::of_tail(text_or(self.tail, "").as_bytes())
     }
 
-    // Whether the plain text is asked for.
-    fn plain(&self) -> bool
-        ensures { flag_of self.now.plain ≡ Some result }
-    {
-        self.plain
-    }
-
-    // Whether the source's lines are asked for.
-    fn comments(&self) -> bool
-        ensures { flag_of self.now.comments ≡ Some result }
-    {
-        self.comments
-    }
-
-    // Whether the source is in Zilog's spelling.
-    fn zilog(&self) -> bool
-        ensures { flag_of self.now.zilog ≡ Some result }
-    {
-        self.zilog
-    }
-
     fn run_options(&self) -> Option<RunOptions<'a>>
         ensures { option_map run_options_read result ≡ run_options_of self.now }
     {
@@ -285,34 +267,30 @@ impl<'a> Given<'a> {
         })
     }
 
-    fn translate(&self) -> Option<Translate<'a>>
-        ensures { option_map translate_read result ≡ translate_of self.now }
+    fn translate(&self) -> Option<Command<'a>>
+        ensures { option_map command_read result ≡ option_map Translates (translate_of self.now) }
     {
-        let plain = self.plain();
-        let zilog = self.zilog();
-        let comments = self.comments();
         let (input, output) = self.names.two_files()?;
         let top = self.top()?;
-        Some(Translate {
+        Some(Command::Translate(Translate {
             input,
             output,
-            plain,
-            zilog,
-            comments,
+            plain: self.plain,
+            zilog: self.zilog,
+            comments: self.comments,
             top,
-        })
+        }))
     }
 
     fn check(&self) -> Option<Check<'a>>
         ensures { option_map check_read result ≡ check_of self.now }
     {
-        let zilog = self.zilog();
         let (source, text) = self.names.two_files()?;
         let top = self.top()?;
         Some(Check {
             source,
             text,
-            zilog,
+            zilog: self.zilog,
             top,
         })
     }
@@ -320,110 +298,112 @@ impl<'a> Given<'a> {
     fn listing(&self) -> Option<Listing<'a>>
         ensures { option_map listing_read result ≡ listing_of self.now }
     {
-        let zilog = self.zilog();
         let source = self.names.one_file()?;
         let top = self.top()?;
-        Some(Listing { source, zilog, top })
+        Some(Listing {
+            source,
+            zilog: self.zilog,
+            top,
+        })
     }
 
-    fn run80(&self) -> Option<Run80<'a>>
-        ensures { option_map run80_read result ≡ run80_of self.now }
+    fn run80(&self) -> Option<Command<'a>>
+        ensures { option_map command_read result ≡ option_map Runs80 (run80_of self.now) }
     {
         let Listing { source, zilog, top } = self.listing()?;
         let run = self.run_options()?;
-        Some(Run80 {
+        Some(Command::Run80(Run80 {
             source,
             zilog,
             top,
             run,
-        })
+        }))
     }
 
-    fn run86(&self) -> Option<Run86<'a>>
-        ensures { option_map run86_read result ≡ run86_of self.now }
+    fn run86(&self) -> Option<Command<'a>>
+        ensures { option_map command_read result ≡ option_map Runs86 (run86_of self.now) }
     {
         let text = self.names.one_file()?;
         let choice = self.choice()?;
         let run = self.run_options()?;
-        Some(Run86 { text, choice, run })
+        Some(Command::Run86(Run86 { text, choice, run }))
     }
 
-    fn both(&self) -> Option<Both<'a>>
-        ensures { option_map both_read result ≡ both_of self.now }
+    fn both(&self) -> Option<Command<'a>>
+        ensures { option_map command_read result ≡ option_map RunsBoth (both_of self.now) }
     {
         let Listing { source, zilog, top } = self.listing()?;
         let choice = self.choice()?;
         let run = self.run_options()?;
-        Some(Both {
+        Some(Command::Both(Both {
             source,
             zilog,
             top,
             choice,
             run,
-        })
+        }))
     }
 
-    fn sample(&self) -> Option<Sample<'a>>
-        ensures { option_map sample_read result ≡ sample_of self.now }
+    fn sample(&self) -> Option<Command<'a>>
+        ensures { option_map command_read result ≡ option_map MakesSample (sample_of self.now) }
     {
         let (count, output) = self.names.count_and_file()?;
-        Some(Sample { count, output })
+        Some(Command::Sample(Sample { count, output }))
     }
 
-    fn cmd(&self) -> Option<Cmd<'a>>
-        ensures { option_map cmd_read result ≡ cmd_of self.now }
+    fn cmd(&self) -> Option<Command<'a>>
+        ensures { option_map command_read result ≡ option_map MakesCmd (cmd_of self.now) }
     {
         let (text, output) = self.names.two_files()?;
-        Some(Cmd { text, output })
+        Some(Command::Cmd(Cmd { text, output }))
     }
 
-    fn cmd_show(&self) -> Option<CmdShow<'a>>
-        ensures { option_map cmd_show_read result ≡ cmd_show_of self.now }
+    fn cmd_show(&self) -> Option<Command<'a>>
+        ensures { option_map command_read result ≡ option_map ShowsCmd (cmd_show_of self.now) }
     {
         let file = self.names.one_file()?;
-        Some(CmdShow { file })
+        Some(Command::CmdShow(CmdShow { file }))
     }
 
-    fn hex80(&self) -> Option<Hex80<'a>>
-        ensures { option_map hex80_read result ≡ hex80_of self.now }
+    fn hex80(&self) -> Option<Command<'a>>
+        ensures { option_map command_read result ≡ option_map WritesHex (hex80_of self.now) }
     {
-        let zilog = self.zilog();
         let (source, output) = self.names.two_files()?;
         let top = self.top()?;
-        Some(Hex80 {
+        Some(Command::Hex80(Hex80 {
             source,
             output,
-            zilog,
+            zilog: self.zilog,
             top,
-        })
+        }))
     }
 
-    fn run_hex(&self) -> Option<RunHex<'a>>
-        ensures { option_map run_hex_read result ≡ run_hex_of self.now }
+    fn run_hex(&self) -> Option<Command<'a>>
+        ensures { option_map command_read result ≡ option_map RunsHex (run_hex_of self.now) }
     {
         let file = self.names.one_file()?;
         let top = self.top()?;
         let choice = self.choice()?;
         let run = self.run_options()?;
-        Some(RunHex {
+        Some(Command::RunHex(RunHex {
             file,
             top,
             choice,
             run,
-        })
+        }))
     }
 
-    fn shrink(&self) -> Option<Shrink<'a>>
-        ensures { option_map shrink_read result ≡ shrink_of self.now }
+    fn shrink(&self) -> Option<Command<'a>>
+        ensures { option_map command_read result ≡ option_map ShrinksText (shrink_of self.now) }
     {
         let (source, text, output) = self.names.three_files()?;
         let top = self.top()?;
-        Some(Shrink {
+        Some(Command::Shrink(Shrink {
             source,
             text,
             output,
             top,
-        })
+        }))
     }
 
     // The command of a name.
@@ -431,18 +411,18 @@ impl<'a> Given<'a> {
         ensures { option_map command_read result ≡ command_of name self.now }
     {
         match name {
-            CommandName::Translate => self.translate().map(Command::Translate),
+            CommandName::Translate => self.translate(),
             CommandName::Check => self.check().map(Command::Check),
             CommandName::Flags => self.listing().map(Command::Flags),
-            CommandName::Run80 => self.run80().map(Command::Run80),
-            CommandName::Run86 => self.run86().map(Command::Run86),
-            CommandName::Both => self.both().map(Command::Both),
-            CommandName::Sample => self.sample().map(Command::Sample),
-            CommandName::Cmd => self.cmd().map(Command::Cmd),
-            CommandName::CmdShow => self.cmd_show().map(Command::CmdShow),
-            CommandName::Hex80 => self.hex80().map(Command::Hex80),
-            CommandName::RunHex => self.run_hex().map(Command::RunHex),
-            CommandName::Shrink => self.shrink().map(Command::Shrink),
+            CommandName::Run80 => self.run80(),
+            CommandName::Run86 => self.run86(),
+            CommandName::Both => self.both(),
+            CommandName::Sample => self.sample(),
+            CommandName::Cmd => self.cmd(),
+            CommandName::CmdShow => self.cmd_show(),
+            CommandName::Hex80 => self.hex80(),
+            CommandName::RunHex => self.run_hex(),
+            CommandName::Shrink => self.shrink(),
             CommandName::Leaves => self.listing().map(Command::Leaves),
             CommandName::Explain => self.check().map(Command::Explain),
         }
@@ -457,13 +437,31 @@ pub fn read_words<'a>(alloc: Global, words: &'a [String]) -> Result<Option<Comma
     let Some((first, rest)) = first_word(words) else {
         return Ok(None);
     };
-    let Some(name) = CommandName::of_word(first) else {
+    match CommandName::of_word(first) {
+        Some(name) => read_rest(alloc, name, rest),
+        None => Ok(None),
+    }
+}
+
+// The command of a name that the words behind it give. `clap` reads them. A word of one hyphen and something else is refused before:
+// `clap` reads it as characters, and no clause says that a word's bytes are such.
+fn read_rest<'a>(
+    alloc: Global,
+    name: CommandName,
+    words: &'a [String],
+) -> Result<Option<Command<'a>>, AllocError>
+    ensures { IfOk result (λ read. MatchOption read (GiveNoCommand name (map string_bytes words.now))
+        (λ command. GiveCommand name (map string_bytes words.now) (command_read command))) }
+{
+    if has_short(words) {
         return Ok(None);
-    };
-    match Given::of_words(alloc, name, rest) {
-        Ok(Some(given)) => Ok(given.command(name)),
-        Ok(None) => Ok(None),
-        Err(error) => Err(error),
+    }
+    match asked(alloc, name)?.try_get_matches_from(words) {
+        Ok(matches) => Ok(Given::of_matches(&matches).command(name)),
+        Err(error) => match error.kind() {
+            ErrorKind::OutOfMemory => Err(AllocError),
+            _ => Ok(None),
+        },
     }
 }
 

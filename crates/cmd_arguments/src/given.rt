@@ -1,19 +1,14 @@
 //! The names and options behind a command's word, gathered.
 
-ghost use Rattle.std.specs.Prelude.{◌≡◌, [], IfOk, MatchOption, map, option_map, unwrap_or};
-ghost use Rattle.std.specs.String.{string_bytes};
+ghost use Rattle.std.specs.Prelude.{◌≡◌, [], map, option_map, unwrap_or};
 ghost use Rattle.clap.specs.Words.{first_of, found_of, rows_of};
-ghost use Rattle.cmd_arguments.specs.Asked.{GiveNoCommand};
-ghost use Rattle.cmd_arguments.specs.Given.{names, AreSorted};
+ghost use Rattle.cmd_arguments.specs.Given.{names};
 ghost use Rattle.cmd_arguments.specs.Read.{names_read, IsFlag, IsGivenIn};
 ghost use Rattle.cmd_arguments.specs.Table.{long_name};
 
-use crate::asking::{NAMES, asked};
-use crate::items::has_short;
-use crate::table::{CommandName, OptionName};
+use crate::asking::NAMES;
+use crate::table::OptionName;
 use clap::ArgMatches;
-use clap::error::ErrorKind;
-use std::alloc::{AllocError, Global};
 use std::marker::Model;
 
 /// No name, one, two, three, or more.
@@ -84,30 +79,8 @@ impl<'a> Names<'a> {
 }
 
 impl<'a> Given<'a> {
-    /// What the words behind a command's word give; None where they give no command. `clap` reads them. A word of one hyphen and
-    /// something else is refused before: `clap` reads it as characters, and no clause says that a word's bytes are such.
-    pub fn of_words(
-        alloc: Global,
-        command: CommandName,
-        words: &'a [String],
-    ) -> Result<Option<Given<'a>>, AllocError>
-        ensures { IfOk result (λ read. MatchOption read (GiveNoCommand command (map string_bytes words.now))
-            (λ given. AreSorted command (map string_bytes words.now) given)) }
-    {
-        if has_short(words) {
-            return Ok(None);
-        }
-        let asked = asked(alloc, command)?;
-        match asked.try_get_matches_from(words) {
-            Ok(matches) => Ok(Some(Given::of_matches(&matches))),
-            Err(error) => match error.kind() {
-                ErrorKind::OutOfMemory => Err(AllocError),
-                _ => Ok(None),
-            },
-        }
-    }
-
-    fn of_matches(matches: &ArgMatches<'a>) -> Given<'a>
+    /// What `clap` found in the words behind a command's word.
+    pub fn of_matches(matches: &ArgMatches<'a>) -> Given<'a>
         ensures { IsGivenIn (rows_of (found_of matches.now)) result }
     {
         Given {
