@@ -1,5 +1,5 @@
 -- A run that goes on: its ids stand for what they stood for, and a register more has an id.
-use Rattle.std.proofs.Common.{◌≡◌, ℕ, suc, ◌+◌, ◌≤◌, ◌<◌, List, [], ◌∷◌, ◌++◌, length, Option, Some, None, refl, sym, ap, ap₂, subst, ◌∙◌, arith, length-append}
+use Rattle.std.proofs.Common.{◌≡◌, ℕ, suc, ◌+◌, ◌≤◌, ◌<◌, List, [], ◌∷◌, ◌++◌, length, Option, Some, None, refl, sym, ap, ap₂, subst, ◌∙◌, arith, lit≤, length-append}
 use Rattle.std.specs.Vec.{vec_capacity}
 use Rattle.i80.specs.declared.Reg.{Reg as Register}
 use Rattle.i80.specs.declared.Reg.TheVariants.{A as RegA, B as RegB, C as RegC, D as RegD, E as RegE, H as RegH, L as RegL}
@@ -586,6 +586,29 @@ word_here pool r slot t h e = record {
 
 pub word_tree_here : (pool : Contents) (r : Run) (slot : WordSlot) (t : TermId) → t ≡ id_of_word r slot → tree_in pool t ≡ word_in (machine_of pool r) slot
 word_tree_here pool r slot t e = ap (tree_in pool) e ∙ word_tree pool r slot
+
+-- SP and SI are given what a word register holds
+word_read : (pool : Contents) (r : Run) (slot : WordSlot) (t : TermId) → IsReady pool r → t ≡ id_of_word r slot → Gives pool pool 2 (word_in (machine_of pool r) slot) (Some t)
+word_read pool r slot t h e = record {
+  grows = more pool pool 0 2 (lit≤ tt) (still pool);
+  gives = ((word_here pool r slot t h e).given, word_tree_here pool r slot t e);
+  enough = λ _. refl;
+  terms = h.terms;
+}
+
+pub sp_moved : (pool : Contents) (r : Run) (slot : WordSlot) (t : TermId) → IsReady pool r → t ≡ id_of_word r slot → GoesOn pool pool r (record r { sp = t }) 2 0 (λ m. m ≡ record (machine_of pool r) { sp = word_in (machine_of pool r) slot }) (Some tt)
+sp_moved pool r slot t h e =
+    gave_to pool pool r (record r { sp = t }) 2 (word_in (machine_of pool r) slot) t (λ m q. record m { sp = q }) refl refl refl
+    (λ k q. record { held = k.held; ah = k.ah; si = k.si; sp = q; t = k.t; u = k.u; v = k.v; w = k.w; x = k.x; result = k.result; turned = k.turned; actions = k.actions })
+    (λ k. record { held = k.held; ah = k.ah; si = k.si; sp = subst (IsMadeAs is_word) (sym (word_tree_here pool r slot t e)) (word_sorted (machine_of pool r) slot h.sorted); t = k.t; u = k.u; v = k.v; w = k.w; x = k.x; result = k.result; turned = k.turned })
+    h (word_read pool r slot t h e)
+
+pub si_moved : (pool : Contents) (r : Run) (slot : WordSlot) (t : TermId) → IsReady pool r → t ≡ id_of_word r slot → GoesOn pool pool r (record r { si = t }) 2 0 (λ m. m ≡ record (machine_of pool r) { si = word_in (machine_of pool r) slot }) (Some tt)
+si_moved pool r slot t h e =
+    gave_to pool pool r (record r { si = t }) 2 (word_in (machine_of pool r) slot) t (λ m q. record m { si = q }) refl refl refl
+    (λ k q. record { held = k.held; ah = k.ah; si = q; sp = k.sp; t = k.t; u = k.u; v = k.v; w = k.w; x = k.x; result = k.result; turned = k.turned; actions = k.actions })
+    (λ k. record { held = k.held; ah = k.ah; si = subst (IsMadeAs is_word) (sym (word_tree_here pool r slot t e)) (word_sorted (machine_of pool r) slot h.sorted); sp = k.sp; t = k.t; u = k.u; v = k.v; w = k.w; x = k.x; result = k.result; turned = k.turned })
+    h (word_read pool r slot t h e)
 
 -- a term that is given need not be made
 pub made_already : (pool : Contents) (tree : Term) (t : TermId) → AreTerms pool → IsGiven pool t → tree_in pool t ≡ tree → Makes pool pool 1 tree (Some t)

@@ -8,9 +8,7 @@ use crate::micro::{
     ByteSlot, ByteValue, FlagSet, FlagSlot, FlagValue, Micro, Wide, WordSlot, WordValue,
 };
 use crate::outcome::Action;
-use crate::results::{
-    adjusted_term, complement_term, flag_byte_term, operated_term, sum_term, turned_term,
-};
+use crate::results::{complement_term, operated_term, turned_term};
 use crate::run::Run;
 use crate::values::{byte_term, flag_term, word_term};
 use i80::{Op, Pair, Reg};
@@ -171,7 +169,7 @@ fn give_sum(
     ensures { GoesOn terms.old terms.new run.old run.new 2 0 (λ m. m ≡ micro (machine_of terms.old run.old) (Micro.Sum slot a b)) result }
 {
     made_terms_have_sorts();
-    let term = sum_term(terms, run, a, b)?;
+    let term = terms.sum16(run.word(a), run.word(b))?;
     run.set_word(slot, term);
     Some(())
 }
@@ -181,7 +179,8 @@ fn give_flag_byte(terms: &mut Terms, run: &mut Run, slot: ByteSlot) -> Option<()
     ensures { GoesOn terms.old terms.new run.old run.new 2 0 (λ m. m ≡ micro (machine_of terms.old run.old) (Micro.FlagByte slot)) result }
 {
     made_terms_have_sorts();
-    let term = flag_byte_term(terms, run)?;
+    let held = &run.held;
+    let term = terms.flag_byte([held.s, held.z, held.ac, held.p, held.cy])?;
     run.set_byte(slot, term);
     Some(())
 }
@@ -211,7 +210,7 @@ fn adjust(terms: &mut Terms, run: &mut Run) -> Option<()>
     ensures { GoesOn terms.old terms.new run.old run.new 1 0 (λ m. m ≡ micro (machine_of terms.old run.old) Micro.Adjust) result }
 {
     made_terms_have_sorts();
-    let term = adjusted_term(terms, run)?;
+    let term = terms.adjust(run.held.a, run.held.ac, run.held.cy)?;
     run.result = term;
     Some(())
 }

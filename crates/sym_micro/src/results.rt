@@ -3,36 +3,19 @@
 ghost use Rattle.std.specs.Prelude.{◌≡◌, ◌<◌};
 ghost use Rattle.i80.specs.declared.Op.TheVariants.{Xra};
 ghost use Rattle.sym_terms.specs.Term.{Num};
-ghost use Rattle.sym_terms.specs.Making.{alu, sum16, adjust, turn};
+ghost use Rattle.sym_terms.specs.Making.{alu, turn};
 ghost use Rattle.sym_terms.specs.Trees.{tree_in};
-ghost use Rattle.sym_block_def.specs.Block80.{operation, carry_in, flag_byte};
+ghost use Rattle.sym_block_def.specs.Block80.{operation, carry_in};
 ghost use Rattle.sym_block_def.specs.Symbolic86.{turn_kind, turn_carry};
-ghost use Rattle.sym_micro.specs.Machine.{byte_in, word_in};
-ghost use Rattle.sym_micro.specs.Stands.{machine_of, trees_of_held, IsReady, Gives};
+ghost use Rattle.sym_micro.specs.Machine.{byte_in};
+ghost use Rattle.sym_micro.specs.Stands.{machine_of, IsReady, Gives};
 
-use crate::micro::{ByteSlot, WordSlot};
+use crate::micro::ByteSlot;
 use crate::run::Run;
 use crate::values::{carry_term, turn_carry_term};
 use i80::Op;
 use i86::Rotate;
 use sym_terms::{Term, Terms, made_terms_have_sorts};
-
-/// The sum of two words.
-pub fn sum_term(terms: &mut Terms, run: &Run, a: WordSlot, b: WordSlot) -> Option<Term>
-    requires { IsReady terms.old run.now }
-    ensures { Gives terms.old terms.new 2 (sum16 (word_in (machine_of terms.old run.now) a) (word_in (machine_of terms.old run.now) b)) result }
-{
-    terms.sum16(run.word(a), run.word(b))
-}
-
-/// The byte of the five flags.
-pub fn flag_byte_term(terms: &mut Terms, run: &Run) -> Option<Term>
-    requires { IsReady terms.old run.now }
-    ensures { Gives terms.old terms.new 2 (flag_byte (trees_of_held terms.old run.now.held)) result }
-{
-    let held = &run.held;
-    terms.flag_byte([held.s, held.z, held.ac, held.p, held.cy])
-}
 
 /// The other value of CY.
 pub fn complement_term(terms: &mut Terms, run: &Run) -> Option<Term>
@@ -62,14 +45,6 @@ fn operation(op: Op) -> Op
         Op::Cmp => Op::Sub,
         _ => op,
     }
-}
-
-/// The decimal adjustment of A.
-pub fn adjusted_term(terms: &mut Terms, run: &Run) -> Option<Term>
-    requires { IsReady terms.old run.now }
-    ensures { Gives terms.old terms.new 1 (adjust (tree_in terms.old run.now.held.a) (tree_in terms.old run.now.held.ac) (tree_in terms.old run.now.held.cy)) result }
-{
-    terms.adjust(run.held.a, run.held.ac, run.held.cy)
 }
 
 /// A byte rotated by 1.

@@ -1,7 +1,7 @@
 // A run: the terms that the registers hold, and the loads and stores so far.
 
 ghost use Rattle.std.specs.Prelude.{◌≡◌};
-ghost use Rattle.sym_micro.specs.Stands.{id_of_reg8, id_of_byte, id_of_word, run_with_reg, run_with_reg8, run_with_byte, run_with_word, run_with_flag};
+ghost use Rattle.sym_micro.specs.Stands.{id_of_byte, id_of_word, run_with_byte, run_with_word, run_with_flag};
 
 use crate::micro::{ByteSlot, FlagSlot, WordSlot};
 use crate::outcome::{Action, Held};
@@ -37,25 +37,18 @@ impl Run {
     {
         match slot {
             ByteSlot::Of80(reg) => self.held.register(reg),
-            ByteSlot::Of86(reg) => self.register_86(reg),
+            ByteSlot::Of86(reg) => match reg {
+                Reg8::Al => self.held.a,
+                Reg8::Cl => self.held.c,
+                Reg8::Dl => self.held.e,
+                Reg8::Bl => self.held.l,
+                Reg8::Ah => self.ah,
+                Reg8::Ch => self.held.b,
+                Reg8::Dh => self.held.d,
+                Reg8::Bh => self.held.h,
+            },
             ByteSlot::T => self.t,
             ByteSlot::U => self.u,
-        }
-    }
-
-    // A register of the 8086.
-    fn register_86(&self, reg: Reg8) -> Term
-        ensures { result ≡ id_of_reg8 self.now reg }
-    {
-        match reg {
-            Reg8::Al => self.held.a,
-            Reg8::Cl => self.held.c,
-            Reg8::Dl => self.held.e,
-            Reg8::Bl => self.held.l,
-            Reg8::Ah => self.ah,
-            Reg8::Ch => self.held.b,
-            Reg8::Dh => self.held.d,
-            Reg8::Bh => self.held.h,
         }
     }
 
@@ -63,39 +56,27 @@ impl Run {
         ensures { self.new ≡ run_with_byte self.old slot term }
     {
         match slot {
-            ByteSlot::Of80(reg) => self.set_register_80(reg, term),
-            ByteSlot::Of86(reg) => self.set_register_86(reg, term),
+            ByteSlot::Of80(reg) => match reg {
+                Reg::A => self.held.a = term,
+                Reg::B => self.held.b = term,
+                Reg::C => self.held.c = term,
+                Reg::D => self.held.d = term,
+                Reg::E => self.held.e = term,
+                Reg::H => self.held.h = term,
+                Reg::L => self.held.l = term,
+            },
+            ByteSlot::Of86(reg) => match reg {
+                Reg8::Al => self.held.a = term,
+                Reg8::Cl => self.held.c = term,
+                Reg8::Dl => self.held.e = term,
+                Reg8::Bl => self.held.l = term,
+                Reg8::Ah => self.ah = term,
+                Reg8::Ch => self.held.b = term,
+                Reg8::Dh => self.held.d = term,
+                Reg8::Bh => self.held.h = term,
+            },
             ByteSlot::T => self.t = term,
             ByteSlot::U => self.u = term,
-        }
-    }
-
-    fn set_register_80(&mut self, reg: Reg, term: Term)
-        ensures { self.new ≡ run_with_reg self.old reg term }
-    {
-        match reg {
-            Reg::A => self.held.a = term,
-            Reg::B => self.held.b = term,
-            Reg::C => self.held.c = term,
-            Reg::D => self.held.d = term,
-            Reg::E => self.held.e = term,
-            Reg::H => self.held.h = term,
-            Reg::L => self.held.l = term,
-        }
-    }
-
-    fn set_register_86(&mut self, reg: Reg8, term: Term)
-        ensures { self.new ≡ run_with_reg8 self.old reg term }
-    {
-        match reg {
-            Reg8::Al => self.held.a = term,
-            Reg8::Cl => self.held.c = term,
-            Reg8::Dl => self.held.e = term,
-            Reg8::Bl => self.held.l = term,
-            Reg8::Ah => self.ah = term,
-            Reg8::Ch => self.held.b = term,
-            Reg8::Dh => self.held.d = term,
-            Reg8::Bh => self.held.h = term,
         }
     }
 

@@ -1,12 +1,12 @@
 // The terms of values.
 
-ghost use Rattle.std.specs.Prelude.{◌≡◌, ◌<◌, cond, true};
+ghost use Rattle.std.specs.Prelude.{◌≡◌, cond, true};
 ghost use Rattle.cells.specs.declared.Part.TheVariants.{Cy};
-ghost use Rattle.sym_terms.specs.Term.{Num, Start, Unknown, is_flag};
+ghost use Rattle.sym_terms.specs.Term.{Start, Unknown, is_flag};
 ghost use Rattle.sym_terms.specs.Trees.{tree_in, IsGiven, Makes};
-ghost use Rattle.sym_block_def.specs.Symbolic86.{pointed, turn_carry, brought_back};
+ghost use Rattle.sym_block_def.specs.Symbolic86.{turn_carry, brought_back};
 ghost use Rattle.sym_block_def.specs.Block80.{carry_in};
-ghost use Rattle.sym_micro.specs.Machine.{as86, byte_value, word_value, flag_value, wide_in, part_of_flag, ByteIsCoded, WordIsCoded};
+ghost use Rattle.sym_micro.specs.Machine.{byte_value, word_value, flag_value, wide_in, part_of_flag, ByteIsCoded, WordIsCoded};
 ghost use Rattle.sym_micro.specs.Stands.{id_after, machine_of, IsReady};
 
 use crate::micro::{ByteValue, FlagSlot, FlagValue, Wide, WordValue};
@@ -24,7 +24,7 @@ pub fn byte_term(terms: &mut Terms, run: &Run, value: ByteValue) -> Option<Term>
 {
     match value {
         ByteValue::Of(slot) => Some(run.byte(slot)),
-        ByteValue::Number(n) => byte_number(terms, n),
+        ByteValue::Number(n) => terms.number(u16::from(n)),
         ByteValue::Start(known, part) => start_term(terms, known, part),
         ByteValue::Code(place, high) => terms.code(place, high),
         ByteValue::Half(slot, high) => terms.half(run.word(slot), high),
@@ -45,20 +45,6 @@ fn after(run: &Run, op: Op) -> Term
     }
 }
 
-fn byte_number(terms: &mut Terms, n: u8) -> Option<Term>
-    ensures made { Makes terms.old terms.new 1 (Num n) result }
-    ensures small { n < 0x100 }
-{
-    terms.number(u16::from(n))
-}
-
-fn word_number(terms: &mut Terms, n: u16) -> Option<Term>
-    ensures made { Makes terms.old terms.new 1 (Num n) result }
-    ensures small { n < 0x10000 }
-{
-    terms.number(n)
-}
-
 /// The term of a value that a word register may be given.
 pub fn word_term(terms: &mut Terms, run: &Run, value: WordValue) -> Option<Term>
     requires { IsReady terms.old run.now }
@@ -66,25 +52,20 @@ pub fn word_term(terms: &mut Terms, run: &Run, value: WordValue) -> Option<Term>
     ensures coded { WordIsCoded value }
 {
     match value {
-        WordValue::Of(wide) => wide_term(terms, run, wide),
-        WordValue::Pointed(at) => pointed_term(terms, run, at),
-        WordValue::Number(n) => word_number(terms, n),
+        WordValue::Of(wide) => match wide {
+            Wide::Of80(pair) => pair_term(terms, run, pair),
+            Wide::Of86(reg) => word_86_term(terms, run, reg),
+        },
+        WordValue::Pointed(at) => match at {
+            Ptr::Bx => pair_term(terms, run, Pair::H),
+            Ptr::Si => Some(run.si),
+        },
+        WordValue::Number(n) => terms.number(n),
         WordValue::Join(high, low) => terms.join(run.byte(high), run.byte(low)),
         WordValue::StartSp => terms.start_sp(),
         WordValue::Turned => terms.turn(4, run.held.a, run.held.cy),
         WordValue::Loaded => terms.loaded(run.loads, true),
         WordValue::Unknown => terms.unknown(),
-    }
-}
-
-// The word of a processor.
-fn wide_term(terms: &mut Terms, run: &Run, wide: Wide) -> Option<Term>
-    requires { IsReady terms.old run.now }
-    ensures { Makes terms.old terms.new 1 (wide_in (machine_of terms.old run.now) wide) result }
-{
-    match wide {
-        Wide::Of80(pair) => pair_term(terms, run, pair),
-        Wide::Of86(reg) => word_86_term(terms, run, reg),
     }
 }
 
@@ -113,17 +94,6 @@ fn word_86_term(terms: &mut Terms, run: &Run, reg: Reg16) -> Option<Term>
         Reg16::Bx => pair_term(terms, run, Pair::H),
         Reg16::Sp => pair_term(terms, run, Pair::Sp),
         Reg16::Si => Some(run.si),
-    }
-}
-
-// The address in BX or SI.
-fn pointed_term(terms: &mut Terms, run: &Run, at: Ptr) -> Option<Term>
-    requires { IsReady terms.old run.now }
-    ensures { Makes terms.old terms.new 1 (pointed (as86 (machine_of terms.old run.now)) at) result }
-{
-    match at {
-        Ptr::Bx => pair_term(terms, run, Pair::H),
-        Ptr::Si => Some(run.si),
     }
 }
 

@@ -1,5 +1,5 @@
 -- What each arm calls ensures it of the arm's micro-operation, which saves a long search.
-use Rattle.std.proofs.Common.{◌≡◌, ◌∙◌, ap, ap₂, subst, sym, Option}
+use Rattle.std.proofs.Common.{◌≡◌, ℕ, ◌+◌, ◌<◌, ◌≤◌, ◌∙◌, ap, ap₂, refl, subst, sym, arith, length, Option}
 use Rattle.xlt_pool.specs.Contents.{Contents}
 use Rattle.sym_block_def.specs.Outcome.{Action, Load8, Load16, Store8, Store16}
 use Rattle.sym_micro.specs.declared.micro.Micro.{Micro}
@@ -7,7 +7,7 @@ use Rattle.sym_micro.specs.declared.micro.Micro.TheVariants.{Flags}
 use Rattle.sym_micro.specs.declared.run.Run.{Run}
 use Rattle.sym_micro.specs.Machine.{Machine, micro, weight, moves, loads_at, stores_at}
 use Rattle.sym_micro.specs.Stands.{machine_of, GoesOn}
-use Rattle.sym_micro.proofs.Ready.{byte_tree_here, word_tree_here}
+use Rattle.sym_micro.proofs.Ready.{byte_here, byte_tree_here, word_here, word_tree_here}
 use Rattle.sym_micro.proofs.performing.perform_one.Goals as goal
 
 of_arm : {step arm : Micro} (old new : Contents) (r s : Run) (made : Option (Unit {0})) → step ≡ arm → GoesOn old new r s (weight arm) (moves arm) (λ m. m ≡ micro (machine_of old r) arm) made → GoesOn old new r s (weight step) (moves step) (λ m. m ≡ micro (machine_of old r) step) made
@@ -16,6 +16,12 @@ of_arm old new r s made is h = subst (λ (k : Micro). GoesOn old new r s (weight
 -- the action of the ids is that of their trees
 by_trees : (after : Machine → Action → Machine) {x y : Action} (old : Contents) (r s : Run) (made : Option (Unit {0})) → x ≡ y → GoesOn old old r s 0 1 (λ m. m ≡ after (machine_of old r) x) made → GoesOn old old r s 0 1 (λ m. m ≡ after (machine_of old r) y) made
 by_trees after old r s made same h = subst (λ a. GoesOn old old r s 0 1 (λ m. m ≡ after (machine_of old r) a) made) same h
+
+-- there is room for the action of a load or a store
+room_for : {step arm : Micro} (n : ℕ) → step ≡ arm → moves arm ≡ 1 → n + moves step ≤ 512 → n < 512
+room_for {arm = arm} n is one h =
+    let fits : n + moves arm ≤ 512 = subst (λ (k : Micro). n + moves k ≤ 512) is h in
+    omega arith
 
 pub returns-in-Byte : goal.returns-in-Byte
 returns-in-Byte c = of_arm c.args.terms.now c.give_byte.new.terms c.args.run.now c.give_byte.new.run c.give_byte.result c.in-Byte.is c.give_byte.ensures
@@ -55,6 +61,16 @@ returns-in-Adjust c = of_arm c.args.terms.now c.adjust.new.terms c.args.run.now 
 pub returns-in-Turn : goal.returns-in-Turn
 returns-in-Turn c = of_arm c.args.terms.now c.turn.new.terms c.args.run.now c.turn.new.run c.turn.result c.in-Turn.is c.turn.ensures
 
+pub load-requires : goal.load-requires
+load-requires c =
+    let old = c.args.terms.now in
+    let r = c.args.run.now in
+    record {
+      ready = c.requires.ready;
+      given = (word_here old r c.in-Load8.address c.word.result c.requires.ready c.word.ensures).given;
+      room = room_for (length r.actions.items) c.in-Load8.is refl c.requires.room;
+    }
+
 pub returns-in-Load8 : goal.returns-in-Load8
 returns-in-Load8 c =
     let old = c.args.terms.now in
@@ -62,6 +78,16 @@ returns-in-Load8 c =
     let s = c.load.new.run in
     let same = ap Load8 (word_tree_here old r c.in-Load8.address c.word.result c.word.ensures) in
     of_arm old old r s c.load.result c.in-Load8.is (by_trees loads_at old r s c.load.result same c.load.ensures)
+
+pub load-requires-in-Load16 : goal.load-requires-in-Load16
+load-requires-in-Load16 c =
+    let old = c.args.terms.now in
+    let r = c.args.run.now in
+    record {
+      ready = c.requires.ready;
+      given = (word_here old r c.in-Load16.address c.word-in-Load16.result c.requires.ready c.word-in-Load16.ensures).given;
+      room = room_for (length r.actions.items) c.in-Load16.is refl c.requires.room;
+    }
 
 pub returns-in-Load16 : goal.returns-in-Load16
 returns-in-Load16 c =
@@ -71,6 +97,16 @@ returns-in-Load16 c =
     let same = ap Load16 (word_tree_here old r c.in-Load16.address c.word-in-Load16.result c.word-in-Load16.ensures) in
     of_arm old old r s c.load-in-Load16.result c.in-Load16.is (by_trees loads_at old r s c.load-in-Load16.result same c.load-in-Load16.ensures)
 
+pub store-requires : goal.store-requires
+store-requires c =
+    let old = c.args.terms.now in
+    let r = c.args.run.now in
+    record {
+      ready = c.requires.ready;
+      given = ((word_here old r c.in-Store8.address c.word-in-Store8.result c.requires.ready c.word-in-Store8.ensures).given, (byte_here old r c.in-Store8.byte c.byte.result c.requires.ready c.byte.ensures).given);
+      room = room_for (length r.actions.items) c.in-Store8.is refl c.requires.room;
+    }
+
 pub returns-in-Store8 : goal.returns-in-Store8
 returns-in-Store8 c =
     let old = c.args.terms.now in
@@ -78,6 +114,16 @@ returns-in-Store8 c =
     let s = c.store.new.run in
     let same = ap₂ Store8 (word_tree_here old r c.in-Store8.address c.word-in-Store8.result c.word-in-Store8.ensures) (byte_tree_here old r c.in-Store8.byte c.byte.result c.byte.ensures) in
     of_arm old old r s c.store.result c.in-Store8.is (by_trees stores_at old r s c.store.result same c.store.ensures)
+
+pub store-requires-in-Store16 : goal.store-requires-in-Store16
+store-requires-in-Store16 c =
+    let old = c.args.terms.now in
+    let r = c.args.run.now in
+    record {
+      ready = c.requires.ready;
+      given = ((word_here old r c.in-Store16.address c.word-in-Store16.result c.requires.ready c.word-in-Store16.ensures).given, (word_here old r c.in-Store16.word c.word-in-Store16-2.result c.requires.ready c.word-in-Store16-2.ensures).given);
+      room = room_for (length r.actions.items) c.in-Store16.is refl c.requires.room;
+    }
 
 pub returns-in-Store16 : goal.returns-in-Store16
 returns-in-Store16 c =

@@ -1,9 +1,10 @@
 -- What each arm calls ensures it of the arm's registers, which saves a long search.
-use Rattle.std.proofs.Common.{◌≡◌, subst, sym}
+use Rattle.std.proofs.Common.{◌≡◌, subst, sym, Some}
 use Rattle.i86.specs.declared.Reg16.{Reg16}
 use Rattle.sym_micro.specs.declared.micro.Wide.TheVariants.{Of86 as Wide86}
 use Rattle.sym_micro.specs.Machine.{with_wide, word_in}
 use Rattle.sym_micro.specs.Stands.{machine_of, GoesOn}
+use Rattle.sym_micro.proofs.Ready.{si_moved}
 use Rattle.sym_micro.proofs.performing.put_word.Goals as goal
 
 pub returns-in-Ax : goal.returns-in-Ax
@@ -30,3 +31,10 @@ pub returns-in-Sp : goal.returns-in-Sp
 returns-in-Sp c =
     subst (λ (reg : Reg16). GoesOn c.args.terms.now c.put_pair-in-Sp.new.terms c.args.run.now c.put_pair-in-Sp.new.run 2 0 (λ m. m ≡ with_wide (machine_of c.args.terms.now c.args.run.now) (Wide86 reg) (word_in (machine_of c.args.terms.now c.args.run.now) c.args.from)) c.put_pair-in-Sp.result)
     (sym c.in-Sp.is) c.put_pair-in-Sp.ensures
+
+pub returns-in-Si : goal.returns-in-Si
+returns-in-Si c =
+    let old = c.args.terms.now in
+    let r = c.args.run.now in
+    subst (λ (reg : Reg16). GoesOn old old r (record r { si = c.word-run.result }) 2 0 (λ m. m ≡ with_wide (machine_of old r) (Wide86 reg) (word_in (machine_of old r) c.args.from)) (Some tt)) (sym c.in-Si.is)
+    (si_moved old r c.args.from c.word-run.result c.requires c.word-run.ensures)

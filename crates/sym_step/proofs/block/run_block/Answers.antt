@@ -1,4 +1,4 @@
-use Rattle.std.proofs.Common.{◌≡◌, ◌+◌, ◌-◌, ◌*◌, ◌≤◌, false, Some, None, ap, subst, sym, arith, le_refl}
+use Rattle.std.proofs.Common.{◌≡◌, ℕ, ◌+◌, ◌-◌, ◌*◌, ◌≤◌, false, Some, None, ap, subst, sym, arith, le_refl}
 use Rattle.i80.specs.Columns.{length80}
 use Rattle.sym_block_def.specs.Block80.{Symbolic80, effect80, block80}
 use Rattle.sym_block_def.specs.Symbolic86.{start86}
@@ -9,6 +9,21 @@ use Rattle.sym_micro.proofs.Ready.{then_runs, run_as}
 use Rattle.sym_micro.proofs.Found.{never_ends, ends_as}
 use Rattle.sym_step.proofs.Blocks.{Left, all_left, begun, is_there, goes_on, ended}
 use Rattle.sym_step.proofs.block.run_block.Goals as goal
+
+enough_to_begin : (count : ℕ) → 16 ≤ 24 * count + 32
+enough_to_begin count = omega arith
+
+pub begin-requires : goal.begin-requires
+begin-requires c = c.requires.capacity
+
+pub returns-in_err-begin : goal.returns-in_err-begin
+returns-in_err-begin c =
+    let old = c.args.terms.now in
+    let new = c.begin.new.terms in
+    let s = c.begin.new.run in
+    let x = block80 c.args.program.now c.args.first c.args.count in
+    subst (λ e. RunsTo old new s (24 * c.args.count + 32) false x e) (sym c.from_residual.ensures)
+    (never_ends old new s 16 (24 * c.args.count + 32) 0 (λ m. as86 m ≡ start86 c.all.result) false x (enough_to_begin c.args.count) c.in_err-begin.ensures)
 
 pub loop-done-init : goal.loop-done-init
 loop-done-init c =
@@ -27,6 +42,9 @@ instr_near-place-requires c =
     let left = c.args.count - (c.loop-done._done - 1) in
     let some : 1 ≤ left = omega arith in
     is_there c.args.program.now c.args.first c.args.count c.loop-done.at left (as80 (machine_of c.loop-done.terms c.loop-done.run)) c.loop-done.invariant.gives.is some
+
+pub step80-requires-clause-ready : goal.step80-requires-clause-ready
+step80-requires-clause-ready c = c.loop-done.invariant.gives.ready
 
 pub returns-in_err-step80 : goal.returns-in_err-step80
 returns-in_err-step80 c =
@@ -88,6 +106,9 @@ instr_near-last-requires c =
     let some : 1 ≤ left = let positive = c.requires.block.some in omega arith in
     is_there c.args.program.now c.args.first c.args.count c.loop-done.at left (as80 (machine_of c.loop-done.terms c.loop-done.run)) c.loop-done.invariant.gives.is some
 
+pub step80-requires-2-clause-ready : goal.step80-requires-2-clause-ready
+step80-requires-2-clause-ready c = c.loop-done.invariant.gives.ready
+
 pub returns-in_err-step80-2 : goal.returns-in_err-step80-2
 returns-in_err-step80-2 c =
     let old = c.args.terms.now in
@@ -106,6 +127,9 @@ returns-in_err-step80-2 c =
     (then_runs old mid new r s j 24 a 2
     (λ m. Left c.args.program.now c.args.first c.args.count c.loop-done.at left (as80 m))
     (λ m. as80 m ≡ after) (λ m. as80 m ≡ after) None c.loop-done.invariant c.in_err-step80-2.ensures (λ m e. e)))
+
+pub exit-requires : goal.exit-requires
+exit-requires c = c.in_ok-step80-2.ensures.ready
 
 pub returns : goal.returns
 returns c =

@@ -1,15 +1,26 @@
-use Rattle.std.proofs.Common.{◌≡◌, Some, subst, sym, lit≤}
+use Rattle.std.proofs.Common.{◌≡◌, Some, refl, subst, sym, lit≤}
 use Rattle.i80.specs.declared.Instr80.{Instr80}
 use Rattle.sym_terms.proofs.Interning.{still, more}
-use Rattle.sym_block_def.specs.Outcome.{In, Out, Exit, One}
+use Rattle.sym_block_def.specs.Outcome.{ByTerms, Boot, In, Out, Exit, One}
 use Rattle.sym_block_def.specs.Block80.{goto, jump, call, asking, return_by, exit80}
 use Rattle.sym_micro.specs.declared.outcome.Exit.TheVariants.{One as OneIds, Two as TwoIds}
+use Rattle.sym_micro.specs.declared.outcome.Way.TheVariants.{ByTerms as ByTermsIds, Boot as BootIds}
+use Rattle.sym_terms.specs.Trees.{tree_in}
 use Rattle.sym_micro.specs.Machine.{as80}
 use Rattle.sym_micro.specs.Stands.{machine_of}
 use Rattle.sym_micro.specs.Exits.{FindsExit}
-use Rattle.sym_micro.proofs.Found.{one_exit}
+use Rattle.sym_micro.proofs.Found.{one_exit, exit_of_way, no_exit}
 use Rattle.sym_step.proofs.Where.{where_is, goes_straight}
 use Rattle.sym_step.proofs.exits.exit.Goals as goal
+
+pub returns-in-Pchl : goal.returns-in-Pchl
+returns-in-Pchl c =
+    let old = c.args.terms.now in
+    let held = c.args.run.now.held in
+    let s = as80 (machine_of old c.args.run.now) in
+    let given = c.requires.given.held in
+    subst (λ (i : Instr80). FindsExit old old 3 (exit80 c.args.program.now c.args.next s i) (Some (OneIds (ByTermsIds held.h held.l)))) (sym c.in-Pchl.is)
+    (one_exit old 3 (ByTerms (tree_in old held.h) (tree_in old held.l)) (ByTermsIds held.h held.l) c.requires.terms (record { given = (given.h, given.l); is = refl }))
 
 pub returns-in-Jmp : goal.returns-in-Jmp
 returns-in-Jmp c =
@@ -41,6 +52,31 @@ returns-in-Cif c =
     (where_is old old 3 c.args.run.now.held c.in-Cif.cond c.flag_term-in-Cif.result c.wanted-in-Cif.result c.call-way.result c.goto-in-Cif.result (call c.args.program.now c.args.next c.in-Cif.goal) (goto c.args.program.now c.args.next)
     (more old old 0 3 (lit≤ tt) (still old)) c.requires.terms c.requires.given.held c.flag_term-in-Cif.ensures c.wanted-in-Cif.ensures (c.call-way.ensures old) (c.goto-in-Cif.ensures old))
 
+pub returns-in_err-return_way-in-Ret : goal.returns-in_err-return_way-in-Ret
+returns-in_err-return_way-in-Ret c =
+    let old = c.args.terms.now in
+    let new = c.return_way.new.terms in
+    let s = as80 (machine_of old c.args.run.now) in
+    let exit = exit80 c.args.program.now c.args.next s c.args.instr in
+    subst (λ x. FindsExit old new 3 exit x) (sym c.from_residual.ensures) (no_exit old new 3 (return_by s) exit c.in_err-return_way-in-Ret.ensures)
+
+pub returns-in_ok-return_way-in-Ret : goal.returns-in_ok-return_way-in-Ret
+returns-in_ok-return_way-in-Ret c =
+    let old = c.args.terms.now in
+    let new = c.return_way.new.terms in
+    let s = as80 (machine_of old c.args.run.now) in
+    let way = c.in_ok-return_way-in-Ret.field-0 in
+    subst (λ (i : Instr80). FindsExit old new 3 (exit80 c.args.program.now c.args.next s i) (Some (OneIds way))) (sym c.in-Ret.is)
+    (exit_of_way old new 3 (return_by s) way c.in_ok-return_way-in-Ret.ensures)
+
+pub returns-in_err-way-in-Rif : goal.returns-in_err-way-in-Rif
+returns-in_err-way-in-Rif c =
+    let old = c.args.terms.now in
+    let new = c.return_way-in-Rif.new.terms in
+    let s = as80 (machine_of old c.args.run.now) in
+    let exit = exit80 c.args.program.now c.args.next s c.args.instr in
+    subst (λ x. FindsExit old new 3 exit x) (sym c.from_residual-in_err-way-in-Rif.ensures) (no_exit old new 3 (return_by s) exit c.in_err-way-in-Rif.ensures)
+
 pub returns-in_ok-way-in-Rif : goal.returns-in_ok-way-in-Rif
 returns-in_ok-way-in-Rif c =
     let old = c.args.terms.now in
@@ -50,6 +86,13 @@ returns-in_ok-way-in-Rif c =
     subst (λ (i : Instr80). FindsExit old new 3 (exit80 c.args.program.now c.args.next s i) (Some (TwoIds c.flag_term-in-Rif.result c.wanted-in-Rif.result c.in_ok-way-in-Rif.way c.goto-in-Rif.result))) (sym c.in-Rif.is)
     (where_is old new 3 c.args.run.now.held c.in-Rif.cond c.flag_term-in-Rif.result c.wanted-in-Rif.result c.in_ok-way-in-Rif.way c.goto-in-Rif.result (return_by s) (goto c.args.program.now c.args.next)
     found.grows found.terms c.requires.given.held c.flag_term-in-Rif.ensures c.wanted-in-Rif.ensures found.gives (c.goto-in-Rif.ensures new))
+
+pub returns-in-Rst0 : goal.returns-in-Rst0
+returns-in-Rst0 c =
+    let old = c.args.terms.now in
+    let s = as80 (machine_of old c.args.run.now) in
+    subst (λ (i : Instr80). FindsExit old old 3 (exit80 c.args.program.now c.args.next s i) (Some (OneIds BootIds))) (sym c.in-Rst0.is)
+    (one_exit old 3 Boot BootIds c.requires.terms (record { given = tt; is = refl }))
 
 pub returns-in-In : goal.returns-in-In
 returns-in-In c =

@@ -88,3 +88,91 @@ returns-in-Push c = of_instr c.in-Push.is c.push_on.ensures
 
 pub returns-in-Pop : goal.returns-in-Pop
 returns-in-Pop c = of_instr c.in-Pop.is c.pop_off.ensures
+
+-- each call needs what the instruction needs
+pub move_source-requires : goal.move_source-requires
+move_source-requires c = c.requires
+
+pub give_number-requires : goal.give_number-requires
+give_number-requires c = c.requires
+
+pub give_word-requires : goal.give_word-requires
+give_word-requires c = c.requires
+
+pub load_byte-requires : goal.load_byte-requires
+load_byte-requires c = c.requires
+
+pub store_byte-requires : goal.store_byte-requires
+store_byte-requires c = c.requires
+
+pub load_word-requires : goal.load_word-requires
+load_word-requires c = c.requires
+
+pub store_word-requires : goal.store_word-requires
+store_word-requires c = c.requires
+
+pub load_byte-requires-in-Ldax : goal.load_byte-requires-in-Ldax
+load_byte-requires-in-Ldax c = c.requires
+
+pub store_byte-requires-in-Stax : goal.store_byte-requires-in-Stax
+store_byte-requires-in-Stax c = c.requires
+
+pub exchange-requires : goal.exchange-requires
+exchange-requires c = c.requires
+
+pub exchange_top-requires : goal.exchange_top-requires
+exchange_top-requires c = c.requires
+
+pub move_word-requires : goal.move_word-requires
+move_word-requires c = c.requires
+
+pub operate_on-requires : goal.operate_on-requires
+operate_on-requires c = c.requires
+
+pub operate_number-requires : goal.operate_number-requires
+operate_number-requires c = c.requires
+
+pub increment-requires : goal.increment-requires
+increment-requires c = c.requires
+
+pub decrement-requires : goal.decrement-requires
+decrement-requires c = c.requires
+
+pub add_number-requires : goal.add_number-requires
+add_number-requires c = c.requires
+
+pub add_number-requires-in-Dcx : goal.add_number-requires-in-Dcx
+add_number-requires-in-Dcx c = c.requires
+
+pub add_word-requires : goal.add_word-requires
+add_word-requires c = c.requires
+
+pub adjust-requires : goal.adjust-requires
+adjust-requires c = c.requires
+
+pub complement-requires : goal.complement-requires
+complement-requires c = c.requires
+
+pub set_carry-requires : goal.set_carry-requires
+set_carry-requires c = c.requires
+
+pub complement_carry-requires : goal.complement_carry-requires
+complement_carry-requires c = c.requires
+
+pub rotate-requires : goal.rotate-requires
+rotate-requires c = c.requires
+
+pub rotate-requires-in-Rrc : goal.rotate-requires-in-Rrc
+rotate-requires-in-Rrc c = c.requires
+
+pub rotate-requires-in-Ral : goal.rotate-requires-in-Ral
+rotate-requires-in-Ral c = c.requires
+
+pub rotate-requires-in-Rar : goal.rotate-requires-in-Rar
+rotate-requires-in-Rar c = c.requires
+
+pub push_on-requires : goal.push_on-requires
+push_on-requires c = c.requires
+
+pub pop_off-requires : goal.pop_off-requires
+pop_off-requires c = c.requires

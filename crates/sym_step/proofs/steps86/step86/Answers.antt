@@ -98,3 +98,88 @@ pub returns-in-Pop : goal.returns-in-Pop
 returns-in-Pop c =
     let s = as86 (machine_of c.args.terms.now c.args.run.now) in
     on_86 (ap (pop s) c.stack_register-in-Pop.ensures ∙ ap (effect86 s) (sym c.in-Pop.is)) c.pop.ensures
+
+-- each call needs what the instruction needs
+pub give_byte-requires : goal.give_byte-requires
+give_byte-requires c = c.requires
+
+pub store_byte-requires : goal.store_byte-requires
+store_byte-requires c = c.requires
+
+pub load_byte-requires : goal.load_byte-requires
+load_byte-requires c = c.requires
+
+pub store_byte-requires-in-MovDirectAl : goal.store_byte-requires-in-MovDirectAl
+store_byte-requires-in-MovDirectAl c = c.requires
+
+pub move_byte-requires : goal.move_byte-requires
+move_byte-requires c = c.requires
+
+pub move_word-requires : goal.move_word-requires
+move_word-requires c = c.requires
+
+pub store_number-requires : goal.store_number-requires
+store_number-requires c = c.requires
+
+pub give_word-requires : goal.give_word-requires
+give_word-requires c = c.requires
+
+pub store_word-requires : goal.store_word-requires
+store_word-requires c = c.requires
+
+pub move_word-requires-in-MovAxDs : goal.move_word-requires-in-MovAxDs
+move_word-requires-in-MovAxDs c = c.requires
+
+pub operate_on-requires : goal.operate_on-requires
+operate_on-requires c = c.requires
+
+pub operate_number-requires : goal.operate_number-requires
+operate_number-requires c = c.requires
+
+pub or_cl-requires : goal.or_cl-requires
+or_cl-requires c = c.requires
+
+pub add_words-requires : goal.add_words-requires
+add_words-requires c = c.requires
+
+pub count-requires : goal.count-requires
+count-requires c = c.requires
+
+pub count_word-requires : goal.count_word-requires
+count_word-requires c = c.requires
+
+pub push-requires : goal.push-requires
+push-requires c = c.requires
+
+pub pop-requires : goal.pop-requires
+pop-requires c = c.requires
+
+pub exchange_bytes-requires : goal.exchange_bytes-requires
+exchange_bytes-requires c = c.requires
+
+pub exchange_words-requires : goal.exchange_words-requires
+exchange_words-requires c = c.requires
+
+pub rotate-requires : goal.rotate-requires
+rotate-requires c = c.requires
+
+pub rotate_word-requires : goal.rotate_word-requires
+rotate_word-requires c = c.requires
+
+pub complement-requires : goal.complement-requires
+complement-requires c = c.requires
+
+pub adjust-requires : goal.adjust-requires
+adjust-requires c = c.requires
+
+pub flags_from_ah-requires : goal.flags_from_ah-requires
+flags_from_ah-requires c = c.requires
+
+pub flags_to_ah-requires : goal.flags_to_ah-requires
+flags_to_ah-requires c = c.requires
+
+pub complement_carry-requires : goal.complement_carry-requires
+complement_carry-requires c = c.requires
+
+pub set_carry-requires : goal.set_carry-requires
+set_carry-requires c = c.requires

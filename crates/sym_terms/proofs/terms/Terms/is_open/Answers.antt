@@ -1,7 +1,7 @@
 use Rattle.std.proofs.Common.{◌≡◌, ◌∙◌, ◌||◌, sym, ap, false}
 use Rattle.sym_terms.specs.Heads.{opens}
 use Rattle.sym_terms.specs.Trees.{entries_of, tree_in}
-use Rattle.sym_terms.proofs.Opening.{open_plain, open_join}
+use Rattle.sym_terms.proofs.Opening.{open_plain, open_join, open_first}
 use Rattle.sym_terms.proofs.terms.Terms.is_open.Goals as goal
 
 pub returns-else-opens-clause-open : goal.returns-else-opens-clause-open
@@ -22,3 +22,25 @@ returns-in_default c =
       made = c.head.ensures.terms.made c.args.term c.requires;
       terms = c.head.ensures.terms;
     }
+
+pub returns-then-opens : goal.returns-then-opens
+returns-then-opens c =
+    let held = c.args.self.now in
+    let made = c.in-Join.ensures.terms.made c.args.term c.requires in
+    record {
+      «open» = c.if-opens.true ∙ open_first (entries_of held.nodes) (tree_in held c.args.term) c.in-Join.high c.in-Join.low c.head-in-Join.result made c.in-Join.ensures.tree c.head-in-Join.ensures.tree (sym c.opens.ensures ∙ c.if-opens.true);
+      made = made;
+      terms = c.in-Join.ensures.terms;
+    }
+
+pub returns-else-opens-clause-made : goal.returns-else-opens-clause-made
+returns-else-opens-clause-made c = c.in-Join.ensures.terms.made c.args.term c.requires
+
+pub returns-else-opens-clause-terms : goal.returns-else-opens-clause-terms
+returns-else-opens-clause-terms c = c.in-Join.ensures.terms
+
+pub head-requires-in-Join : goal.head-requires-in-Join
+head-requires-in-Join c = c.in-Join.ensures.operands.0
+
+pub head-requires-else-opens : goal.head-requires-else-opens
+head-requires-else-opens c = c.in-Join.ensures.operands.1.0
