@@ -1,6 +1,6 @@
 //! Arithmetic of 16 bits.
 
-ghost use Rattle.std.specs.Prelude.{◌≡◌, ◌-◌, ◌%◌};
+ghost use Rattle.std.specs.Prelude.{◌≡◌};
 ghost use Rattle.asm80_source_def.specs.Values.{binary, divides};
 
 use asm80_statement_types::Two;
@@ -23,20 +23,6 @@ pub fn binary(op: Two, a: u16, b: u16) -> Option<u16>
         Two::Or => Some(a | b),
         Two::Xor => Some(a ^ b),
     }
-}
-
-/// NOT.
-pub fn inverted(a: u16) -> u16
-    ensures { result ≡ 0xFFFF - a }
-{
-    !a
-}
-
-/// The minus sign.
-pub fn negated(a: u16) -> u16
-    ensures { result ≡ (0x10000 - a) % 0x10000 }
-{
-    a.wrapping_neg()
 }
 
 /// Whether an operator has a divisor.

@@ -9,7 +9,7 @@ ghost use Rattle.asm80_first_walk.specs.Scopes.{scope_of};
 ghost use Rattle.asm80_source_def.specs.Values.{meaning_of_name, value_of_tree, has_register, has_undefined, divides, divides_by_zero, place_of_name, places_in, places_inside, place_alone};
 ghost use Rattle.asm80_source_def.specs.Walk.{meaning_in, meaning_of};
 
-use crate::arithmetic::{binary, divides, inverted, negated};
+use crate::arithmetic::{binary, divides};
 use crate::scope::Scope;
 use asm80_source_def::Meaning;
 use asm80_statement_types::{Expr, Name80, is_register};
@@ -39,8 +39,8 @@ pub fn number_of(scope: &Scope<'_>, e: &Expr) -> Option<u16>
         Expr::Num(n) => Some(*n),
         Expr::Here => Some(scope.here),
         Expr::Name(name) => meaning_of_name(scope, name)?.value,
-        Expr::Not(inside) => Some(inverted(number_of(scope, inside)?)),
-        Expr::Neg(inside) => Some(negated(number_of(scope, inside)?)),
+        Expr::Not(inside) => Some(!number_of(scope, inside)?),
+        Expr::Neg(inside) => Some(number_of(scope, inside)?.wrapping_neg()),
         Expr::Two(op, a, b) => {
             let left = number_of(scope, a)?;
             let right = number_of(scope, b)?;

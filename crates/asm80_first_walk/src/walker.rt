@@ -9,7 +9,7 @@ ghost use Rattle.asm80_source_def.specs.declared.meaning.Meaning.{Meaning};
 ghost use Rattle.asm80_source_def.specs.Names.{clashes, overflows};
 ghost use Rattle.asm80_source_def.specs.Walk.{directive_meaning, ends, is_taken, names_after, operation_in, scope};
 ghost use Rattle.asm80_source_def.specs.FirstFaults.{breaks_v5, label_clashes, label_overflows, rule_if, with_line};
-ghost use Rattle.asm80_first_walk.specs.State.{Done, Steps, all_but_last, breaks_nesting, final, if_unclosed, is_evaluated, nested_ifs, refusals, rule_above, rule_at_end, rule_of_values, start, walk_of};
+ghost use Rattle.asm80_first_walk.specs.State.{Done, Steps, breaks_nesting, final, is_evaluated, nested_ifs, refusals, rule_above, rule_at_end, rule_of_values, start, walk_of};
 
 use crate::directives::{
     address_after, breaks_v5, is_end, is_endif, is_evaluated, is_true, kind_of_label,
@@ -261,29 +261,16 @@ impl Walker {
             return Ok(());
         };
         match operation {
-            Operation::If => self.open(line, is_true),
+            Operation::If => self.ifs.push(OpenIf {
+                is_taken: is_true,
+                refusal: self.fault.unwrap_or((line, AsmRule::V6)),
+            })?,
             Operation::EndIf => {
-                self.close();
-                Ok(())
+                self.ifs.pop();
             }
-            _ => Ok(()),
+            _ => {}
         }
-    }
-
-    fn open(&mut self, line: u32, is_true: bool) -> Result<(), AllocError>
-        ensures { OnOk result (self.new ≡ record self.old { ifs = self.old.ifs ++ record { is_taken = is_true; refusal = if_unclosed self.old.fault line } ∷ [] }) }
-    {
-        self.ifs.push(OpenIf {
-            is_taken: is_true,
-            refusal: self.fault.unwrap_or((line, AsmRule::V6)),
-        })?;
         Ok(())
-    }
-
-    fn close(&mut self)
-        ensures { self.new ≡ record self.old { ifs = all_but_last self.old.ifs } }
-    {
-        self.ifs.pop();
     }
 
     // A fault, if there is one, is the first unless there was one.

@@ -1,8 +1,7 @@
 // The places that are taken.
 ghost use Rattle.std.specs.Prelude.{◌≡◌, ◌||◌, ℕ, filter, filter_map, option_to_list, IfOk};
 ghost use Rattle.base.specs.Addresses.{has_address, is_among};
-ghost use Rattle.asm80_program_types.specs.Program.{if_code};
-ghost use Rattle.asm80_program_types.specs.Taken.{if_calls, place_placed, place_in_cell, is_taken_place};
+ghost use Rattle.asm80_program_types.specs.Taken.{place_placed, place_in_cell, is_taken_place};
 
 use crate::program::Placed;
 use base::AddressSet;
@@ -10,32 +9,15 @@ use cells::{Cell, Place};
 use i80::{Goal, Instr80, Word};
 use std::alloc::{AllocError, Global};
 
-// A place, behind a call of an instruction.
-fn if_calls(place: u16, goal: Goal) -> Option<u16>
-    ensures { result ≡ if_calls place goal }
-{
-    match goal {
-        Goal::At(_) => Some(place),
-        Goal::Boot | Goal::Bdos => None,
-    }
-}
-
-fn if_code(word: Word) -> Option<u16>
-    ensures { result ≡ if_code word }
-{
-    match word {
-        Word::Code(at) => Some(at),
-        Word::Num(_) => None,
-    }
-}
-
 // The place that an instruction takes: that behind a call of an instruction, or the code address that it loads.
 fn place_placed(placed: &Placed) -> Option<u16>
     ensures { result ≡ place_placed placed.now }
 {
     match placed.instr {
-        Instr80::Call(goal) | Instr80::Cif(_, goal) => if_calls(placed.at.wrapping_add(3), goal),
-        Instr80::Lxi(_, word) => if_code(word),
+        Instr80::Call(Goal::At(_)) | Instr80::Cif(_, Goal::At(_)) => Some(
+            placed.at.wrapping_add(3),
+        ),
+        Instr80::Lxi(_, Word::Code(at)) => Some(at),
         _ => None,
     }
 }

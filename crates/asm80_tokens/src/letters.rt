@@ -48,14 +48,18 @@ pub fn comment_len(bytes: &[u8]) -> usize
 pub fn first_inside(bytes: &[u8]) -> Option<(u8, &[u8])>
     ensures { MatchOption result (inside_len bytes.now ≡ 0) (λ p. (bytes.now ≡ p.0 ∷ p.1.now) × (is_inside p.0 ≡ true)) }
 {
-    let (b, rest) = first_byte(bytes)?;
-    if is_inside(b) { Some((b, rest)) } else { None }
+    match bytes {
+        [b, rest @ ..] if is_inside(*b) => Some((*b, rest)),
+        _ => None,
+    }
 }
 
 /// The first byte, and those after it.
 pub fn first_byte(bytes: &[u8]) -> Option<(u8, &[u8])>
     ensures { MatchOption result (bytes.now ≡ []) (λ p. bytes.now ≡ p.0 ∷ p.1.now) }
 {
-    let (b, rest) = bytes.split_first()?;
-    Some((*b, rest))
+    match bytes {
+        [b, rest @ ..] => Some((*b, rest)),
+        [] => None,
+    }
 }

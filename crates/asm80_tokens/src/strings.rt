@@ -76,6 +76,8 @@ fn quoted(alloc: Global, bytes: &[u8]) -> Result<Option<(Vec<u8>, &[u8])>, Alloc
 fn after_quote(bytes: &[u8]) -> Option<&[u8]>
     ensures { MatchOption result ((rest : List ℕ) → bytes.now ≢ 39 ∷ rest) (λ rest. bytes.now ≡ 39 ∷ rest.now) }
 {
-    let (b, rest) = first_byte(bytes)?;
-    if b == b'\'' { Some(rest) } else { None }
+    match bytes {
+        [b'\'', rest @ ..] => Some(rest),
+        _ => None,
+    }
 }

@@ -1,6 +1,7 @@
 -- The edges that are kept, with one more.
 use Rattle.std.proofs.Common.{◌≡◌, ◌≢◌, ℕ, zero, suc, ◌+◌, ◌<◌, Bool, true, false, cond, eqb, List, [], ◌∷◌, ◌++◌, length, get_or, take, ◌-◌, Option, Some, None, refl, sym, ap, subst, ◌∙◌, inl, inr, ◌⊎◌, ⊎_elim, arith, length-set, get_or-set_same, get_or-set_other}
 use Rattle.std.specs.Prelude.{All, IfSome, option_to_list}
+use Rattle.std.specs.Bool.{then_some}
 use Rattle.std.specs.List.{Contains, sum_by}
 use Rattle.std.proofs.Math.ListN.{set}
 use Rattle.std.proofs.lemmas.Bool.{cases_eq, cases_lt, cases_Bool, eqb-true}
@@ -151,9 +152,9 @@ named_start p a t i is here named =
     named_in p p.instrs at.0 t d is.named at.1 (ap named_by (at.2 d) ∙ named)
 
 -- the edges of an instruction, by the two that there may be
-pub edges_wired : (p : Program) (a : ℕ) (i : Instr80) (node : Option Node) (goes_on : Bool) → IsProgram p → instr_at p a ≡ Some i → ((t : ℕ) → node ≡ Some (Start t) → named_by i ≡ Some t) → ((next : List Node) → edges next i ≡ option_to_list node ++ cond goes_on next []) → ([] ++ edges_if p node) ++ edges_if p (cond goes_on (Some (Start (a + length80 i))) None) ≡ successors p (Start a)
+pub edges_wired : (p : Program) (a : ℕ) (i : Instr80) (node : Option Node) (goes_on : Bool) → IsProgram p → instr_at p a ≡ Some i → ((t : ℕ) → node ≡ Some (Start t) → named_by i ≡ Some t) → ((next : List Node) → edges next i ≡ option_to_list node ++ cond goes_on next []) → ([] ++ edges_if p node) ++ edges_if p (then_some goes_on (Start (a + length80 i))) ≡ successors p (Start a)
 edges_wired p a i node goes_on is here named split =
-    ap (λ xs. xs ++ edges_if p (cond goes_on (Some (Start (a + length80 i))) None)) (by_node node named)
+    ap (λ xs. xs ++ edges_if p (then_some goes_on (Start (a + length80 i)))) (by_node node named)
     ∙ ap (λ xs. option_to_list node ++ xs) (by_next goes_on)
     ∙ sym (split (edge_to p (a + length80 i)))
     ∙ ap (edges_at p a) (sym here)
@@ -163,7 +164,7 @@ edges_wired p a i node goes_on is here named split =
     by_node (Some (Start t)) n = let start : is_start p t ≡ true = named_start p a t i is here (n t refl) in rw start
     by_node (Some Return) n = refl
 
-    by_next : (b : Bool) → edges_if p (cond b (Some (Start (a + length80 i))) None) ≡ cond b (edge_to p (a + length80 i)) []
+    by_next : (b : Bool) → edges_if p (then_some b (Start (a + length80 i))) ≡ cond b (edge_to p (a + length80 i)) []
     by_next true = refl
     by_next false = refl
 

@@ -1,25 +1,13 @@
 // Where the search begins.
 
-ghost use Rattle.std.specs.Prelude.{◌≡◌, ◌<◌, ◌≤◌, ℕ, length, slice_index, IfOk, IsTrue};
+ghost use Rattle.std.specs.Prelude.{◌≡◌, ◌<◌, ◌≤◌, ℕ, length, slice_index, IfOk};
 ghost use Rattle.std.specs.Vec.{vec_capacity};
-ghost use Rattle.i80.specs.Columns.{is_well_formed};
-ghost use Rattle.flow.specs.Begin.{vertex_placed, first_vertices};
+ghost use Rattle.flow.specs.Begin.{first_vertices};
 
 use crate::search::Vertex;
 use asm80_program_types::{Placed, Program80};
 use cells::Keep;
 use std::alloc::{AllocError, Global};
-
-fn vertex_of(placed: &Placed) -> Vertex
-    requires { IsTrue (is_well_formed placed.now.instr) }
-    ensures { result ≡ vertex_placed placed.now }
-{
-    Vertex {
-        defines: i80::defs(placed.instr),
-        need: i80::uses(placed.instr),
-        waits: true,
-    }
-}
 
 /// The nodes of a program, by their numbers: each needs what it uses, and waits.
 pub fn vertices_of(alloc: Global, program: &Program80) -> Result<Vec<Vertex>, AllocError>
@@ -27,7 +15,11 @@ pub fn vertices_of(alloc: Global, program: &Program80) -> Result<Vec<Vertex>, Al
 {
     let mut vertices = Vec::new(alloc);
     for placed in program.instrs() {
-        vertices.push(vertex_of(placed))?;
+        vertices.push(Vertex {
+            defines: i80::defs(placed.instr),
+            need: i80::uses(placed.instr),
+            waits: true,
+        })?;
     }
     vertices.push(Vertex {
         defines: Keep::none(),

@@ -1,6 +1,6 @@
 // The blocks of a program, found in one pass.
 
-ghost use Rattle.std.specs.Prelude.{◌≡◌, ◌+◌, ◌-◌, ◌<◌, ◌++◌, ◌∷◌, [], ◌||◌, ℕ, true, map, filter_map, if◌then◌else◌, All, IfOk, OnOk, option_to_list};
+ghost use Rattle.std.specs.Prelude.{◌≡◌, ◌+◌, ◌-◌, ◌<◌, ◌++◌, ◌∷◌, [], ◌||◌, ℕ, true, map, filter_map, if◌then◌else◌, All, IfOk, OnOk};
 ghost use Rattle.base.specs.Addresses.{has_address, is_among};
 ghost use Rattle.asm80_program_types.specs.Program.{Program};
 ghost use Rattle.flow.specs.Blocks.{target_placed, blocks, leaders};
@@ -38,21 +38,14 @@ fn target_placed(placed: &Placed) -> Option<u16>
     }
 }
 
-// Adds an address, if there is one.
-fn mark(set: &mut AddressSet, at: Option<u16>)
-    ensures { (a : ℕ) → has_address set.new a ≡ (has_address set.old a || is_among (option_to_list at) a) }
-{
-    if let Some(at) = at {
-        set.insert(at);
-    }
-}
-
 // Adds the targets of jumps and calls.
 fn mark_targets(set: &mut AddressSet, instrs: &[Placed])
     ensures { (a : ℕ) → has_address set.new a ≡ (has_address set.old a || is_among (filter_map target_placed instrs.now) a) }
 {
     for placed in instrs {
-        mark(set, target_placed(placed));
+        if let Some(at) = target_placed(placed) {
+            set.insert(at);
+        }
     }
 }
 
@@ -61,7 +54,7 @@ fn mark_all(set: &mut AddressSet, addresses: &[u16])
     ensures { (a : ℕ) → has_address set.new a ≡ (has_address set.old a || is_among addresses.now a) }
 {
     for address in addresses {
-        mark(set, Some(*address));
+        set.insert(*address);
     }
 }
 

@@ -54,23 +54,13 @@ pub fn number_of(program: &Program80, node: Node) -> Option<usize>
     }
 }
 
-// Whether the instruction of a number starts at an address.
-fn starts_at(program: &Program80, number: usize, at: u16) -> bool
-    ensures { result ≡ true → IsNumber program.now number (Start at) }
-{
-    match program.starts().get(number) {
-        Some(start) => *start == at,
-        None => false,
-    }
-}
-
 // The number of a node, looked for first at a number that it may well have.
 fn number_near(program: &Program80, near: usize, node: Node) -> Option<usize>
     requires { IsProgram program.now }
     ensures { MatchOption result (Contains (nodes program.now) node → ⊥) (λ k. IsNumber program.now k node) }
 {
-    match node {
-        Node::Start(at) if starts_at(program, near, at) => Some(near),
+    match (node, program.starts().get(near)) {
+        (Node::Start(at), Some(start)) if *start == at => Some(near),
         _ => number_of(program, node),
     }
 }
@@ -111,19 +101,6 @@ fn keep_if(
     }
 }
 
-// The place after an instruction, where control may go on to it.
-fn next_of(placed: &Placed, goes_on: bool) -> Option<Node>
-    requires well_formed { IsTrue (is_well_formed placed.now.instr) }
-    requires within { placed.now.at + length80 placed.now.instr < 2 ^ 16 }
-    ensures { result ≡ (if goes_on then Some (Start (placed.now.at + length80 placed.now.instr)) else None) }
-{
-    if goes_on {
-        Some(Node::Start(placed.at + i80::length(placed.instr)))
-    } else {
-        None
-    }
-}
-
 // Keeps the edges of an instruction.
 fn wire(
     sources: &mut Sources,
@@ -139,9 +116,9 @@ fn wire(
     ensures { OnOk result (IsWiredTo program.now sources.new from (successors program.now (Start placed.now.at))) }
 {
     let ways = ways_from(placed.instr);
-    let next = next_of(placed, ways.next);
+    let next = Node::Start(placed.at + i80::length(placed.instr));
     keep_if(sources, program, from, ways.node)?;
-    keep_if(sources, program, from, next)
+    keep_if(sources, program, from, ways.next.then_some(next))
 }
 
 // Keeps the edges of all instructions.

@@ -1,6 +1,8 @@
 use Rattle.std.proofs.Common.{◌≡◌, ◌∙◌, ◌+◌, ◌<◌, ◌≤◌, ◌++◌, ◌∷◌, [], List, ℕ, length, get_or, ap, sym, subst, map, take, true}
 use Rattle.std.proofs.lemmas.List.{map_more, take_all}
 use Rattle.cells.specs.Parts.{Parts, nothing}
+use Rattle.i80.specs.Columns.{defs80}
+use Rattle.i80.specs.declared.Instr80.TheVariants.{Nop}
 use Rattle.asm80_program_types.specs.declared.program.Placed.{Placed}
 use Rattle.flow.specs.declared.search.Vertex.{Vertex}
 use Rattle.flow.specs.Begin.{vertex_placed, vertex_return}
@@ -22,9 +24,12 @@ last xs ys vs new i a b same ge put so_far none none_2 =
     ∙ ap (λ x. map vertex_placed ys ++ (record { defines = x; need = b; waits = true }) ∷ []) none
     ∙ ap (λ x. map vertex_placed ys ++ (record { defines = nothing; need = x; waits = true }) ∷ []) none_2
 
+abbrev none : Placed
+none = record { at = 0; line = 0; instr = Nop }
+
 pub loop-placed-preserved : goal.loop-placed-preserved
 loop-placed-preserved c =
-    more c.instrs-placed-items.result.now c.args.program.now.instrs c.loop-placed.vertices.items _ c.loop-placed.placed-index _ c.vertex_of.result c.instrs-placed-items.ensures.value c.loop-placed-test.true c.in_ok-push.ensures.items c.loop-placed.invariant c.vertex_of.ensures
+    more c.instrs-placed-items.result.now c.args.program.now.instrs c.loop-placed.vertices.items _ c.loop-placed.placed-index _ _ c.instrs-placed-items.ensures.value c.loop-placed-test.true c.in_ok-push.ensures.items c.loop-placed.invariant (ap (λ x. record { defines = x; need = c.uses.result; waits = true }) c.defs.ensures ∙ ap (λ x. record { defines = defs80 (get_or c.instrs-placed-items.result.now c.loop-placed.placed-index none).instr; need = x; waits = true }) c.uses.ensures)
 
 pub returns : goal.returns
 returns c =
