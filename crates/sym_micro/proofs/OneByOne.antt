@@ -47,6 +47,12 @@ module _ (start now new : Contents) (first run s : Run) (steps : List Micro) (i 
   left : Performing start now first run steps (get_or steps i other ∷ drop (i + 1) steps)
   left = subst (Performing start now first run steps) here d
 
+  -- there is room for the next one
+  pub room_at : length run.actions.items + moves (get_or steps i other) ≤ 512
+  room_at =
+      let room : length run.actions.items + (moves (get_or steps i other) + all_moves (drop (i + 1) steps)) ≤ 512 = left.room in
+      omega arith
+
   pub goes_on_at : GoesOn now new run s (weight (get_or steps i other)) (moves (get_or steps i other)) (λ m. m ≡ micro (machine_of now run) (get_or steps i other)) (Some tt) → Performing start new first s steps (drop (i + 1) steps)
   goes_on_at g = goes_on start now new first run s steps (drop (i + 1) steps) (get_or steps i other) left g
 

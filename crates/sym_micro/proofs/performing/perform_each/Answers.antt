@@ -6,12 +6,22 @@ use Rattle.sym_micro.specs.declared.micro.ByteSlot.TheVariants.{Of80}
 use Rattle.sym_micro.specs.declared.micro.ByteValue.TheVariants.{Of}
 use Rattle.sym_micro.specs.Machine.{micros, weights, all_moves}
 use Rattle.sym_micro.specs.Stands.{machine_of, GoesOn}
-use Rattle.sym_micro.proofs.OneByOne.{goes_on_at, fails_at, ends_at}
+use Rattle.sym_micro.proofs.OneByOne.{room_at, goes_on_at, fails_at, ends_at}
 use Rattle.sym_micro.proofs.performing.perform_each.Goals as goal
 
 -- what stands after the last one
 other : Micro
 other = Byte (Of80 A) (Of (Of80 A))
+
+pub loop-step-init : goal.loop-step-init
+loop-step-init c = record { ready = c.requires.ready; room = c.requires.room; rest = λ new s made performed. performed }
+
+pub perform_one-requires : goal.perform_one-requires
+unfolding other
+perform_one-requires c =
+    let now = c.loop-step.terms in
+    let s = c.loop-step.run in
+    record { ready = c.loop-step.invariant.ready; room = room_at c.args.terms.now now now c.args.run.now s s c.args.steps.now c.loop-step.step-index other c.loop-step-test.true c.loop-step.invariant }
 
 pub returns-in_err-perform_one : goal.returns-in_err-perform_one
 unfolding other

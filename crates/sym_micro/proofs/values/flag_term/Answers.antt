@@ -4,12 +4,13 @@ use Rattle.sym_terms.specs.Term.{Start, Unknown}
 use Rattle.sym_terms.specs.Making.{flag, bit}
 use Rattle.sym_terms.specs.Trees.{tree_in, Makes}
 use Rattle.xlt_pool.specs.Contents.{Contents}
+use Rattle.sym_block_def.specs.Symbolic86.{brought_back}
 use Rattle.sym_micro.specs.declared.micro.FlagSlot.{FlagSlot}
 use Rattle.sym_micro.specs.declared.micro.FlagValue.{FlagValue}
 use Rattle.sym_micro.specs.declared.run.Run.{Run}
 use Rattle.sym_micro.specs.Machine.{byte_in, flag_value}
 use Rattle.sym_micro.specs.Stands.{machine_of}
-use Rattle.sym_micro.proofs.Ready.{byte_here, byte_tree_here, makes_same}
+use Rattle.sym_micro.proofs.Ready.{byte_here, byte_tree_here, word_here, word_tree_here, makes_same}
 use Rattle.sym_micro.proofs.values.flag_term.Goals as goal
 
 of_arm : {value arm : FlagValue} (old new : Contents) (r : Run) (slot : FlagSlot) (made : Option TermId) → value ≡ arm → Makes old new 1 (flag_value (machine_of old r) slot arm) made → Makes old new 1 (flag_value (machine_of old r) slot value) made
@@ -45,3 +46,19 @@ returns-in-InByte c =
 
 pub returns-in-Unknown : goal.returns-in-Unknown
 returns-in-Unknown c = of_arm c.args.terms.now c.unknown.new.self c.args.run.now c.args.slot c.unknown.result c.in-Unknown.is c.unknown.ensures
+
+pub flag-requires : goal.flag-requires
+flag-requires c = record { given = c.requires.given.result; of_sort = c.requires.sorted.result.leaves c.part_of-part.result c.part_of-part.ensures.flag }
+
+pub flag-requires-in-OfTurned : goal.flag-requires-in-OfTurned
+flag-requires-in-OfTurned c = record { given = c.requires.given.turned; of_sort = c.requires.sorted.turned.leaves }
+
+pub brought_back-requires : goal.brought_back-requires
+brought_back-requires c = (word_here c.args.terms.now c.args.run.now c.in-BroughtBack.word c.word.result c.requires c.word.ensures).given
+
+pub returns-in-BroughtBack : goal.returns-in-BroughtBack
+returns-in-BroughtBack c =
+    let old = c.args.terms.now in
+    let r = c.args.run.now in
+    let same = ap brought_back (word_tree_here old r c.in-BroughtBack.word c.word.result c.word.ensures) in
+    of_arm old c.brought_back.new.terms r c.args.slot c.brought_back.result c.in-BroughtBack.is (makes_same old c.brought_back.new.terms _ _ c.brought_back.result same c.brought_back.ensures)
