@@ -214,7 +214,7 @@ pub fn uses(i: Instr80) -> Keep
         Instr80::Shld(_) | Instr80::Xthl | Instr80::Sphl | Instr80::Pchl => hl(),
         Instr80::Xchg => hl().join(de()),
         Instr80::Ldax(registers) => pair(registers),
-        Instr80::Stax(registers) => pair(registers).with(Part::A),
+        Instr80::Stax(registers) => a().join(pair(registers)),
         Instr80::Inx(registers) | Instr80::Dcx(registers) => pair(registers),
         Instr80::Dad(registers) => hl().join(pair(registers)),
         Instr80::Push(stored) => stack_pair(stored),
