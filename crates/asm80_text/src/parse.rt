@@ -1,6 +1,7 @@
 //! Statements of tokens.
 
-ghost use Rattle.std.specs.Prelude.{◌≡◌, ◌≢◌, ◌∷◌, ℕ, All, IfOk, List, MatchOption, Option};
+ghost use Rattle.std.specs.Prelude.{◌≡◌, ◌≢◌, ◌∷◌, ℕ, All, IfOk, List, MatchOption, Option, option_map};
+ghost use Rattle.std.specs.Borrow.{Bor};
 ghost use Rattle.asm80_tokens.specs.declared.token.Token.{Token};
 ghost use Rattle.asm80_tokens.specs.Tokens.{IsLawful};
 ghost use Rattle.asm80_statement_types.specs.Tree.{Operand, statement_of};
@@ -28,7 +29,7 @@ pub fn statement<N: Notation>(
     let (op, args) = body::<N>(alloc, rest)?;
     Ok(Stmt80 {
         line,
-        label,
+        label: label.copied(),
         op,
         args: Args::from_vec(args),
     })
@@ -113,12 +114,12 @@ fn after_comma(tokens: &[Token]) -> Option<&[Token]>
 }
 
 // The label at the front of the tokens, if there is one, and the tokens after it and its colon.
-fn label_of(tokens: &[Token]) -> (Option<Name80>, &[Token])
-    ensures label { result.0 ≡ label_of tokens.now }
+fn label_of(tokens: &[Token]) -> (Option<&Name80>, &[Token])
+    ensures label { option_map (λ (name : Bor (List ℕ)). name.now) result.0 ≡ label_of tokens.now }
     ensures rest { result.1.now ≡ past_label tokens.now }
 {
     match tokens {
-        [Token::Word(name), rest @ ..] => (Some(*name), past_colon(rest)),
+        [Token::Word(name), rest @ ..] => (Some(name), past_colon(rest)),
         _ => (None, tokens),
     }
 }

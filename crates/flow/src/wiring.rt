@@ -59,9 +59,12 @@ fn number_near(program: &Program80, near: usize, node: Node) -> Option<usize>
     requires { IsProgram program.now }
     ensures { MatchOption result (Contains (nodes program.now) node → ⊥) (λ k. IsNumber program.now k node) }
 {
-    match (node, program.starts().get(near)) {
-        (Node::Start(at), Some(start)) if *start == at => Some(near),
-        _ => number_of(program, node),
+    match node {
+        Node::Start(at) => match program.starts().get(near) {
+            Some(start) if *start == at => Some(near),
+            _ => number_of(program, node),
+        },
+        Node::Return => number_of(program, node),
     }
 }
 

@@ -5,11 +5,11 @@ use Rattle.asm80_program_types.specs.Program.{starts}
 use Rattle.flow.proofs.Numbers.{number_of_start}
 use Rattle.flow.proofs.wiring.number_near.Goals as goal
 
-pub returns-in-Start-Some : goal.returns-in-Start-Some
-returns-in-Start-Some c =
+pub returns-in-Some : goal.returns-in-Some
+returns-in-Some c =
     let p = c.args.program.now in
     let near = c.args.near in
-    let start = c.in-Start-Some.start.now in
-    let within = subst (λ xs. near < length xs) c.starts.ensures (ltb-true _ _ (sym c.in-Start-Some.ensures.lookup.0)) in
-    let stands = ap (λ xs. get_or xs near start) (sym c.starts.ensures) ∙ sym c.in-Start-Some.ensures.lookup.1 ∙ c.if-start-at.true in
-    rw c.in-Start-Some.is-0 (number_of_start p near c.in-Start-Some.at within (get_or_default (starts p) near 0 start within ∙ stands))
+    let start = c.in-Some.start.now in
+    let within = subst (λ xs. near < length xs) c.starts.ensures (ltb-true _ _ (sym c.in-Some.ensures.lookup.0)) in
+    let stands = ap (λ xs. get_or xs near start) (sym c.starts.ensures) ∙ sym c.in-Some.ensures.lookup.1 ∙ c.if-start-at.true in
+    rw c.in-Start.is (number_of_start p near c.in-Start.at within (get_or_default (starts p) near 0 start within ∙ stands))
