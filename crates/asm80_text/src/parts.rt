@@ -6,12 +6,11 @@ ghost use Rattle.asm80_tokens.specs.Tokens.{IsLawful};
 ghost use Rattle.asm80_statement_types.specs.Tree.{statement_of};
 ghost use Rattle.asm80_statement_types.specs.WellFormed.{AreWellFormed, IsWellFormed};
 ghost use Rattle.asm80_text.specs.Statement.{kept};
-ghost use Rattle.asm80_text.specs.Line.{begins_with_colon, begins_with_reserved, has_reserved_label, is_bang, is_deep, is_name, is_reserved, open_after, parts_of};
+ghost use Rattle.asm80_text.specs.Line.{begins_with_reserved, has_reserved_label, is_bang, is_deep, is_name, is_reserved, open_after, parts_of};
 ghost use Rattle.asm80_statement_types.specs.declared.stmt.Stmt80.{Stmt80};
 ghost use Rattle.asm80_text.specs.Results.{AddsStatement, GivesStatements};
 ghost use Rattle.asm80_tokens.specs.Words.{as_operation};
 
-use crate::first;
 use crate::parse::statement;
 use asm80_statement_types::{Stmt80, Two};
 use asm80_tokens::{Notation, ParseFault, Token, as_operation};
@@ -33,7 +32,12 @@ pub fn parts_of<N: Notation>(alloc: Global, tokens: &[Token]) -> Result<Vec<&[To
 pub fn has_bang(tokens: &[Token]) -> bool
     ensures { result ≡ list_any is_bang tokens.now }
 {
-    tokens.iter().any(|token| is_bang(token))
+    for token in tokens {
+        if is_bang(token) {
+            return true;
+        }
+    }
+    false
 }
 
 fn is_bang(token: &Token) -> bool
@@ -49,17 +53,19 @@ fn is_bang(token: &Token) -> bool
 pub fn some_has_reserved_label<N: Notation>(parts: &[&[Token]]) -> bool
     ensures { result ≡ list_any (λ part. has_reserved_label N.spelling part.now) parts.now }
 {
-    parts.iter().any(|part| has_reserved_label::<N>(*part))
+    for part in parts {
+        if has_reserved_label::<N>(*part) {
+            return true;
+        }
+    }
+    false
 }
 
 fn has_reserved_label<N: Notation>(part: &[Token]) -> bool
     ensures { result ≡ has_reserved_label N.spelling part.now }
 {
-    let Some((token, rest)) = first(part) else {
-        return false;
-    };
-    match token {
-        Token::Digits(_) => begins_with_reserved::<N>(rest),
+    match part {
+        [Token::Digits(_), rest @ ..] => begins_with_reserved::<N>(rest),
         _ => begins_with_reserved::<N>(part),
     }
 }
@@ -70,7 +76,7 @@ fn begins_with_reserved<N: Notation>(tokens: &[Token]) -> bool
     match tokens {
         [token, rest @ ..] => {
             if operates::<N>(token) {
-                begins_with_colon(rest)
+                matches!(rest, [Token::Colon, ..])
             } else {
                 is_reserved(token)
             }
@@ -100,15 +106,6 @@ fn is_reserved(token: &Token) -> bool
     }
 }
 
-fn begins_with_colon(tokens: &[Token]) -> bool
-    ensures { result ≡ begins_with_colon tokens.now }
-{
-    match tokens {
-        [Token::Colon, ..] => true,
-        _ => false,
-    }
-}
-
 // Whether an operator is a name.
 fn is_name(op: Two) -> bool
     ensures { result ≡ is_name op }
@@ -123,7 +120,12 @@ fn is_name(op: Two) -> bool
 pub fn some_is_deep(parts: &[&[Token]]) -> bool
     ensures { result ≡ list_any (λ part. is_deep part.now) parts.now }
 {
-    parts.iter().any(|part| is_deep(*part))
+    for part in parts {
+        if is_deep(*part) {
+            return true;
+        }
+    }
+    false
 }
 
 fn is_deep(part: &[Token]) -> bool
@@ -198,8 +200,9 @@ fn keep(found: &mut Vec<Stmt80>, s: Stmt80) -> Result<(), AllocError>
     ensures unchanged { OnErr result (found.new.items ≡ found.old.items) }
     ensures well_formed { AreWellFormed found.new.items }
 {
-    if s.label.is_some() || s.op.is_some() {
-        found.push(s)?;
+    if s.label.is_none() && s.op.is_none() {
+        return Ok(());
     }
+    found.push(s)?;
     Ok(())
 }

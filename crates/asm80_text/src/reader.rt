@@ -6,7 +6,6 @@ ghost use Rattle.asm80_statement_types.specs.declared.fault.ReadFault.TheVariant
 ghost use Rattle.asm80_statement_types.specs.declared.fault.LineRule.{LineRule};
 ghost use Rattle.asm80_statement_types.specs.Tree.{Statement};
 ghost use Rattle.asm80_statement_types.specs.WellFormed.{AreWellFormed};
-ghost use Rattle.base.specs.Held.{held_with_byte};
 ghost use Rattle.asm80_text.specs.Stream.{HoldsFault, StreamGives, plain_len};
 ghost use Rattle.asm80_statement_types.specs.Reading.{Finishes, HasOneOutcome};
 ghost use Rattle.asm80_text.specs.Reader.{Adds, Advances, After, Agrees, EndsLine, EndsStream, answer_of, rule_of_long};
@@ -122,16 +121,7 @@ impl<N: Notation> LineReader<N> {
     fn is_at_line(&self) -> bool
         ensures { result ≡ true → (self.now.fault ≡ None) × (self.now.is_closed ≡ false) × (self.now.held ≡ Some []) }
     {
-        self.fault.is_none() && !self.is_closed && self.holds_nothing()
-    }
-
-    fn holds_nothing(&self) -> bool
-        ensures { result ≡ true → self.now.held ≡ Some [] }
-    {
-        match self.held.line() {
-            Some(line) => line.is_empty(),
-            None => false,
-        }
+        self.fault.is_none() && !self.is_closed && matches!(self.held.line(), Some([]))
     }
 
     // The fault that there is.
@@ -172,19 +162,7 @@ impl<N: Notation> LineReader<N> {
         ensures stands { self.old.fault ≢ None → self.new ≡ self.old }
         ensures closed { self.old.is_closed ≡ true → self.new ≡ self.old }
     {
-        if self.fault.is_some() {
-            return;
-        }
-        self.take(b);
-    }
-
-    // Takes the next byte of the stream.
-    fn take(&mut self, b: u8)
-        requires { self.old.fault ≡ None }
-        ensures grows { self.new.fault ≢ Some Memory → (stream : List ℕ) → After N.spelling stream self.old → After N.spelling (stream ++ b ∷ []) self.new }
-        ensures closed { self.old.is_closed ≡ true → self.new ≡ self.old }
-    {
-        if self.is_closed {
+        if self.fault.is_some() || self.is_closed {
             return;
         }
         if b == b'\n' {
@@ -192,14 +170,8 @@ impl<N: Notation> LineReader<N> {
         } else if b == END_OF_FILE {
             self.end_stream();
         } else {
-            self.hold(b);
+            self.held.push(b);
         }
-    }
-
-    fn hold(&mut self, b: u8)
-        ensures { self.new ≡ record self.old { held = held_with_byte self.old.held b } }
-    {
-        self.held.push(b);
     }
 
     // The line that is held is complete by a LF.
@@ -289,10 +261,12 @@ fn plain_len(bytes: &[u8]) -> usize
     ensures value { result ≡ plain_len bytes.now }
     ensures within { result ≤ length bytes.now }
 {
-    bytes
-        .iter()
-        .take_while(|b| **b != b'\n' && **b != END_OF_FILE)
-        .count()
+    for (count, b) in bytes.iter().enumerate() {
+        if *b == b'\n' || *b == END_OF_FILE {
+            return count;
+        }
+    }
+    bytes.len()
 }
 
 /// In each spelling a stream has at most one outcome: its statements, or its first fault with the statements before it.

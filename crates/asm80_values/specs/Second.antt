@@ -3,8 +3,6 @@ use Rattle.std.specs.Prelude.{◌≡◌, ℕ, ◌^◌, ◌<◌, ◌||◌, Bool, 
 use Rattle.asm80_statement_types.specs.declared.stmt.Stmt80.{Stmt80}
 use Rattle.asm80_statement_types.specs.Tree.{statement_of}
 use Rattle.base.specs.Addresses.{has_address, IsSetOf}
-use Rattle.asm80_values.specs.declared.fault.FormFault.{FormFault}
-use Rattle.asm80_values.specs.declared.fault.FormFault.TheVariants.{Rule, Memory as NoRoom}
 use Rattle.asm80_first_walk.specs.declared.walked.Taken.{Taken}
 use Rattle.asm80_first_walk.specs.declared.walked.AsmFault.{AsmFault}
 use Rattle.asm80_first_walk.specs.declared.walked.AsmFault.TheVariants.{Refused, Memory}
@@ -51,11 +49,6 @@ abbrev pub GivesItem : Setting → WalkRow → Result (Option Item) AsmFault →
 GivesItem t r (Ok o) = (rule_of_operands t.scope r.statement.args (row_operation r) ≡ None) × IsItemOf t r o
 GivesItem t r (Err (Refused line rule)) = (line ≡ r.statement.line) × (rule_of_operands t.scope r.statement.args (row_operation r) ≡ Some rule)
 GivesItem t r (Err Memory) = Unit {0}
-
--- the fault of operands on a line
-abbrev pub fault_on : ℕ → FormFault → AsmFault
-fault_on line (Rule rule) = Refused line rule
-fault_on line NoRoom = Memory
 
 -- a SET sets its name again
 abbrev pub set_by : WalkRow → List Name → Option Operation → Option (List ℕ) → List Name

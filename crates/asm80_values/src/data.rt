@@ -49,17 +49,6 @@ fn word_cells(setting: &Setting<'_>, arg: &Arg) -> [Cell; 2]
     }
 }
 
-// Adds an item of DW.
-fn push_word(cells: &mut Vec<Cell>, setting: &Setting<'_>, arg: &Arg) -> Result<(), AllocError>
-    ensures cells { OnOk result (cells.new.items ≡ cells.old.items ++ cells_of_word (setting_of setting.now) (operand_of arg.now)) }
-    ensures bytes { OnOk result (All HoldsByte (cells_of_word (setting_of setting.now) (operand_of arg.now))) }
-{
-    let [low, high] = word_cells(setting, arg);
-    cells.push(low)?;
-    cells.push(high)?;
-    Ok(())
-}
-
 /// The cells of DB.
 pub fn cells_of_bytes(
     alloc: Global,
@@ -87,7 +76,7 @@ pub fn cells_of_words(
 {
     let mut cells = Vec::new(alloc);
     for arg in args {
-        push_word(&mut cells, setting, arg)?;
+        cells.extend_from_slice(&word_cells(setting, arg))?;
     }
     Ok(cells)
 }

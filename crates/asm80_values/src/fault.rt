@@ -2,7 +2,7 @@
 ghost use Rattle.std.specs.Prelude.{◌≡◌};
 
 use asm80_source_def::AsmRule;
-use std::alloc::{AllocError, AllocFailed};
+use std::alloc::AllocError;
 
 /// Why operands are refused.
 #[derive(Clone, Copy, Drop)]
@@ -18,16 +18,6 @@ impl From<AllocError> for FormFault {
     ghost from_gives = { λ _ fault. fault ≡ Memory };
 
     fn from(_error: AllocError) -> FormFault {
-        FormFault::Memory
-    }
-}
-
-impl<T: Drop> From<AllocFailed<T>> for FormFault {
-    ghost use Rattle.asm80_values.specs.declared.fault.FormFault.TheVariants.{Memory};
-
-    ghost from_gives = { λ _ fault. fault ≡ Memory };
-
-    fn from(_error: AllocFailed<T>) -> FormFault {
         FormFault::Memory
     }
 }

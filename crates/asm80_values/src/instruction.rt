@@ -12,25 +12,17 @@ use asm80_source_def::Operation;
 use asm80_statement_types::Arg;
 use i80::{Goal, Instr80, Pair, Word};
 
-// The immediate word of LXI; that of LXI SP is a number always.
+// The immediate word of LXI, a code address or a number; that of LXI SP is a number always.
 fn word_of(setting: &Setting<'_>, pair: Pair, arg: &Arg) -> Word
     ensures word { result ≡ word_of (setting_of setting.now) pair (operand_of arg.now) }
     ensures coded { (p : Pair) → IsCoded (Instr80.Lxi p result) }
 {
     match pair {
         Pair::Sp => Word::Num(value(setting, arg)),
-        _ => word(setting, arg),
-    }
-}
-
-// A word: a code address or a number.
-fn word(setting: &Setting<'_>, arg: &Arg) -> Word
-    ensures word { result ≡ word_of (setting_of setting.now) Pair.B (operand_of arg.now) }
-    ensures coded { (p : Pair) → IsCoded (Instr80.Lxi p result) }
-{
-    match code_address(setting, arg) {
-        Some(at) => Word::Code(at),
-        None => Word::Num(value(setting, arg)),
+        _ => match code_address(setting, arg) {
+            Some(at) => Word::Code(at),
+            None => Word::Num(value(setting, arg)),
+        },
     }
 }
 

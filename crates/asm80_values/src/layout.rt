@@ -60,14 +60,19 @@ fn stands_outside(item: &Item, top: u16) -> bool
 fn breaks(item: &Item, rule: AsmRule, top: u16) -> bool
     ensures { result ≡ breaks top rule item.now }
 {
-    match (rule, &item.form) {
-        (AsmRule::S7, _) => stands_outside(item, top),
-        (AsmRule::S1, Form::Instruction(instruction)) => instruction.is_foreign,
-        (AsmRule::S2, Form::Instruction(instruction)) => instruction.misses,
-        (AsmRule::S4, Form::Instruction(instruction)) => instruction.computes,
-        (AsmRule::S4, Form::Data(data)) => data.computes,
-        (AsmRule::S5, Form::Instruction(instruction)) => instruction.loads_code,
-        _ => false,
+    if matches!(rule, AsmRule::S7) {
+        return stands_outside(item, top);
+    }
+    match &item.form {
+        Form::Nothing => false,
+        Form::Instruction(instruction) => match rule {
+            AsmRule::S1 => instruction.is_foreign,
+            AsmRule::S2 => instruction.misses,
+            AsmRule::S4 => instruction.computes,
+            AsmRule::S5 => instruction.loads_code,
+            _ => false,
+        },
+        Form::Data(data) => matches!(rule, AsmRule::S4) && data.computes,
     }
 }
 
@@ -75,8 +80,12 @@ fn breaks(item: &Item, rule: AsmRule, top: u16) -> bool
 fn first_breach(items: &[Item], rule: AsmRule, top: u16) -> Option<(u32, AsmRule)>
     ensures { result ≡ refused_item rule (find (breaks top rule) items.now) }
 {
-    let item = items.iter().find(|item| breaks(item, rule, top))?;
-    Some((item.line, rule))
+    for item in items {
+        if breaks(item, rule, top) {
+            return Some((item.line, rule));
+        }
+    }
+    None
 }
 
 // The first breach of the rules S7, S1, S2, S4, S5, in this order.

@@ -4,7 +4,6 @@ ghost use Rattle.std.specs.List.{list_any};
 ghost use Rattle.asm80_statement_types.specs.Tree.{operand_of};
 ghost use Rattle.asm80_values.specs.Settings.{setting_of};
 ghost use Rattle.asm80_source_def.specs.Items.{is_data_op};
-ghost use Rattle.asm80_source_def.specs.Operands as operands;
 ghost use Rattle.asm80_source_def.specs.Layout.{is_foreign_by, misses, misses_by, computes, computes_by, loads_code, loads_code_by, loads_sp, operands_by, same_kind};
 
 use crate::kinds::{is_value_kind, kinds_of};
@@ -100,16 +99,10 @@ fn strays_among(setting: &Setting<'_>, kinds: &[Kind], args: &[Arg]) -> Strays
 fn loads_sp(args: &[Arg]) -> bool
     ensures { result ≡ loads_sp (map operand_of args.now) }
 {
-    match args.split_first() {
-        Some((arg, _)) => is_stack_pointer(arg),
-        None => false,
+    match args {
+        [arg, ..] => matches!(pair_of(arg), Some(Pair::Sp)),
+        [] => false,
     }
-}
-
-fn is_stack_pointer(arg: &Arg) -> bool
-    ensures { result ≡ Rattle.asm80_source_def.specs.Layout.is_stack_pointer (operands.pair_of_operand (operand_of arg.now)) }
-{
-    matches!(pair_of(arg), Some(Pair::Sp))
 }
 
 // The kinds of the operands in which an address of code is none of a number: of LXI SP none.

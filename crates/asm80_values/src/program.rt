@@ -1,7 +1,7 @@
 // The program of items.
 ghost use Rattle.std.specs.Prelude.{◌≡◌, ◌++◌, option_to_list, IfOk, OnOk};
 ghost use Rattle.std.specs.List.{filter_map, flat_map};
-ghost use Rattle.std.specs.List.Sorted.{IsPermutation, IsNonDecreasingBy};
+ghost use Rattle.std.specs.List.Sorted.{IsPermutation};
 ghost use Rattle.asm80_program_types.specs.Program.{IsProgram};
 ghost use Rattle.asm80_source_def.specs.Items.{laid_from};
 ghost use Rattle.asm80_values.specs.Programs.{AreLawful, placed_item, data_item};
@@ -81,24 +81,6 @@ fn data_items(alloc: Global, items: &[Item]) -> Result<Vec<(u16, Cell)>, AllocEr
     Ok(cells)
 }
 
-// Puts instructions in the order of their addresses.
-fn sort_placed(placed: &mut Vec<Placed>) -> Result<(), AllocError>
-    ensures same { IsPermutation placed.old.items placed.new.items }
-    ensures rising { OnOk result (IsNonDecreasingBy (λ x. x.at) placed.new.items) }
-{
-    placed.sort_by_key(|placed| placed.at)?;
-    Ok(())
-}
-
-// Puts data cells in the order of their addresses.
-fn sort_data(cells: &mut Vec<(u16, Cell)>) -> Result<(), AllocError>
-    ensures same { IsPermutation cells.old.items cells.new.items }
-    ensures rising { OnOk result (IsNonDecreasingBy (λ c. c.0) cells.new.items) }
-{
-    cells.sort_by_key(|cell| cell.0)?;
-    Ok(())
-}
-
 /// The program of items that break no rule of the layout, for a top of the program area.
 pub fn program_of_items(alloc: Global, items: &[Item], top: u16) -> Result<Program80, AllocError>
     requires { AreLawful top items.now }
@@ -108,8 +90,8 @@ pub fn program_of_items(alloc: Global, items: &[Item], top: u16) -> Result<Progr
     ensures cells { IfOk result (λ p. IsPermutation (flat_map data_item items.now) p.cells) }
 {
     let mut placed = placed_items(alloc, items)?;
-    sort_placed(&mut placed)?;
+    placed.sort_by_key(|placed| placed.at)?;
     let mut cells = data_items(alloc, items)?;
-    sort_data(&mut cells)?;
+    cells.sort_by_key(|cell| cell.0)?;
     Program80::new(alloc, placed, cells, top)
 }

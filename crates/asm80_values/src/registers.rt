@@ -1,7 +1,7 @@
 // Registers as operands.
 ghost use Rattle.std.specs.Prelude.{◌≡◌, option_map};
 ghost use Rattle.asm80_statement_types.specs.Tree.{operand_of};
-ghost use Rattle.asm80_source_def.specs.Operands.{register_name, src_named, pair_named, indirect_named, stack_named, src_of, pair_of_operand, indirect_of, stack_of};
+ghost use Rattle.asm80_source_def.specs.Operands.{register_name, src_of, pair_of_operand, indirect_of, stack_of};
 
 use asm80_statement_types::{Arg, Expr};
 use i80::{Pair, Reg, Src, StackPair};
@@ -16,10 +16,11 @@ fn register_name(arg: &Arg) -> Option<&[u8]>
     }
 }
 
-fn src_named(name: &[u8]) -> Option<Src>
-    ensures { result ≡ src_named name.now }
+/// The register that an operand names, or M.
+pub fn src_of(arg: &Arg) -> Option<Src>
+    ensures { result ≡ src_of (operand_of arg.now) }
 {
-    match name {
+    match register_name(arg)? {
         b"A" => Some(Src::Reg(Reg::A)),
         b"B" => Some(Src::Reg(Reg::B)),
         b"C" => Some(Src::Reg(Reg::C)),
@@ -32,10 +33,11 @@ fn src_named(name: &[u8]) -> Option<Src>
     }
 }
 
-fn pair_named(name: &[u8]) -> Option<Pair>
-    ensures { result ≡ pair_named name.now }
+/// The pair that an operand names, or SP.
+pub fn pair_of(arg: &Arg) -> Option<Pair>
+    ensures { result ≡ pair_of_operand (operand_of arg.now) }
 {
-    match name {
+    match register_name(arg)? {
         b"B" => Some(Pair::B),
         b"D" => Some(Pair::D),
         b"H" => Some(Pair::H),
@@ -44,52 +46,26 @@ fn pair_named(name: &[u8]) -> Option<Pair>
     }
 }
 
-fn indirect_named(name: &[u8]) -> Option<Pair>
-    ensures { result ≡ indirect_named name.now }
+/// The pair of LDAX and STAX that an operand names.
+pub fn indirect_of(arg: &Arg) -> Option<Pair>
+    ensures { result ≡ indirect_of (operand_of arg.now) }
 {
-    match name {
+    match register_name(arg)? {
         b"B" => Some(Pair::B),
         b"D" => Some(Pair::D),
         _ => None,
     }
 }
 
-fn stack_named(name: &[u8]) -> Option<StackPair>
-    ensures { result ≡ stack_named name.now }
+/// The pair of PUSH and POP that an operand names.
+pub fn stack_of(arg: &Arg) -> Option<StackPair>
+    ensures { result ≡ stack_of (operand_of arg.now) }
 {
-    match name {
+    match register_name(arg)? {
         b"B" => Some(StackPair::B),
         b"D" => Some(StackPair::D),
         b"H" => Some(StackPair::H),
         b"PSW" => Some(StackPair::Psw),
         _ => None,
     }
-}
-
-/// The register that an operand names, or M.
-pub fn src_of(arg: &Arg) -> Option<Src>
-    ensures { result ≡ src_of (operand_of arg.now) }
-{
-    src_named(register_name(arg)?)
-}
-
-/// The pair that an operand names, or SP.
-pub fn pair_of(arg: &Arg) -> Option<Pair>
-    ensures { result ≡ pair_of_operand (operand_of arg.now) }
-{
-    pair_named(register_name(arg)?)
-}
-
-/// The pair of LDAX and STAX that an operand names.
-pub fn indirect_of(arg: &Arg) -> Option<Pair>
-    ensures { result ≡ indirect_of (operand_of arg.now) }
-{
-    indirect_named(register_name(arg)?)
-}
-
-/// The pair of PUSH and POP that an operand names.
-pub fn stack_of(arg: &Arg) -> Option<StackPair>
-    ensures { result ≡ stack_of (operand_of arg.now) }
-{
-    stack_named(register_name(arg)?)
 }

@@ -102,18 +102,6 @@ impl Breaches {
         }
     }
 
-    // These breaches without V3.
-    fn fitting(self) -> Breaches
-        ensures unknown { result.has_unknown ≡ self.has_unknown }
-        ensures zero { result.divides_by_zero ≡ self.divides_by_zero }
-        ensures unfit { result.is_unfit ≡ false }
-    {
-        Breaches {
-            is_unfit: false,
-            ..self
-        }
-    }
-
     // These breaches or those.
     fn or(self, other: Breaches) -> Breaches
         ensures unknown { result.has_unknown ≡ (self.has_unknown || other.has_unknown) }
@@ -242,7 +230,11 @@ fn rule_of_words(scope: &Scope<'_>, args: &[Arg]) -> Option<AsmRule>
     if args.is_empty() || some_no_value(args) {
         Some(AsmRule::V5)
     } else {
-        broken_by_items(scope, args).fitting().rule()
+        let broken = Breaches {
+            is_unfit: false,
+            ..broken_by_items(scope, args)
+        };
+        broken.rule()
     }
 }
 

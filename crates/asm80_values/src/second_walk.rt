@@ -8,8 +8,8 @@ ghost use Rattle.asm80_first_walk.specs.Walked.{IsRowOf as StandsForRow, Stand, 
 ghost use Rattle.asm80_source_def.specs.Names.{Name, is_settable};
 ghost use Rattle.asm80_source_def.specs.Walk.{WalkRow, row_operation, size_by, rows, walked};
 ghost use Rattle.asm80_source_def.specs.FirstFaults.{first_fault};
-ghost use Rattle.asm80_source_def.specs.Items.{Setting as Seen, address, is_instruction_op, starts_in};
-ghost use Rattle.asm80_values.specs.Second.{taken_rows, start_of_row, seen_in, names_set, fault_on, IsItemOf, GivesItem, AddsItem, AreItemsOf, AreRefused};
+ghost use Rattle.asm80_source_def.specs.Items.{Setting as Seen, address, starts_in};
+ghost use Rattle.asm80_values.specs.Second.{taken_rows, start_of_row, seen_in, names_set, IsItemOf, GivesItem, AddsItem, AreItemsOf, AreRefused};
 
 use crate::item::Item;
 use crate::{Form, FormFault, Setting, form_of, kinds_of};
@@ -19,21 +19,13 @@ use asm80_statement_types::{Arg, Stmt80};
 use base::AddressSet;
 use std::alloc::{AllocError, Global};
 
-fn is_instruction(operation: Option<Operation>) -> bool
-    ensures { result ≡ is_instruction_op operation }
-{
-    match operation {
-        Some(operation) => kinds_of(operation).is_some(),
-        None => false,
-    }
-}
-
 // Adds the address of an instruction.
 fn mark_start(starts: &mut AddressSet, row: &Taken)
     ensures { (a : ℕ) → has_address starts.new a ≡ (is_among (option_to_list (start_of_row row.now)) a || has_address starts.old a) }
 {
-    if is_instruction(row.operation) {
-        starts.insert(row.at);
+    match row.operation {
+        Some(operation) if kinds_of(operation).is_some() => starts.insert(row.at),
+        _ => {}
     }
 }
 
@@ -94,17 +86,8 @@ fn item_of(
     let args = statement.args.as_slice();
     match form_of(alloc, &setting, operation, args) {
         Ok(form) => Ok(item_with(statement.line, row.at, operation, args, form)),
-        Err(fault) => Err(refused(statement.line, fault)),
-    }
-}
-
-// The fault of operands on a line.
-fn refused(line: u32, fault: FormFault) -> AsmFault
-    ensures { result ≡ fault_on line fault }
-{
-    match fault {
-        FormFault::Rule(rule) => AsmFault::Refused(line, rule),
-        FormFault::Memory => AsmFault::Memory,
+        Err(FormFault::Rule(rule)) => Err(AsmFault::Refused(statement.line, rule)),
+        Err(FormFault::Memory) => Err(AsmFault::Memory),
     }
 }
 

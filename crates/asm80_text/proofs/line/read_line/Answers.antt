@@ -17,26 +17,49 @@ on_ok_known : {P : Type 0} (r : Result (Unit {0}) ReadFault) → P → OnOk r P
 on_ok_known (Ok u) known = known
 on_ok_known (Err fault) known = tt
 
-pub returns-then-number-gt-MOST_LINES-clause-value : goal.returns-then-number-gt-MOST_LINES-clause-value
-returns-then-number-gt-MOST_LINES-clause-value g c = (refl, refl, late c.if-number-gt-MOST_LINES.true)
+pub returns-then-number-gt-MOST_LINES : goal.returns-then-number-gt-MOST_LINES
+returns-then-number-gt-MOST_LINES g c =
+    record {
+      value = (refl, refl, late c.if-number-gt-MOST_LINES.true);
+      few = tt;
+      well_formed = c.requires;
+    }
 
-pub returns-then-line-gt-LONGEST_LINE-clause-value : goal.returns-then-line-gt-LONGEST_LINE-clause-value
-returns-then-line-gt-LONGEST_LINE-clause-value g c = (refl, refl, long c.if-number-gt-MOST_LINES.false c.if-line-gt-LONGEST_LINE.true)
+pub returns-then-line-gt-LONGEST_LINE : goal.returns-then-line-gt-LONGEST_LINE
+returns-then-line-gt-LONGEST_LINE g c =
+    record {
+      value = (refl, refl, long c.if-number-gt-MOST_LINES.false c.if-line-gt-LONGEST_LINE.true);
+      few = tt;
+      well_formed = c.requires;
+    }
 
-pub returns-then-is_remark-clause-value : goal.returns-then-is_remark-clause-value
-returns-then-is_remark-clause-value g c = ([], sym (append-nil c.args.found.now.items), remark c.if-number-gt-MOST_LINES.false c.if-line-gt-LONGEST_LINE.false (c.is_remark.ensures.0 c.if-is_remark.true))
+pub returns-then-is_remark : goal.returns-then-is_remark
+returns-then-is_remark g c =
+    record {
+      value = ([], sym (append-nil c.args.found.now.items), remark c.if-number-gt-MOST_LINES.false c.if-line-gt-LONGEST_LINE.false (c.is_remark.ensures.0 c.if-is_remark.true));
+      few = c.if-number-gt-MOST_LINES.false;
+      well_formed = c.requires;
+    }
 
-pub returns-then-has_bang-clause-value : goal.returns-then-has_bang-clause-value
-returns-then-has_bang-clause-value g c =
-    line_from_text g.N.Notation.spelling c.args.number c.args.line.now c.tokens_of.new.tokens.items _ c.in_ok-fault.fault c.args.found.now.items c.read_text.new.found.items c.read_text.result
-    c.if-number-gt-MOST_LINES.false c.if-line-gt-LONGEST_LINE.false (λ remark. false≢true (sym c.if-is_remark.false ∙ c.is_remark.ensures.1 remark)) c.in_ok-fault.ensures.tokens
-    (ap targets c.deref-then-has_bang-2.ensures.value ∙ c.in_ok-parts.ensures.parts ∙ ap parts_of c.deref-then-has_bang.ensures.value) c.read_text.ensures.value
+pub returns-then-has_bang : goal.returns-then-has_bang
+returns-then-has_bang g c =
+    record {
+      value = line_from_text g.N.Notation.spelling c.args.number c.args.line.now c.tokens_of.new.tokens.items _ c.in_ok-fault.fault c.args.found.now.items c.read_text.new.found.items c.read_text.result
+          c.if-number-gt-MOST_LINES.false c.if-line-gt-LONGEST_LINE.false (λ remark. false≢true (sym c.if-is_remark.false ∙ c.is_remark.ensures.1 remark)) c.in_ok-fault.ensures.tokens
+          (ap targets c.deref-then-has_bang-2.ensures.value ∙ c.in_ok-parts.ensures.parts ∙ ap parts_of c.deref-then-has_bang.ensures.value) c.read_text.ensures.value;
+      few = on_ok_known c.read_text.result c.if-number-gt-MOST_LINES.false;
+      well_formed = c.read_text.ensures.well_formed;
+    }
 
-pub returns-clause-value : goal.returns-clause-value
-returns-clause-value g c =
-    line_from_text g.N.Notation.spelling c.args.number c.args.line.now c.tokens_of.new.tokens.items _ c.in_ok-fault.fault c.args.found.now.items c.read_text-2.new.found.items c.read_text-2.result
-    c.if-number-gt-MOST_LINES.false c.if-line-gt-LONGEST_LINE.false (λ remark. false≢true (sym c.if-is_remark.false ∙ c.is_remark.ensures.1 remark)) c.in_ok-fault.ensures.tokens
-    (ap (λ ts. ts ∷ []) c.as_slice.ensures.value ∙ one_part c.tokens_of.new.tokens.items (ap (list_any is_bang) (sym c.deref.ensures.value) ∙ sym c.has_bang.ensures ∙ c.if-has_bang.false)) c.read_text-2.ensures.value
+pub returns : goal.returns
+returns g c =
+    record {
+      value = line_from_text g.N.Notation.spelling c.args.number c.args.line.now c.tokens_of.new.tokens.items _ c.in_ok-fault.fault c.args.found.now.items c.read_text-2.new.found.items c.read_text-2.result
+          c.if-number-gt-MOST_LINES.false c.if-line-gt-LONGEST_LINE.false (λ remark. false≢true (sym c.if-is_remark.false ∙ c.is_remark.ensures.1 remark)) c.in_ok-fault.ensures.tokens
+          (ap (λ ts. ts ∷ []) c.as_slice.ensures.value ∙ one_part c.tokens_of.new.tokens.items (ap (list_any is_bang) (sym c.deref.ensures.value) ∙ sym c.has_bang.ensures ∙ c.if-has_bang.false)) c.read_text-2.ensures.value;
+      few = on_ok_known c.read_text-2.result c.if-number-gt-MOST_LINES.false;
+      well_formed = c.read_text-2.ensures.well_formed;
+    }
 
 pub read_text-requires-clause-lawful : goal.read_text-requires-clause-lawful
 read_text-requires-clause-lawful g c =
@@ -47,18 +70,6 @@ pub read_text-requires-2-clause-lawful : goal.read_text-requires-2-clause-lawful
 read_text-requires-2-clause-lawful g c =
     let Lawful : Bor (List Token) → Type 0 = λ part. All (IsLawful g.N.Notation.spelling) part.now in
     All-push Lawful [] c.as_slice.result (All-nil Lawful) (subst (All (IsLawful g.N.Notation.spelling)) (sym c.as_slice.ensures.value) c.in_ok-fault.ensures.lawful)
-
-pub returns-then-has_bang-clause-few : goal.returns-then-has_bang-clause-few
-returns-then-has_bang-clause-few g c = on_ok_known c.read_text.result c.if-number-gt-MOST_LINES.false
-
-pub returns-clause-few : goal.returns-clause-few
-returns-clause-few g c = on_ok_known c.read_text-2.result c.if-number-gt-MOST_LINES.false
-
-pub returns-then-has_bang-clause-well_formed : goal.returns-then-has_bang-clause-well_formed
-returns-then-has_bang-clause-well_formed g c = c.read_text.ensures.well_formed
-
-pub returns-clause-well_formed : goal.returns-clause-well_formed
-returns-clause-well_formed g c = c.read_text-2.ensures.well_formed
 
 pub returns-in_err-fault : goal.returns-in_err-fault
 returns-in_err-fault g c =
