@@ -134,12 +134,7 @@ fn nots_len(tokens: &[Token]) -> usize
     ensures value { result ≡ prefix_len is_not tokens.now }
     ensures within { result ≤ length tokens.now }
 {
-    for (count, token) in tokens.iter().enumerate() {
-        if !is_not(token) {
-            return count;
-        }
-    }
-    tokens.len()
+    tokens.iter().take_while(|t| is_not(*t)).count()
 }
 
 // An expression under some number of NOTs.

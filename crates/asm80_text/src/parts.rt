@@ -32,12 +32,7 @@ pub fn parts_of<N: Notation>(alloc: Global, tokens: &[Token]) -> Result<Vec<&[To
 pub fn has_bang(tokens: &[Token]) -> bool
     ensures { result ≡ list_any is_bang tokens.now }
 {
-    for token in tokens {
-        if is_bang(token) {
-            return true;
-        }
-    }
-    false
+    tokens.iter().any(|token| is_bang(token))
 }
 
 fn is_bang(token: &Token) -> bool
@@ -53,12 +48,7 @@ fn is_bang(token: &Token) -> bool
 pub fn some_has_reserved_label<N: Notation>(parts: &[&[Token]]) -> bool
     ensures { result ≡ list_any (λ part. has_reserved_label N.spelling part.now) parts.now }
 {
-    for part in parts {
-        if has_reserved_label::<N>(*part) {
-            return true;
-        }
-    }
-    false
+    parts.iter().any(|part| has_reserved_label::<N>(*part))
 }
 
 fn has_reserved_label<N: Notation>(part: &[Token]) -> bool
@@ -120,12 +110,7 @@ fn is_name(op: Two) -> bool
 pub fn some_is_deep(parts: &[&[Token]]) -> bool
     ensures { result ≡ list_any (λ part. is_deep part.now) parts.now }
 {
-    for part in parts {
-        if is_deep(*part) {
-            return true;
-        }
-    }
-    false
+    parts.iter().any(|part| is_deep(*part))
 }
 
 fn is_deep(part: &[Token]) -> bool

@@ -261,12 +261,10 @@ fn plain_len(bytes: &[u8]) -> usize
     ensures value { result ≡ plain_len bytes.now }
     ensures within { result ≤ length bytes.now }
 {
-    for (count, b) in bytes.iter().enumerate() {
-        if *b == b'\n' || *b == END_OF_FILE {
-            return count;
-        }
-    }
-    bytes.len()
+    bytes
+        .iter()
+        .take_while(|b| **b != b'\n' && **b != END_OF_FILE)
+        .count()
 }
 
 /// In each spelling a stream has at most one outcome: its statements, or its first fault with the statements before it.

@@ -33,12 +33,7 @@ pub fn inside_len(bytes: &[u8]) -> usize
     ensures value { result ≡ inside_len bytes.now }
     ensures within { result ≤ length bytes.now }
 {
-    for (count, b) in bytes.iter().enumerate() {
-        if !is_inside(*b) {
-            return count;
-        }
-    }
-    bytes.len()
+    bytes.iter().take_while(|b| is_inside(**b)).count()
 }
 
 /// How many bytes at the front belong to a comment.
@@ -46,12 +41,7 @@ pub fn comment_len(bytes: &[u8]) -> usize
     ensures value { result ≡ comment_len bytes.now }
     ensures within { result ≤ length bytes.now }
 {
-    for (count, b) in bytes.iter().enumerate() {
-        if *b == b'!' {
-            return count;
-        }
-    }
-    bytes.len()
+    bytes.iter().take_while(|b| **b != b'!').count()
 }
 
 /// The first byte and those after it, where it belongs to a name or a number.
