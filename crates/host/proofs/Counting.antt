@@ -1,11 +1,10 @@
--- What a call of a host that tells nothing counts, by its answer.
-use Rattle.std.proofs.Common.{◌≡◌, ℕ, ◌≤◌, List, Result, Ok, Err, IfOk, IfErr, OnOk, OnErr, IsErr, MatchResult, refl, sym, ap, subst, ◌∙◌, arith}
+-- What a call of a host counts, by its answer.
+use Rattle.std.proofs.Common.{◌≡◌, ℕ, ◌≤◌, Result, Ok, Err, IfOk, IfErr, OnOk, OnErr, IsErr, MatchResult, sym, ap, subst, ◌∙◌, arith}
 use Rattle.std.proofs.lemmas.Bool.{false≢true}
 use Rattle.std.proofs.lemmas.Bool.Decides.{nat_tests}
 use Rattle.host.specs.declared.HostFault.{HostFault}
 use Rattle.host.specs.declared.HostFault.TheVariants.{Failed, Memory}
-use Rattle.host.specs.Host.{Untold, Missing, HasRisen, one_more, failures_after, wants_after, SameFaults, IsUndisturbed, OnlyReads, OnlyWrites, OnlySays, WriteFault, CountsAlone}
-use Rattle.host.specs.RealHost.{untold}
+use Rattle.host.specs.Host.{Untold, Missing, HostState, HasRisen, one_more, failures_after, wants_after, SameFaults, WriteFault, CountsAlone}
 
 one_more-le : (n : ℕ) → n ≤ one_more n
 one_more-le n = grind (arith, nat_tests)
@@ -23,45 +22,37 @@ wants-le (Ok x) n = omega arith
 wants-le (Err Failed) n = omega arith
 wants-le (Err Memory) n = one_more-le n
 
-module _ {T : Type 0} (reads writes wants failures wanted : ℕ) (r : Result T HostFault) (w : wanted ≡ wants_after r wants) where
-  pub writes_only : failures ≡ failures_after r writes → (name : List ℕ) → OnlyWrites (untold reads writes wants) (untold reads failures wanted) name
-  writes_only f name = record { files = λ other apart. refl; said = refl; reads = refl; writes = rw f (failures-le r writes); memory = rw w (wants-le r wants) }
+-- no count falls
+pub failures_kept : {T : Type 0} (r : Result T HostFault) (n m : ℕ) → m ≡ failures_after r n → n ≤ m
+failures_kept r n m is = rw is (failures-le r n)
 
-  pub says_only : failures ≡ failures_after r writes → OnlySays (untold reads writes wants) (untold reads failures wanted)
-  says_only f = record { files = λ name. refl; reads = refl; writes = rw f (failures-le r writes); memory = rw w (wants-le r wants) }
-
-  pub reads_only : failures ≡ failures_after r reads → OnlyReads (untold reads writes wants) (untold failures writes wanted)
-  reads_only f = record { files = λ name. refl; said = refl; writes = refl; reads = rw f (failures-le r reads); memory = rw w (wants-le r wants) }
+pub wants_kept : {T : Type 0} (r : Result T HostFault) (n m : ℕ) → m ≡ wants_after r n → n ≤ m
+wants_kept r n m is = rw is (wants-le r n)
 
 -- no fault, and then none is counted
-pub no_write_fault : {T : Type 0} (reads writes wants failures wanted : ℕ) (r : Result T HostFault) → failures ≡ failures_after r writes → wanted ≡ wants_after r wants → OnOk r (SameFaults (untold reads writes wants) (untold reads failures wanted))
-no_write_fault reads writes wants failures wanted (Ok x) f w = record { reads = refl; writes = f; memory = w }
-no_write_fault reads writes wants failures wanted (Err d) f w = tt
+pub no_write_fault : {T : Type 0} (a b : HostState) (r : Result T HostFault) → b.read_faults ≡ a.read_faults → b.write_faults ≡ failures_after r a.write_faults → b.memory_faults ≡ wants_after r a.memory_faults → OnOk r (SameFaults a b)
+no_write_fault a b (Ok x) reads f w = record { reads = reads; writes = f; memory = w }
+no_write_fault a b (Err d) reads f w = tt
 
-pub no_read_fault : {T : Type 0} (reads writes wants failures wanted : ℕ) (r : Result T HostFault) → failures ≡ failures_after r reads → wanted ≡ wants_after r wants → OnOk r (SameFaults (untold reads writes wants) (untold failures writes wanted))
-no_read_fault reads writes wants failures wanted (Ok x) f w = record { reads = f; writes = refl; memory = w }
-no_read_fault reads writes wants failures wanted (Err d) f w = tt
-
--- nothing that is told changes
-pub undisturbed : {T : Type 0} (reads writes wants failures wanted : ℕ) (r : Result T HostFault) → OnErr r (IsUndisturbed (untold reads writes wants) (untold reads failures wanted))
-undisturbed reads writes wants failures wanted (Ok x) = tt
-undisturbed reads writes wants failures wanted (Err d) = record { files = λ name. refl; said = refl }
+pub no_read_fault : {T : Type 0} (a b : HostState) (r : Result T HostFault) → b.write_faults ≡ a.write_faults → b.read_faults ≡ failures_after r a.read_faults → b.memory_faults ≡ wants_after r a.memory_faults → OnOk r (SameFaults a b)
+no_read_fault a b (Ok x) writes f w = record { reads = f; writes = writes; memory = w }
+no_read_fault a b (Err d) writes f w = tt
 
 -- a fault is counted as what it is
-pub write_fault : {T : Type 0} (reads writes wants failures wanted : ℕ) (r : Result T HostFault) → failures ≡ failures_after r writes → wanted ≡ wants_after r wants → IfErr r (WriteFault (untold reads writes wants) (untold reads failures wanted))
-write_fault reads writes wants failures wanted (Ok x) f w = tt
-write_fault reads writes wants failures wanted (Err Failed) f w = rw f (one_more-risen writes)
-write_fault reads writes wants failures wanted (Err Memory) f w = rw w (one_more-risen wants)
+pub write_fault : {T : Type 0} (a b : HostState) (r : Result T HostFault) → b.write_faults ≡ failures_after r a.write_faults → b.memory_faults ≡ wants_after r a.memory_faults → IfErr r (WriteFault a b)
+write_fault a b (Ok x) f w = tt
+write_fault a b (Err Failed) f w = rw f (one_more-risen a.write_faults)
+write_fault a b (Err Memory) f w = rw w (one_more-risen a.memory_faults)
 
-pub write_alone : {T : Type 0} (reads writes wants failures wanted : ℕ) (r : Result T HostFault) → failures ≡ failures_after r writes → wanted ≡ wants_after r wants → IfErr r (CountsAlone (untold reads writes wants) (untold reads failures wanted))
-write_alone reads writes wants failures wanted (Ok x) f w = tt
-write_alone reads writes wants failures wanted (Err Failed) f w = w
-write_alone reads writes wants failures wanted (Err Memory) f w = (refl, f)
+pub write_alone : {T : Type 0} (a b : HostState) (r : Result T HostFault) → b.read_faults ≡ a.read_faults → b.write_faults ≡ failures_after r a.write_faults → b.memory_faults ≡ wants_after r a.memory_faults → IfErr r (CountsAlone a b)
+write_alone a b (Ok x) reads f w = tt
+write_alone a b (Err Failed) reads f w = w
+write_alone a b (Err Memory) reads f w = (reads, f)
 
-pub read_alone : {T : Type 0} (reads writes wants failures wanted : ℕ) (r : Result T HostFault) → failures ≡ failures_after r reads → wanted ≡ wants_after r wants → IfErr r (CountsAlone (untold reads writes wants) (untold failures writes wanted))
-read_alone reads writes wants failures wanted (Ok x) f w = tt
-read_alone reads writes wants failures wanted (Err Failed) f w = w
-read_alone reads writes wants failures wanted (Err Memory) f w = (f, refl)
+pub read_alone : {T : Type 0} (a b : HostState) (r : Result T HostFault) → b.write_faults ≡ a.write_faults → b.read_faults ≡ failures_after r a.read_faults → b.memory_faults ≡ wants_after r a.memory_faults → IfErr r (CountsAlone a b)
+read_alone a b (Ok x) writes f w = tt
+read_alone a b (Err Failed) writes f w = w
+read_alone a b (Err Memory) writes f w = (f, writes)
 
 pub failed_risen : {T : Type 0} (count failures : ℕ) (r : Result T HostFault) → failures ≡ failures_after r count → r ≡ Err Failed → HasRisen count failures
 failed_risen count failures r f is = rw (f ∙ ap (λ x. failures_after x count) is) (one_more-risen count)
@@ -69,10 +60,14 @@ failed_risen count failures r f is = rw (f ∙ ap (λ x. failures_after x count)
 pub wanted_risen : {T : Type 0} (count wanted : ℕ) (r : Result T HostFault) → wanted ≡ wants_after r count → r ≡ Err Memory → HasRisen count wanted
 wanted_risen count wanted r w is = rw (w ∙ ap (λ x. wants_after x count) is) (one_more-risen count)
 
--- what holds of each value, and what holds of the value that is handed on
+-- what holds of each value and of any fault, and what holds of the value that is handed on
 pub of_each : {T E : Type 0} (r : Result T E) (P : T → Type 0) → ((x : T) → P x) → IfOk r P
 of_each (Ok x) P all = all x
 of_each (Err d) P all = tt
+
+pub any_err : {T E P : Type 0} (r : Result T E) → P → OnErr r P
+any_err (Ok x) p = tt
+any_err (Err d) p = p
 
 pub of_handed : {T E F : Type 0} (done : Result T E) (r : Result T F) (P : T → Type 0) → MatchResult done (λ x. r ≡ Ok x) (λ _. IsErr r) → IfOk done P → IfOk r P
 of_handed (Ok x) r P is p = subst (λ q. IfOk q P) (sym is) p

@@ -21,10 +21,6 @@ pub at_err : {T E P : Type 0} (r : Result T E) → (IsOk r → ⊥) → OnErr r 
 at_err (Ok x) other p = absurd (other refl)
 at_err (Err d) other p = p
 
-pub any_err : {T E P : Type 0} (r : Result T E) → P → OnErr r P
-any_err (Ok x) p = tt
-any_err (Err d) p = p
-
 -- the result is that a call failed
 abbrev pub Fault : (T : Type 0) → Result T HostFault → Type 0
 Fault T r = r ≡ Err Failed

@@ -7,7 +7,8 @@ use Rattle.host.specs.declared.HostFault.{HostFault}
 use Rattle.host.specs.declared.mem.MemHost.{MemHost}
 use Rattle.host.specs.Host.{failures_after, wants_by, wants_after}
 use Rattle.host.specs.MemHost.{file_in_mem_host, said_of, fails_of, calls_of, read_faults_of, write_faults_of, memory_faults_of, NextFails, KeepsFiles}
-use Rattle.host.proofs.MemCalls.{Fault, handed_fault, at_ok, at_err, any_err, same_fault, other_fault, no_fault, no_failed_call, no_want, piece_length}
+use Rattle.host.proofs.Counting.{any_err}
+use Rattle.host.proofs.MemCalls.{Fault, handed_fault, at_ok, at_err, same_fault, other_fault, no_fault, no_failed_call, no_want, piece_length}
 use Rattle.host.proofs.mem.MemHostHost.append.Goals as goal
 
 -- the call is one that fails

@@ -4,7 +4,8 @@ use Rattle.host.specs.declared.HostFault.{HostFault}
 use Rattle.host.specs.declared.mem.MemHost.{MemHost}
 use Rattle.host.specs.Host.{failures_after, wants_after}
 use Rattle.host.specs.MemHost.{file_in_mem_host, said_of, fails_of, calls_of, read_faults_of, write_faults_of, memory_faults_of, NextFails, KeepsFiles}
-use Rattle.host.proofs.MemCalls.{Fault, handed_fault, at_ok, at_err, any_err, same_fault, no_want, no_failure, not_failed, on_ok_then, on_err_then}
+use Rattle.host.proofs.Counting.{any_err}
+use Rattle.host.proofs.MemCalls.{Fault, handed_fault, at_ok, at_err, same_fault, no_want, no_failure, not_failed, on_ok_then, on_err_then}
 use Rattle.host.proofs.mem.MemHostHost.begin.Goals as goal
 
 -- the call is one that fails
