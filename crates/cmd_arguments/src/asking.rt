@@ -2,8 +2,7 @@
 
 ghost use Rattle.std.specs.Prelude.{◌≡◌, false, fold, map, IfOk};
 ghost use Rattle.clap.specs.Words.{app_of, rule_of, with_rule};
-ghost use Rattle.cmd_arguments.specs.Asked.{clap_command, bare_command, flag_rule, names_rule, rule_with};
-ghost use Rattle.cmd_arguments.specs.Table.{flag_words};
+ghost use Rattle.cmd_arguments.specs.Asked.{clap_command, bare_command, names_rule, rule_with};
 
 use crate::table::{CommandName, OptionName};
 use clap::{Arg, ArgAction, Command};
@@ -16,16 +15,9 @@ pub const NAMES: &str = "names";
 pub fn asked<'a>(alloc: Global, command: CommandName) -> Result<Command<'a>, AllocError>
     ensures { IfOk result (λ asked_of. app_of asked_of ≡ clap_command command) }
 {
-    let with_flags = with_flags(alloc, command)?;
-    with_options(alloc, with_flags, command.options(), ArgAction::Set)
-}
-
-// The command with its names and flags, before its options with a value.
-fn with_flags<'a>(alloc: Global, command: CommandName) -> Result<Command<'a>, AllocError>
-    ensures { IfOk result (λ asked_of. app_of asked_of ≡ fold with_rule (with_rule (bare_command command) names_rule) (map flag_rule (flag_words command))) }
-{
     let with_names = with_names(alloc, command)?;
-    with_options(alloc, with_names, command.flags(), ArgAction::SetTrue)
+    let with_flags = with_options(alloc, with_names, command.flags(), ArgAction::SetTrue)?;
+    with_options(alloc, with_flags, command.options(), ArgAction::Set)
 }
 
 // The command with its names, before its flags and options.

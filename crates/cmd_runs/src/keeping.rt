@@ -1,6 +1,6 @@
 // The disk that is left after a run.
 ghost use Rattle.std.specs.Prelude.{◌≡◌, IfErr, OnOk, option_copied};
-ghost use Rattle.cmd_runs.specs.Keeping.{kept_disk_name, HasKeptDisk, KeepsDisk, DiskWriteStops, DiskKeepStops};
+ghost use Rattle.cmd_runs.specs.Keeping.{kept_disk_name, KeepsDisk, DiskKeepStops};
 
 use bdos_small::Disk;
 use cmd_common::Stop;
@@ -21,7 +21,7 @@ pub fn kept_disk_name<'a>(name: Option<&'a str>, end: RunEnd) -> Option<&'a str>
     }
 }
 
-/// Writes the disk's file under a name, if there is one.
+/// Writes the disk's file under a name, if there is one. All memory is taken before the file is begun.
 pub fn keep_disk<H: Host>(
     alloc: Global,
     host: &mut H,
@@ -31,17 +31,9 @@ pub fn keep_disk<H: Host>(
     ensures kept { OnOk result (KeepsDisk (option_copied name.entry) disk.now (H.state host.old) (H.state host.new)) }
     ensures stopped { IfErr result (DiskKeepStops (option_copied name.entry) disk.now (H.state host.old) (H.state host.new)) }
 {
-    match name {
-        None => Ok(()),
-        Some(name) => write_disk(alloc, host, name, disk),
-    }
-}
-
-// Writes the disk's file under a name. All memory is taken before the file is begun.
-fn write_disk<H: Host>(alloc: Global, host: &mut H, name: &str, disk: &Disk) -> Result<(), Stop>
-    ensures kept { OnOk result (HasKeptDisk name.now disk.now (H.state host.old) (H.state host.new)) }
-    ensures stopped { IfErr result (DiskWriteStops name.now disk.now (H.state host.old) (H.state host.new)) }
-{
+    let Some(name) = name else {
+        return Ok(());
+    };
     let bytes = disk.write(alloc)?;
     match write_bytes(host, name, bytes.as_slice()) {
         Ok(()) => Ok(()),

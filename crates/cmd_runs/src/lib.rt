@@ -23,7 +23,6 @@
 // memory; of `both` that of the one thing that `run80` comes to, or 13 where the code of the lean text is too large.
 #![tactic(auto)]
 
-mod both_inputs;
 mod ends;
 mod finishing;
 mod halt;

@@ -9,12 +9,12 @@ ghost use Rattle.cmd_runs.specs.BothLoads.{AreToRun};
 ghost use Rattle.cmd_runs.specs.BothRuns.{limit86, AreBothMade, work_both};
 ghost use Rattle.cmd_runs.specs.BothMaking.{runs_made};
 
-use crate::both_inputs::TwoDevices;
 use crate::halt::Halt;
 use crate::run_source::line_of;
 use crate::running::{run_image, run_program};
 use asm80_program_types::Program80;
 use asm86::Image86;
+use bdos_small::Devices;
 use cmd_arguments::Both;
 use emulators::{Conversation, runs_are_one};
 use host::Host;
@@ -36,26 +36,19 @@ pub fn make_runs<H: Host>(
     program: &Program80,
     image: &Image86,
     fill: &[u8],
-    devices: &mut TwoDevices,
+    devices80: &mut Devices,
+    devices86: &mut Devices,
 ) -> Result<Made, Halt>
     requires fill { IsFillBy command.now.choice fill.now }
-    requires second { devices.old.second ≡ devices.old.first }
-    ensures made { IfOk result (λ made. (begin : HostState) → HasRead (AreToRun (both_read command.now) begin program.now image.now devices.old.first) begin (H.state host.old) → AreBothMade (both_read command.now) begin (H.state host.new) (runs_made made devices.new.first)) }
-    ensures halted { IfErr result (HaltsFrom (work_both (both_read command.now)) (λ begin. AreToRun (both_read command.now) begin program.now image.now devices.old.first) (H.state host.old) (H.state host.new)) }
+    requires same { devices86.old ≡ devices80.old }
+    ensures made { IfOk result (λ made. (begin : HostState) → HasRead (AreToRun (both_read command.now) begin program.now image.now devices80.old) begin (H.state host.old) → AreBothMade (both_read command.now) begin (H.state host.new) (runs_made made devices80.new)) }
+    ensures halted { IfErr result (HaltsFrom (work_both (both_read command.now)) (λ begin. AreToRun (both_read command.now) begin program.now image.now devices80.old) (H.state host.old) (H.state host.new)) }
 {
     runs_are_one();
     let page = &command.run.page;
     start_is_in_range(page.bytes(), fill, command.choice);
     let steps = u64::from(command.run.steps);
-    let first = run_program(
-        alloc,
-        host,
-        program,
-        page,
-        &mut devices.first,
-        steps,
-        b"80 ",
-    )?;
+    let first = run_program(alloc, host, program, page, devices80, steps, b"80 ")?;
     let line = line_of(program, first.end);
     let limit = limit86(first.steps);
     let second = run_image(
@@ -65,7 +58,7 @@ pub fn make_runs<H: Host>(
         page,
         fill,
         command.choice,
-        &mut devices.second,
+        devices86,
         limit,
         b"86 ",
     )?;

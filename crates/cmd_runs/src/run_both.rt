@@ -3,7 +3,7 @@ ghost use Rattle.std.specs.Prelude.{◌≡◌, true, IfOk, IfErr};
 ghost use Rattle.asm80_program_types.specs.Program.{IsProgram, is_top};
 ghost use Rattle.cmd_arguments.specs.ReadCommands.{both_read};
 ghost use Rattle.cmd_runs.specs.Keeping.{DiskAlone};
-ghost use Rattle.cmd_runs.specs.Supplies.{given_of};
+ghost use Rattle.cmd_runs.specs.Supplies.{given_of, HasDisk};
 ghost use Rattle.cmd_runs.specs.Lasts.{IsLastMade};
 ghost use Rattle.cmd_runs.specs.Kinds.{IsNamed, IsToRun};
 ghost use Rattle.cmd_runs.specs.Runs80.{kind80};
@@ -12,7 +12,6 @@ ghost use Rattle.cmd_runs.specs.BothLoads.{source_of, AreToRun};
 ghost use Rattle.cmd_runs.specs.BothRuns.{work_both};
 ghost use Rattle.cmd_runs.specs.BothCompletes.{BothComplete};
 
-use crate::both_inputs::{TwoDevices, two_devices};
 use crate::ends::came_to;
 use crate::finishing::{close_work, leave_runs};
 use crate::halt::Halt;
@@ -22,10 +21,11 @@ use crate::lean::lean_image;
 use crate::making::make_runs;
 use crate::names::run_names;
 use crate::run_source::{Named, read_program};
-use crate::supplies::{Supplies, fill_of};
+use crate::supplies::{Supplies, devices_like, devices_of, fill_of};
 use asm80_program_types::Program80;
 use asm86::Image86;
 use bdos_disk::disks_read_back;
+use bdos_small::Devices;
 use cmd_arguments::Both;
 use cmd_common::sources_have_one_outcome;
 use host::Host;
@@ -71,7 +71,7 @@ fn work<H: Host>(alloc: Global, host: &mut H, command: &Both<'_>) -> Result<Last
     run_over(alloc, host, command, &program, supplies)
 }
 
-// The runs of it over devices of what was read.
+// The runs of it over devices of what was read, of which those of the 8086 are made first.
 fn run_over<H: Host>(
     alloc: Global,
     host: &mut H,
@@ -84,8 +84,28 @@ fn run_over<H: Host>(
     ensures came { IfOk result (HasLastFrom (work_both (both_read command.now)) (λ begin. IsNamed (kind80 (source_of (both_read command.now))) begin program.now (given_of supplies.input.items supplies.disk.items supplies.ports.items)) (H.state host.old) (H.state host.new)) }
     ensures halted { IfErr result (HaltsFrom (work_both (both_read command.now)) (λ begin. IsNamed (kind80 (source_of (both_read command.now))) begin program.now (given_of supplies.input.items supplies.disk.items supplies.ports.items)) (H.state host.old) (H.state host.new)) }
 {
-    let mut devices = two_devices(alloc, supplies)?;
-    run_imaged(alloc, host, command, program, &mut devices)
+    let mut devices86 = devices_like(alloc, &supplies)?;
+    run_beside(alloc, host, command, program, supplies, &mut devices86)
+}
+
+// The same, where the 8086 has its devices.
+fn run_beside<H: Host>(
+    alloc: Global,
+    host: &mut H,
+    command: &Both<'_>,
+    program: &Program80,
+    supplies: Supplies,
+    devices86: &mut Devices,
+) -> Result<Last, Halt>
+    requires program { IsProgram program.now }
+    requires devices86 { HasDisk (given_of supplies.input.items supplies.disk.items supplies.ports.items) devices86.old }
+    ensures made { IfOk result IsLastMade }
+    ensures came { IfOk result (HasLastFrom (work_both (both_read command.now)) (λ begin. IsNamed (kind80 (source_of (both_read command.now))) begin program.now (given_of supplies.input.items supplies.disk.items supplies.ports.items)) (H.state host.old) (H.state host.new)) }
+    ensures halted { IfErr result (HaltsFrom (work_both (both_read command.now)) (λ begin. IsNamed (kind80 (source_of (both_read command.now))) begin program.now (given_of supplies.input.items supplies.disk.items supplies.ports.items)) (H.state host.old) (H.state host.new)) }
+{
+    disks_read_back();
+    let mut devices80 = devices_of(alloc, supplies)?;
+    run_imaged(alloc, host, command, program, &mut devices80, devices86)
 }
 
 // The runs of it, and of the image of its lean text.
@@ -94,16 +114,17 @@ fn run_imaged<H: Host>(
     host: &mut H,
     command: &Both<'_>,
     program: &Program80,
-    devices: &mut TwoDevices,
+    devices80: &mut Devices,
+    devices86: &mut Devices,
 ) -> Result<Last, Halt>
     requires program { IsProgram program.now }
-    requires second { devices.old.second ≡ devices.old.first }
+    requires same { devices86.old ≡ devices80.old }
     ensures made { IfOk result IsLastMade }
-    ensures came { IfOk result (HasLastFrom (work_both (both_read command.now)) (λ begin. IsToRun (kind80 (source_of (both_read command.now))) begin program.now devices.old.first) (H.state host.old) (H.state host.new)) }
-    ensures halted { IfErr result (HaltsFrom (work_both (both_read command.now)) (λ begin. IsToRun (kind80 (source_of (both_read command.now))) begin program.now devices.old.first) (H.state host.old) (H.state host.new)) }
+    ensures came { IfOk result (HasLastFrom (work_both (both_read command.now)) (λ begin. IsToRun (kind80 (source_of (both_read command.now))) begin program.now devices80.old) (H.state host.old) (H.state host.new)) }
+    ensures halted { IfErr result (HaltsFrom (work_both (both_read command.now)) (λ begin. IsToRun (kind80 (source_of (both_read command.now))) begin program.now devices80.old) (H.state host.old) (H.state host.new)) }
 {
     let image = lean_image(alloc, program)?;
-    run_equipped(alloc, host, command, program, &image, devices)
+    run_equipped(alloc, host, command, program, &image, devices80, devices86)
 }
 
 // The runs with all that they have, and the disk that the 8080's leaves.
@@ -113,12 +134,13 @@ fn run_equipped<H: Host>(
     command: &Both<'_>,
     program: &Program80,
     image: &Image86,
-    devices: &mut TwoDevices,
+    devices80: &mut Devices,
+    devices86: &mut Devices,
 ) -> Result<Last, Halt>
-    requires { devices.old.second ≡ devices.old.first }
+    requires { devices86.old ≡ devices80.old }
     ensures made { IfOk result IsLastMade }
-    ensures came { IfOk result (HasLastFrom (work_both (both_read command.now)) (λ begin. AreToRun (both_read command.now) begin program.now image.now devices.old.first) (H.state host.old) (H.state host.new)) }
-    ensures halted { IfErr result (HaltsFrom (work_both (both_read command.now)) (λ begin. AreToRun (both_read command.now) begin program.now image.now devices.old.first) (H.state host.old) (H.state host.new)) }
+    ensures came { IfOk result (HasLastFrom (work_both (both_read command.now)) (λ begin. AreToRun (both_read command.now) begin program.now image.now devices80.old) (H.state host.old) (H.state host.new)) }
+    ensures halted { IfErr result (HaltsFrom (work_both (both_read command.now)) (λ begin. AreToRun (both_read command.now) begin program.now image.now devices80.old) (H.state host.old) (H.state host.new)) }
 {
     let fill = fill_of(alloc, command.choice)?;
     let made = make_runs(
@@ -128,10 +150,11 @@ fn run_equipped<H: Host>(
         program,
         image,
         fill.as_slice(),
-        devices,
+        devices80,
+        devices86,
     )?;
     let came = came_to(made.first, command.run.steps, made.line);
     let second = Some(made.second.steps);
     let name = kept_disk_name(command.run.out_disk, made.first.end);
-    leave_runs(alloc, host, came, second, name, devices.first.disk())
+    leave_runs(alloc, host, came, second, name, devices80.disk())
 }

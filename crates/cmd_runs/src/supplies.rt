@@ -62,6 +62,17 @@ pub fn devices_of(alloc: Global, supplies: Supplies) -> Result<Devices, Stop>
     }
 }
 
+/// The devices that a copy of the same bytes makes, or why the disk's file is none.
+pub fn devices_like(alloc: Global, supplies: &Supplies) -> Result<Devices, Stop>
+    ensures devices { IfOk result (HasDisk (given_of supplies.now.input.items supplies.now.disk.items supplies.now.ports.items)) }
+    ensures stopped { IfErr result (DiskStops supplies.now.disk.items) }
+{
+    let input = Vec::from_slice(alloc, supplies.input.as_slice())?;
+    let disk = Vec::from_slice(alloc, supplies.disk.as_slice())?;
+    let ports = Vec::from_slice(alloc, supplies.ports.as_slice())?;
+    devices_of(alloc, Supplies { input, disk, ports })
+}
+
 /// The bytes that fill a memory of 64K, by a choice.
 pub fn fill_of(alloc: Global, choice: u128) -> Result<Vec<u8>, AllocError>
     ensures items { IfOk result (λ fill. fill.items ≡ fill_by choice) }

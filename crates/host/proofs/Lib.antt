@@ -1,4 +1,5 @@
 pub mod HostLemmas
-pub mod Untold
+pub mod Counting
 pub mod Listed
 pub mod MemCalls
+pub mod MemTells

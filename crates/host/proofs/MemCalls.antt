@@ -1,13 +1,14 @@
 -- What the calls of a host in memory answer, put together.
-use Rattle.std.proofs.Common.{◌≡◌, ℕ, Bool, true, false, ◌+◌, ◌<◌, min, arith, List, take, length, ◌↔◌, Result, Ok, Err, IsOk, IfErr, OnOk, OnErr, refl, ap, sym, subst, ◌∙◌}
+use Rattle.std.proofs.Common.{◌≡◌, ℕ, Bool, true, false, ◌+◌, ◌<◌, min, arith, List, [], ◌++◌, take, length, Some, unwrap_or, ◌↔◌, Result, Ok, Err, IsOk, IfErr, OnOk, OnErr, refl, ap, sym, subst, ◌∙◌}
 use Rattle.std.specs.Prelude.{is_ok, if◌then◌else◌, IsErrAnd}
 use Rattle.std.proofs.lemmas.Bool.{false≢true}
 use Rattle.std.proofs.lemmas.List.{length-take}
 use Rattle.std.proofs.lemmas.Bool.Decides.{nat_tests}
 use Rattle.host.specs.declared.HostFault.{HostFault}
 use Rattle.host.specs.declared.HostFault.TheVariants.{Failed, Memory}
-use Rattle.host.specs.Host.{one_more, failures_after, wants_by}
-use Rattle.host.specs.MemHost.{piece_of}
+use Rattle.host.specs.declared.mem.MemHost.{MemHost}
+use Rattle.host.specs.Host.{one_more, failures_after, wants_by, wants_after}
+use Rattle.host.specs.MemHost.{file_in_mem_host, said_of, fails_of, calls_of, read_faults_of, write_faults_of, memory_faults_of, piece_of, CountsCall, CountsNothing}
 
 -- a count after one more
 pub counted_on : (n r : ℕ) → n < 18446744073709551616 → r ≡ min (n + 1) 18446744073709551615 → r ≡ one_more n
@@ -20,10 +21,6 @@ at_ok (Err d) ok p = absurd (false≢true ok)
 pub at_err : {T E P : Type 0} (r : Result T E) → (IsOk r → ⊥) → OnErr r P → P
 at_err (Ok x) other p = absurd (other refl)
 at_err (Err d) other p = p
-
-pub any_err : {T E P : Type 0} (r : Result T E) → P → OnErr r P
-any_err (Ok x) p = tt
-any_err (Err d) p = p
 
 -- the result is that a call failed
 abbrev pub Fault : (T : Type 0) → Result T HostFault → Type 0
@@ -98,3 +95,27 @@ not_taken false old more new is failed = is
 pub handed_fault : {T : Type 0} (r : Result T HostFault) (d : HostFault) → IsErrAnd r (λ x. x ≡ d) → r ≡ Err d
 handed_fault (Ok x) d is = absurd is
 handed_fault (Err e) d is = ap Err is
+
+-- what a write changes that was begun, went on without a count, and was counted
+module _ (old started went new : MemHost) (first last : Result (Unit {0}) HostFault) (begun : started ≡ record old { calls = one_more old.calls; write_faults = failures_after first old.write_faults }) (ended : new ≡ record went { memory_faults = wants_after last went.memory_faults }) where
+  module _ (on : CountsNothing started went) where
+    pub write_called : CountsCall old new
+    write_called = record { calls = ap calls_of ended ∙ on.calls ∙ ap calls_of begun; fails = ap fails_of ended ∙ on.fails ∙ ap fails_of begun }
+
+    pub reads_same : read_faults_of new ≡ read_faults_of old
+    reads_same = ap read_faults_of ended ∙ on.read_faults ∙ ap read_faults_of begun
+
+    pub writes_counted : write_faults_of new ≡ failures_after first (write_faults_of old)
+    writes_counted = ap write_faults_of ended ∙ on.write_faults ∙ ap write_faults_of begun
+
+    pub wants_counted : memory_faults_of new ≡ wants_after last (memory_faults_of old)
+    wants_counted = ap memory_faults_of ended ∙ ap (wants_after last) (on.memory_faults ∙ ap memory_faults_of begun)
+
+  pub said_same : said_of went ≡ said_of started → said_of new ≡ said_of old
+  said_same same = ap said_of ended ∙ same ∙ ap said_of begun
+
+  pub file_same : (name : List ℕ) → file_in_mem_host went name ≡ file_in_mem_host started name → file_in_mem_host new name ≡ file_in_mem_host old name
+  file_same name same = ap (λ (h : MemHost). file_in_mem_host h name) ended ∙ same ∙ ap (λ (h : MemHost). file_in_mem_host h name) begun
+
+  pub file_added : (name more : List ℕ) → file_in_mem_host went name ≡ Some (unwrap_or (file_in_mem_host started name) [] ++ more) → file_in_mem_host new name ≡ Some (unwrap_or (file_in_mem_host old name) [] ++ more)
+  file_added name more put = ap (λ (h : MemHost). file_in_mem_host h name) ended ∙ put ∙ ap (λ (h : MemHost). Some (unwrap_or (file_in_mem_host h name) [] ++ more)) begun

@@ -21,7 +21,7 @@ returns-in_err-first g c =
     let new = g.H.Host.state c.run_program.new.host in
     let program = c.args.program.now in
     let image = c.args.image.now in
-    let supply = c.args.devices.now.first in
+    let supply = c.args.devices80.now in
     let fault = c.in_err-first.field-0.0 in
     let cut : IsRunCutOff (first_setting command program) supply fault start new =
     subst (λ n. IsRunCutOff (setting80 command.run.page program n prefix80) supply fault start new) c.from-steps.ensures c.in_err-first.ensures.cut in
@@ -40,7 +40,7 @@ returns-in_err-second g c =
     let new = g.H.Host.state c.run_image.new.host in
     let program = c.args.program.now in
     let image = c.args.image.now in
-    let supply = c.args.devices.now.first in
+    let supply = c.args.devices80.now in
     let o = c.in_ok-first.first in
     let left = c.run_program.new.devices in
     let first : RunComesTo (first_setting command program) supply o left start mid =
@@ -49,7 +49,7 @@ returns-in_err-second g c =
     record {
       made = IfOk-from_err c.from_residual-in_err-second.result _ c.from_residual-in_err-second.ensures.0;
       halted = handed_on c.from_residual-in_err-second.result (halt_of_talk fault) (HaltsFrom (work_both command) (λ begin. AreToRun command begin program image supply) start new) c.from_residual-in_err-second.ensures.1
-          (λ begin read. second_halts command begin start program image supply read mid new o left c.args.devices.now.second c.limit86-limit.result first c.requires.second c.limit86-limit.ensures fault c.in_err-second.ensures.cut);
+          (λ begin read. second_halts command begin start program image supply read mid new o left c.args.devices86.now c.limit86-limit.result first c.requires.same c.limit86-limit.ensures fault c.in_err-second.ensures.cut);
     }
 
 pub returns-clause-made : goal.returns-clause-made
@@ -60,13 +60,13 @@ returns-clause-made g c = λ begin read.
     let new = g.H.Host.state c.run_image.new.host in
     let program = c.args.program.now in
     let image = c.args.image.now in
-    let supply = c.args.devices.now.first in
+    let supply = c.args.devices80.now in
     let o = c.in_ok-first.first in
     let left = c.run_program.new.devices in
     let first : RunComesTo (first_setting command program) supply o left start mid =
     subst (λ n. RunComesTo (setting80 command.run.page program n prefix80) supply o left start mid) c.from-steps.ensures c.in_ok-first.ensures.run in
     let choice = c.args.command.now.choice in
-    both_made command begin start program image supply read mid new o left c.args.devices.now.second c.limit86-limit.result first c.requires.second c.limit86-limit.ensures
+    both_made command begin start program image supply read mid new o left c.args.devices86.now c.limit86-limit.result first c.requires.same c.limit86-limit.ensures
     (record { size = subst (λ (l : List ℕ). length l ≡ 164) c.bytes.ensures.value c.bytes.ensures.len; bytes = subst (All (λ n. n < 256)) c.bytes.ensures.value c.start_is_in_range.ensures.page })
     (filled choice c.args.fill.now c.requires.fill.bytes c.requires.fill.size c.start_is_in_range.ensures.fill) c.start_is_in_range.ensures.choice
     (λ fetch. c.runs_are_one.ensures.of_86 fetch image c.args.command.now.run.page (fill_by choice) (start_by choice) (choice ∷ [])) c.line_of-line.result c.line_of-line.ensures c.in_ok-second.second c.run_image.new.devices c.in_ok-second.ensures.run

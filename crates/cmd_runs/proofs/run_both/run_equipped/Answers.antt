@@ -23,7 +23,7 @@ returns-in_err-fill g c =
     record {
       made = IfOk-from_err c.from_residual.result _ c.from_residual.ensures.0;
       came = IfOk-from_err c.from_residual.result _ c.from_residual.ensures.0;
-      halted = handed_on c.from_residual.result (By OutOfMemory) (HaltsFrom (work_both command) (λ begin. AreToRun command begin c.args.program.now c.args.image.now c.args.devices.now.first) start start) c.from_residual.ensures.1
+      halted = handed_on c.from_residual.result (By OutOfMemory) (HaltsFrom (work_both command) (λ begin. AreToRun command begin c.args.program.now c.args.image.now c.args.devices80.now) start start) c.from_residual.ensures.1
           (λ begin read. unloaded read.reads no_memory);
     }
 
@@ -37,7 +37,7 @@ returns-in_err-made g c =
     let start = g.H.Host.state c.args.host.now in
     let program = c.args.program.now in
     let image = c.args.image.now in
-    let supply = c.args.devices.now.first in
+    let supply = c.args.devices80.now in
     let new = g.H.Host.state c.make_runs.new.host in
     record {
       made = IfOk-from_err c.from_residual-in_err-made.result _ c.from_residual-in_err-made.ensures.0;
@@ -54,8 +54,8 @@ returns g c =
     let new = g.H.Host.state c.leave_runs.new.host in
     let program = c.args.program.now in
     let image = c.args.image.now in
-    let supply = c.args.devices.now.first in
-    let m = runs_made c.in_ok-made.made c.make_runs.new.devices.first in
+    let supply = c.args.devices80.now in
+    let m = runs_made c.in_ok-made.made c.make_runs.new.devices80 in
     let came = c.came_to-came.result in
     let name = option_copied c.kept_disk_name-name.result in
     let disk = c.disk.result.now in

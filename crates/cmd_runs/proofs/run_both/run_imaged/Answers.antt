@@ -15,7 +15,7 @@ pub returns-in_err-image : goal.returns-in_err-image
 returns-in_err-image g c =
     let command = both_read c.args.command.now in
     let program = c.args.program.now in
-    let supply = c.args.devices.now.first in
+    let supply = c.args.devices80.now in
     let start = g.H.Host.state c.args.host.now in
     record {
       made = IfOk-from_err c.from_residual.result _ c.from_residual.ensures.0;
@@ -28,7 +28,7 @@ pub returns : goal.returns
 returns g c =
     let command = both_read c.args.command.now in
     let program = c.args.program.now in
-    let supply = c.args.devices.now.first in
+    let supply = c.args.devices80.now in
     let start = g.H.Host.state c.args.host.now in
     let image = c.in_ok-image.image in
     let lean = c.in_ok-image.ensures.lean in

@@ -2,7 +2,7 @@ use Rattle.std.proofs.Common.{refl, arith}
 use Rattle.std.proofs.lemmas.Map.Text.{text_keys}
 use Rattle.std.proofs.lemmas.Result.{IfOk-from_err}
 use Rattle.host.specs.MemHost.{KeepsFiles}
-use Rattle.host.proofs.MemCalls.{any_err}
+use Rattle.host.proofs.Counting.{any_err}
 use Rattle.host.proofs.mem.MemHost.put.Goals as goal
 
 pub returns-clause-ok : goal.returns-clause-ok

@@ -5,7 +5,8 @@ use Rattle.host.specs.declared.HostFault.{HostFault}
 use Rattle.host.specs.declared.mem.MemHost.{MemHost}
 use Rattle.host.specs.Host.{failures_after, wants_by, wants_after}
 use Rattle.host.specs.MemHost.{file_in_mem_host, said_of, fails_of, calls_of, read_faults_of, write_faults_of, memory_faults_of, NextFails}
-use Rattle.host.proofs.MemCalls.{Fault, handed_fault, any_err, same_fault, other_fault, no_fault, no_failed_call, no_want, piece_length, taken, not_taken}
+use Rattle.host.proofs.Counting.{any_err}
+use Rattle.host.proofs.MemCalls.{Fault, handed_fault, same_fault, other_fault, no_fault, no_failed_call, no_want, piece_length, taken, not_taken}
 use Rattle.host.proofs.mem.MemHostHost.say.Goals as goal
 
 -- the call is one that fails

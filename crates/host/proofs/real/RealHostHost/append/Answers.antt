@@ -1,18 +1,23 @@
 use Rattle.std.proofs.Common.{refl}
-use Rattle.host.proofs.Untold.{of_each, of_handed, writes_only, no_write_fault, undisturbed, write_fault, write_alone}
+use Rattle.host.specs.RealHost.{untold}
+use Rattle.host.proofs.Counting.{failures_kept, wants_kept, no_write_fault, write_fault, write_alone, any_err, of_each, of_handed}
 use Rattle.host.proofs.real.RealHostHost.append.Goals as goal
 
 pub returns : goal.returns
 returns g c =
     let now = c.args.self.now in
-    let counts = c.counted in
+    let new = c.counted.new in
+    let a = untold now.read_faults now.write_faults now.memory_faults in
+    let b = untold now.read_faults new.failures new.wants in
+    let r = c.counted.result in
+    let counts = c.counted.ensures in
     record {
-      only = writes_only now.read_faults now.write_faults now.memory_faults counts.new.failures counts.new.wants counts.result counts.ensures.wanted counts.ensures.failed c.args.name.now;
-      some = of_handed c.append_file.result counts.result _ counts.ensures.answer c.append_file.ensures.some;
-      bound = of_handed c.append_file.result counts.result _ counts.ensures.answer c.append_file.ensures.bound;
-      bytes = of_each counts.result _ (λ _. refl);
-      counted = no_write_fault now.read_faults now.write_faults now.memory_faults counts.new.failures counts.new.wants counts.result counts.ensures.failed counts.ensures.wanted;
-      fault = undisturbed now.read_faults now.write_faults now.memory_faults counts.new.failures counts.new.wants counts.result;
-      failed = write_fault now.read_faults now.write_faults now.memory_faults counts.new.failures counts.new.wants counts.result counts.ensures.failed counts.ensures.wanted;
-      alone = write_alone now.read_faults now.write_faults now.memory_faults counts.new.failures counts.new.wants counts.result counts.ensures.failed counts.ensures.wanted;
+      only = record { files = λ other apart. refl; said = refl; reads = refl; writes = failures_kept r now.write_faults new.failures counts.failed; memory = wants_kept r now.memory_faults new.wants counts.wanted };
+      some = of_handed c.append_file.result r _ counts.answer c.append_file.ensures.some;
+      bound = of_handed c.append_file.result r _ counts.answer c.append_file.ensures.bound;
+      bytes = of_each r _ (λ _. refl);
+      counted = no_write_fault a b r refl counts.failed counts.wanted;
+      fault = any_err r (record { files = λ name. refl; said = refl });
+      failed = write_fault a b r counts.failed counts.wanted;
+      alone = write_alone a b r refl counts.failed counts.wanted;
     }
