@@ -69,6 +69,13 @@ with_de s high low = record s { regs = record (s.regs) { d = high; e = low } }
 abbrev pub with_hl : State80 → Cell → Cell → State80
 with_hl s high low = record s { regs = record (s.regs) { h = high; l = low } }
 
+-- two cells into a pair; SP, which holds a number always, stays
+abbrev pub with_cells : State80 → Pair → Cell → Cell → State80
+with_cells s PairB high low = with_bc s high low
+with_cells s PairD high low = with_de s high low
+with_cells s PairH high low = with_hl s high low
+with_cells s Sp high low = s
+
 -- a number into a pair
 abbrev pub with_num : State80 → Pair → ℕ → State80
 with_num s PairB w = with_bc s (Num (w / 256)) (Num (w % 256))

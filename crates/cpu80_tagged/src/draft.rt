@@ -38,7 +38,7 @@ pub struct Draft<'a> {
 }
 
 impl Draft<'_> {
-    ghost use Rattle.cpu80_tagged.specs.State.{high_of, low_of, with_bc, with_de, with_hl, with_num};
+    ghost use Rattle.cpu80_tagged.specs.State.{high_of, low_of, with_cells, with_num};
     ghost use Rattle.cpu80_tagged.specs.Memory.{read_at, write_at, read_word, write_word};
     ghost use Rattle.cpu80_tagged.specs.Row.{IsRow, halves_in};
     ghost use Rattle.cpu80_tagged.specs.Draft.{IsFresh, state_of_draft};
@@ -111,28 +111,26 @@ impl Draft<'_> {
         Word { high, low }
     }
 
-    pub fn set_bc(&mut self, word: Word)
-        ensures state { state_of_draft self.new ≡ with_bc (state_of_draft self.old) word.high word.low }
+    /// Two cells into a pair; SP, which holds a number always, stays.
+    pub fn set_cells(&mut self, pair: Pair, word: Word)
+        ensures state { state_of_draft self.new ≡ with_cells (state_of_draft self.old) pair word.high word.low }
         ensures memory { self.new.memory.now ≡ self.old.memory.now }
     {
-        self.registers.b = word.high;
-        self.registers.c = word.low;
-    }
-
-    pub fn set_de(&mut self, word: Word)
-        ensures state { state_of_draft self.new ≡ with_de (state_of_draft self.old) word.high word.low }
-        ensures memory { self.new.memory.now ≡ self.old.memory.now }
-    {
-        self.registers.d = word.high;
-        self.registers.e = word.low;
-    }
-
-    pub fn set_hl(&mut self, word: Word)
-        ensures state { state_of_draft self.new ≡ with_hl (state_of_draft self.old) word.high word.low }
-        ensures memory { self.new.memory.now ≡ self.old.memory.now }
-    {
-        self.registers.h = word.high;
-        self.registers.l = word.low;
+        match pair {
+            Pair::B => {
+                self.registers.b = word.high;
+                self.registers.c = word.low;
+            }
+            Pair::D => {
+                self.registers.d = word.high;
+                self.registers.e = word.low;
+            }
+            Pair::H => {
+                self.registers.h = word.high;
+                self.registers.l = word.low;
+            }
+            Pair::Sp => {}
+        }
     }
 
     /// A number into a pair.
@@ -140,15 +138,14 @@ impl Draft<'_> {
         ensures state { state_of_draft self.new ≡ with_num (state_of_draft self.old) pair number }
         ensures memory { self.new.memory.now ≡ self.old.memory.now }
     {
-        let word = Word {
-            high: Cell::Num((number / 256) as u8),
-            low: Cell::Num((number % 256) as u8),
-        };
-        match pair {
-            Pair::B => self.set_bc(word),
-            Pair::D => self.set_de(word),
-            Pair::H => self.set_hl(word),
-            Pair::Sp => self.sp = number,
+        if matches!(pair, Pair::Sp) {
+            self.sp = number;
+        } else {
+            let word = Word {
+                high: Cell::Num((number / 256) as u8),
+                low: Cell::Num((number % 256) as u8),
+            };
+            self.set_cells(pair, word);
         }
     }
 }

@@ -5,12 +5,12 @@ ghost use Rattle.std.specs.Prelude.{◌≡◌};
 use crate::area::Area;
 use crate::draft::{Draft, Word};
 use crate::numbers::address_in;
+use crate::registers::Registers;
 use cells::{Cell, Place, Rule};
 use i80::{Pair, Src, Word as Immediate};
 
 impl Draft<'_> {
     ghost use Rattle.i80.specs.declared.Instr80.TheVariants.{Mov, Ldax, Stax};
-    ghost use Rattle.i80.specs.declared.Word.TheVariants.{Code};
     ghost use Rattle.cpu80_tagged.specs.Effect.{source, into, effect, lxi, lda, lhld, xchg, xthl, sphl};
     ghost use Rattle.cpu80_tagged.specs.Row.{IsRow};
     ghost use Rattle.cpu80_tagged.specs.Draft.{IsFresh, state_of_draft};
@@ -57,31 +57,20 @@ impl Draft<'_> {
         self.put_into(area, to, cell)
     }
 
-    // A code address into a pair; none goes to SP.
-    fn set_code(&mut self, pair: Pair, at: u16)
-        ensures state { state_of_draft self.new ≡ lxi (state_of_draft self.old) pair (Code at) }
-        ensures memory { self.new.memory.now ≡ self.old.memory.now }
-    {
-        let word = Word {
-            high: Cell::Hi(Place::At(at)),
-            low: Cell::Lo(Place::At(at)),
-        };
-        match pair {
-            Pair::B => self.set_bc(word),
-            Pair::D => self.set_de(word),
-            Pair::H => self.set_hl(word),
-            Pair::Sp => {}
-        }
-    }
-
-    /// LXI.
+    /// LXI. No code address goes to SP.
     pub fn load_immediate(&mut self, pair: Pair, word: Immediate)
         ensures state { state_of_draft self.new ≡ lxi (state_of_draft self.old) pair word }
         ensures memory { self.new.memory.now ≡ self.old.memory.now }
     {
         match word {
             Immediate::Num(number) => self.set_pair(pair, number),
-            Immediate::Code(at) => self.set_code(pair, at),
+            Immediate::Code(at) => {
+                let word = Word {
+                    high: Cell::Hi(Place::At(at)),
+                    low: Cell::Lo(Place::At(at)),
+                };
+                self.set_cells(pair, word);
+            }
         }
     }
 
@@ -102,7 +91,7 @@ impl Draft<'_> {
         ensures memory { self.new.memory.now ≡ self.old.memory.now }
     {
         let word = self.read_word(area, at)?;
-        self.set_hl(word);
+        self.set_cells(Pair::H, word);
         Ok(())
     }
 
@@ -133,10 +122,14 @@ impl Draft<'_> {
         ensures state { state_of_draft self.new ≡ xchg (state_of_draft self.old) }
         ensures memory { self.new.memory.now ≡ self.old.memory.now }
     {
-        let hl = self.pair(Pair::H);
-        let de = self.pair(Pair::D);
-        self.set_hl(de);
-        self.set_de(hl);
+        let Registers { d, e, h, l, .. } = self.registers;
+        self.registers = Registers {
+            d: h,
+            e: l,
+            h: d,
+            l: e,
+            ..self.registers
+        };
     }
 
     /// XTHL.
@@ -147,7 +140,7 @@ impl Draft<'_> {
     {
         let word = self.read_word(area, self.sp)?;
         self.write_word(area, self.sp, self.pair(Pair::H))?;
-        self.set_hl(word);
+        self.set_cells(Pair::H, word);
         Ok(())
     }
 

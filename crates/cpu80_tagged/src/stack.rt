@@ -62,9 +62,9 @@ impl Draft<'_> {
         let word = self.read_word(area, self.sp)?;
         self.sp = self.sp.wrapping_add(2);
         match pair {
-            StackPair::B => self.set_bc(word),
-            StackPair::D => self.set_de(word),
-            StackPair::H => self.set_hl(word),
+            StackPair::B => self.set_cells(Pair::B, word),
+            StackPair::D => self.set_cells(Pair::D, word),
+            StackPair::H => self.set_cells(Pair::H, word),
             StackPair::Psw => {
                 self.registers.a = word.high;
                 self.flags = flags_of_cell(word.low);

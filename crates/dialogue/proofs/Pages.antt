@@ -1,6 +1,7 @@
 -- Bytes put one after another into cells that hold 0.
-use Rattle.std.proofs.Common.{◌≡◌, refl, sym, ◌∙◌, ap, ℕ, ◌+◌, ◌-◌, ◌≤◌, List, [], ◌∷◌, ◌++◌, length, take, drop, arith, append_assoc, append-nil, length-append}
-use Rattle.std.proofs.lemmas.List.{take_at, drop_at, length-replicate, replicate-append-replicate, length-take-le, take-replicate}
+use Rattle.std.proofs.Common.{◌≡◌, refl, sym, ◌∙◌, ap, ℕ, ◌+◌, ◌-◌, ◌≤◌, min, ltb, Bool, List, [], ◌∷◌, ◌++◌, length, take, drop, arith, append_assoc, append-nil, length-append}
+use Rattle.std.proofs.lemmas.Bool.{ltb-true, ltb-false}
+use Rattle.std.proofs.lemmas.List.{take_all, take_at, drop_at, length-replicate, replicate-append-replicate, length-take-le, take-append-le, take-replicate, drop-replicate}
 use Rattle.std.proofs.Math.Seq.{take-append-add}
 use Rattle.std.specs.Prelude.{replicate, map, Some, ◌==◌, true, false}
 use Rattle.std.specs.Char.{to_ascii_uppercase}
@@ -35,6 +36,29 @@ take-filled : (k left x : ℕ) (xs : List ℕ) → k ≡ length xs + left → le
 take-filled k left x xs fits le =
     ap (λ n. take n (xs ++ replicate k x)) fits ∙ take-append-add xs (replicate k x) left
     ∙ ap (λ ys. xs ++ ys) (take-replicate left k x le)
+
+-- a list put over the first of k bytes is cut to k bytes
+pub over-filled : (n m x : ℕ) (xs cells : List ℕ) → m ≡ min (length xs) n → cells ≡ take 0 (replicate n x) ++ (take m xs ++ drop (0 + length (take m xs)) (replicate n x)) → cells ≡ take n (xs ++ replicate n x)
+over-filled n m x xs cells e put = put ∙ by_order (ltb (length xs) n) refl
+  where
+    by_order : (b : Bool) → ltb (length xs) n ≡ b → take m xs ++ drop (0 + length (take m xs)) (replicate n x) ≡ take n (xs ++ replicate n x)
+    by_order true h =
+        let lt = ltb-true (length xs) n h in
+        let same : m ≡ length xs = omega arith in
+        let left = n - (0 + length xs) in
+        ap (λ j. take j xs ++ drop (0 + length (take j xs)) (replicate n x)) same
+        ∙ ap (λ ys. ys ++ drop (0 + length ys) (replicate n x)) (take_all (length xs) xs (omega arith))
+        ∙ ap (λ ys. xs ++ ys) (drop-replicate (0 + length xs) n x)
+        ∙ sym (take-filled n left x xs (omega arith) (omega arith))
+    by_order false h =
+        let le = ltb-false (length xs) n h in
+        let same : m ≡ n = omega arith in
+        let size = length-take-le n xs le in
+        let none : n - (0 + length (take n xs)) ≡ 0 = omega arith in
+        ap (λ j. take j xs ++ drop (0 + length (take j xs)) (replicate n x)) same
+        ∙ ap (λ ys. take n xs ++ ys) (drop-replicate (0 + length (take n xs)) n x ∙ ap (λ j. replicate j x) none)
+        ∙ append-nil (take n xs)
+        ∙ sym (take-append-le n xs (replicate n x) le)
 
 pub length-field : (k : ℕ) (part : List ℕ) → length (field k part) ≡ k
 length-field k part = by_parts _ _

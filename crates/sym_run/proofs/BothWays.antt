@@ -42,6 +42,13 @@ jumps w s on rest x l h = absurd (cc)
 
 -- two ways
 
+pub first_refused : (w : Surroundings) (room : ℕ) (rest : List Stmt86) (s : Symbolic86) (l : Label) (q : Reason) → LastStands s (way_from w s room (met w rest)) (Err q) → BothStand s (both w room rest s l) (Err q)
+first_refused w room rest s l q h = by_first (way_from w s room (met w rest)) h
+  where
+    by_first : (a : Result Way Reason) → LastStands s a (Err q) → BothStand s (try_then a (λ x. try_then (jump_to w Ok (λ xs. way_from w s room (met w xs)) l) (λ y. Ok (x, y)))) (Err q)
+    by_first (Ok t) h = absurd h
+    by_first (Err r) h = h
+
 pub second_refused : (w : Surroundings) (room : ℕ) (rest : List Stmt86) (s : Symbolic86) (l : Label) (last : Last) (q : Reason) → LastStands s (way_from w s room (met w rest)) (Ok last) → LastStands s (jump_to w Ok (λ xs. way_from w s room (met w xs)) l) (Err q) → BothStand s (both w room rest s l) (Err q)
 second_refused w room rest s l last q h k = by_both (way_from w s room (met w rest)) (jump_to w Ok (λ xs. way_from w s room (met w xs)) l) h k
   where

@@ -47,3 +47,7 @@ way_ends (Some tree) on way h = one_ends tree way false h
 pub call_ends : (t : Result Way Reason) (way : WayIds) → WayStands t (Ok way) → EndsWithoutTerm (λ s. try_then t (one_way s)) (Ok (record { exit = OneIds way; direct = false }))
 call_ends (Ok tree) way h = one_ends tree way false h
 call_ends (Err r) way h = absurd h
+
+pub call_refused : (t : Result Way Reason) (q : Reason) → WayStands t (Err q) → EndsWithoutTerm (λ s. try_then t (one_way s)) (Err q)
+call_refused (Ok tree) q h = absurd h
+call_refused (Err r) q h = λ pool run ready. h

@@ -111,6 +111,23 @@ two_is w room rest s j l x y h = by_both (way_from w s room (met w rest)) (jump_
     by_both (Ok t) (Err r) h = absurd h
     by_both (Err r) b h = absurd h
 
+pub two_refused : (pool : Contents) (r : Run) (w : Surroundings) (room : ℕ) (rest : List Stmt86) (j : Jump) (l : Label) (q : Reason) → IsReady pool r → BothStand (as86 (machine_of pool r)) (both w room rest (as86 (machine_of pool r)) l) (Err q) → WalksTo pool pool r 6 (two_ways w room rest (as86 (machine_of pool r)) j l) (Some (Err q))
+two_refused pool r w room rest j l q ready h = record {
+  grows = more pool pool 0 6 (omega arith) (still pool);
+  terms = ready.terms;
+  capacity = ready.capacity;
+  gives = by_both (way_from w s room (met w rest)) (jump_to w Ok (λ xs. way_from w s room (met w xs)) l) h;
+  enough = λ _. refl;
+}
+  where
+    s : Symbolic86
+    s = as86 (machine_of pool r)
+
+    by_both : (a b : Result Way Reason) → BothStand s (try_then a (λ x. try_then b (λ y. Ok (x, y)))) (Err q) → EndStands pool r (try_then a (λ x. try_then b (λ y. Ok (outcome86 s false (Two (flag_of_jump s.held j) (jumps_at j) y x))))) (Err q)
+    by_both (Ok t) (Ok u) h = absurd h
+    by_both (Ok t) (Err e) h = h
+    by_both (Err e) b h = h
+
 -- an instruction is counted
 pub counted : (w : Surroundings) (room : ℕ) (x : Stmt86) (rest : List Stmt86) (s : Symbolic86) → 0 < room → walk_through w room (Instruction x rest) s ≡ walk_by w (room - 1) (λ t xs. walk_through w (room - 1) (met w xs) t) rest s x
 counted w zero x rest s h = absurd (omega arith)

@@ -1,5 +1,5 @@
 -- A walk that stops at a conditional jump.
-use Rattle.std.proofs.Common.{◌≡◌, ◌∙◌, ℕ, zero, suc, ◌+◌, ◌-◌, ◌<◌, ◌≤◌, Bool, cond, true, false, List, [], ◌∷◌, length, take, drop, Option, Some, None, refl, sym, ap, subst, arith}
+use Rattle.std.proofs.Common.{◌≡◌, ◌∙◌, ℕ, zero, suc, ◌+◌, ◌-◌, ◌<◌, ◌≤◌, Bool, cond, true, false, List, [], ◌∷◌, length, nat_lt, take, drop, Option, Some, None, refl, sym, ap, subst, arith}
 use Rattle.std.specs.List.{slice_get}
 use Rattle.std.proofs.Math.Seq.{drop-drop}
 use Rattle.std.proofs.lemmas.List.{length-drop}
@@ -9,7 +9,7 @@ use Rattle.asm86_line_types.specs.declared.line.Stmt86.TheVariants.{Mark}
 use Rattle.asm86_line_types.specs.Layout.{marks}
 use Rattle.sym_block_def.specs.Walk86.{Surroundings, after_label}
 use Rattle.sym_run.specs.Places.{IsPlace}
-use Rattle.sym_run.specs.Stop.{Stop, stop, or_stop, pass, next_after, stop_from, way_stop, is_way_end, two_ways_stop, jump_label, jump_stop, walk_stop, StopsAt}
+use Rattle.sym_run.specs.Stop.{Stop, stop, or_stop, pass, next_after, stop_from, way_stop, ends_by, is_way_end, two_ways_stop, jump_label, jump_stop, walk_stop, StopsAt}
 
 first_of : (n : ℕ) (xs : List Stmt86) (x : Stmt86) → slice_get (take n xs) 0 ≡ Some x → xs ≡ x ∷ drop 1 xs
 first_of zero xs x e = absurd (cc)
@@ -32,6 +32,16 @@ none_at xs at e = none_of (length xs - at) (drop at xs) (sym (length-drop at xs)
 pub mark_ends : (room : ℕ) (l : Label) (xs rest : List Stmt86) → xs ≡ Mark l ∷ rest → is_way_end room xs ≡ true
 mark_ends zero l xs rest e = ap (is_way_end zero) e
 mark_ends (suc n) l xs rest e = ap (is_way_end (suc n)) e
+
+pub statement_ends : (room : ℕ) (x : Stmt86) (xs rest : List Stmt86) → xs ≡ x ∷ rest → ((l : Label) → x ≡ Mark l → ⊥) → 0 < room → is_way_end room xs ≡ ends_by x
+statement_ends zero x xs rest e n h = absurd (omega arith)
+statement_ends (suc k) (Mark l) xs rest e n h = absurd (n l refl)
+statement_ends (suc k) x xs rest e n h = ap (is_way_end (suc k)) e
+
+pub no_room_ends : (room : ℕ) (x : Stmt86) (xs rest : List Stmt86) → xs ≡ x ∷ rest → ((l : Label) → x ≡ Mark l → ⊥) → room ≤ 0 → nat_lt 0 room ≡ is_way_end room xs
+no_room_ends zero (Mark l) xs rest e n h = absurd (n l refl)
+no_room_ends zero x xs rest e n h = sym (ap (is_way_end zero) e)
+no_room_ends (suc k) x xs rest e n h = absurd (omega arith)
 
 pub nothing_ends : (room : ℕ) (xs : List Stmt86) → xs ≡ [] → is_way_end room xs ≡ false
 nothing_ends zero xs e = ap (is_way_end zero) e

@@ -116,8 +116,7 @@ fn is_way_end(around: &Around<'_>, stop: Stop) -> bool
     ensures { result ≡ is_way_end stop.room (drop stop.at around.now.text.now) }
 {
     match around.text.statements()[stop.at..].first() {
-        Some(Stmt86::Mark(_)) => true,
-        Some(stmt) => stop.room > 0 && ends_by(*stmt),
+        Some(stmt) => matches!(stmt, Stmt86::Mark(_)) || stop.room > 0 && ends_by(*stmt),
         None => false,
     }
 }

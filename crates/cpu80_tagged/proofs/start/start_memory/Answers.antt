@@ -1,10 +1,8 @@
-use Rattle.std.proofs.Common.{◌≡◌, ℕ, ◌≤◌, Bool, true, false, nat_lt, refl, sym, ◌∙◌, get_or, arith}
+use Rattle.std.proofs.Common.{◌≡◌, ◌≤◌, subst, sym, arith}
 use mathlib.Core.Path.{fun_ext}
-use Rattle.std.proofs.lemmas.Bool.Decides.{nat_tests}
-use Rattle.std.proofs.lemmas.List.{get_or_past}
 use Rattle.cells.specs.declared.Cell.TheVariants.{Junk}
 use Rattle.cpu80_tagged.specs.Start.{start_cell80}
-use Rattle.cpu80_tagged.proofs.Starts.{filled_more, start_past}
+use Rattle.cpu80_tagged.proofs.Starts.{filled_all, filled_more, start_past}
 use Rattle.cpu80_tagged.proofs.start.start_memory.Goals as goal
 
 pub loop-at-preserved : goal.loop-at-preserved
@@ -13,10 +11,9 @@ loop-at-preserved c =
     c.loop-at.invariant c.in_ok-push.ensures.items c.start_cell.ensures
 
 pub returns-clause-cells : goal.returns-clause-cells
-returns-clause-cells c = fun_ext (λ a. by_place a (nat_lt a 0x10000) refl)
-  where
-    by_place : (a : ℕ) (b : Bool) → nat_lt a 0x10000 ≡ b → get_or c.loop-at.memory.items a Junk ≡ start_cell80 c.args.program.now c.args.page.now a
-    by_place a true e = c.loop-at.invariant.each a (grind (arith, nat_tests))
-    by_place a false e =
-        let le : 0x10000 ≤ a = grind (arith, nat_tests) in
-        get_or_past c.loop-at.memory.items a Junk (omega arith) ∙ sym (start_past c.args.program.now c.args.page.now a c.top-top.ensures.program (omega arith) le)
+returns-clause-cells c =
+    let p = c.args.program.now in
+    let page = c.args.page.now in
+    let top = subst (λ t. t ≤ 0xFF00) c.top-top.ensures.value c.top-top.ensures.range.1 in
+    fun_ext (filled_all Junk (λ a v. v ≡ start_cell80 p page a) c.loop-at.memory.items c.loop-at.at 0x10000 c.loop-at.invariant (omega arith)
+    (λ a le. sym (start_past p page a c.top-top.ensures.program top le)))

@@ -1,5 +1,6 @@
-use Rattle.std.proofs.Common.{ℕ, ◌∙◌, ◌≡◌, ap, ◌<◌, length, refl, arith}
-use Rattle.std.proofs.lemmas.List.{take_more_set, map_more, length-replicate, length-set}
+use Rattle.std.proofs.Common.{ℕ, ◌∙◌, ◌≡◌, sym, ap, ◌<◌, length, take, refl, arith}
+use Rattle.std.specs.Prelude.{map}
+use Rattle.std.proofs.lemmas.List.{take_all, take_more_set, map_more, length-replicate, length-set}
 use Rattle.std.specs.Char.{to_ascii_uppercase}
 use Rattle.dialogue.proofs.start_page.in_upper_case.Goals as goal
 
@@ -21,3 +22,10 @@ loop-k-preserved c =
       size = length-set c.loop-k.text c.loop-k.k c.to_ascii_uppercase.result ∙ size;
       upper = cc;
     }
+
+pub returns : goal.returns
+returns c =
+    let end : c.loop-k.k ≡ length c.args.tail.now = omega arith in
+    ap (λ n. take n c.loop-k.text) (sym end)
+    ∙ c.loop-k.invariant.upper
+    ∙ ap (map to_ascii_uppercase) (take_all c.loop-k.k c.args.tail.now c.loop-k-test.false)

@@ -16,6 +16,9 @@ below n m h k = omega arith
 at_most : (n m : ℕ) → n < m → n ≤ m
 at_most n m h = omega arith
 
+none_left : (n : ℕ) → n ≤ 0 → n ≡ 0
+none_left n h = omega arith
+
 pub loop-at-preserved : goal.loop-at-preserved
 loop-at-preserved c =
     let text = c.args.statements.now in
@@ -28,3 +31,6 @@ loop-at-preserved c =
       λ q. place_more text k q (slice_index_or text k Cseg) (offset_in c.loop-at.places.entries q) (offset_in c.define.new.places.entries q) lt (at_drop_more (λ xs. xs) text k Cseg lt) (c.in_ok-define.ensures q)
           (subst (λ n. IsPlace text (offset_in c.loop-at.places.entries q) (after_label (drop n text) q)) here (c.loop-at.invariant.1 q)),
     )
+
+pub returns : goal.returns
+returns c = λ q. subst (λ n. IsPlace c.args.statements.now (offset_in c.loop-at.places.entries q) (after_label (drop n c.args.statements.now) q)) (none_left c.loop-at.at c.loop-at-test.false) (c.loop-at.invariant.1 q)

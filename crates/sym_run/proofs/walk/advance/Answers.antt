@@ -1,4 +1,4 @@
-use Rattle.std.proofs.Common.{◌≡◌, ℕ, List, Some, None, Result, Err, refl, subst, sym, arith}
+use Rattle.std.proofs.Common.{◌≡◌, ◌∙◌, ℕ, List, Some, None, Result, Err, refl, ap, subst, sym, arith}
 use Rattle.asm86_line_types.specs.declared.line.Label.{Label}
 use Rattle.asm86_line_types.specs.declared.line.Stmt86.{Stmt86}
 use Rattle.asm86_line_types.specs.declared.line.Stmt86.TheVariants.{Run, MovOffset, Jmp, Jmps, Jcc as JccTo, Call as CallTo}
@@ -102,3 +102,21 @@ returns-in_err-offset-in-MovOffset c =
     let s = c.offset.new.run in
     let tree = λ (on : OnTo). walk_by (surroundings_of c.args.around.now) c.args.room on c.args.rest.now (as86 (machine_of old r)) c.args.stmt in
     subst (Advances old new r s tree) (sym c.from_residual.ensures) (step_missing old new r s _ tree c.in_err-offset-in-MovOffset.ensures)
+
+pub returns-in_ok-offset-in-MovOffset : goal.returns-in_ok-offset-in-MovOffset
+returns-in_ok-offset-in-MovOffset c =
+    let w = surroundings_of c.args.around.now in
+    let rest = c.args.rest.now in
+    let s = as86 (machine_of c.args.terms.now c.args.run.now) in
+    let g = c.in_ok-offset-in-MovOffset.ensures in
+    record {
+      grows = g.grows;
+      terms = g.ready.terms;
+      capacity = g.ready.capacity;
+      gives = record {
+        ready = g.ready;
+        few = g.few;
+        is = λ on. ap (walk_by w c.args.room on rest s) c.in-MovOffset.is ∙ ap (λ x. on x rest) (sym g.gives);
+      };
+      enough = λ _. refl;
+    }

@@ -1,4 +1,4 @@
-use Rattle.std.proofs.Common.{false, Some, Ok, subst, sym}
+use Rattle.std.proofs.Common.{false, Some, Ok, refl, subst, sym}
 use Rattle.sym_block_def.specs.Outcome.{Two}
 use Rattle.sym_block_def.specs.Walk86.{two_ways, flag_of_jump, jumps_at}
 use Rattle.sym_micro.specs.Machine.{as86}
@@ -6,7 +6,7 @@ use Rattle.sym_micro.specs.Stands.{machine_of}
 use Rattle.sym_run.specs.declared.ends.End.{End}
 use Rattle.sym_run.specs.Around.{surroundings_of}
 use Rattle.sym_run.specs.Ends.{WalksTo}
-use Rattle.sym_run.proofs.Steps.{two_is, exit_missing, exit_found}
+use Rattle.sym_run.proofs.Steps.{two_is, two_refused, exit_missing, exit_found}
 use Rattle.sym_run.proofs.walk.two_ways.Goals as goal
 
 pub returns-in_err-exit-in-Ok-clause-walks : goal.returns-in_err-exit-in-Ok-clause-walks
@@ -35,3 +35,12 @@ returns-in_ok-exit-in-Ok-clause-walks c =
     subst (λ (e : End). WalksTo old new r 6 t (Some (Ok e))) (sym c.by_exit.ensures)
     (subst (λ x. WalksTo old new r 6 x (Some (Ok (record { exit = c.in_ok-exit-in-Ok.exit; direct = false })))) (sym two.is)
     (exit_found old new 6 r exit c.in_ok-exit-in-Ok.exit c.requires (c.in_ok-exit-in-Ok.ensures two.here two.there two.straight two.jumped)))
+
+pub returns-in-Err : goal.returns-in-Err
+returns-in-Err c =
+    let old = c.args.terms.now in
+    let r = c.args.run.now in
+    record {
+      walks = two_refused old r (surroundings_of c.args.around.now) c.args.room c.args.rest.now c.args.jump c.args.label c.in-Err.reason c.requires (c.in-Err.ensures (as86 (machine_of old r)));
+      refused = refl;
+    }

@@ -87,3 +87,6 @@ invariant_of-self-in-Ok c =
 
 pub run_text-requires-clause-capacity : goal.run_text-requires-clause-capacity
 run_text-requires-clause-capacity c = c.self-inside.invariant
+
+pub run_text-requires-clause-block : goal.run_text-requires-clause-block
+run_text-requires-clause-block c = c.requires
