@@ -7,7 +7,7 @@ use asm86_line_types::TextRule;
 use std::alloc::{AllocError, AllocFailed};
 
 /// Why a line is not read.
-#[derive(Clone, Copy, PartialEq, Eq, Drop)]
+#[derive(Clone, Copy, Drop)]
 pub enum LineFault {
     /// It breaks a rule: M1 or M2.
     Rule(TextRule),

@@ -1,8 +1,8 @@
 //! Operands of tokens.
 
-ghost use Rattle.std.specs.Prelude.{◌≡◌, ◌≤◌, ◌∷◌, [], IfOk, MatchOption, length, map, not, option_map};
+ghost use Rattle.std.specs.Prelude.{◌≡◌, ◌≤◌, ◌∷◌, [], IfOk, MatchOption, length, map, not, option_and_then, option_map};
 ghost use Rattle.std.specs.List.{prefix_len, slice_split};
-ghost use Rattle.asm86_line_reader.specs.Operands.{byte_cell, each, is_comma, operand_in, operands_in, plain_operand, word_cell};
+ghost use Rattle.asm86_line_reader.specs.Operands.{after_ptr, byte_cell, each, is_comma, operand_in, operands_in, plain_operand, word_cell};
 
 use crate::token::{Operand, Token};
 use i86::{Ptr, Reg16};
@@ -72,8 +72,8 @@ pub fn operand_of(tokens: &[Token]) -> Option<Operand>
     ensures { result ≡ operand_in tokens.now }
 {
     match tokens {
-        [Token::Byte, Token::Ptr, cell @ ..] => byte_cell(cell),
-        [Token::Word, Token::Ptr, cell @ ..] => word_cell(cell),
+        [Token::Byte, cell @ ..] => byte_cell(cell),
+        [Token::Word, cell @ ..] => word_cell(cell),
         [Token::Offset, Token::Label(label)] => Some(Operand::Offset(*label)),
         [token] => plain_operand(*token),
         _ => None,
@@ -95,24 +95,34 @@ fn plain_operand(token: Token) -> Option<Operand>
     }
 }
 
-// A byte behind `BYTE PTR`.
+// What `BYTE` begins: `PTR` and a byte.
 fn byte_cell(tokens: &[Token]) -> Option<Operand>
-    ensures { result ≡ byte_cell tokens.now }
+    ensures { result ≡ option_and_then byte_cell (after_ptr tokens.now) }
 {
     match tokens {
-        [Token::Dot, Token::Number(n)] => Some(Operand::DirectByte(*n)),
-        [Token::Open, Token::Reg16(Reg16::Bx), Token::Close] => Some(Operand::Mem(Ptr::Bx)),
-        [Token::Open, Token::Reg16(Reg16::Si), Token::Close] => Some(Operand::Mem(Ptr::Si)),
+        [Token::Ptr, Token::Dot, Token::Number(n)] => Some(Operand::DirectByte(*n)),
+        [
+            Token::Ptr,
+            Token::Open,
+            Token::Reg16(Reg16::Bx),
+            Token::Close,
+        ] => { Some(Operand::Mem(Ptr::Bx)) }
+        [
+            Token::Ptr,
+            Token::Open,
+            Token::Reg16(Reg16::Si),
+            Token::Close,
+        ] => { Some(Operand::Mem(Ptr::Si)) }
         _ => None,
     }
 }
 
-// A word behind `WORD PTR`.
+// What `WORD` begins: `PTR` and a word.
 fn word_cell(tokens: &[Token]) -> Option<Operand>
-    ensures { result ≡ word_cell tokens.now }
+    ensures { result ≡ option_and_then word_cell (after_ptr tokens.now) }
 {
     match tokens {
-        [Token::Dot, Token::Number(n)] => Some(Operand::DirectWord(*n)),
+        [Token::Ptr, Token::Dot, Token::Number(n)] => Some(Operand::DirectWord(*n)),
         _ => None,
     }
 }

@@ -1,10 +1,11 @@
 // The console and its answers (CP/M 2.2 Operating System Manual, section 5.3, "BDOS functions").
-ghost use Rattle.std.specs.Prelude.{◌≡◌, ◌≢◌, ◌+◌, ◌<◌, [], ◌∷◌, length, IfOk, OnErr, MatchOption};
+ghost use Rattle.std.specs.Prelude.{◌≡◌, ◌≢◌, ◌+◌, ◌<◌, [], ◌∷◌, length, IfOk, OnErr};
 ghost use Rattle.dialogue.specs.Shape.{argument_address};
 ghost use Rattle.dialogue.specs.Lawful.{first_byte, IsLawfulRequest};
 ghost use Rattle.bdos_small.specs.Calls.{reply_writing};
 ghost use Rattle.bdos_small.specs.Console.{disk_selected};
 
+use crate::input::Input;
 use crate::line::{Line, read_line};
 use crate::replies::{telling, writing};
 use dialogue::{ArgWord, Reply, Request};
@@ -28,28 +29,27 @@ pub enum Answer {
 /// The console, seen as the input that is left.
 #[derive(Drop)]
 pub struct Console {
-    input: Vec<u8>,
-    taken: usize,
+    input: Input,
 }
 
 impl Model for Console {
-    ghost use Rattle.std.specs.Prelude.{ℕ, List, drop, length, ◌≤◌};
+    ghost use Rattle.std.specs.Prelude.{ℕ, List};
 
     ghost Value = { List ℕ };
 
-    ghost view = { λ c. drop c.taken c.input.items };
-
-    ghost invariant = { λ c. c.taken ≤ length c.input.items };
+    ghost view = { λ c. c.input };
 }
 
 impl Console {
-    ghost use Rattle.bdos_small.specs.Console.{ConsoleAnswered, console_answer, read_byte, read_direct, direct_console, read_console_line, console_status, FitsRequest, IsByte, IsDirect, TakesInputByReply};
+    ghost use Rattle.bdos_small.specs.Console.{ConsoleAnswered, console_answer, read_byte, direct_console, read_console_line, console_status, FitsRequest, IsByte, IsDirect, TakesInputByReply};
 
     /// The console with this input.
     pub fn new(input: Vec<u8>) -> Console
         ensures { result ≡ input.items }
     {
-        Console { input, taken: 0 }
+        Console {
+            input: Input::new(input),
+        }
     }
 
     /// The answer to a call. Only a reply takes input, so that after another answer or want of memory the call can be answered
@@ -75,52 +75,25 @@ impl Console {
         }
     }
 
-    // The input that is left.
-    fn left(&self) -> &[u8]
-        ensures { result.now ≡ self.now }
-    {
-        &self.input[self.taken..]
-    }
-
-    // Takes the next byte, if one is left.
-    fn take_byte(&mut self) -> Option<u8>
-        ensures { MatchOption result ((self.old ≡ []) × (self.new ≡ [])) (λ byte. self.old ≡ byte ∷ self.new) }
-    {
-        let byte = *self.left().first()?;
-        self.taken += 1;
-        Some(byte)
-    }
-
     // Function 1: the next byte.
     fn read_byte(&mut self, alloc: Global) -> Answer
         ensures byte { IsByte result }
         ensures answer { ◌≡◌ {A = ConsoleAnswered} (record { answer = result; left = self.new }) (read_byte self.old) }
     {
-        match self.take_byte() {
+        match self.input.take() {
             None => Answer::InputEnded,
             Some(byte) => told(alloc, u16::from(byte)),
         }
     }
 
-    // Function 6: input where the argument asks for it, else output.
+    // Function 6: the next byte, or 0 where none is left, where the argument asks for it; else output.
     fn direct_console(&mut self, alloc: Global, arg: ArgWord) -> Answer
         ensures direct { IsDirect arg result }
         ensures answer { ◌≡◌ {A = ConsoleAnswered} (record { answer = result; left = self.new }) (direct_console arg self.old) }
     {
         match arg {
-            ArgWord::Byte(DIRECT_INPUT) => self.read_direct(alloc),
+            ArgWord::Byte(DIRECT_INPUT) => told(alloc, u16::from(self.input.take().unwrap_or(0))),
             _ => told(alloc, 0),
-        }
-    }
-
-    // Direct input: the next byte, or 0 where none is left.
-    fn read_direct(&mut self, alloc: Global) -> Answer
-        ensures byte { IsDirect (ArgWord.Byte 0xFF) result }
-        ensures answer { ◌≡◌ {A = ConsoleAnswered} (record { answer = result; left = self.new }) (read_direct self.old) }
-    {
-        match self.take_byte() {
-            None => told(alloc, 0),
-            Some(byte) => told(alloc, u16::from(byte)),
         }
     }
 
@@ -128,7 +101,11 @@ impl Console {
     fn status(&self) -> u16
         ensures { result ≡ console_status self.now }
     {
-        if self.left().is_empty() { 0 } else { 0xFF }
+        if self.input.left().is_empty() {
+            0
+        } else {
+            0xFF
+        }
     }
 
     // Function 10: a line, written where the range begins that the call may write.
@@ -140,12 +117,12 @@ impl Console {
         ensures memory { OnErr result (self.new ≡ self.old) }
         ensures wanted { OnErr result (self.old ≢ []) }
     {
-        if self.left().is_empty() {
+        if self.input.left().is_empty() {
             return Ok(Answer::InputEnded);
         }
-        let Line { bytes, used } = read_line(alloc, self.left(), room_of(request))?;
-        let reply = written(alloc, request, bytes.as_slice())?;
-        self.taken += used;
+        let Line { bytes, used } = read_line(alloc, self.input.left(), room_of(request))?;
+        let reply = written(alloc, request, bytes)?;
+        self.input.skip(used);
         Ok(Answer::Reply(reply))
     }
 }
@@ -178,12 +155,11 @@ fn room_of(request: &Request) -> u8
 }
 
 // The reply that writes a line where the range begins that the call may write, its length first.
-fn written(alloc: Global, request: &Request, line: &[u8]) -> Result<Reply, AllocError>
-    requires { length line.now < 256 }
-    ensures { IfOk result (λ y. y ≡ reply_writing request.now 0 (length line.now ∷ line.now)) }
+fn written(alloc: Global, request: &Request, mut line: Vec<u8>) -> Result<Reply, AllocError>
+    requires { length line.items < 256 }
+    ensures { IfOk result (λ y. y ≡ reply_writing request.now 0 (length line.items ∷ line.items)) }
 {
-    let mut bytes = Vec::new(alloc);
-    bytes.push(line.len() as u8)?;
-    bytes.extend_from_slice(line)?;
-    writing(alloc, request, bytes.as_slice())
+    let length = line.len() as u8;
+    line.insert(0, length)?;
+    writing(alloc, request, &line)
 }

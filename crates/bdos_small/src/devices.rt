@@ -10,7 +10,7 @@ ghost use Rattle.bdos_small.specs.Events.{of_system, port_reply, FitsEvent, Take
 
 use crate::bdos::Bdos;
 use crate::console::Answer;
-use crate::ports::PortBytes;
+use crate::input::Input;
 use bdos_disk::Disk;
 use dialogue::{Blocks, Event, Reply, Request};
 use std::alloc::{AllocError, Global};
@@ -29,7 +29,7 @@ pub enum EventAnswer {
 #[derive(Drop)]
 pub struct Devices {
     bdos: Bdos,
-    ports: PortBytes,
+    ports: Input,
 }
 
 impl Model for Devices {
@@ -50,7 +50,7 @@ impl Devices {
     {
         Devices {
             bdos: Bdos::new(disk, input),
-            ports: PortBytes::new(ports),
+            ports: Input::new(ports),
         }
     }
 

@@ -15,8 +15,8 @@ mod console;
 mod devices;
 mod directory;
 mod fcb;
+mod input;
 mod line;
-mod ports;
 mod records;
 mod replies;
 

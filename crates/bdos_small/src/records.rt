@@ -1,13 +1,12 @@
 // The functions that read and write records (CP/M 2.2 Operating System Manual, section 5.3, "BDOS Functions").
-ghost use Rattle.std.specs.Prelude.{◌≡◌, ◌+◌, ◌≤◌, ◌<◌, length, slice_index, slice_get, IfOk, OnErr};
-ghost use Rattle.std.specs.Option.{option_copied};
+ghost use Rattle.std.specs.Prelude.{◌≡◌, ◌+◌, ◌≤◌, ◌<◌, length, slice_index, IfOk, OnErr};
 ghost use Rattle.bdos_disk.specs.Disks.{IsDisk};
 ghost use Rattle.bdos_small.specs.Calls.{fcb_of, block_read};
-ghost use Rattle.bdos_small.specs.Files.{Changed, record_read, file_read, read_at, read_sequential, read_random, write_at, write_sequential, write_random, file_size, set_random_record};
+ghost use Rattle.bdos_small.specs.Files.{Changed, read_at, read_sequential, read_random, write_at, write_sequential, write_random, file_size, set_random_record};
 
 use crate::fcb::{byte_at, fields_at, position_in, position_of, random_bytes, random_position};
 use crate::replies::{block_at, telling, writing, writing_both};
-use bdos_disk::{Disk, File, MOST_RECORDS, Name, Record};
+use bdos_disk::{Disk, MOST_RECORDS, Name};
 use dialogue::{Reply, Request};
 use std::alloc::{AllocError, Global};
 
@@ -57,42 +56,14 @@ fn read_at(
     ensures disk { IsDisk disk.now }
 {
     let name = Name::in_block(block_at(request, 0));
-    file_read(alloc, request, position, after, disk.file_named(&name))
-}
-
-// The same of a file, if there is one.
-fn file_read(
-    alloc: Global,
-    request: &Request,
-    position: usize,
-    after: usize,
-    file: Option<&File>,
-) -> Result<Reply, AllocError>
-    requires { after < 0x100000 }
-    ensures { IfOk result (λ y. y ≡ file_read request.now position after (option_copied file.entry)) }
-{
-    let Some(file) = file else {
+    let Some(file) = disk.file_named(&name) else {
         return Ok(telling(alloc, NO_RECORD));
     };
     let records = file.records();
-    record_read(alloc, request, records.len(), after, records.get(position))
-}
-
-// The same of a record of a file with `count` records, if there is one.
-fn record_read(
-    alloc: Global,
-    request: &Request,
-    count: usize,
-    after: usize,
-    found: Option<&Record>,
-) -> Result<Reply, AllocError>
-    requires { after < 0x100000 }
-    ensures { IfOk result (λ y. y ≡ record_read request.now count after (option_copied found.entry)) }
-{
-    let Some(record) = found else {
+    let Some(record) = records.get(position) else {
         return Ok(telling(alloc, NO_RECORD));
     };
-    let fields = fields_at(after, count);
+    let fields = fields_at(after, records.len());
     writing_both(alloc, request, &fields, record.bytes())
 }
 

@@ -1,5 +1,7 @@
 use Rattle.std.proofs.Common.{◌+◌, drop, get_or, sym, ap, subst, ◌∙◌, arith}
 use Rattle.std.specs.List.{fold}
+use Rattle.std.proofs.lemmas.List.{drop_all}
+use Rattle.std.proofs.lemmas.Result.{IfOk-from_err, err_from_is_err_and}
 use Rattle.asm86_line_types.specs.declared.line.Stmt86.TheVariants.{Cseg}
 use Rattle.asm86_line_types.specs.Image.{statements, put_cell, cells_from, by_address}
 use Rattle.asm86.specs.Places.{label_place}
@@ -32,3 +34,34 @@ put-requires-clause-stands c =
     let i = c.loop-line.line-index in
     let e = left lines i (record { line = 0; stmt = Cseg }) c.loop-line-test.true in
     stands_first c.loop-line.at (get_or lines i (record { line = 0; stmt = Cseg })).stmt (statements (drop (i + 1) lines)) (subst (StandsFrom c.loop-line.at) e c.loop-line.invariant.stands)
+
+pub returns-in_err-at : goal.returns-in_err-at
+returns-in_err-at c =
+    let r = c.from_residual in
+    let e = err_from_is_err_and r.result r.ensures.1 in
+    record {
+      cells = IfOk-from_err r.result _ r.ensures.0;
+      memory = rw e.1 (e.2 ∙ c.in_err-at.ensures.memory);
+    }
+
+pub returns-in_err-listed : goal.returns-in_err-listed
+returns-in_err-listed c =
+    let r = c.from_residual-in_err-listed in
+    let e = err_from_is_err_and r.result r.ensures.1 in
+    record {
+      cells = IfOk-from_err r.result _ r.ensures.0;
+      memory = rw e.1 e.2;
+    }
+
+pub returns : goal.returns
+returns c =
+    let lines = c.args.lines.now in
+    let i = c.loop-line.line-index in
+    let none = drop_all i lines c.loop-line-test.false in
+    record {
+      cells =
+          c.in_ok-listed.ensures
+          ∙ (sym (ap (λ xs. fold put_cell c.loop-line.cells.entries (cells_from (label_place c.args.offsets.now) c.loop-line.at (statements xs))) none)
+          ∙ c.loop-line.invariant.cells);
+      memory = tt;
+    }

@@ -1,7 +1,8 @@
-use Rattle.std.proofs.Common.{ap, sym}
+use Rattle.std.proofs.Common.{◌+◌, ◌∙◌, [], ◌∷◌, ap, sym, arith}
 use Rattle.std.proofs.lemmas.Result.{IfOk-from_err, err_from_is_err_and}
 use Rattle.std.specs.List.{fold}
-use Rattle.asm86_line_types.specs.Image.{put_cell}
+use Rattle.asm86_line_types.specs.Image.{put_cell, cells_from}
+use Rattle.asm86_line_types.specs.Order.{at_start, reading_after}
 use Rattle.asm86.specs.Places.{label_place}
 use Rattle.asm86.proofs.Filling.{byte_within, word_within, word_put, stays}
 use Rattle.asm86.proofs.data.put.Goals as goal
@@ -44,4 +45,34 @@ returns-in_err-put_word-in-Dw c =
       next = IfOk-from_err r.result _ r.ensures.0;
       cells = IfOk-from_err r.result _ r.ensures.0;
       memory = rw e.1 e.2;
+    }
+
+pub returns-in-Dseg : goal.returns-in-Dseg
+returns-in-Dseg c =
+    let at = c.args.at in
+    record {
+      near = omega arith;
+      next = ap (λ s. (reading_after (record at_start { at = at }) s).at) (sym c.in-Dseg.is);
+      cells = ap (λ s. fold put_cell c.args.cells.now.entries (cells_from (label_place c.args.offsets.now) at (s ∷ []))) (sym c.in-Dseg.is);
+      memory = tt;
+    }
+
+pub returns-in-Org : goal.returns-in-Org
+returns-in-Org c =
+    let at = c.args.at in
+    record {
+      near = omega arith;
+      next = c.from.ensures ∙ ap (λ s. (reading_after (record at_start { at = at }) s).at) (sym c.in-Org.is);
+      cells = ap (λ s. fold put_cell c.args.cells.now.entries (cells_from (label_place c.args.offsets.now) at (s ∷ []))) (sym c.in-Org.is);
+      memory = tt;
+    }
+
+pub returns-in-Rb : goal.returns-in-Rb
+returns-in-Rb c =
+    let at = c.args.at in
+    record {
+      near = omega arith;
+      next = ap (λ n. at + n) c.from-in-Rb.ensures ∙ ap (λ s. (reading_after (record at_start { at = at }) s).at) (sym c.in-Rb.is);
+      cells = ap (λ s. fold put_cell c.args.cells.now.entries (cells_from (label_place c.args.offsets.now) at (s ∷ []))) (sym c.in-Rb.is);
+      memory = tt;
     }

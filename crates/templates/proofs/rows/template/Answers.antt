@@ -1,8 +1,11 @@
--- What an arm calls ensures it of the arm's instruction, which saves a long search where no operand is another.
-use Rattle.std.proofs.Common.{◌≡◌, ℕ, Bool, List, subst, sym}
+-- What an arm calls ensures it of the arm's instruction.
+use Rattle.std.proofs.Common.{◌≡◌, ◌∙◌, ℕ, Bool, List, [], ◌∷◌, ap, subst, sym}
 use Rattle.i80.specs.declared.Instr80.{Instr80}
+use Rattle.i86.specs.declared.Count.TheVariants.{Inc, Dec}
+use Rattle.i86.specs.declared.Instr86.TheVariants.{Alu, AluNum, Count8, Count16}
 use Rattle.asm86_line_types.specs.declared.line.Stmt86.{Stmt86}
-use Rattle.templates.specs.Template.{template}
+use Rattle.asm86_line_types.specs.declared.line.Stmt86.TheVariants.{Run, Jmp}
+use Rattle.templates.specs.Template.{template, saved, where_holds}
 use Rattle.templates.proofs.rows.template.Goals as goal
 
 of_arm : {i arm : Instr80} {made : List Stmt86} (at : ℕ) (save : Bool) → i ≡ arm → made ≡ template arm at save → made ≡ template i at save
@@ -94,3 +97,36 @@ returns-in-In c = of_arm c.args.at c.args.save c.in-In.is c.run-in-In.ensures
 
 pub returns-in-Out : goal.returns-in-Out
 returns-in-Out c = of_arm c.args.at c.args.save c.in-Out.is c.run-in-Out.ensures
+
+pub returns-in-Alu : goal.returns-in-Alu
+returns-in-Alu c = of_arm c.args.at c.args.save c.in-Alu.is (c.run-in-Alu.ensures ∙ (λ i. Run (Alu (c.op_of.ensures i) (c.operand_of.ensures i)) ∷ []))
+
+pub returns-in-AluI : goal.returns-in-AluI
+returns-in-AluI c = of_arm c.args.at c.args.save c.in-AluI.is (c.run-in-AluI.ensures ∙ ap (λ op. Run (AluNum op c.in-AluI.n) ∷ []) c.op_of-in-AluI.ensures)
+
+pub returns-in-Inr : goal.returns-in-Inr
+returns-in-Inr c = of_arm c.args.at c.args.save c.in-Inr.is (c.run-in-Inr.ensures ∙ ap (λ o. Run (Count8 Inc o) ∷ []) c.operand_of-in-Inr.ensures)
+
+pub returns-in-Dcr : goal.returns-in-Dcr
+returns-in-Dcr c = of_arm c.args.at c.args.save c.in-Dcr.is (c.run-in-Dcr.ensures ∙ ap (λ o. Run (Count8 Dec o) ∷ []) c.operand_of-in-Dcr.ensures)
+
+pub returns-in-Inx : goal.returns-in-Inx
+returns-in-Inx c = of_arm c.args.at c.args.save c.in-Inx.is (c.saved.ensures ∙ ap (λ r. saved c.args.save (Run (Count16 Inc r))) c.pair_of.ensures)
+
+pub returns-in-Dcx : goal.returns-in-Dcx
+returns-in-Dcx c = of_arm c.args.at c.args.save c.in-Dcx.is (c.saved-in-Dcx.ensures ∙ ap (λ r. saved c.args.save (Run (Count16 Dec r))) c.pair_of-in-Dcx.ensures)
+
+pub returns-in-Jmp : goal.returns-in-Jmp
+returns-in-Jmp c = of_arm c.args.at c.args.save c.in-Jmp.is (c.one.ensures ∙ ap (λ l. Jmp l ∷ []) c.label_of.ensures)
+
+pub returns-in-Jif : goal.returns-in-Jif
+returns-in-Jif c = of_arm c.args.at c.args.save c.in-Jif.is (c.where_holds.ensures ∙ ap (λ l. where_holds c.in-Jif.cond c.args.at (Jmp l ∷ [])) c.label_of-in-Jif.ensures)
+
+pub returns-in-Call : goal.returns-in-Call
+returns-in-Call c = of_arm c.args.at c.args.save c.in-Call.is (c.one-in-Call.ensures ∙ c.call_of.ensures)
+
+pub returns-in-Cif : goal.returns-in-Cif
+returns-in-Cif c = of_arm c.args.at c.args.save c.in-Cif.is (c.where_holds-in-Cif.ensures ∙ ap (where_holds c.in-Cif.cond c.args.at) c.call_of-in-Cif.ensures)
+
+pub returns-in-Rif : goal.returns-in-Rif
+returns-in-Rif c = of_arm c.args.at c.args.save c.in-Rif.is c.where_holds-in-Rif.ensures
