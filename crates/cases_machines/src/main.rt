@@ -2,11 +2,14 @@
 // system, at each SP where the bytes below it wrap, and their replies; decimal adjustment of each byte with each AC and CY; the tagged
 // 8080, the untagged 8080 and the 8086 step by step: what each step answers, which replies are taken and what they leave, what IN and OUT
 // and their replies change of all that a machine holds; the stops of plain bytes, what choices give, and both machines of the 8080 side by
-// side on whole programs. Expected answers, in the file `stdout`, are by the Intel 8080 and 8086 manuals and the CP/M manuals.
+// side on whole programs. And programs as bytes: the HEX file of a source, and what an 8080 that fetches bytes does with a HEX file: what it
+// asks, and how it ends. Expected answers, in the file `stdout`, are by the Intel 8080 and 8086 manuals and the CP/M manuals, those of HEX
+// files by an independent model too.
 #![tactic(auto)]
 
 mod decimals;
 mod events;
+mod hex_files;
 mod machines;
 mod programs;
 mod scripts;
@@ -25,23 +28,22 @@ fn answer(alloc: Global, line: &str) -> Result<Option<String>, AllocError> {
     let mut parts = line.split(" | ");
     let head = parts.next().unwrap_or("");
     let (kind, options) = head.split_once(' ').unwrap_or((head, ""));
-    if kind == "step86" {
-        return steps::answer(alloc, options);
+    match kind {
+        "step86" => steps::answer(alloc, options),
+        "daa80" => Ok(Some(decimals::answer(alloc)?)),
+        "hex" => hex_files::file_of(alloc, options),
+        "run" => Ok(Some(hex_files::run(alloc, options)?)),
+        _ => {
+            let case = Case {
+                kind,
+                options,
+                source: parts.next().unwrap_or(""),
+                words: parts.next().unwrap_or(""),
+                tail: parts.next().unwrap_or(""),
+            };
+            programs::answer(alloc, &case)
+        }
     }
-    if kind == "daa80" {
-        return Ok(Some(decimals::answer(alloc)?));
-    }
-    let source = parts.next().unwrap_or("");
-    let words = parts.next().unwrap_or("");
-    let tail = parts.next().unwrap_or("");
-    let case = Case {
-        kind,
-        options,
-        source,
-        words,
-        tail,
-    };
-    programs::answer(alloc, &case)
 }
 
 fn main(rt: HostRuntime) -> io::Result<()> {

@@ -48,7 +48,7 @@ pub fn answer(alloc: Global, case: &Case<'_>) -> Result<Option<String>, AllocErr
     if case.kind == "run86" {
         return answer86(alloc, case, &page);
     }
-    match program80(alloc, case.source)? {
+    match program80(alloc, "ORG 100H\n", case.source)? {
         Some(program) => answer80(alloc, case, &program, &page),
         None => Ok(None),
     }
@@ -178,9 +178,13 @@ fn lines_of(alloc: Global, first: &str, source: &str, last: &str) -> Result<Stri
     Ok(text)
 }
 
-// The program of a source from 100H on, below 0F000H.
-fn program80(alloc: Global, source: &str) -> Result<Option<Program80>, AllocError> {
-    let text = lines_of(alloc, "ORG 100H\n", source, "\n")?;
+/// The program below 0F000H of a first line and a source, of which a backslash parts the lines; None where it is faulty.
+pub fn program80(
+    alloc: Global,
+    first: &str,
+    source: &str,
+) -> Result<Option<Program80>, AllocError> {
+    let text = lines_of(alloc, first, source, "\n")?;
     let mut lines = Lines::new(alloc)?;
     // a fault stands, and is told at the end
     let _ = lines.feed(text.as_bytes());

@@ -51,18 +51,27 @@ fn push_statement(text: &mut String, statement: Stmt86) -> Result<(), AllocError
 /// The code of an image, its data cells, and the offset of each label of the text.
 pub fn image_text(alloc: Global, lines: &[Line86], image: &Image86) -> Result<String, AllocError> {
     let mut text = code_text(alloc, image.code())?;
-    for &(address, byte) in image.cells() {
+    push_cells(&mut text, image.cells())?;
+    push_labels(&mut text, lines, image)?;
+    Ok(text)
+}
+
+fn push_cells(text: &mut String, cells: &[(u16, u8)]) -> Result<(), AllocError> {
+    for &(address, byte) in cells {
         write!(text, " {address:04X}={byte:02X}")?;
     }
+    Ok(())
+}
+
+fn push_labels(text: &mut String, lines: &[Line86], image: &Image86) -> Result<(), AllocError> {
     for line in lines {
         if let Stmt86::Mark(label) = line.stmt {
             text.push(' ')?;
-            push_statement(&mut text, line.stmt)?;
-            let offset = image.offset(label).unwrap_or(0xFFFF);
-            write!(text, "{offset:04X}")?;
+            push_statement(text, line.stmt)?;
+            write!(text, "{:04X}", image.offset(label).unwrap_or(0xFFFF))?;
         }
     }
-    Ok(text)
+    Ok(())
 }
 
 fn code_text(alloc: Global, code: &[u8]) -> Result<String, AllocError> {

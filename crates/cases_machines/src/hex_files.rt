@@ -1,6 +1,9 @@
-// What a machine does with the cells of a HEX file.
-use dialogue::{ArgWord, Blocks, Event, Page, Reply};
-use i80_bytes::{Byte80, HexFault, HexFile, StepBytes};
+// HEX files of sources, and what an 8080 that fetches bytes does with the cells of one.
+use crate::programs::program80;
+use crate::scripts::reply;
+use asm80_program_types::Program80;
+use dialogue::{ArgWord, Event, Page};
+use i80_bytes::{Byte80, HexFault, HexFile, StepBytes, hex_text};
 use std::alloc::{AllocError, Global};
 
 /// The top of the area.
@@ -9,14 +12,33 @@ const TOP: u16 = 0xF000;
 /// The most steps of a run.
 const LIMIT: u32 = 1000;
 
+/// The lines of the HEX file of a source; None where the source is faulty.
+pub fn file_of(alloc: Global, source: &str) -> Result<Option<String>, AllocError> {
+    match program80(alloc, "", source)? {
+        Some(program) => Ok(Some(file_text(alloc, &program)?)),
+        None => Ok(None),
+    }
+}
+
+fn file_text(alloc: Global, program: &Program80) -> Result<String, AllocError> {
+    let file = hex_text(alloc, program)?;
+    let text = String::from_utf8_lossy(alloc, file.as_slice())?;
+    let mut told = String::new(alloc);
+    for line in text.lines() {
+        told.push(' ')?;
+        told.push_str(line)?;
+    }
+    Ok(told)
+}
+
 /// What a HEX file does, of which a space parts the lines: what it asks, and how it ends; or the line that fits nowhere.
-pub fn answer(alloc: Global, file: &str) -> Result<String, AllocError> {
+pub fn run(alloc: Global, file: &str) -> Result<String, AllocError> {
     let mut bytes = Vec::new(alloc);
     for line in file.split(' ') {
         bytes.extend_from_slice(line.as_bytes())?;
         bytes.push(b'\n')?;
     }
-    let mut told = String::new(alloc);
+    let mut told = String::from_str(alloc, " ")?;
     if bytes.len() > 0x1_0000 {
         told.push_str("too long")?;
         return Ok(told);
@@ -59,11 +81,7 @@ fn push_talk(alloc: Global, told: &mut String, machine: &mut Byte80) -> Result<(
         0
     };
     push_event(told, &event)?;
-    let reply = Reply {
-        answer,
-        writes: Blocks::from_vec(Vec::new(alloc)),
-    };
-    if !machine.reply(&reply, 0) {
+    if !machine.reply(&reply(alloc, answer), 0) {
         told.push_str("refused ")?;
     }
     Ok(())
