@@ -8,7 +8,7 @@
 // (`Notation for Zilog`); each row of the manual's tables is looked up by the number of operands (`bare_row`, `unary_row`, `binary_row`), and
 // an operand is of at most one class. A law beside: the spelling is coherent (`spelling_is_coherent`), so tokens spell one statement alone,
 // each statement is well formed and its values are numbers below 65,536. That the rows say what the manual says is read and tested (the rows
-// of `cases_asm80`), not proved.
+// of `cases_asm`), not proved.
 #![tactic(auto)]
 
 mod class;
