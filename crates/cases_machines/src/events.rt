@@ -3,37 +3,59 @@ use crate::words::{push_byte, push_number, push_word};
 use dialogue::{ArgWord, Block, Event, Range, Request};
 use std::alloc::{AllocError, Global};
 
-/// What waits for its reply: `in 7`, `out 8 255`, or a call with its function, its argument, what it reads and what it may write.
-pub fn event_text(alloc: Global, event: Option<&Event>) -> Result<String, AllocError> {
+/// Whether two events are told alike.
+pub fn is_same(
+    alloc: Global,
+    one: Option<&Event>,
+    other: Option<&Event>,
+) -> Result<bool, AllocError> {
+    let text = event_text(alloc, one)?;
+    Ok(text == event_text(alloc, other)?)
+}
+
+fn event_text(alloc: Global, event: Option<&Event>) -> Result<String, AllocError> {
     let mut text = String::new(alloc);
-    match event {
-        None => text.push_str("nothing asked")?,
-        Some(Event::End) => text.push_str("end")?,
-        Some(Event::In(port)) => push_number(&mut text, "in ", u32::from(*port))?,
-        Some(Event::Out(port, byte)) => {
-            push_number(&mut text, "out ", u32::from(*port))?;
-            push_number(&mut text, " ", u32::from(*byte))?;
-        }
-        Some(Event::Call(request)) => push_request(&mut text, request)?,
-    }
+    push_event(&mut text, event)?;
     Ok(text)
 }
 
+/// Adds what waits for its reply: `in 7`, `out 8 255`, or a call with its function, its argument, what it reads and what it may
+/// write.
+pub fn push_event(text: &mut String, event: Option<&Event>) -> Result<(), AllocError> {
+    match event {
+        None => text.push_str(" nothing asked"),
+        Some(Event::End) => text.push_str(" end"),
+        Some(Event::In(port)) => push_number(text, " in ", u32::from(*port)),
+        Some(Event::Out(port, byte)) => {
+            push_number(text, " out ", u32::from(*port))?;
+            push_number(text, " ", u32::from(*byte))
+        }
+        Some(Event::Call(request)) => push_request(text, request),
+    }
+}
+
 fn push_request(text: &mut String, request: &Request) -> Result<(), AllocError> {
-    push_number(text, "call ", u32::from(request.shape.function))?;
-    match request.shape.arg {
-        ArgWord::None => {}
-        ArgWord::Byte(byte) => push_byte(text, " ", byte)?,
-        ArgWord::Word(word) => push_word(text, " ", word)?,
-    }
-    for range in &request.shape.reads {
-        push_range(text, " reads ", *range)?;
-    }
-    for range in &request.shape.writes {
-        push_range(text, " writes ", *range)?;
-    }
+    push_number(text, " call ", u32::from(request.shape.function))?;
+    push_argument(text, request.shape.arg)?;
+    push_ranges(text, " reads ", &request.shape.reads)?;
+    push_ranges(text, " writes ", &request.shape.writes)?;
     for block in request.blocks.as_slice() {
         push_block(text, block)?;
+    }
+    Ok(())
+}
+
+fn push_argument(text: &mut String, argument: ArgWord) -> Result<(), AllocError> {
+    match argument {
+        ArgWord::None => Ok(()),
+        ArgWord::Byte(byte) => push_byte(text, " ", byte),
+        ArgWord::Word(word) => push_word(text, " ", word),
+    }
+}
+
+fn push_ranges(text: &mut String, name: &str, ranges: &[Option<Range>]) -> Result<(), AllocError> {
+    for range in ranges {
+        push_range(text, name, *range)?;
     }
     Ok(())
 }

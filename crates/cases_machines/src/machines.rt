@@ -1,5 +1,5 @@
 // The machines with their programs, one like the other.
-use crate::events::event_text;
+use crate::events::is_same;
 use crate::states;
 use crate::tagged::{Held, push_changes};
 use asm80_program_types::Program80;
@@ -47,7 +47,7 @@ pub trait Machine {
         requires { runs self.old }
         ensures { runs self.new }
     {
-        text.push_str("no such word")
+        text.push_str(" no such word")
     }
 }
 
@@ -69,7 +69,7 @@ impl<'a> Machine for Running80<'a> {
             Step80::Ran => Step::Ran,
             Step80::Asked => Step::Asked,
             Step80::Ended => Step::Ended,
-            Step80::Left(rule) => Step::StoppedAt("left by P", number_of(rule)),
+            Step80::Left(rule) => Step::StoppedAt(" left by P", number_of(rule)),
         }
     }
 
@@ -107,6 +107,14 @@ pub struct Bytes80<'a> {
     pub program: &'a Program80,
 }
 
+impl<'a> Bytes80<'a> {
+    // Whether it asks this.
+    fn asks(&self, alloc: Global, event: Option<&Event>) -> Result<bool, AllocError> {
+        let own = self.cpu.asked(alloc)?;
+        is_same(alloc, own.as_ref(), event)
+    }
+}
+
 impl<'a> Machine for Bytes80<'a> {
     ghost use Rattle.std.specs.Prelude.{⊤};
 
@@ -117,7 +125,7 @@ impl<'a> Machine for Bytes80<'a> {
             StepPlain::Ran => Step::Ran,
             StepPlain::Asked => Step::Asked,
             StepPlain::Ended => Step::Ended,
-            StepPlain::Stopped => Step::Stopped("stopped"),
+            StepPlain::Stopped => Step::Stopped(" stopped"),
         }
     }
 
@@ -151,9 +159,9 @@ impl Machine for Bytes86 {
             Step86::Ran => Step::Ran,
             Step86::Asked => Step::Asked,
             Step86::Ended => Step::Ended,
-            Step86::NoInstruction(at) => Step::StoppedAt("no instruction at ", at),
-            Step86::StackSegment(at) => Step::StoppedAt("stack segment at ", at),
-            Step86::OddCall(function) => Step::StoppedAt("odd call ", u16::from(function)),
+            Step86::NoInstruction(at) => Step::StoppedAt(" no instruction at ", at),
+            Step86::StackSegment(at) => Step::StoppedAt(" stack segment at ", at),
+            Step86::OddCall(function) => Step::StoppedAt(" odd call ", u16::from(function)),
         }
     }
 
@@ -193,7 +201,7 @@ impl<'a> Machine for Both80<'a> {
             (Step::Ran, Step::Ran) => Step::Ran,
             (Step::Asked, Step::Asked) => Step::Asked,
             (Step::Ended, Step::Ended) => Step::Ended,
-            _ => Step::Stopped("unlike steps"),
+            _ => Step::Stopped(" unlike steps"),
         }
     }
 
@@ -203,8 +211,7 @@ impl<'a> Machine for Both80<'a> {
 
     fn asked(&self, alloc: Global) -> Result<Option<Event>, AllocError> {
         let event = self.tagged.asked(alloc)?;
-        let other = self.bytes.asked(alloc)?;
-        let is_same = event_text(alloc, event.as_ref())? == event_text(alloc, other.as_ref())?;
+        let is_same = self.bytes.asks(alloc, event.as_ref())?;
         Ok(if is_same { event } else { None })
     }
 

@@ -46,17 +46,21 @@ fn answer(alloc: Global, line: &str) -> Result<Option<String>, AllocError> {
     }
 }
 
+// A line with its answer behind it. Empty lines and those that begin with `#` are no cases, and stand as they are.
+fn told(alloc: Global, line: &str) -> Result<String, AllocError> {
+    if line.is_empty() || line.starts_with('#') {
+        return String::from_str(alloc, line);
+    }
+    match answer(alloc, line)? {
+        Some(answer) => format!(in alloc; "{line} =>{answer}"),
+        None => format!(in alloc; "{line} => no such case"),
+    }
+}
+
 fn main(rt: HostRuntime) -> io::Result<()> {
     for line in rt.lines(rt.alloc()) {
         let line = line?;
-        if line.is_empty() || line.starts_with('#') {
-            println!(rt; "{line}")?;
-        } else {
-            match answer(rt.alloc(), line.as_str())? {
-                Some(answer) => println!(rt; "{line} =>{answer}")?,
-                None => println!(rt; "{line} => no such case")?,
-            }
-        }
+        println!(rt; "{}", told(rt.alloc(), line.as_str())?)?;
     }
     Ok(())
 }

@@ -122,11 +122,22 @@ fn both80(
     program: &Program80,
     page: &Page,
 ) -> Result<Option<String>, AllocError> {
+    let mut machine = paired80(alloc, case, program, page)?;
+    Ok(Some(script(alloc, &mut machine, choice_of(case), case.words)?))
+}
+
+fn paired80<'a>(
+    alloc: Global,
+    case: &Case<'_>,
+    program: &'a Program80,
+    page: &Page,
+) -> Result<Both80<'a>, AllocError>
+    ensures { IfOk result (λ machine. IsMachineOf machine.tagged.program.now machine.tagged.cpu) }
+{
     let tagged = running80(alloc, program, page)?;
     let cpu = plain80(alloc, case, program, page)?;
     let bytes = Bytes80 { cpu, program };
-    let mut machine = Both80 { tagged, bytes };
-    Ok(Some(script(alloc, &mut machine, choice_of(case), case.words)?))
+    Ok(Both80 { tagged, bytes })
 }
 
 fn plain80(
@@ -140,7 +151,7 @@ fn plain80(
 }
 
 fn answer86(alloc: Global, case: &Case<'_>, page: &Page) -> Result<Option<String>, AllocError> {
-    match image86(alloc, case.source)? {
+    match image86(alloc, case.source) {
         Some(image) => bytes86(alloc, case, &image, page),
         None => Ok(None),
     }
@@ -168,41 +179,35 @@ fn plain86(
     Cpu86::new(alloc, image, START, page, fill.as_slice())
 }
 
-// A first line, the lines of a source, and a last line.
-fn lines_of(alloc: Global, first: &str, source: &str, last: &str) -> Result<String, AllocError> {
-    let mut text = String::from_str(alloc, first)?;
-    for letter in source.chars() {
-        text.push(if letter == '\\' { '\n' } else { letter })?;
-    }
-    text.push_str(last)?;
-    Ok(text)
-}
-
 /// The program below 0F000H of a first line and a source, of which a backslash parts the lines; None where it is faulty.
 pub fn program80(
     alloc: Global,
     first: &str,
     source: &str,
 ) -> Result<Option<Program80>, AllocError> {
-    let text = lines_of(alloc, first, source, "\n")?;
     let mut lines = Lines::new(alloc)?;
     // a fault stands, and is told at the end
-    let _ = lines.feed(text.as_bytes());
+    let _ = lines.feed(first.as_bytes());
+    for line in source.split('\\') {
+        let _ = lines.feed(line.as_bytes());
+        let _ = lines.feed(b"\n");
+    }
     match lines.finish() {
         Ok(statements) => Ok(assemble(alloc, statements.as_slice(), 0xF000).ok()),
         Err(_) => Ok(None),
     }
 }
 
-// The image of a text of code.
-fn image86(alloc: Global, source: &str) -> Result<Option<Image86>, AllocError> {
-    let text = lines_of(alloc, "CSEG\n", source, "\nEND\n")?;
-    let Ok(mut lines) = Text86::new(alloc) else {
-        return Ok(None);
-    };
-    let _ = lines.feed(text.as_bytes());
-    match lines.finish() {
-        Ok(lines) => Ok(image(alloc, lines.as_slice()).ok()),
-        Err(_) => Ok(None),
+// The image of a text of code; None where it has none.
+fn image86(alloc: Global, source: &str) -> Option<Image86> {
+    let mut text = Text86::new(alloc).ok()?;
+    // a fault stands, and is told at the end
+    let _ = text.feed(b"CSEG\n");
+    for line in source.split('\\') {
+        let _ = text.feed(line.as_bytes());
+        let _ = text.feed(b"\n");
     }
+    let _ = text.feed(b"END\n");
+    let lines = text.finish().ok()?;
+    image(alloc, lines.as_slice()).ok()
 }

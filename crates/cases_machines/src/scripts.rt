@@ -1,5 +1,5 @@
 // What machines are asked to do, word by word.
-use crate::events::event_text;
+use crate::events::push_event;
 use crate::machines::{Machine, Step};
 use crate::talks::run;
 use crate::words::{push_number, push_word};
@@ -18,97 +18,97 @@ pub fn script<M: Machine>(
 {
     let mut text = String::new(alloc);
     for word in words.split(' ') {
-        let answer = answer(alloc, machine, choice, word)?;
-        if !text.is_empty() {
-            text.push(';')?;
-        }
-        text.push(' ')?;
-        text.push_str(if answer.is_empty() {
-            "nothing"
-        } else {
-            answer.trim_start()
-        })?;
+        push_separator(&mut text)?;
+        push_answer(alloc, &mut text, machine, choice, word)?;
     }
     Ok(text)
 }
 
-fn answer<M: Machine>(
+fn push_separator(text: &mut String) -> Result<(), AllocError> {
+    if text.is_empty() {
+        return Ok(());
+    }
+    text.push(';')
+}
+
+fn push_answer<M: Machine>(
     alloc: Global,
+    text: &mut String,
     machine: &mut M,
     choice: u128,
     word: &str,
-) -> Result<String, AllocError>
+) -> Result<(), AllocError>
     requires { M.runs machine.old }
     ensures { M.runs machine.new }
 {
     let (name, value) = word.split_once('=').unwrap_or((word, "0"));
     let value = u16::from_str_radix(value, 16).unwrap_or(0);
     match name {
-        "step" => step_text(alloc, machine.step(choice)),
-        "place" => place_text(alloc, machine.place()),
-        "asked" => asked_text(alloc, machine),
-        "reply" => reply_text(alloc, machine.reply(&reply(alloc, value), choice)),
-        "write" => write_text(alloc, machine, choice),
-        "changes" => changes_text(alloc, machine),
-        "run" => run(alloc, machine, choice, value),
-        _ => String::from_str(alloc, "no such word"),
+        "step" => push_step(text, machine.step(choice)),
+        "place" => push_place(text, machine.place()),
+        "asked" => push_asked(alloc, text, machine),
+        "reply" => push_taken(text, machine.reply(&reply(alloc, value), choice)),
+        "write" => push_written(alloc, text, machine, choice),
+        "changes" => push_changes(alloc, text, machine),
+        "run" => run(alloc, text, machine, choice, value),
+        _ => text.push_str(" no such word"),
     }
 }
 
-fn changes_text<M: Machine>(alloc: Global, machine: &mut M) -> Result<String, AllocError>
+fn push_changes<M: Machine>(
+    alloc: Global,
+    text: &mut String,
+    machine: &mut M,
+) -> Result<(), AllocError>
     requires { M.runs machine.old }
     ensures { M.runs machine.new }
 {
-    let mut text = String::new(alloc);
-    machine.push_changes(alloc, &mut text)?;
-    Ok(text)
+    let length = text.len();
+    machine.push_changes(alloc, text)?;
+    if text.len() > length {
+        return Ok(());
+    }
+    text.push_str(" nothing")
 }
 
-fn asked_text<M: Machine>(alloc: Global, machine: &M) -> Result<String, AllocError> {
+fn push_asked<M: Machine>(alloc: Global, text: &mut String, machine: &M) -> Result<(), AllocError> {
     let event = machine.asked(alloc)?;
-    event_text(alloc, event.as_ref())
+    push_event(text, event.as_ref())
 }
 
-fn write_text<M: Machine>(
+fn push_written<M: Machine>(
     alloc: Global,
+    text: &mut String,
     machine: &mut M,
     choice: u128,
-) -> Result<String, AllocError>
+) -> Result<(), AllocError>
     requires { M.runs machine.old }
     ensures { M.runs machine.new }
 {
     let reply = writing(alloc)?;
-    reply_text(alloc, machine.reply(&reply, choice))
-}
-
-fn step_text(alloc: Global, step: Step) -> Result<String, AllocError> {
-    let mut text = String::new(alloc);
-    push_step(&mut text, step)?;
-    Ok(text)
+    push_taken(text, machine.reply(&reply, choice))
 }
 
 /// Adds what a step answers.
 pub fn push_step(text: &mut String, step: Step) -> Result<(), AllocError> {
     match step {
-        Step::Ran => text.push_str("ran"),
-        Step::Asked => text.push_str("asks"),
-        Step::Ended => text.push_str("ended"),
+        Step::Ran => text.push_str(" ran"),
+        Step::Asked => text.push_str(" asks"),
+        Step::Ended => text.push_str(" ended"),
         Step::Stopped(why) => text.push_str(why),
         Step::StoppedAt(why, number) => push_number(text, why, u32::from(number)),
     }
 }
 
-fn place_text(alloc: Global, place: Option<u16>) -> Result<String, AllocError> {
-    let mut text = String::from_str(alloc, "at ")?;
+fn push_place(text: &mut String, place: Option<u16>) -> Result<(), AllocError> {
     match place {
-        Some(at) => push_word(&mut text, "", at)?,
-        None => text.push_str("the exit")?,
+        Some(at) => push_word(text, " at ", at),
+        None => text.push_str(" at the exit"),
     }
-    Ok(text)
 }
 
-fn reply_text(alloc: Global, is_taken: bool) -> Result<String, AllocError> {
-    String::from_str(alloc, if is_taken { "taken" } else { "refused" })
+fn push_taken(text: &mut String, is_taken: bool) -> Result<(), AllocError> {
+    text.push_str(if is_taken { " taken" } else { " refused" })
 }
 
 /// A reply that writes nothing.

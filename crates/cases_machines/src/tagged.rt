@@ -5,8 +5,6 @@ use cpu80_tagged::draft::Draft;
 use cpu80_tagged::registers::Registers;
 use std::alloc::{AllocError, Global};
 
-const REGISTER_NAMES: [&str; 7] = [" a=", " b=", " c=", " d=", " e=", " h=", " l="];
-
 /// What a machine held.
 #[derive(Drop)]
 pub struct Held {
@@ -32,61 +30,65 @@ impl Held {
     }
 }
 
-fn cells_of(registers: Registers) -> [Cell; 7] {
-    let Registers {
-        a,
-        b,
-        c,
-        d,
-        e,
-        h,
-        l,
-    } = registers;
-    [a, b, c, d, e, h, l]
-}
-
 /// Adds the places in which what is held differs from what was held before.
 pub fn push_changes(text: &mut String, before: &Held, after: &Draft<'_>) -> Result<(), AllocError> {
-    push_registers(
-        text,
-        &cells_of(before.registers),
-        &cells_of(after.registers),
-    )?;
+    push_registers(text, before.registers, after.registers)?;
     if before.flags != after.flags {
         push_flags(text, " flags=", after.flags, "")?;
     }
-    if before.sp != after.sp {
-        push_word(text, " sp=", after.sp)?;
-    }
+    push_changed_word(text, " sp=", before.sp, after.sp)?;
     if before.place != after.place {
         push_place(text, " place=", after.place)?;
     }
-    if before.dma != after.dma {
-        push_word(text, " dma=", after.dma)?;
-    }
-    push_cells(text, before.memory.as_slice(), after.memory)
+    push_changed_word(text, " dma=", before.dma, after.dma)?;
+    push_memory(text, before.memory.as_slice(), after.memory)
 }
 
-fn push_registers(text: &mut String, before: &[Cell], after: &[Cell]) -> Result<(), AllocError> {
-    for (name, (old, new)) in REGISTER_NAMES.iter().zip(before.iter().zip(after)) {
-        if old != new {
-            push_cell(text, name, *new)?;
-        }
+fn push_registers(text: &mut String, old: Registers, new: Registers) -> Result<(), AllocError> {
+    push_changed_cell(text, " a=", old.a, new.a)?;
+    push_changed_cell(text, " b=", old.b, new.b)?;
+    push_changed_cell(text, " c=", old.c, new.c)?;
+    push_changed_cell(text, " d=", old.d, new.d)?;
+    push_changed_cell(text, " e=", old.e, new.e)?;
+    push_changed_cell(text, " h=", old.h, new.h)?;
+    push_changed_cell(text, " l=", old.l, new.l)
+}
+
+fn push_changed_cell(
+    text: &mut String,
+    name: &str,
+    old: Cell,
+    new: Cell,
+) -> Result<(), AllocError> {
+    if old == new {
+        return Ok(());
     }
-    Ok(())
+    push_cell(text, name, new)
+}
+
+fn push_changed_word(text: &mut String, name: &str, old: u16, new: u16) -> Result<(), AllocError> {
+    if old == new {
+        return Ok(());
+    }
+    push_word(text, name, new)
 }
 
 // Adds the cells of memory that differ.
-fn push_cells(text: &mut String, before: &[Cell], after: &[Cell]) -> Result<(), AllocError> {
+fn push_memory(text: &mut String, before: &[Cell], after: &[Cell]) -> Result<(), AllocError> {
     let mut at = 0u16;
     for (old, new) in before.iter().zip(after) {
-        if old != new {
-            push_word(text, " ", at)?;
-            push_cell(text, "=", *new)?;
-        }
+        push_changed_place(text, at, *old, *new)?;
         at = at.wrapping_add(1);
     }
     Ok(())
+}
+
+fn push_changed_place(text: &mut String, at: u16, old: Cell, new: Cell) -> Result<(), AllocError> {
+    if old == new {
+        return Ok(());
+    }
+    push_word(text, " ", at)?;
+    push_cell(text, "=", new)
 }
 
 // Adds what a cell holds: a number, a half of an address, a byte of flags, or nothing known.

@@ -17,10 +17,11 @@ struct Talk {
 /// Runs a machine up to a step that neither runs nor asks: how many steps came before it, what they asked, and what it answers.
 pub fn run<M: Machine>(
     alloc: Global,
+    text: &mut String,
     machine: &mut M,
     choice: u128,
     answer: u16,
-) -> Result<String, AllocError>
+) -> Result<(), AllocError>
     requires { M.runs machine.old }
     ensures { M.runs machine.new }
 {
@@ -34,13 +35,13 @@ pub fn run<M: Machine>(
             Step::Ran => {}
             Step::Asked => {
                 if !turn(alloc, machine, &mut talk, choice, answer)? {
-                    return String::from_str(alloc, "does not go on");
+                    return text.push_str(" does not go on");
                 }
             }
-            last => return run_text(alloc, &talk, count, last),
+            last => return push_run(text, &talk, count, last),
         }
     }
-    String::from_str(alloc, "runs on")
+    text.push_str(" runs on")
 }
 
 // Replies to what is asked; false where nothing is asked or the reply does not fit.
@@ -144,12 +145,9 @@ fn filled(alloc: Global, range: Option<Range>, byte: u8) -> Result<Vec<Block>, A
     Ok(blocks)
 }
 
-fn run_text(alloc: Global, talk: &Talk, count: u32, last: Step) -> Result<String, AllocError> {
-    let mut text = String::new(alloc);
-    push_number(&mut text, "", count)?;
+fn push_run(text: &mut String, talk: &Talk, count: u32, last: Step) -> Result<(), AllocError> {
+    push_number(text, " ", count)?;
     text.push_str(" steps")?;
-    talk.push(&mut text)?;
-    text.push(' ')?;
-    push_step(&mut text, last)?;
-    Ok(text)
+    talk.push(text)?;
+    push_step(text, last)
 }

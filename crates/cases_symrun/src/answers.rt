@@ -6,7 +6,7 @@ use crate::codes::{bare_text, code_text};
 use crate::explaining::{explained, reason_of};
 use crate::graphs::{block_text, blocks_text, need_text, return_text, saves_text};
 use crate::running::run_both;
-use crate::shown::{exit_text, reason_text};
+use crate::shown::{push_exit, reason_text};
 use crate::sources::{is_top, plain_index, program_below, program_of, text_index};
 use crate::texts::{lean_lines, whole_text};
 use anyhow::bail;
@@ -18,19 +18,21 @@ use sym_run::{Index86, Work};
 /// The answer of a case, as the standard input says.
 pub fn answer(alloc: Global, case: &str) -> anyhow::Result<String> {
     let (kind, rest) = case.split_once(' ').unwrap_or((case, ""));
-    let (count, counted) = rest.split_once(' ').unwrap_or(("", rest));
+    let (word, counted) = rest.split_once(' ').unwrap_or(("", rest));
+    let count = word.parse::<u16>().unwrap_or(0);
+    let address = u16::from_str_radix(word, 16).unwrap_or(0);
     match kind {
         "alone" => alone(alloc, rest),
         "code" => code_text(alloc, rest),
         "bare" => bare_text(alloc, rest),
-        "plain" => plain(alloc, count.parse::<u32>()?, counted),
-        "walk" => walk(alloc, count.parse::<u32>()?, counted),
-        "why" => why(alloc, count, counted),
+        "plain" => plain(alloc, u32::from(count), counted),
+        "walk" => walk(alloc, u32::from(count), counted, Shown::Exit),
+        "why" => why(alloc, word, counted),
         "blocks" => blocks(alloc, rest),
         "return" => at_return(alloc, rest),
-        "lean" => lean(alloc, count.parse::<usize>()?, counted),
-        "text" => text(alloc, u16::from_str_radix(count, 16)?, counted),
-        _ => at_address(alloc, kind, u16::from_str_radix(count, 16)?, counted),
+        "lean" => lean(alloc, usize::from(count), counted),
+        "text" => text(alloc, address, counted),
+        _ => at_address(alloc, kind, address, counted),
     }
 }
 
@@ -60,93 +62,92 @@ fn text(alloc: Global, top: u16, source: &str) -> anyhow::Result<String> {
 // What is asked of an address.
 fn at_address(alloc: Global, kind: &str, at: u16, source: &str) -> anyhow::Result<String> {
     let program = program_of(alloc, source)?;
+    Ok(address_text(alloc, &program, kind, at)?)
+}
+
+fn address_text(
+    alloc: Global,
+    program: &Program80,
+    kind: &str,
+    at: u16,
+) -> Result<String, AllocError> {
     match kind {
-        "block" => Ok(block_text(alloc, &program, at)?),
-        "need" => Ok(need_text(alloc, &program, at)?),
-        "saves" => Ok(saves_text(alloc, &program, at)?),
-        _ => bail!("no such case: {kind}"),
+        "block" => block_text(alloc, program, at),
+        "need" => need_text(alloc, program, at),
+        "saves" => saves_text(alloc, program, at),
+        _ => String::from_str(alloc, "no such case"),
     }
 }
 
-// Why the text does not match, where this is the reason.
-fn why(alloc: Global, reason: &str, case: &str) -> anyhow::Result<String> {
-    let (count, case) = case.split_once(' ').unwrap_or((case, ""));
-    let (source, text) = case.split_once(" | ").unwrap_or((case, ""));
-    let count = count.parse::<u32>()?;
-    let program = program_of(alloc, source)?;
-    why_of(alloc, reason, &program, count, text)
+// What is shown of the outcomes of the block at 0100H.
+#[derive(Clone, Copy)]
+enum Shown<'a> {
+    /// Why the text does not match, where this is the reason.
+    Reason(&'a str),
+    /// The exit of the text's walk.
+    Exit,
+    /// Both exits, what C and E hold as numbers, and what its stores of numbers are.
+    Plain,
 }
 
-fn why_of(
+// A case of a number of instructions, a source and a text.
+fn why(alloc: Global, reason: &str, case: &str) -> anyhow::Result<String> {
+    let (count, case) = case.split_once(' ').unwrap_or((case, ""));
+    let count = count.parse::<u32>().unwrap_or(0);
+    walk(alloc, count, case, Shown::Reason(reason))
+}
+
+// A case of a source and a text.
+fn walk(alloc: Global, count: u32, case: &str, shown: Shown<'_>) -> anyhow::Result<String> {
+    let (source, text) = case.split_once(" | ").unwrap_or((case, ""));
+    let program = program_of(alloc, source)?;
+    walk_of(alloc, &program, count, text, shown)
+}
+
+fn walk_of(
     alloc: Global,
-    reason: &str,
     program: &Program80,
     count: u32,
     text: &str,
+    shown: Shown<'_>,
 ) -> anyhow::Result<String> {
     let index = text_index(alloc, text)?;
-    why_by(alloc, reason, program, count, &index)
+    outcomes_text(alloc, program, &index, count, shown)
 }
 
-fn why_by(
+// With the program's own plain text.
+fn plain(alloc: Global, count: u32, source: &str) -> anyhow::Result<String> {
+    let program = program_of(alloc, source)?;
+    plain_of(alloc, &program, count)
+}
+
+fn plain_of(alloc: Global, program: &Program80, count: u32) -> anyhow::Result<String> {
+    let index = plain_index(alloc, program)?;
+    outcomes_text(alloc, program, &index, count, Shown::Plain)
+}
+
+fn outcomes_text(
     alloc: Global,
-    reason: &str,
     program: &Program80,
-    count: u32,
     index: &Index86,
+    count: u32,
+    shown: Shown<'_>,
 ) -> anyhow::Result<String> {
     let mut work = Work::new(alloc)?;
-    why_in(alloc, &mut work, reason, program, count, index)
-}
-
-fn why_in(
-    alloc: Global,
-    work: &mut Work,
-    reason: &str,
-    program: &Program80,
-    count: u32,
-    index: &Index86,
-) -> anyhow::Result<String> {
-    match run_both(work, program, index, 0x100, count, Keep::all()) {
-        Some(Ok(())) => Ok(explained(alloc, work, reason_of(reason))?),
+    match run_both(&mut work, program, index, 0x100, count, Keep::all()) {
+        Some(Ok(())) => Ok(shown_text(alloc, &work, shown)?),
         Some(Err(reason)) => Ok(String::from_str(alloc, reason_text(reason))?),
         None => bail!("no block, or no room"),
     }
 }
 
-// The exit of the text's walk from 0100H, or its reason.
-fn walk(alloc: Global, count: u32, case: &str) -> anyhow::Result<String> {
-    let (source, text) = case.split_once(" | ").unwrap_or((case, ""));
-    let program = program_of(alloc, source)?;
-    walk_of(alloc, &program, count, text)
-}
-
-fn walk_of(alloc: Global, program: &Program80, count: u32, text: &str) -> anyhow::Result<String> {
-    let index = text_index(alloc, text)?;
-    walk_by(alloc, program, &index, count)
-}
-
-fn walk_by(
-    alloc: Global,
-    program: &Program80,
-    index: &Index86,
-    count: u32,
-) -> anyhow::Result<String> {
-    let mut work = Work::new(alloc)?;
-    walked(alloc, &mut work, program, index, count)
-}
-
-fn walked(
-    alloc: Global,
-    work: &mut Work,
-    program: &Program80,
-    index: &Index86,
-    count: u32,
-) -> anyhow::Result<String> {
-    match run_both(work, program, index, 0x100, count, Keep::all()) {
-        Some(Ok(())) => Ok(walk_text(alloc, work)?),
-        Some(Err(reason)) => Ok(String::from_str(alloc, reason_text(reason))?),
-        None => bail!("no block, or no room"),
+fn shown_text(alloc: Global, work: &Work, shown: Shown<'_>) -> Result<String, AllocError>
+    requires { AreReady work.now }
+{
+    match shown {
+        Shown::Reason(reason) => explained(alloc, work, reason_of(reason)),
+        Shown::Exit => walk_text(alloc, work),
+        Shown::Plain => plain_text(alloc, work),
     }
 }
 
@@ -154,10 +155,11 @@ fn walked(
 fn walk_text(alloc: Global, work: &Work) -> Result<String, AllocError>
     requires { AreReady work.now }
 {
-    let direct = direct_text(work);
-    let agrees = agrees_text(work);
-    let exit = exit_text(alloc, work.second())?;
-    format!(in alloc; "{exit}{direct}{agrees}")
+    let mut text = String::new(alloc);
+    push_exit(&mut text, work.second())?;
+    text.push_str(direct_text(work))?;
+    text.push_str(agrees_text(work))?;
+    Ok(text)
 }
 
 fn direct_text(work: &Work) -> &'static str {
@@ -174,51 +176,24 @@ fn agrees_text(work: &Work) -> &'static str
     if outcomes_agree(work) { ", agrees" } else { "" }
 }
 
-// Both exits of the block at 0100H with the plain text, what C and E hold as numbers, and what its stores of numbers are.
-fn plain(alloc: Global, count: u32, source: &str) -> anyhow::Result<String> {
-    let program = program_of(alloc, source)?;
-    plain_of(alloc, &program, count)
-}
-
-fn plain_of(alloc: Global, program: &Program80, count: u32) -> anyhow::Result<String> {
-    let index = plain_index(alloc, program)?;
-    plain_by(alloc, program, &index, count)
-}
-
-fn plain_by(
-    alloc: Global,
-    program: &Program80,
-    index: &Index86,
-    count: u32,
-) -> anyhow::Result<String> {
-    let mut work = Work::new(alloc)?;
-    plainly_run(alloc, &mut work, program, index, count)
-}
-
-fn plainly_run(
-    alloc: Global,
-    work: &mut Work,
-    program: &Program80,
-    index: &Index86,
-    count: u32,
-) -> anyhow::Result<String> {
-    match run_both(work, program, index, 0x100, count, Keep::all()) {
-        Some(Ok(())) => Ok(plain_text(alloc, work)?),
-        _ => bail!("no outcomes"),
-    }
-}
-
 fn plain_text(alloc: Global, work: &Work) -> Result<String, AllocError>
     requires { AreReady work.now }
 {
-    let first = exit_text(alloc, work.first())?;
-    let second = exit_text(alloc, work.second())?;
-    let mut text = format!(in alloc; "{first}, {second}")?;
-    push_held(&mut text, number_held(work, Part::C))?;
-    push_held(&mut text, number_held(work, Part::E))?;
-    push_stores(&mut text, work)?;
-    text.push_str(agrees_text(work))?;
+    let mut text = String::new(alloc);
+    push_plain(&mut text, work)?;
     Ok(text)
+}
+
+fn push_plain(text: &mut String, work: &Work) -> Result<(), AllocError>
+    requires { AreReady work.now }
+{
+    push_exit(text, work.first())?;
+    text.push_str(", ")?;
+    push_exit(text, work.second())?;
+    push_held(text, number_held(work, Part::C))?;
+    push_held(text, number_held(work, Part::E))?;
+    push_stores(text, work)?;
+    text.push_str(agrees_text(work))
 }
 
 fn push_held(text: &mut String, number: Option<u16>) -> Result<(), AllocError> {

@@ -6,8 +6,8 @@ ghost use Rattle.asm86_line_types.specs.Order.{at_start, in_order};
 use crate::sources::program_of;
 use anyhow::bail;
 use asm80_program_types::Program80;
-use asm86::{Image86, Label, Line86, Stmt86, Text86, image, write_line};
-use std::alloc::Global;
+use asm86::{Image86, Label, Line86, Stmt86, Text86, TextFault, image, write_line};
+use std::alloc::{AllocError, Global};
 use templates::{plain_text, template};
 
 /// The bytes of an instruction of the 8080 as it is written in a source, where HERE is its own label and NEXT that of the instruction
@@ -20,9 +20,13 @@ pub fn code_text(alloc: Global, instruction: &str) -> anyhow::Result<String> {
 
 fn code_of(alloc: Global, program: &Program80) -> anyhow::Result<String> {
     let image = image_of(alloc, program)?;
-    match first_code(program, &image) {
-        Some(code) => Ok(hex::encode_upper(alloc, code)?),
-        None => bail!("a case is one instruction"),
+    Ok(digits_of(alloc, first_code(program, &image))?)
+}
+
+fn digits_of(alloc: Global, code: Option<&[u8]>) -> Result<String, AllocError> {
+    match code {
+        Some(code) => hex::encode_upper(alloc, code),
+        None => String::from_str(alloc, "not one instruction"),
     }
 }
 
@@ -68,11 +72,20 @@ fn lines_of(alloc: Global, program: &Program80) -> anyhow::Result<Vec<Line86>>
     ensures in_order { IfOk result (λ v. in_order at_start (statements v.items) ≡ true) }
     ensures few { IfOk result (λ v. length v.items < 2 ^ 28) }
 {
+    let text = plain_text(alloc, program)?;
+    Ok(read_again(alloc, &text)?)
+}
+
+fn read_again(alloc: Global, lines: &[Line86]) -> Result<Vec<Line86>, TextFault>
+    ensures in_order { IfOk result (λ v. in_order at_start (statements v.items) ≡ true) }
+    ensures few { IfOk result (λ v. length v.items < 2 ^ 28) }
+{
     let mut reader = Text86::new(alloc)?;
-    for line in &plain_text(alloc, program)? {
-        reader.feed(write_line(line.stmt).as_slice())?;
+    for line in lines {
+        // a fault stands, and is told at the end
+        let _ = reader.feed(write_line(line.stmt).as_slice());
     }
-    Ok(reader.finish()?)
+    reader.finish()
 }
 
 // The image of a program's plain text.

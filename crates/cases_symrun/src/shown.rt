@@ -1,43 +1,37 @@
 // Outcomes as they are printed.
 use cells::{Part, Place};
-use std::alloc::{AllocError, Global};
+use std::alloc::AllocError;
 use sym_run::{Exit, Outcome, Reason, Way};
 
-fn place_text(alloc: Global, place: Place) -> Result<String, AllocError> {
+fn push_place(text: &mut String, word: &str, place: Place) -> Result<(), AllocError> {
     match place {
-        Place::At(a) => format!(in alloc; "{a:04x}"),
-        Place::Exit => String::from_str(alloc, "exit"),
+        Place::At(at) => write!(text, "{word} {at:04x}"),
+        Place::Exit => write!(text, "{word} exit"),
     }
 }
 
-fn two_places(alloc: Global, word: &str, a: Place, b: Place) -> Result<String, AllocError> {
-    let a = place_text(alloc, a)?;
-    let b = place_text(alloc, b)?;
-    format!(in alloc; "{word} {a} {b}")
+fn push_port(text: &mut String, word: &str, port: u8, next: Place) -> Result<(), AllocError> {
+    write!(text, "{word} {port:02x}")?;
+    push_place(text, "", next)
 }
 
-fn one_place(alloc: Global, word: &str, place: Place) -> Result<String, AllocError> {
-    let place = place_text(alloc, place)?;
-    format!(in alloc; "{word} {place}")
-}
-
-fn port_text(alloc: Global, word: &str, n: u8, next: Place) -> Result<String, AllocError> {
-    let next = place_text(alloc, next)?;
-    format!(in alloc; "{word} {n:02x} {next}")
-}
-
-fn way_text(alloc: Global, way: Way) -> Result<String, AllocError> {
+fn push_way(text: &mut String, way: Way) -> Result<(), AllocError> {
     match way {
-        Way::Goto(place) => one_place(alloc, "goto", place),
-        Way::ByTerms(..) => String::from_str(alloc, "by terms"),
-        Way::Call(place, back) => two_places(alloc, "call", place, back),
-        Way::Sys(back) => one_place(alloc, "sys", back),
-        Way::SysReturn => String::from_str(alloc, "sys return"),
-        Way::Boot => String::from_str(alloc, "boot"),
-        Way::Leave => String::from_str(alloc, "leave"),
-        Way::In(n, next) => port_text(alloc, "in", n, next),
-        Way::Out(n, next) => port_text(alloc, "out", n, next),
+        Way::Goto(place) => push_place(text, "goto", place),
+        Way::ByTerms(..) => text.push_str("by terms"),
+        Way::Call(place, back) => push_call(text, place, back),
+        Way::Sys(back) => push_place(text, "sys", back),
+        Way::SysReturn => text.push_str("sys return"),
+        Way::Boot => text.push_str("boot"),
+        Way::Leave => text.push_str("leave"),
+        Way::In(port, next) => push_port(text, "in", port, next),
+        Way::Out(port, next) => push_port(text, "out", port, next),
     }
+}
+
+fn push_call(text: &mut String, place: Place, back: Place) -> Result<(), AllocError> {
+    push_place(text, "call", place)?;
+    push_place(text, "", back)
 }
 
 fn flag_name(part: Part) -> &'static str {
@@ -61,21 +55,23 @@ fn flag_text(outcome: &Outcome, flag: sym_terms::Term) -> &'static str {
     "no part"
 }
 
-/// An exit; of two ways the flag, and where it goes for 1 and for 0.
-pub fn exit_text(alloc: Global, outcome: &Outcome) -> Result<String, AllocError> {
+/// Adds an exit; of two ways the flag, and where it goes for 1 and for 0.
+pub fn push_exit(text: &mut String, outcome: &Outcome) -> Result<(), AllocError> {
     match outcome.exit() {
-        Exit::One(way) => way_text(alloc, way),
+        Exit::One(way) => push_way(text, way),
         Exit::Two(flag, value, there, here) => {
             let (set, clear) = if value { (there, here) } else { (here, there) };
-            ways_text(alloc, flag_text(outcome, flag), set, clear)
+            push_ways(text, flag_text(outcome, flag), set, clear)
         }
     }
 }
 
-fn ways_text(alloc: Global, flag: &str, set: Way, clear: Way) -> Result<String, AllocError> {
-    let set = way_text(alloc, set)?;
-    let clear = way_text(alloc, clear)?;
-    format!(in alloc; "{flag} 1 {set}, 0 {clear}")
+fn push_ways(text: &mut String, flag: &str, set: Way, clear: Way) -> Result<(), AllocError> {
+    text.push_str(flag)?;
+    text.push_str(" 1 ")?;
+    push_way(text, set)?;
+    text.push_str(", 0 ")?;
+    push_way(text, clear)
 }
 
 /// The reason why a walk has no outcome.

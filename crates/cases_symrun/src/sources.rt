@@ -12,11 +12,11 @@ use sym_run::Index86;
 use templates::plain_text;
 
 // The bytes of lines, which ` / ` stands between; `N*` in front of one stands for N of it.
-fn lines_of(alloc: Global, case: &str, first: &str) -> anyhow::Result<String> {
+fn lines_of(alloc: Global, case: &str, first: &str) -> Result<String, AllocError> {
     let mut text = String::from_str(alloc, first)?;
     for line in case.split(" / ") {
         let (count, line) = line.split_once('*').unwrap_or(("1", line));
-        push_times(&mut text, count.parse::<u32>()?, line)?;
+        push_times(&mut text, count.parse::<u32>().unwrap_or(0), line)?;
     }
     Ok(text)
 }
