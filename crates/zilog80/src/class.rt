@@ -99,8 +99,7 @@ impl Class {
     {
         match self {
             Class::Is(exact) => nothing_if(exact.as_bytes() == name),
-            Class::Register => renamed(&REGISTERS, name),
-            Class::Source => renamed(&REGISTERS, name),
+            Class::Register | Class::Source => renamed(&REGISTERS, name),
             Class::Pair => renamed(&PAIRS, name),
             Class::StackPair => renamed(&STACK_PAIRS, name),
             _ => None,
@@ -112,8 +111,7 @@ impl Class {
     {
         match self {
             Class::At(exact) => nothing_if(exact.as_bytes() == name),
-            Class::Memory => renamed(&MEMORY, name),
-            Class::Source => renamed(&MEMORY, name),
+            Class::Memory | Class::Source => renamed(&MEMORY, name),
             Class::Indirect => renamed(&INDIRECTS, name),
             _ => None,
         }
