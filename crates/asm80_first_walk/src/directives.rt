@@ -187,11 +187,21 @@ pub fn rule_of_values(scope: &Scope<'_>, args: &[Arg]) -> Option<AsmRule>
 fn some_has_unknown(scope: &Scope<'_>, args: &[Arg]) -> bool
     ensures { result ≡ list_any (λ (a : Arg). operand_has_unknown (scope_of scope.now) (operand_of a)) args.now }
 {
-    args.iter().any(|arg| operand_has_unknown(scope, arg))
+    for arg in args {
+        if operand_has_unknown(scope, arg) {
+            return true;
+        }
+    }
+    false
 }
 
 fn some_divides_by_zero(scope: &Scope<'_>, args: &[Arg]) -> bool
     ensures { result ≡ list_any (λ (a : Arg). operand_divides_by_zero (scope_of scope.now) (operand_of a)) args.now }
 {
-    args.iter().any(|arg| operand_divides_by_zero(scope, arg))
+    for arg in args {
+        if operand_divides_by_zero(scope, arg) {
+            return true;
+        }
+    }
+    false
 }

@@ -14,9 +14,8 @@ pub fn walk(alloc: Global, statements: &[Stmt80]) -> Result<Walked, AsmFault>
 {
     let mut walker = Walker::new(alloc);
     walker.run(statements)?;
-    if let Some((line, rule)) = walker.verdict() {
-        return Err(AsmFault::Refused(line, rule));
+    match walker.verdict() {
+        Some((line, rule)) => Err(AsmFault::Refused(line, rule)),
+        None => Ok(walker.into_walked()),
     }
-    let (rows, names) = walker.into_parts();
-    Ok(Walked { rows, names })
 }

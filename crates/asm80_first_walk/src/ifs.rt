@@ -19,5 +19,10 @@ pub struct OpenIf {
 pub fn some_skips(ifs: &[OpenIf]) -> bool
     ensures { result ≡ list_any (λ (i : OpenIf). not i.is_taken) ifs.now }
 {
-    ifs.iter().any(|open| !open.is_taken)
+    for open in ifs {
+        if !open.is_taken {
+            return true;
+        }
+    }
+    false
 }

@@ -171,6 +171,10 @@ fn find_in(lists: &[Entries<'_>; 26], word: &[u8]) -> Option<Operation>
 fn operation_among(table: &[(&str, Operation)], word: &[u8]) -> Option<Operation>
     ensures { result ≡ option_map (λ (x : Bor (List ℕ) × Operation). x.1) (find (λ (x : Bor (List ℕ) × Operation). bytes_eq x.0.now word.now) table.now) }
 {
-    let entry = table.iter().find(|entry| entry.0.as_bytes() == word)?;
-    Some(entry.1)
+    for entry in table {
+        if entry.0.as_bytes() == word {
+            return Some(entry.1);
+        }
+    }
+    None
 }

@@ -42,9 +42,10 @@ pub fn number_of(scope: &Scope<'_>, e: &Expr) -> Option<u16>
         Expr::Not(inside) => Some(!number_of(scope, inside)?),
         Expr::Neg(inside) => Some(number_of(scope, inside)?.wrapping_neg()),
         Expr::Two(op, a, b) => {
-            let left = number_of(scope, a)?;
-            let right = number_of(scope, b)?;
-            binary(*op, left, right)
+            match (number_of(scope, a), number_of(scope, b)) {
+                (Some(left), Some(right)) => binary(*op, left, right),
+                _ => None,
+            }
         }
     }
 }

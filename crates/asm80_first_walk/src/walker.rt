@@ -16,7 +16,7 @@ use crate::directives::{
     label_meaning, operand_meaning, operation_in, rule_of_values,
 };
 use crate::ifs::{OpenIf, some_skips};
-use crate::walked::Taken;
+use crate::walked::{Taken, Walked};
 use crate::{Names, Scope};
 use asm80_source_def::{AsmRule, Meaning, NameKind, Operation};
 use asm80_statement_types::{Arg, Name80, Stmt80};
@@ -83,12 +83,12 @@ impl Walker {
     }
 
     /// The statements that were taken, and the names.
-    pub fn into_parts(self) -> (Vec<Taken>, Names)
-        ensures rows { result.0.items ≡ self.rows }
-        ensures names { result.1 ≡ self.names }
+    pub fn into_walked(self) -> Walked
+        ensures rows { result.rows.items ≡ self.rows }
+        ensures names { result.names ≡ self.names }
     {
         let Walker { rows, names, .. } = self;
-        (rows, names)
+        Walked { rows, names }
     }
 
     // Goes over the statement of an index; whether the source ends there.

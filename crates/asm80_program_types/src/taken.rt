@@ -63,11 +63,13 @@ fn mark_in_cells(set: &mut AddressSet, cells: &[(u16, Cell)])
 fn marked(alloc: Global, set: &AddressSet, addresses: &[u16]) -> Result<Vec<u16>, AllocError>
     ensures { IfOk result (λ v. v.items ≡ filter (has_address set.now) addresses.now) }
 {
-    addresses
-        .iter()
-        .filter(|address| set.contains(**address))
-        .copied()
-        .collect(alloc)
+    let mut marked = Vec::new(alloc);
+    for address in addresses {
+        if set.contains(*address) {
+            marked.push(*address)?;
+        }
+    }
+    Ok(marked)
 }
 
 /// The places of some starts that are taken, in their order.

@@ -106,5 +106,10 @@ pub fn is_listed(lists: &WordsByLetter<'_>, name: &[u8]) -> bool
 fn is_among(words: &[&str], name: &[u8]) -> bool
     ensures { result ≡ list_any (λ word. bytes_eq word.now name.now) words.now }
 {
-    words.iter().any(|word| word.as_bytes() == name)
+    for word in words {
+        if word.as_bytes() == name {
+            return true;
+        }
+    }
+    false
 }

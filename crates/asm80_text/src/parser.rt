@@ -120,21 +120,17 @@ fn inverted_at<'a>(alloc: Global, tokens: &'a [Token]) -> Result<(Expr, &'a [Tok
     Ok((inverted(alloc, count, sum)?, rest))
 }
 
-fn is_not(token: &Token) -> bool
-    ensures { result ≡ is_not token.now }
-{
-    match token {
-        Token::Not => true,
-        _ => false,
-    }
-}
-
 // How many tokens at the front are NOTs.
 fn nots_len(tokens: &[Token]) -> usize
     ensures value { result ≡ prefix_len is_not tokens.now }
     ensures within { result ≤ length tokens.now }
 {
-    tokens.iter().take_while(|t| is_not(*t)).count()
+    for i in 0..tokens.len() {
+        let Token::Not = tokens[i] else {
+            return i;
+        };
+    }
+    tokens.len()
 }
 
 // An expression under some number of NOTs.

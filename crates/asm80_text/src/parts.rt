@@ -32,7 +32,12 @@ pub fn parts_of<N: Notation>(alloc: Global, tokens: &[Token]) -> Result<Vec<&[To
 pub fn has_bang(tokens: &[Token]) -> bool
     ensures { result ≡ list_any is_bang tokens.now }
 {
-    tokens.iter().any(|token| is_bang(token))
+    for token in tokens {
+        if is_bang(token) {
+            return true;
+        }
+    }
+    false
 }
 
 fn is_bang(token: &Token) -> bool
@@ -48,7 +53,12 @@ fn is_bang(token: &Token) -> bool
 pub fn some_has_reserved_label<N: Notation>(parts: &[&[Token]]) -> bool
     ensures { result ≡ list_any (λ part. has_reserved_label N.spelling part.now) parts.now }
 {
-    parts.iter().any(|part| has_reserved_label::<N>(*part))
+    for part in parts {
+        if has_reserved_label::<N>(*part) {
+            return true;
+        }
+    }
+    false
 }
 
 fn has_reserved_label<N: Notation>(part: &[Token]) -> bool
@@ -110,7 +120,12 @@ fn is_name(op: Two) -> bool
 pub fn some_is_deep(parts: &[&[Token]]) -> bool
     ensures { result ≡ list_any (λ part. is_deep part.now) parts.now }
 {
-    parts.iter().any(|part| is_deep(*part))
+    for part in parts {
+        if is_deep(*part) {
+            return true;
+        }
+    }
+    false
 }
 
 fn is_deep(part: &[Token]) -> bool

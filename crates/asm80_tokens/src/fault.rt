@@ -31,14 +31,6 @@ impl From<AllocError> for ScanFault {
     }
 }
 
-impl<T: Drop> From<AllocFailed<T>> for ScanFault {
-    ghost from_gives = { λ _ e. e ≡ scan.Memory };
-
-    fn from(_e: AllocFailed<T>) -> ScanFault {
-        ScanFault::Memory
-    }
-}
-
 impl From<AllocError> for ParseFault {
     ghost from_gives = { λ _ e. e ≡ parse.Memory };
 

@@ -33,7 +33,12 @@ pub fn inside_len(bytes: &[u8]) -> usize
     ensures value { result ≡ inside_len bytes.now }
     ensures within { result ≤ length bytes.now }
 {
-    bytes.iter().take_while(|b| is_inside(**b)).count()
+    for i in 0..bytes.len() {
+        if !is_inside(bytes[i]) {
+            return i;
+        }
+    }
+    bytes.len()
 }
 
 /// How many bytes at the front belong to a comment.
@@ -41,7 +46,12 @@ pub fn comment_len(bytes: &[u8]) -> usize
     ensures value { result ≡ comment_len bytes.now }
     ensures within { result ≤ length bytes.now }
 {
-    bytes.iter().take_while(|b| **b != b'!').count()
+    for i in 0..bytes.len() {
+        if bytes[i] == b'!' {
+            return i;
+        }
+    }
+    bytes.len()
 }
 
 /// The first byte and those after it, where it belongs to a name or a number.

@@ -42,7 +42,12 @@ fn number_token(text: &[u8], n: u16) -> Token
 fn all_digits(text: &[u8]) -> bool
     ensures { result ≡ list_all (λ b. b == 36 || is_digit b) text.now }
 {
-    text.iter().all(|b| *b == b'$' || b.is_ascii_digit())
+    for b in text {
+        if *b != b'$' && !b.is_ascii_digit() {
+            return false;
+        }
+    }
+    true
 }
 
 // The value of a number, unless a digit is wrong or it is above 65,535.

@@ -47,7 +47,12 @@ fn text_token(text: Vec<u8>) -> Token
 fn all_printable(text: &[u8]) -> bool
     ensures { result ≡ list_all is_printable text.now }
 {
-    text.iter().all(|b| is_printable(*b))
+    for b in text {
+        if !is_printable(*b) {
+            return false;
+        }
+    }
+    true
 }
 
 // What stands before the closing quote, and what follows it, if there is one.

@@ -1,5 +1,5 @@
 // The program of items.
-ghost use Rattle.std.specs.Prelude.{◌≡◌, ◌++◌, option_to_list, IfOk, OnOk};
+ghost use Rattle.std.specs.Prelude.{◌≡◌, ◌++◌, IfOk, OnOk};
 ghost use Rattle.std.specs.List.{filter_map, flat_map};
 ghost use Rattle.std.specs.List.Sorted.{IsPermutation};
 ghost use Rattle.asm80_program_types.specs.Program.{IsProgram};
@@ -29,23 +29,15 @@ fn placed_item(item: &Item) -> Option<Placed>
     }
 }
 
-// Adds the instruction of an item.
-fn push_placed(placed: &mut Vec<Placed>, item: &Item) -> Result<(), AllocError>
-    ensures { OnOk result (placed.new.items ≡ placed.old.items ++ option_to_list (placed_item item.now)) }
-{
-    if let Some(found) = placed_item(item) {
-        placed.push(found)?;
-    }
-    Ok(())
-}
-
 // The instructions of items.
 fn placed_items(alloc: Global, items: &[Item]) -> Result<Vec<Placed>, AllocError>
     ensures { IfOk result (λ v. v.items ≡ filter_map placed_item items.now) }
 {
     let mut placed = Vec::new(alloc);
     for item in items {
-        push_placed(&mut placed, item)?;
+        if let Some(found) = placed_item(item) {
+            placed.push(found)?;
+        }
     }
     Ok(placed)
 }
@@ -60,23 +52,15 @@ fn push_cells(laid: &mut Vec<(u16, Cell)>, at: u16, cells: &[Cell]) -> Result<()
     Ok(())
 }
 
-// Adds the data cells of an item.
-fn push_data(laid: &mut Vec<(u16, Cell)>, item: &Item) -> Result<(), AllocError>
-    ensures { OnOk result (laid.new.items ≡ laid.old.items ++ data_item item.now) }
-{
-    match &item.form {
-        Form::Data(data) => push_cells(laid, item.at, &data.cells),
-        _ => Ok(()),
-    }
-}
-
 // The data cells of items.
 fn data_items(alloc: Global, items: &[Item]) -> Result<Vec<(u16, Cell)>, AllocError>
     ensures { IfOk result (λ v. v.items ≡ flat_map data_item items.now) }
 {
     let mut cells = Vec::new(alloc);
     for item in items {
-        push_data(&mut cells, item)?;
+        if let Form::Data(data) = &item.form {
+            push_cells(&mut cells, item.at, &data.cells)?;
+        }
     }
     Ok(cells)
 }

@@ -20,15 +20,15 @@ fn register_name(arg: &Arg) -> Option<&[u8]>
 pub fn src_of(arg: &Arg) -> Option<Src>
     ensures { result ≡ src_of (operand_of arg.now) }
 {
-    match register_name(arg)? {
-        b"A" => Some(Src::Reg(Reg::A)),
-        b"B" => Some(Src::Reg(Reg::B)),
-        b"C" => Some(Src::Reg(Reg::C)),
-        b"D" => Some(Src::Reg(Reg::D)),
-        b"E" => Some(Src::Reg(Reg::E)),
-        b"H" => Some(Src::Reg(Reg::H)),
-        b"L" => Some(Src::Reg(Reg::L)),
-        b"M" => Some(Src::Mem),
+    match register_name(arg) {
+        Some(b"A") => Some(Src::Reg(Reg::A)),
+        Some(b"B") => Some(Src::Reg(Reg::B)),
+        Some(b"C") => Some(Src::Reg(Reg::C)),
+        Some(b"D") => Some(Src::Reg(Reg::D)),
+        Some(b"E") => Some(Src::Reg(Reg::E)),
+        Some(b"H") => Some(Src::Reg(Reg::H)),
+        Some(b"L") => Some(Src::Reg(Reg::L)),
+        Some(b"M") => Some(Src::Mem),
         _ => None,
     }
 }
@@ -37,11 +37,11 @@ pub fn src_of(arg: &Arg) -> Option<Src>
 pub fn pair_of(arg: &Arg) -> Option<Pair>
     ensures { result ≡ pair_of_operand (operand_of arg.now) }
 {
-    match register_name(arg)? {
-        b"B" => Some(Pair::B),
-        b"D" => Some(Pair::D),
-        b"H" => Some(Pair::H),
-        b"SP" => Some(Pair::Sp),
+    match register_name(arg) {
+        Some(b"B") => Some(Pair::B),
+        Some(b"D") => Some(Pair::D),
+        Some(b"H") => Some(Pair::H),
+        Some(b"SP") => Some(Pair::Sp),
         _ => None,
     }
 }
@@ -50,9 +50,9 @@ pub fn pair_of(arg: &Arg) -> Option<Pair>
 pub fn indirect_of(arg: &Arg) -> Option<Pair>
     ensures { result ≡ indirect_of (operand_of arg.now) }
 {
-    match register_name(arg)? {
-        b"B" => Some(Pair::B),
-        b"D" => Some(Pair::D),
+    match register_name(arg) {
+        Some(b"B") => Some(Pair::B),
+        Some(b"D") => Some(Pair::D),
         _ => None,
     }
 }
@@ -61,11 +61,11 @@ pub fn indirect_of(arg: &Arg) -> Option<Pair>
 pub fn stack_of(arg: &Arg) -> Option<StackPair>
     ensures { result ≡ stack_of (operand_of arg.now) }
 {
-    match register_name(arg)? {
-        b"B" => Some(StackPair::B),
-        b"D" => Some(StackPair::D),
-        b"H" => Some(StackPair::H),
-        b"PSW" => Some(StackPair::Psw),
+    match register_name(arg) {
+        Some(b"B") => Some(StackPair::B),
+        Some(b"D") => Some(StackPair::D),
+        Some(b"H") => Some(StackPair::H),
+        Some(b"PSW") => Some(StackPair::Psw),
         _ => None,
     }
 }

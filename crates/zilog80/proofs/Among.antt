@@ -1,9 +1,10 @@
 -- What stands in a list: found by a test, and told apart from all else there.
-use Rattle.std.proofs.Common.{◌≡◌, ℕ, zero, suc, ◌<◌, List, [], ◌∷◌, length, get_or, map, Bool, true, false, ◌&&◌, ◌||◌, Option, Some, None, refl, sym, ap, ◌∙◌, subst, arith, inl, inr, ◌⊎◌, cond}
+use Rattle.std.proofs.Common.{◌≡◌, ℕ, zero, suc, ◌+◌, ◌<◌, ◌≤◌, List, [], ◌∷◌, length, get_or, drop, map, Bool, true, false, ◌&&◌, ◌||◌, Option, Some, None, refl, sym, ap, ◌∙◌, subst, arith, inl, inr, ◌⊎◌, cond}
 use Rattle.std.specs.Prelude.{Contains, find, option_map}
 use Rattle.std.specs.List.{list_any, list_all}
 use Rattle.std.specs.Str.{bytes_eq}
 use Rattle.std.proofs.lemmas.Slice.Eq.{bytes_eq-Decides}
+use Rattle.std.proofs.lemmas.List.{at_drop_more, at_drop_all}
 
 abbrev pub Among : {X : Type 0} → List X → X → Type 0
 Among [] x = ⊥
@@ -32,6 +33,18 @@ pub both : (a b : Bool) → (a && b) ≡ true → (a ≡ true) × (b ≡ true)
 both true true e = (refl, refl)
 both true false e = absurd cc
 both false b e = absurd cc
+
+pub every : (a b : Bool) → a ≡ true → b ≡ true → (a && b) ≡ true
+every true b e f = f
+every false b e f = absurd cc
+
+pub fails_left : (a b : Bool) → a ≡ false → (a && b) ≡ false
+fails_left false b e = refl
+fails_left true b e = absurd cc
+
+pub fails_right : (a b : Bool) → b ≡ false → (a && b) ≡ false
+fails_right true b e = e
+fails_right false b e = refl
 
 pub either : (a b : Bool) → (a || b) ≡ true → (a ≡ true) ⊎ (b ≡ true)
 either true b e = inl refl
@@ -93,6 +106,16 @@ not_found {X} test (y ∷ ys) x e h = go (test y) refl e h (λ k l. not_found te
     go true t e h later = absurd cc
     go false t e (inl is) later = ap test (sym is) ∙ t
     go false t e (inr h) later = later e h
+
+-- in a loop that has found none so far
+pub found_here : {X : Type 0} (test : X → Bool) (xs : List X) (i : ℕ) (d : X) → i < length xs → find test (drop i xs) ≡ find test xs → test (get_or xs i d) ≡ true → find test xs ≡ Some (get_or xs i d)
+found_here test xs i d lt same e = sym same ∙ at_drop_more (find test) xs i d lt ∙ ap (λ b. cond b (Some (get_or xs i d)) (find test (drop (i + 1) xs))) e
+
+pub found_later : {X : Type 0} (test : X → Bool) (xs : List X) (i : ℕ) (d : X) → i < length xs → find test (drop i xs) ≡ find test xs → test (get_or xs i d) ≡ false → find test (drop (i + 1) xs) ≡ find test xs
+found_later test xs i d lt same e = sym (at_drop_more (find test) xs i d lt ∙ ap (λ b. cond b (Some (get_or xs i d)) (find test (drop (i + 1) xs))) e) ∙ same
+
+pub found_nowhere : {X : Type 0} (test : X → Bool) (xs : List X) (i : ℕ) → length xs ≤ i → find test (drop i xs) ≡ find test xs → find test xs ≡ None
+found_nowhere test xs i le same = sym same ∙ at_drop_all (find test) xs i le
 
 -- ---- telling apart
 

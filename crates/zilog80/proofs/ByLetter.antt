@@ -7,7 +7,7 @@ use Rattle.std.proofs.lemmas.Option.{same_Some, slice_get-map}
 use Rattle.zilog80.specs.declared.class.Class.{Class as ReadClass}
 use Rattle.zilog80.specs.Operands.{Spelt, Class}
 use Rattle.zilog80.specs.Read.{class_of, are_words, is_word, of_letter, BareEntry, UnaryEntry, BinaryEntry, bare_of, unary_of, binary_of, IsBareRow, IsUnaryRow, IsBinaryRow}
-use Rattle.zilog80.proofs.Among.{Among, among, contained, passes, both, two_cases}
+use Rattle.zilog80.proofs.Among.{Among, among, contained, passes, both, every, two_cases}
 
 -- ---- what passes a test
 
@@ -29,10 +29,6 @@ stood test (y ∷ ys) x h = elim (two_cases (test y)) [
   | inl passed ↦ later (stood test ys x) (rw passed at h)
   | inr failed ↦ inr (stood test ys x (rw failed at h))
 ]
-
-every : (a b : Bool) → a ≡ true → b ≡ true → (a && b) ≡ true
-every true b e f = f
-every false b e f = absurd cc
 
 words_kept : {X : Type 0} (test : X → Bool) (name : X → List ℕ) (xs : List X) → are_words (map name xs) ≡ true → are_words (map name (filter test xs)) ≡ true
 words_kept test name [] e = refl

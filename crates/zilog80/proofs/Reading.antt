@@ -1,18 +1,22 @@
 -- What the functions that read operands and instructions found.
-use Rattle.std.proofs.Common.{◌≡◌, ◌≢◌, ℕ, suc, ◌+◌, List, [], ◌∷◌, ◌++◌, take, drop, Bool, true, false, Option, Some, None, Result, Ok, Err, refl, sym, ap, ◌∙◌, arith, inl, inr, Bor}
-use Rattle.std.specs.Prelude.{IfSome, OnOk, is_some, option_copied}
+use Rattle.std.proofs.Common.{◌≡◌, ◌≢◌, ℕ, suc, ◌+◌, ◌-◌, ◌<◌, ◌≤◌, List, [], ◌∷◌, ◌++◌, length, length-drop, get_or, take, drop, Bool, true, false, ◌||◌, not, Option, Some, None, Result, Ok, Err, refl, sym, ap, ◌∙◌, arith, inl, inr, Bor}
+use Rattle.std.specs.Prelude.{IfSome, is_some, option_copied}
 use Rattle.std.specs.List.{slice_split, onto_first}
 use Rattle.std.specs.Global.{Vec}
+use Rattle.std.proofs.lemmas.List.{at_drop_more, at_drop_all, take_all}
+use Rattle.std.proofs.lemmas.List.Sums.{prefix_len-drop_yes, prefix_len-drop_no, prefix_len-drop_all}
 use Rattle.asm80_statement_types.specs.declared.arg.Arg.{Arg}
 use Rattle.asm80_statement_types.specs.declared.expr.Expr.{Expr}
+use Rattle.asm80_statement_types.specs.declared.name.Name80.{Name80}
 use Rattle.asm80_statement_types.specs.Tree.{Operand, tree_of}
 use Rattle.asm80_tokens.specs.declared.token.Token.{Token}
+use Rattle.asm80_tokens.specs.declared.token.Token.TheVariants.{Comma, Register}
 use Rattle.asm80_tokens.specs.declared.fault.ParseFault.{ParseFault}
 use Rattle.asm80_tokens.specs.declared.fault.ParseFault.TheVariants as faults
 use Rattle.asm80_tokens.specs.TokenResults.{GivesOperation}
 use Rattle.asm80_text.specs.Results.{GivesOperandList}
 use Rattle.zilog80.specs.declared.class.Class.{Class as ReadClass}
-use Rattle.zilog80.specs.Operands.{Spelt, Value, AtValue, Class, has_reserved, atom_of, IsSpelt, atom, value, at_value, operands}
+use Rattle.zilog80.specs.Operands.{Spelt, Value, AtValue, Class, has_reserved, is_reserved, atom_of, IsSpelt, atom, value, at_value, operands}
 use Rattle.zilog80.specs.Table.{bare_rows, unary_rows, binary_rows}
 use Rattle.zilog80.specs.Zilog.{is_comma, operand_parts, IsInstruction, bare, unary, binary, IsZilogForm, directive, instruction, zilog_spelling}
 use Rattle.zilog80.specs.Words.{is_directive}
@@ -33,6 +37,16 @@ pub reserved_fails : (ts : List Token) → atom_of ts ≡ None → has_reserved 
 reserved_fails ts none e a (atom k) = some_none a (atom_of ts) k none
 reserved_fails ts none e _ (value n h s q) = true_false (has_reserved ts) e h
 reserved_fails ts none e _ (at_value n h s) = true_false (has_reserved ts) e h
+
+none_reserved : (t : Token) → ((n : Name80) → t ≡ Register n → ⊥) → is_reserved t ≡ false
+none_reserved (Register n) none = absurd (none n refl)
+none_reserved t none = refl
+
+pub passes_unreserved : (ts : List Token) (i : ℕ) (t : Token) → i < length ts → t ≡ get_or ts i t → has_reserved (drop i ts) ≡ has_reserved ts → ((n : Name80) → t ≡ Register n → ⊥) → has_reserved (drop (i + 1) ts) ≡ has_reserved ts
+passes_unreserved ts i t lt at same none = sym (at_drop_more has_reserved ts i t lt ∙ ap (λ b. b || has_reserved (drop (i + 1) ts)) (ap is_reserved (sym at) ∙ none_reserved t none)) ∙ same
+
+pub reserved_at : (ts : List Token) (i : ℕ) (t : Token) (n : Name80) → i < length ts → t ≡ get_or ts i t → has_reserved (drop i ts) ≡ has_reserved ts → t ≡ Register n → true ≡ has_reserved ts
+reserved_at ts i t n lt at same is = sym (at_drop_more has_reserved ts i t lt ∙ ap (λ (x : Token). is_reserved x || has_reserved (drop (i + 1) ts)) (sym at ∙ is)) ∙ same
 
 pub enclosed_read : (ts : List Token) (o : Option Expr) (e : Expr) → atom_of ts ≡ None → has_reserved ts ≡ false → o ≡ Some e → GivesEnclosed ts (Ok o) → IsSpelt ts (AtValue (tree_of e))
 enclosed_read ts (Some f) e none free is g = let same : f ≡ e = cc in at_value none free (rw same at g)
@@ -102,6 +116,30 @@ more_parts (t ∷ ts) u us e = elim (two_cases (is_comma t)) [
   | inl c ↦ split_comma t ts c ∙ ap (λ (x : List Token). x ∷ slice_split is_comma ts) (sym (front_comma t ts c)) ∙ ap (λ (x : List Token). front (t ∷ ts) ∷ slice_split is_comma x) (head_is t u ts us (sym (behind_comma t ts c) ∙ e))
   | inr n ↦ split_more t ts n ∙ ap (onto_first t) (more_parts ts u us (sym (behind_more t ts n) ∙ e)) ∙ ap (λ (x : List Token). x ∷ slice_split is_comma us) (sym (front_more t ts n))
 ]
+
+no_comma : (t : Token) → (t ≡ Comma → ⊥) → is_comma t ≡ false
+no_comma Comma n = absurd (n refl)
+no_comma t n = refl
+
+-- token by token
+pub passes_token : (ts : List Token) (i : ℕ) (d : Token) → i < length ts → operand_len ts ≡ i + operand_len (drop i ts) → (get_or ts i d ≡ Comma → ⊥) → operand_len ts ≡ (i + 1) + operand_len (drop (i + 1) ts)
+passes_token ts i d lt e n =
+    let one = prefix_len-drop_yes (λ t. not (is_comma t)) ts i d lt (ap not (no_comma (get_or ts i d) n)) in
+    omega (arith, e, one)
+
+pub comma_at : (ts : List Token) (i : ℕ) (d : Token) → i < length ts → operand_len ts ≡ i + operand_len (drop i ts) → get_or ts i d ≡ Comma → slice_split is_comma ts ≡ take i ts ∷ slice_split is_comma (take (length ts - (i + 1)) (drop (i + 1) ts))
+comma_at ts i d lt e is =
+    let none = prefix_len-drop_no (λ t. not (is_comma t)) ts i d lt (ap (λ t. not (is_comma t)) is) in
+    let at : operand_len ts ≡ i = omega (arith, e, none) in
+    let whole = take_all (length ts - (i + 1)) (drop (i + 1) ts) (omega (arith, length-drop (i + 1) ts)) in
+    more_parts ts (get_or ts i d) (drop (i + 1) ts) (ap (λ n. drop n ts) at ∙ at_drop_more (λ (x : List Token). x) ts i d lt)
+    ∙ ap (λ n. take n ts ∷ slice_split is_comma (drop (i + 1) ts)) at ∙ ap (λ (us : List Token). take i ts ∷ slice_split is_comma us) (sym whole)
+
+pub comma_nowhere : (ts : List Token) (i : ℕ) → length ts ≤ i → operand_len ts ≡ i + operand_len (drop i ts) → slice_split is_comma ts ≡ ts ∷ []
+comma_nowhere ts i le e =
+    let none = prefix_len-drop_all (λ t. not (is_comma t)) ts i le in
+    let at : operand_len ts ≡ i = omega (arith, e, none) in
+    one_part ts (ap (λ n. drop n ts) at ∙ at_drop_all (λ (x : List Token). x) ts i le) ∙ ap (λ (us : List Token). us ∷ []) (ap (λ n. take n ts) at ∙ take_all i ts le)
 
 pub some_parts : (ts : List Token) → ts ≢ [] → operand_parts ts ≡ slice_split is_comma ts
 some_parts [] ne = absurd (ne refl)
@@ -238,11 +276,3 @@ directive_fails word ts is faults.Malformed g = λ op args x. never g x
 pub given_pushed : (o : Option (List Operand)) (xs before after : List Operand) → Some xs ≡ o → after ≡ before ++ xs → IfSome o (λ ys. after ≡ before ++ ys)
 given_pushed (Some ys) xs before after e h = let same : xs ≡ ys = cc in rw (← same) h
 given_pushed None xs before after e h = tt
-
-pub nothing_given : (o : Option (List Operand)) (before : List Operand) → None ≡ o → IfSome o (λ ys. before ≡ before ++ ys)
-nothing_given (Some ys) before e = absurd cc
-nothing_given None before e = tt
-
-pub pushed_ok : {T E : Type 0} (r : Result T E) (o : Option (List Operand)) (xs before after : List Operand) → Some xs ≡ o → OnOk r (after ≡ before ++ xs) → OnOk r (IfSome o (λ ys. after ≡ before ++ ys))
-pushed_ok (Ok x) o xs before after e h = given_pushed o xs before after e h
-pushed_ok (Err f) o xs before after e h = tt

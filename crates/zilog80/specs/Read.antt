@@ -57,6 +57,11 @@ given_by a Nothing = []
 given_by a (Renamed n) = Whole (Named n) ∷ []
 given_by a OfValue = value_in a
 
+-- an expression as operands
+abbrev pub operands_of : Option Expr → List Operand
+operands_of None = []
+operands_of (Some e) = Whole (tree_of e) ∷ []
+
 -- words of 1 to 16 capital letters, as each name in a table is
 abbrev pub is_word : List ℕ → Bool
 is_word name = list_all is_upper name && (nat_lt 0 (length name) && nat_le (length name) 16)
@@ -133,19 +138,6 @@ fits_unary word a r = bytes_eq r.0.now word && is_some (operands (class_of r.1) 
 
 abbrev pub fits_binary : List ℕ → Spelt → Spelt → BinaryEntry → Bool
 fits_binary word a b r = bytes_eq r.0.now word && (is_some (operands (class_of r.1) a) && is_some (operands (class_of r.2) b))
-
--- the classes and the operation of a row, and of what is read of it
-abbrev pub given_unary : UnaryEntry → ReadClass × List ℕ
-given_unary r = (r.1, r.2.now)
-
-abbrev pub read_unary : ReadClass × Bor (List ℕ) → ReadClass × List ℕ
-read_unary x = (x.0, x.1.now)
-
-abbrev pub given_binary : BinaryEntry → ReadClass × ReadClass × List ℕ
-given_binary r = (r.1, r.2, r.3.now)
-
-abbrev pub read_binary : ReadClass × ReadClass × Bor (List ℕ) → ReadClass × ReadClass × List ℕ
-read_binary x = (x.0, x.1, x.2.now)
 
 -- the row of a word without operands, if there is one
 abbrev pub IsBareRow : List (List ℕ × List ℕ) → List ℕ → Option (List ℕ) → Type 0

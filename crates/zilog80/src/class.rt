@@ -1,10 +1,9 @@
 //! The classes of operands.
 
-ghost use Rattle.std.specs.Prelude.{◌≡◌, List, ℕ, find, is_some, map, option_copied, option_map, true};
+ghost use Rattle.std.specs.Prelude.{◌≡◌, find, is_some, map, option_map, true};
 ghost use Rattle.std.specs.Str.{bytes_eq};
 ghost use Rattle.zilog80.specs.Operands.{Literal, Names, Spelt as Operand, nothing_if, of_name, of_name_at, operands, renamed};
-ghost use Rattle.zilog80.specs.Read.{are_words, class_of, given_by, spelt_of};
-ghost use Rattle.std.specs.Borrow.{Bor};
+ghost use Rattle.zilog80.specs.Read.{BareEntry, are_words, bare_of, class_of, given_by, spelt_of};
 
 use crate::operand::Spelt;
 use asm80_text::Name80;
@@ -100,8 +99,7 @@ impl Class {
     {
         match self {
             Class::Is(exact) => nothing_if(exact.as_bytes() == name),
-            Class::Register => renamed(&REGISTERS, name),
-            Class::Source => renamed(&REGISTERS, name),
+            Class::Register | Class::Source => renamed(&REGISTERS, name),
             Class::Pair => renamed(&PAIRS, name),
             Class::StackPair => renamed(&STACK_PAIRS, name),
             _ => None,
@@ -113,8 +111,7 @@ impl Class {
     {
         match self {
             Class::At(exact) => nothing_if(exact.as_bytes() == name),
-            Class::Memory => renamed(&MEMORY, name),
-            Class::Source => renamed(&MEMORY, name),
+            Class::Memory | Class::Source => renamed(&MEMORY, name),
             Class::Indirect => renamed(&INDIRECTS, name),
             _ => None,
         }
@@ -139,19 +136,24 @@ fn nothing_if(same: bool) -> Option<Given>
 
 // The name of Intel's spelling for a name.
 fn renamed(names: &[(&str, &str)], name: &[u8]) -> Option<Given>
-    requires { are_words (map (λ (x : Bor (List ℕ) × Bor (List ℕ)). x.1.now) names.now) ≡ true }
-    ensures { (entries : Names) (a : Operand) → map (λ (x : Bor (List ℕ) × Bor (List ℕ)). (x.0.now, x.1.now)) names.now ≡ entries → option_map (given_by a) result ≡ renamed entries name.now }
+    requires { are_words (map (λ (x : BareEntry). x.1.now) names.now) ≡ true }
+    ensures { (entries : Names) (a : Operand) → map bare_of names.now ≡ entries → option_map (given_by a) result ≡ renamed entries name.now }
 {
     match beside(names, name) {
-        Some(other) => Some(Given::Renamed(Name80::of(other))),
+        Some(other) => Some(Given::Renamed(other)),
         None => None,
     }
 }
 
-/// What stands beside a name in a table.
-pub fn beside<'a>(table: &[(&'a str, &'a str)], name: &[u8]) -> Option<&'a [u8]>
-    ensures { option_copied result ≡ option_map (λ (x : Bor (List ℕ) × Bor (List ℕ)). x.1.now) (find (λ (x : Bor (List ℕ) × Bor (List ℕ)). bytes_eq x.0.now name.now) table.now) }
+/// The name that stands beside a word in a table.
+pub fn beside(table: &[(&str, &str)], word: &[u8]) -> Option<Name80>
+    requires { are_words (map (λ (x : BareEntry). x.1.now) table.now) ≡ true }
+    ensures { result ≡ option_map (λ (x : BareEntry). x.1.now) (find (λ (x : BareEntry). bytes_eq x.0.now word.now) table.now) }
 {
-    let entry = table.iter().find(|entry| entry.0.as_bytes() == name)?;
-    Some(entry.1.as_bytes())
+    for entry in table {
+        if entry.0.as_bytes() == word {
+            return Some(Name80::of(entry.1.as_bytes()));
+        }
+    }
+    None
 }

@@ -1,15 +1,15 @@
 //! Instructions.
 
-ghost use Rattle.std.specs.Prelude.{◌≡◌, ◌≤◌, ◌++◌, [], ◌∷◌, IfSome, OnOk, length, map, option_copied};
+ghost use Rattle.std.specs.Prelude.{◌≡◌, ◌++◌, [], ◌∷◌, IfSome, OnOk, map, option_copied};
 ghost use Rattle.asm80_statement_types.specs.Tree.{operand_of};
 ghost use Rattle.zilog80.specs.Operands.{operands};
-ghost use Rattle.zilog80.specs.Read.{GivesInstruction, IsNextOperand, class_of, given_by, operand_len, spelt_of, value_in};
-ghost use Rattle.zilog80.specs.Zilog.{is_comma, operand_parts};
+ghost use Rattle.zilog80.specs.Read.{GivesInstruction, IsNextOperand, class_of, given_by, operands_of, spelt_of, value_in};
+ghost use Rattle.zilog80.specs.Zilog.{operand_parts};
 
 use crate::class::{Class, Given};
 use crate::operand::{Spelt, read_operand};
 use crate::table::{bare_row, binary_row, unary_row};
-use asm80_text::{Arg, Expr, Name80, ParseFault, Token, first};
+use asm80_text::{Arg, Expr, Name80, ParseFault, Token};
 use std::alloc::{AllocError, Global};
 
 /// The operation and the operands in Intel's spelling of a word with all of the tokens as its operands.
@@ -38,28 +38,12 @@ pub fn instruction(
 fn next_operand(tokens: &[Token]) -> (&[Token], Option<&[Token]>)
     ensures { IsNextOperand tokens.now result.0.now (option_copied result.1) }
 {
-    let (operand, rest) = tokens.split_at(operand_len(tokens));
-    match first(rest) {
-        Some((_, after)) => (operand, Some(after)),
-        None => (operand, None),
+    for i in 0..tokens.len() {
+        if let Token::Comma = tokens[i] {
+            return (&tokens[..i], Some(&tokens[i + 1..]));
+        }
     }
-}
-
-// How many tokens at the front stand before a comma.
-fn operand_len(tokens: &[Token]) -> usize
-    ensures value { result ≡ operand_len tokens.now }
-    ensures within { result ≤ length tokens.now }
-{
-    tokens.iter().take_while(|token| !is_comma(*token)).count()
-}
-
-fn is_comma(token: &Token) -> bool
-    ensures { result ≡ is_comma token.now }
-{
-    match token {
-        Token::Comma => true,
-        _ => false,
-    }
+    (tokens, None)
 }
 
 // A word without operands.
@@ -109,30 +93,34 @@ fn binary(
 fn push_given(args: &mut Vec<Arg>, class: Class, operand: Spelt) -> Result<(), AllocError>
     ensures { OnOk result (IfSome (operands (class_of class) (spelt_of operand)) (λ xs. map operand_of args.new.items ≡ map operand_of args.old.items ++ xs)) }
 {
-    match class.given(&operand) {
-        Some(given) => push_one(args, given, operand),
-        None => Ok(()),
+    let Some(given) = class.given(&operand) else {
+        return Ok(());
+    };
+    if let Some(value) = value_of(given, operand) {
+        args.push(Arg::Value(value))?;
     }
+    Ok(())
 }
 
-// Adds one thing that an operand gives.
-fn push_one(args: &mut Vec<Arg>, given: Given, operand: Spelt) -> Result<(), AllocError>
-    ensures { OnOk result (map operand_of args.new.items ≡ map operand_of args.old.items ++ given_by (spelt_of operand) given) }
+// The expression that an operand gives, if it gives one.
+fn value_of(given: Given, operand: Spelt) -> Option<Expr>
+    ensures { operands_of result ≡ given_by (spelt_of operand) given }
 {
+    let value = value_in(operand);
     match given {
-        Given::Nothing => Ok(()),
-        Given::Renamed(name) => Ok(args.push(Arg::Value(Expr::Name(name)))?),
-        Given::OfValue => push_value(args, operand),
+        Given::Nothing => None,
+        Given::Renamed(name) => Some(Expr::Name(name)),
+        Given::OfValue => value,
     }
 }
 
-// Adds the value of an operand that is one.
-fn push_value(args: &mut Vec<Arg>, operand: Spelt) -> Result<(), AllocError>
-    ensures { OnOk result (map operand_of args.new.items ≡ map operand_of args.old.items ++ value_in (spelt_of operand)) }
+// The value of an operand that is one.
+fn value_in(operand: Spelt) -> Option<Expr>
+    ensures { operands_of result ≡ value_in (spelt_of operand) }
 {
     match operand {
-        Spelt::Name(_) | Spelt::AtName(_) => Ok(()),
-        Spelt::Literal(n) => Ok(args.push(Arg::Value(Expr::Num(n)))?),
-        Spelt::Value(e) | Spelt::AtValue(e) => Ok(args.push(Arg::Value(e))?),
+        Spelt::Name(_) | Spelt::AtName(_) => None,
+        Spelt::Literal(n) => Some(Expr::Num(n)),
+        Spelt::Value(e) | Spelt::AtValue(e) => Some(e),
     }
 }

@@ -1,8 +1,8 @@
 //! How an operand is spelt.
 
-ghost use Rattle.std.specs.Prelude.{◌≡◌, ◌≢◌, ◌↔◌, ℕ, [], ◌∷◌, IsTrue, List, MatchOption, None, false, option_map};
+ghost use Rattle.std.specs.Prelude.{◌≡◌, ◌↔◌, [], ◌∷◌, IsTrue, None, false, option_map};
 ghost use Rattle.asm80_tokens.specs.declared.token.Token.{Token};
-ghost use Rattle.zilog80.specs.Operands.{atom_of, has_reserved, is_reserved};
+ghost use Rattle.zilog80.specs.Operands.{atom_of, has_reserved};
 ghost use Rattle.zilog80.specs.Read.{GivesEnclosed, GivesSpelt, GivesWhole, spelt_of};
 
 use asm80_text::{Expr, Name80, ParseFault, Token, expression};
@@ -79,23 +79,19 @@ fn is_close(tokens: &[Token]) -> bool
 fn has_reserved(tokens: &[Token]) -> bool
     ensures { result ≡ has_reserved tokens.now }
 {
-    tokens.iter().any(|token| is_reserved(token))
-}
-
-fn is_reserved(token: &Token) -> bool
-    ensures { result ≡ is_reserved token.now }
-{
-    match token {
-        Token::Register(_) => true,
-        _ => false,
+    for token in tokens {
+        if let Token::Register(_) = token {
+            return true;
+        }
     }
+    false
 }
 
 // The expression within the one pair of parentheses that all of the tokens are.
 fn enclosed(alloc: Global, tokens: &[Token]) -> Result<Option<Expr>, AllocError>
     ensures { GivesEnclosed tokens.now result }
 {
-    let Some(inside) = after_open(tokens) else {
+    let [Token::Open, inside @ ..] = tokens else {
         return Ok(None);
     };
     match expression(alloc, inside) {
@@ -108,16 +104,6 @@ fn enclosed(alloc: Global, tokens: &[Token]) -> Result<Option<Expr>, AllocError>
         }
         Err(ParseFault::Malformed) => Ok(None),
         Err(ParseFault::Memory) => Err(AllocError),
-    }
-}
-
-// The tokens after an opening parenthesis.
-fn after_open(tokens: &[Token]) -> Option<&[Token]>
-    ensures { MatchOption result ((rest : List Token) → tokens.now ≢ Token.Open ∷ rest) (λ rest. tokens.now ≡ Token.Open ∷ rest.now) }
-{
-    match tokens {
-        [Token::Open, rest @ ..] => Some(rest),
-        _ => None,
     }
 }
 

@@ -1,11 +1,10 @@
 //! The table of instructions, and the reserved words.
 
-ghost use Rattle.std.specs.Prelude.{◌≡◌, List, ℕ, find, map, option_copied, option_map, true};
-ghost use Rattle.std.specs.Str.{bytes_eq};
+ghost use Rattle.std.specs.Prelude.{◌≡◌, List, ℕ, map, option_copied, true};
 ghost use Rattle.zilog80.specs.Operands.{Class as OperandClass};
 ghost use Rattle.zilog80.specs.Table.{bare_rows, binary_rows, unary_rows};
 ghost use Rattle.zilog80.specs.Words.{is_directive, is_operation, is_register};
-ghost use Rattle.zilog80.specs.Read.{BareEntry, BinaryEntry, IsBareRow, IsBinaryRow, IsUnaryRow, UnaryEntry, are_words, bare_of, binary_of, fits_binary, fits_unary, given_binary, given_unary, of_letter, read_binary, read_unary, spelt_of, unary_of};
+ghost use Rattle.zilog80.specs.Read.{BinaryEntry, IsBareRow, IsBinaryRow, IsUnaryRow, UnaryEntry, are_words, binary_of, of_letter, spelt_of, unary_of};
 
 use crate::class::Class::{self, *};
 use crate::class::beside;
@@ -292,24 +291,18 @@ pub fn is_register(word: &[u8]) -> bool
 fn of_letter<'a, Row>(lists: &ByLetter<'a, Row>, word: &[u8]) -> Option<&'a [Row]>
     ensures { option_copied result ≡ of_letter lists.now word.now }
 {
-    let letter = word.first()?;
-    lists.get(letter.saturating_sub(b'A') as usize).copied()
+    match word {
+        [letter, ..] => lists.get(letter.saturating_sub(b'A') as usize).copied(),
+        [] => None,
+    }
 }
 
 /// The operation that a word without operands is.
 pub fn bare_row(word: &[u8]) -> Option<Name80>
     ensures { IsBareRow bare_rows word.now result }
 {
-    let rows = of_letter(&BARE, word)?;
-    bare_in(rows, word)
-}
-
-fn bare_in(rows: &[BareRow<'_>], word: &[u8]) -> Option<Name80>
-    requires { are_words (map (λ (r : BareEntry). r.1.now) rows.now) ≡ true }
-    ensures { (entries : List (List ℕ × List ℕ)) → map bare_of rows.now ≡ entries → IsBareRow entries word.now result }
-{
-    match beside(rows, word) {
-        Some(op) => Some(Name80::of(op)),
+    match of_letter(&BARE, word) {
+        Some(rows) => beside(rows, word),
         None => None,
     }
 }
@@ -318,35 +311,32 @@ fn bare_in(rows: &[BareRow<'_>], word: &[u8]) -> Option<Name80>
 pub fn unary_row(word: &[u8], operand: &Spelt) -> Option<(Class, Name80)>
     ensures { IsUnaryRow unary_rows word.now (spelt_of operand.now) result }
 {
-    let rows = of_letter(&UNARY, word)?;
-    unary_in(rows, word, operand)
+    match of_letter(&UNARY, word) {
+        Some(rows) => unary_in(rows, word, operand),
+        None => None,
+    }
 }
 
 fn unary_in(rows: &[UnaryRow<'_>], word: &[u8], operand: &Spelt) -> Option<(Class, Name80)>
     requires { are_words (map (λ (r : UnaryEntry). r.2.now) rows.now) ≡ true }
     ensures { (entries : List (List ℕ × OperandClass × List ℕ)) → map unary_of rows.now ≡ entries → IsUnaryRow entries word.now (spelt_of operand.now) result }
 {
-    match unary_at(rows, word, operand) {
-        Some(row) => Some((row.0, Name80::of(row.1))),
-        None => None,
+    for row in rows {
+        if row.0.as_bytes() == word && row.1.takes(operand) {
+            return Some((row.1, Name80::of(row.2.as_bytes())));
+        }
     }
-}
-
-fn unary_at<'a>(rows: &[UnaryRow<'a>], word: &[u8], operand: &Spelt) -> Option<(Class, &'a [u8])>
-    ensures { option_map read_unary result ≡ option_map given_unary (find (fits_unary word.now (spelt_of operand.now)) rows.now) }
-{
-    let row = rows
-        .iter()
-        .find(|row| row.0.as_bytes() == word && row.1.takes(operand))?;
-    Some((row.1, row.2.as_bytes()))
+    None
 }
 
 /// The classes of the operands and the operation of the row in which a word and its two operands stand.
 pub fn binary_row(word: &[u8], left: &Spelt, right: &Spelt) -> Option<(Class, Class, Name80)>
     ensures { IsBinaryRow binary_rows word.now (spelt_of left.now) (spelt_of right.now) result }
 {
-    let rows = of_letter(&BINARY, word)?;
-    binary_in(rows, word, left, right)
+    match of_letter(&BINARY, word) {
+        Some(rows) => binary_in(rows, word, left, right),
+        None => None,
+    }
 }
 
 fn binary_in(
@@ -358,21 +348,10 @@ fn binary_in(
     requires { are_words (map (λ (r : BinaryEntry). r.3.now) rows.now) ≡ true }
     ensures { (entries : List (List ℕ × OperandClass × OperandClass × List ℕ)) → map binary_of rows.now ≡ entries → IsBinaryRow entries word.now (spelt_of left.now) (spelt_of right.now) result }
 {
-    match binary_at(rows, word, left, right) {
-        Some(row) => Some((row.0, row.1, Name80::of(row.2))),
-        None => None,
+    for row in rows {
+        if row.0.as_bytes() == word && row.1.takes(left) && row.2.takes(right) {
+            return Some((row.1, row.2, Name80::of(row.3.as_bytes())));
+        }
     }
-}
-
-fn binary_at<'a>(
-    rows: &[BinaryRow<'a>],
-    word: &[u8],
-    left: &Spelt,
-    right: &Spelt,
-) -> Option<(Class, Class, &'a [u8])>
-    ensures { option_map read_binary result ≡ option_map given_binary (find (fits_binary word.now (spelt_of left.now) (spelt_of right.now)) rows.now) }
-{
-    let row = rows.iter().find(|row| row.0.as_bytes() == word
-        && (row.1.takes(left) && row.2.takes(right)))?;
-    Some((row.1, row.2, row.3.as_bytes()))
+    None
 }

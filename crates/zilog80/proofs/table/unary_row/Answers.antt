@@ -7,12 +7,12 @@ use Rattle.zilog80.proofs.table.unary_row.Goals as goal
 
 pub unary_in-requires : goal.unary_in-requires
 unfolding unary_rows by_letter
-unary_in-requires c = found_words (λ (r : List ℕ × Class × List ℕ). r.0) unary_of unary_rows _ (λ (r : List ℕ × Class × List ℕ). r.2) c.args.word.now c.in_ok-rows.rows.now (sym c.in_ok-rows.ensures) refl refl
+unary_in-requires c = found_words (λ (r : List ℕ × Class × List ℕ). r.0) unary_of unary_rows _ (λ (r : List ℕ × Class × List ℕ). r.2) c.args.word.now c.in-Some.rows.now (sym c.in-Some.ensures) refl refl
 
-pub returns : goal.returns
+pub returns-in-Some : goal.returns-in-Some
 unfolding unary_rows by_letter
-returns c = unary_of_letter unary_rows _ c.args.word.now _ c.in_ok-rows.rows.now c.unary_in.result (sym c.in_ok-rows.ensures) refl c.unary_in.ensures
+returns-in-Some c = unary_of_letter unary_rows _ c.args.word.now _ c.in-Some.rows.now c.unary_in.result (sym c.in-Some.ensures) refl c.unary_in.ensures
 
-pub returns-in_err-rows : goal.returns-in_err-rows
+pub returns-in-None : goal.returns-in-None
 unfolding unary_rows by_letter
-returns-in_err-rows c = rw c.from_residual.ensures (unary_of_none unary_rows _ c.args.word.now _ (sym c.in_err-rows.ensures) refl refl)
+returns-in-None c = unary_of_none unary_rows _ c.args.word.now _ (sym c.in-None.ensures) refl refl

@@ -1,6 +1,7 @@
-use Rattle.std.proofs.Common.{ℕ, List, refl, ap, sym, ◌∙◌}
+use Rattle.std.proofs.Common.{◌≡◌, ℕ, List, refl, ap, sym, ◌∙◌, inl, inr}
 use Rattle.std.specs.Str.{bytes_eq}
 use Rattle.zilog80.specs.declared.class.Class.{Class as ReadClass}
+use Rattle.zilog80.specs.declared.class.Class.TheVariants as ClassIs
 use Rattle.zilog80.specs.Operands.{memory, indirects, nothing_if, of_name_at}
 use Rattle.zilog80.specs.Read.{class_of}
 use Rattle.zilog80.proofs.class.Class.of_name_at.Goals as goal
@@ -10,11 +11,12 @@ returns-in-At c = λ a. c.nothing_if.ensures a ∙ ap nothing_if (c.eq.ensures �
 
 pub returns-in-Memory : goal.returns-in-Memory
 unfolding memory
-returns-in-Memory c = λ a. c.renamed.ensures memory a refl ∙ ap (λ (k : ReadClass). of_name_at (class_of k) c.args.name.now) (sym c.in-Memory.is)
-
-pub returns-in-Source : goal.returns-in-Source
-unfolding memory
-returns-in-Source c = λ a. c.renamed-in-Source.ensures memory a refl ∙ ap (λ (k : ReadClass). of_name_at (class_of k) c.args.name.now) (sym c.in-Source.is)
+returns-in-Memory c = λ a.
+    let class : of_name_at (class_of ClassIs.Memory) c.args.name.now ≡ of_name_at (class_of c.args.self) c.args.name.now = elim c.in-Memory.is [
+      | inl is ↦ ap (λ (k : ReadClass). of_name_at (class_of k) c.args.name.now) (sym is)
+      | inr is ↦ ap (λ (k : ReadClass). of_name_at (class_of k) c.args.name.now) (sym is)
+    ] in
+    c.renamed.ensures memory a refl ∙ class
 
 pub returns-in-Indirect : goal.returns-in-Indirect
 unfolding indirects

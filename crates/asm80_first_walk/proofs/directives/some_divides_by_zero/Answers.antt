@@ -1,0 +1,20 @@
+use Rattle.std.proofs.Common.{sym, ap, ◌∙◌}
+use Rattle.asm80_statement_types.specs.declared.arg.Arg.{Arg}
+use Rattle.asm80_statement_types.specs.Tree.{operand_of}
+use Rattle.asm80_first_walk.specs.Scopes.{scope_of}
+use Rattle.asm80_source_def.specs.Values.{operand_divides_by_zero}
+use Rattle.asm80_first_walk.proofs.Lists.{any_here, any_later, any_nowhere}
+use Rattle.asm80_first_walk.proofs.directives.some_divides_by_zero.Goals as goal
+
+pub returns-then-operand_divides_by_zero : goal.returns-then-operand_divides_by_zero
+returns-then-operand_divides_by_zero c =
+    let test = (λ (a : Arg). operand_divides_by_zero (scope_of c.args.scope.now) (operand_of a)) in
+    any_here test c.args.args.now c.loop-arg.arg-index c.arg-item.result c.loop-arg-test.true c.loop-arg.invariant (ap test (sym c.arg-item.is) ∙ sym c.operand_divides_by_zero.ensures ∙ c.if-operand_divides_by_zero.true)
+
+pub loop-arg-preserved : goal.loop-arg-preserved
+loop-arg-preserved c =
+    let test = (λ (a : Arg). operand_divides_by_zero (scope_of c.args.scope.now) (operand_of a)) in
+    any_later test c.args.args.now c.loop-arg.arg-index c.arg-item.result c.loop-arg-test.true c.loop-arg.invariant (ap test (sym c.arg-item.is) ∙ sym c.operand_divides_by_zero.ensures ∙ c.if-operand_divides_by_zero.false)
+
+pub returns : goal.returns
+returns c = any_nowhere (λ (a : Arg). operand_divides_by_zero (scope_of c.args.scope.now) (operand_of a)) c.args.args.now c.loop-arg.arg-index c.loop-arg-test.false c.loop-arg.invariant
