@@ -177,10 +177,13 @@ fn place_of(files: &[File], name: &Name) -> Option<usize>
 fn count_before(files: &[File], name: &Name) -> usize
     ensures { result ≡ length (filter (λ f. is_before f.name name.now) files.now) }
 {
-    files
-        .iter()
-        .filter(|file| file.name.is_before(name))
-        .count()
+    let mut count = 0;
+    for file in files {
+        if file.name.is_before(name) {
+            count += 1;
+        }
+    }
+    count
 }
 
 // Puts a file into its place among others, which have room for it.
