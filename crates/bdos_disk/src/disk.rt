@@ -60,7 +60,12 @@ impl Disk {
         ensures few { IfSome result (λ f. length f.now.records ≤ 8000) }
         ensures disk { IsDisk self.now }
     {
-        self.files.iter().find(|file| file.name.is(name))
+        for file in &self.files {
+            if file.name.is(name) {
+                return Some(file);
+            }
+        }
+        None
     }
 
     /// The first file whose name matches a pattern and comes after a name, if there is one.
@@ -68,14 +73,24 @@ impl Disk {
         ensures value { option_copied result ≡ next_matching pattern.now last.now self.now }
         ensures disk { IsDisk self.now }
     {
-        self.files.iter().find(|file| pattern.matches(&file.name) && file.name.is_after(last))
+        for file in &self.files {
+            if pattern.matches(&file.name) && file.name.is_after(last) {
+                return Some(file);
+            }
+        }
+        None
     }
 
     /// Whether the name of a file matches a pattern.
     pub fn any_matching(&self, pattern: &Name) -> bool
         ensures { result ≡ any_matching pattern.now self.now }
     {
-        self.files.iter().any(|file| pattern.matches(&file.name))
+        for file in &self.files {
+            if pattern.matches(&file.name) {
+                return true;
+            }
+        }
+        false
     }
 
     /// The number of records of all files.
@@ -149,17 +164,26 @@ impl Disk {
 fn place_of(files: &[File], name: &Name) -> Option<usize>
     ensures { result ≡ position (has_name name.now) files.now }
 {
-    files.iter().position(|file| file.name.is(name))
+    for k in 0..files.len() {
+        let file = &files[k];
+        if file.name.is(name) {
+            return Some(k);
+        }
+    }
+    None
 }
 
 // The number of files that come before a name.
 fn count_before(files: &[File], name: &Name) -> usize
     ensures { result ≡ length (filter (λ f. is_before f.name name.now) files.now) }
 {
-    files
-        .iter()
-        .filter(|file| file.name.is_before(name))
-        .count()
+    let mut count = 0;
+    for file in files {
+        if file.name.is_before(name) {
+            count += 1;
+        }
+    }
+    count
 }
 
 // Puts a file into its place among others, which have room for it.

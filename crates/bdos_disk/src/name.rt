@@ -1,6 +1,5 @@
 // Names of files and patterns.
 ghost use Rattle.std.specs.Prelude.{◌≡◌, ◌≤◌, length};
-ghost use Rattle.std.specs.List.{list_all};
 ghost use Rattle.std.specs.Str.{bytes_eq};
 ghost use Rattle.bdos_disk.specs.Names.{is_name_byte, is_file_name, is_before, is_after, matches, name_in_block, highest, top_byte};
 
@@ -67,7 +66,12 @@ impl Name {
     pub fn is_lawful(&self) -> bool
         ensures { result ≡ is_file_name self.now }
     {
-        are_name_bytes(&self.bytes)
+        for byte in &self.bytes {
+            if !is_name_byte(*byte) {
+                return false;
+            }
+        }
+        true
     }
 
     /// Whether it is this name.
@@ -116,13 +120,6 @@ pub fn is_name_byte(byte: u8) -> bool
     ensures { result ≡ is_name_byte byte }
 {
     BLANK <= byte && byte <= TOP && byte != b'?' && !byte.is_ascii_lowercase()
-}
-
-// Whether a file's name may have all these bytes.
-fn are_name_bytes(bytes: &[u8]) -> bool
-    ensures { result ≡ list_all is_name_byte bytes.now }
-{
-    bytes.iter().all(|byte| is_name_byte(*byte))
 }
 
 // The highest bytes of names, from the top down.

@@ -1,5 +1,5 @@
 // What a call brings, and replies that write.
-ghost use Rattle.std.specs.Prelude.{◌≡◌, IfOk, [], ◌∷◌};
+ghost use Rattle.std.specs.Prelude.{◌≡◌, ◌++◌, [], ◌∷◌, IfOk, OnOk};
 ghost use Rattle.bdos_small.specs.Console.{place_in};
 ghost use Rattle.bdos_small.specs.Calls.{block_read, telling, reply_writing, writing_both};
 
@@ -32,7 +32,7 @@ pub fn writing(alloc: Global, request: &Request, bytes: &[u8]) -> Result<Reply, 
 {
     let [first, _] = request.shape.writes;
     let mut writes = Vec::new(alloc);
-    writes.push(written(alloc, first, bytes)?)?;
+    push_block(alloc, &mut writes, first, bytes)?;
     Ok(Reply {
         answer: 0,
         writes: Blocks::from_vec(writes),
@@ -50,25 +50,28 @@ pub fn writing_both(
 {
     let [first, second] = request.shape.writes;
     let mut writes = Vec::new(alloc);
-    writes.push(written(alloc, first, bytes)?)?;
-    writes.push(written(alloc, second, others)?)?;
+    push_block(alloc, &mut writes, first, bytes)?;
+    push_block(alloc, &mut writes, second, others)?;
     Ok(Reply {
         answer: 0,
         writes: Blocks::from_vec(writes),
     })
 }
 
-// The block that writes bytes where a range begins.
-fn written(alloc: Global, range: Option<Range>, bytes: &[u8]) -> Result<Block, AllocError>
-    ensures { IfOk result (λ b. b ≡ record { at = place_in (range ∷ []); bytes = bytes.now }) }
+// Adds the block that writes bytes where a range begins.
+fn push_block(
+    alloc: Global,
+    writes: &mut Vec<Block>,
+    range: Option<Range>,
+    bytes: &[u8],
+) -> Result<(), AllocError>
+    ensures { OnOk result (writes.new.items ≡ writes.old.items ++ (record { at = place_in (range ∷ []); bytes = bytes.now }) ∷ []) }
 {
     let at = match range {
         None => 0,
         Some(range) => range.at,
     };
-    let bytes = Vec::from_slice(alloc, bytes)?;
-    Ok(Block {
-        at,
-        bytes: Bytes::from_vec(bytes),
-    })
+    let bytes = Bytes::from_vec(Vec::from_slice(alloc, bytes)?);
+    writes.push(Block { at, bytes })?;
+    Ok(())
 }

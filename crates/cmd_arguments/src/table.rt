@@ -60,10 +60,12 @@ impl CommandName {
     pub fn of_word(word: &str) -> Option<CommandName>
         ensures { result ≡ command_named word.now }
     {
-        COMMANDS
-            .iter()
-            .copied()
-            .find(|command| command.word() == word)
+        for command in &COMMANDS {
+            if command.word() == word {
+                return Some(*command);
+            }
+        }
+        None
     }
 
     /// The word that is the command's name.

@@ -208,20 +208,6 @@ fn address_line(
         ≡ text.now ++ (word_digits address ++ (mark.now ++ (why.now ++ codes "\n")))) }
 {
     let digits = word_digits(alloc, address)?;
-    digits_line(alloc, text, digits.as_str(), mark, why)
-}
-
-// The same by the digits.
-fn digits_line(
-    alloc: Global,
-    text: &str,
-    digits: &str,
-    mark: &str,
-    why: &str,
-) -> Result<String, AllocError>
-    ensures { IfOk result (λ line. string_bytes line
-        ≡ text.now ++ (digits.now ++ (mark.now ++ (why.now ++ codes "\n")))) }
-{
     format!(in alloc; "{text}{digits}{mark}{why}\n")
 }
 
@@ -230,15 +216,8 @@ fn odd_call_line(alloc: Global, offset: u16, function: u8) -> Result<String, All
     ensures { IfOk result (λ line. string_bytes line ≡ stopped_line offset (odd_call function)) }
 {
     let digits = byte_digits(alloc, function)?;
-    let why = call_of(alloc, digits.as_str())?;
+    let why = format!(in alloc; "call {digits}")?;
     stopped_line(alloc, offset, why.as_str())
-}
-
-// A call, by the digits of its function.
-fn call_of(alloc: Global, digits: &str) -> Result<String, AllocError>
-    ensures { IfOk result (λ text. string_bytes text ≡ codes "call " ++ digits.now) }
-{
-    format!(in alloc; "call {digits}")
 }
 
 // The function whose drive is not there.

@@ -77,8 +77,7 @@ fn head_of(
     let Some(to) = program.line_at(last) else {
         unreachable!()
     };
-    let head = head_lines(alloc, first, reason, from, to)?;
-    Ok(head)
+    head_lines(alloc, first, reason, from, to)
 }
 
 fn head_lines(
@@ -90,16 +89,9 @@ fn head_lines(
 ) -> Result<String, AllocError>
     ensures { IfOk result (λ head. string_bytes head ≡ block_line first reason ++ source_lines from to) }
 {
-    let block = block_line(alloc, first, reason)?;
-    format!(in alloc; "{block}source lines {from} to {to}\n")
-}
-
-fn block_line(alloc: Global, first: u16, reason: Reason) -> Result<String, AllocError>
-    ensures { IfOk result (λ line. string_bytes line ≡ block_line first reason) }
-{
     let digits = word_digits(alloc, first)?;
     let name = reason_name(reason);
-    format!(in alloc; "block {digits}, {name}\n")
+    format!(in alloc; "block {digits}, {name}\nsource lines {from} to {to}\n")
 }
 
 // The line of the block's label, which stands before a place, and the reason.

@@ -158,8 +158,10 @@ fn line_size(text: &[u8]) -> usize
     ensures some { 0 < result }
     ensures within { result ≤ length text.now }
 {
-    match text.iter().position(|byte| *byte == b'\n') {
-        Some(place) => place + 1,
-        None => text.len(),
+    for place in 0..text.len() {
+        if text[place] == b'\n' {
+            return place + 1;
+        }
     }
+    text.len()
 }

@@ -15,8 +15,8 @@ fn blank_for_tab(byte: u8) -> u8
 fn without_first_tab(line: &[u8]) -> &[u8]
     ensures { result.now ≡ without_first_tab line.now }
 {
-    match line.split_first() {
-        Some((first, rest)) if *first == b'\t' => rest,
+    match line {
+        [b'\t', rest @ ..] => rest,
         _ => line,
     }
 }
@@ -39,8 +39,7 @@ fn tell_named(told: &mut Vec<u8>, before: &str, stmt: Stmt86) -> Result<(), Allo
 {
     told.extend_from_slice(before.as_bytes())?;
     tell_statement(told, stmt)?;
-    told.push(b'\n')?;
-    Ok(())
+    told.extend_from_slice(b"\n")
 }
 
 /// The statement at the front of some lines, as the one at which what is wanted ends.

@@ -1,6 +1,5 @@
 // The command `flags`: the flags that a text has to save.
-ghost use Rattle.std.specs.Prelude.{◌≡◌, ◌++◌, true, codes, map, IfOk};
-ghost use Rattle.std.specs.Fmt.{decimal};
+ghost use Rattle.std.specs.Prelude.{◌≡◌, true, map, IfOk};
 ghost use Rattle.std.specs.String.{string_bytes};
 ghost use Rattle.host.specs.Host.{SameFiles};
 ghost use Rattle.asm80_program_types.specs.Program.{is_top};
@@ -61,15 +60,7 @@ fn save_line(alloc: Global, saving: &Saving) -> Result<String, AllocError>
 {
     let place = word_digits(alloc, saving.at)?;
     let text = save_text(alloc, saving.keep)?;
-    place_line(alloc, place.as_str(), saving.line, text.as_str())
-}
-
-// The same by the digits of its address and what it saves.
-fn place_line(alloc: Global, place: &str, line: u32, text: &str) -> Result<String, AllocError>
-    ensures { IfOk result (λ said. string_bytes said
-        ≡ place.now ++ (codes " line " ++ (decimal line ++ (codes " " ++ (text.now ++ codes "\n"))))) }
-{
-    format!(in alloc; "{place} line {line} {text}\n")
+    format!(in alloc; "{place} line {} {text}\n", saving.line)
 }
 
 // What an instruction saves.

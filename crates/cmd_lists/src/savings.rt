@@ -50,10 +50,13 @@ fn savings_by(alloc: Global, program: &Program80, graph: &Graph) -> Result<Vec<S
 pub fn saved_among(savings: &[Saving]) -> usize
     ensures { result ≡ count_by (λ s. saves_any s.keep) savings.now }
 {
-    savings
-        .iter()
-        .filter(|saving| saves_any(saving.keep))
-        .count()
+    let mut count = 0;
+    for saving in savings {
+        if saves_any(saving.keep) {
+            count += 1;
+        }
+    }
+    count
 }
 
 /// Whether a flag has to be saved.

@@ -17,23 +17,8 @@ pub struct Last {
     pub line: String,
 }
 
-/// What is said last of runs that came to this, whose line names no file. Here its memory is taken.
-pub fn last_of(
-    alloc: Global,
-    came: Result<u64, Stop>,
-    second: Option<u64>,
-) -> Result<Last, AllocError>
-    requires { NamesNoFile second came }
-    ensures made { IfOk result IsLastMade }
-    ensures came { IfOk result (λ last. last.came ≡ came) }
-    ensures second { IfOk result (λ last. last.second ≡ second) }
-{
-    let line = closing_line(alloc, came, second)?;
-    Ok(Last { came, second, line })
-}
-
-// Its line.
-fn closing_line(
+/// The line of runs that came to this, which names no file. Here its memory is taken.
+pub fn closing_line(
     alloc: Global,
     came: Result<u64, Stop>,
     second: Option<u64>,
@@ -49,9 +34,9 @@ fn closing_line(
 }
 
 /// Says it, and answers the status.
-pub fn say_end<H: Host>(host: &mut H, names: &InputNames<'_>, last: Last) -> u8
-    requires { IsLastMade last }
-    ensures { SaysEnd (names_read names.now) last.second last.came (H.state host.old) (H.state host.new) result }
+pub fn say_end<H: Host>(host: &mut H, names: &InputNames<'_>, last: &Last) -> u8
+    requires { IsLastMade last.now }
+    ensures { SaysEnd (names_read names.now) last.now.second last.now.came (H.state host.old) (H.state host.new) result }
 {
     match last.came {
         Ok(_) => say_done(host, last.line.as_str()),

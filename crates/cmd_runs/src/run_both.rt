@@ -12,10 +12,8 @@ ghost use Rattle.cmd_runs.specs.BothLoads.{source_of, AreToRun};
 ghost use Rattle.cmd_runs.specs.BothRuns.{work_both};
 ghost use Rattle.cmd_runs.specs.BothCompletes.{BothComplete};
 
-use crate::ends::came_to;
 use crate::finishing::{close_work, leave_runs};
 use crate::halt::Halt;
-use crate::keeping::kept_disk_name;
 use crate::last::Last;
 use crate::lean::lean_image;
 use crate::making::make_runs;
@@ -153,8 +151,14 @@ fn run_equipped<H: Host>(
         devices80,
         devices86,
     )?;
-    let came = came_to(made.first, command.run.steps, made.line);
     let second = Some(made.second.steps);
-    let name = kept_disk_name(command.run.out_disk, made.first.end);
-    leave_runs(alloc, host, came, second, name, devices80.disk())
+    leave_runs(
+        alloc,
+        host,
+        &command.run,
+        made.first,
+        made.line,
+        second,
+        devices80.disk(),
+    )
 }

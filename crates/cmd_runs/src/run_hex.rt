@@ -10,11 +10,9 @@ ghost use Rattle.cmd_runs.specs.Works.{WorkHasLast, WorkHalts, HasLastFrom, Halt
 ghost use Rattle.cmd_runs.specs.Outcomes.{RunCompletes};
 ghost use Rattle.cmd_runs.specs.RunsHex.{kind_hex, work_hex};
 
-use crate::ends::came_to;
 use crate::finishing::{close_work, leave_runs};
 use crate::halt::Halt;
 use crate::hex_inputs::hex_of_bytes;
-use crate::keeping::kept_disk_name;
 use crate::last::Last;
 use crate::names::run_names;
 use crate::running::run_cells;
@@ -99,7 +97,5 @@ fn run_equipped<H: Host>(
         limit,
         b"",
     )?;
-    let came = came_to(ran, command.run.steps, 0);
-    let name = kept_disk_name(command.run.out_disk, ran.end);
-    leave_runs(alloc, host, came, None, name, devices.disk())
+    leave_runs(alloc, host, &command.run, ran, 0, None, devices.disk())
 }

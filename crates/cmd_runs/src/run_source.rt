@@ -11,10 +11,8 @@ ghost use Rattle.cmd_runs.specs.Works.{WorkHasLast, WorkHalts, HasLastFrom, Halt
 ghost use Rattle.cmd_runs.specs.Outcomes.{RunCompletes};
 ghost use Rattle.cmd_runs.specs.Runs80.{words_of, kind80, work80, IsLineOf};
 
-use crate::ends::came_to;
 use crate::finishing::{close_work, leave_runs};
 use crate::halt::Halt;
-use crate::keeping::kept_disk_name;
 use crate::last::Last;
 use crate::names::run_names;
 use crate::running::run_program;
@@ -105,9 +103,7 @@ fn run_equipped<H: Host>(
     let limit = u64::from(command.run.steps);
     let ran = run_program(alloc, host, program, &command.run.page, devices, limit, b"")?;
     let line = line_of(program, ran.end);
-    let came = came_to(ran, command.run.steps, line);
-    let name = kept_disk_name(command.run.out_disk, ran.end);
-    leave_runs(alloc, host, came, None, name, devices.disk())
+    leave_runs(alloc, host, &command.run, ran, line, None, devices.disk())
 }
 
 /// Reads the files, that of the source as its program, in Zilog's spelling or in Intel's, for a top of the program area, a multiple of 100H from 1000H to 0FF00H. That the

@@ -8,7 +8,7 @@
 // them), `sample_is_a_program` (so they are a program) and `sample_code_fits` (the code of its lean text has at most 65,535 bytes).
 #![tactic(auto)]
 
-ghost use Rattle.std.specs.Prelude.{◌≡◌, ◌≤◌, IfOk, length, map, codes, ◌++◌, ◌∷◌, []};
+ghost use Rattle.std.specs.Prelude.{◌≡◌, ◌≤◌, IfOk, length, map, ◌∷◌, []};
 ghost use Rattle.std.specs.List.{flat_map};
 ghost use Rattle.std.specs.String.{string_bytes};
 ghost use Rattle.cmd_sample.specs.Laws.{SampleIsRead, SampleIsAccepted, SampleIsProgram, SampleCodeFits};
@@ -62,15 +62,8 @@ pub fn sample_text(alloc: Global, routines: u32) -> Result<Vec<u8>, AllocError>
 {
     let calls = all_calls(alloc, routines)?;
     let bodies = all_routines(alloc, routines)?;
-    let text = whole(alloc, calls.as_str(), bodies.as_str())?;
+    let text = format!(in alloc; "\tORG\t100H\n{calls}\tJMP\t0\n{bodies}\tEND\n")?;
     Ok(text.into_bytes())
-}
-
-// The whole text by its calls and its routines.
-fn whole(alloc: Global, calls: &str, bodies: &str) -> Result<String, AllocError>
-    ensures { IfOk result (λ text. string_bytes text ≡ codes "\tORG\t100H\n" ++ (calls.now ++ (codes "\tJMP\t0\n" ++ (bodies.now ++ codes "\tEND\n")))) }
-{
-    format!(in alloc; "\tORG\t100H\n{calls}\tJMP\t0\n{bodies}\tEND\n")
 }
 
 // The calls of the routines, in their order.

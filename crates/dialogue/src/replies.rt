@@ -106,7 +106,7 @@ fn writes_fit(places: &[Option<Range>], blocks: &[Block]) -> bool
 {
     let mut left = blocks;
     for place in places {
-        if let (Some(range), Some((block, rest))) = (place, left.split_first()) {
+        if let (Some(range), [block, rest @ ..]) = (place, left) {
             if fills(*range, block) {
                 left = rest;
             }
@@ -120,11 +120,10 @@ fn line_fits(places: [Option<Range>; 2], blocks: &[Block]) -> bool
     ensures { result ≡ line_fits (ranges places) blocks.now }
 {
     let [first, second] = places;
-    let Some(range) = first.or(second) else {
-        return false;
-    };
-    match blocks {
-        [block] => block.at == range.at && line_bytes_fit(range.len, block.bytes.as_slice()),
+    match (first.or(second), blocks) {
+        (Some(range), [block]) => {
+            block.at == range.at && line_bytes_fit(range.len, block.bytes.as_slice())
+        }
         _ => false,
     }
 }

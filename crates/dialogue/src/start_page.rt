@@ -1,6 +1,6 @@
 // The start page: what cells 5CH to 0FFH hold as a program begins.
-ghost use Rattle.std.specs.Prelude.{◌≡◌, ◌==◌, ◌≤◌, ◌+◌, ◌++◌, not, length, map, take, drop, replicate};
-ghost use Rattle.std.specs.List.{list_all, position, before_first, after_first};
+ghost use Rattle.std.specs.Prelude.{◌≡◌, ◌≤◌, ◌+◌, ◌++◌, length, map, take, drop, replicate};
+ghost use Rattle.std.specs.List.{list_all, before_first, after_first};
 ghost use Rattle.std.specs.Char.{to_ascii_uppercase};
 ghost use Rattle.dialogue.specs.StartPage.{is_printable, is_tail, is, from_word, first_word, after_word, drive_of, file_in_tail, field, control_block, tail_area, page_of_tail};
 
@@ -62,7 +62,12 @@ fn is_tail(tail: &[u8]) -> bool
 fn are_printable(text: &[u8]) -> bool
     ensures { result ≡ list_all is_printable text.now }
 {
-    text.iter().all(|byte| 0x20 <= *byte && *byte <= 0x7E)
+    for byte in text {
+        if !matches!(byte, 0x20..=0x7E) {
+            return false;
+        }
+    }
+    true
 }
 
 /// The tail in upper case, and bytes after it.
@@ -77,39 +82,28 @@ fn in_upper_case(tail: &[u8]) -> [u8; MAX_TAIL]
     text
 }
 
-/// The place of the first `sign`.
-fn place_of(text: &[u8], sign: u8) -> Option<usize>
-    ensures { result ≡ position (is sign) text.now }
-{
-    text.iter().position(|byte| *byte == sign)
-}
-
 /// What stands before the first `sign`, and after it.
 fn split_once(text: &[u8], sign: u8) -> (&[u8], &[u8])
     ensures before { result.0.now ≡ before_first (is sign) text.now }
     ensures after { result.1.now ≡ after_first (is sign) text.now }
 {
-    match place_of(text, sign) {
-        Some(k) => (&text[..k], &text[k + 1..]),
-        None => (text, &[]),
+    for k in 0..text.len() {
+        if text[k] == sign {
+            return (&text[..k], &text[k + 1..]);
+        }
     }
-}
-
-/// The place of the first byte that is no blank.
-fn place_of_word(text: &[u8]) -> Option<usize>
-    ensures { result ≡ position (λ b. not (b == 0x20)) text.now }
-{
-    text.iter().position(|byte| *byte != b' ')
+    (text, &[])
 }
 
 /// The text without the blanks at its front.
 fn from_word(text: &[u8]) -> &[u8]
     ensures { result.now ≡ from_word text.now }
 {
-    match place_of_word(text) {
-        Some(k) => &text[k..],
-        None => &[],
+    let mut left = text;
+    while let [b' ', rest @ ..] = left {
+        left = rest;
     }
+    left
 }
 
 /// The first word, and what stands after it.

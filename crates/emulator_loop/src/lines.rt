@@ -3,7 +3,7 @@ ghost use Rattle.std.specs.Prelude.{◌≡◌, ◌<◌, ◌++◌, IfOk, IfErr, O
 ghost use Rattle.host.specs.Host.{Says, SameFaults, OnlySays};
 ghost use Rattle.hex.specs.Hex.{encode_lower};
 ghost use Rattle.emulator_loop.specs.Advance.{IsLineCutOff};
-ghost use Rattle.emulator_loop.specs.Lines.{blank_then, arg_text, bytes_text, blocks_text, call_line, in_line, out_line, event_line, prefixed_line};
+ghost use Rattle.emulator_loop.specs.Lines.{blank_then, arg_text, bytes_text, blocks_text, call_line, event_line, prefixed_line};
 
 use crate::fault::TalkFault;
 use dialogue::{ArgWord, Block, Event, Request};
@@ -36,35 +36,25 @@ fn prefixed_line(alloc: Global, prefix: &[u8], event: &Event) -> Result<Vec<u8>,
     Ok(line)
 }
 
-// Adds the line of an event.
+// Adds the line of an event: of an IN the port, of an OUT the port and then the byte.
 fn push_event(alloc: Global, line: &mut Vec<u8>, event: &Event) -> Result<(), AllocError>
     ensures { OnOk result (line.new.items ≡ line.old.items ++ event_line event.now) }
 {
     match event {
         Event::Call(request) => push_call(alloc, line, request),
-        Event::In(port) => push_in(alloc, line, *port),
-        Event::Out(port, byte) => push_out(alloc, line, *port, *byte),
+        Event::In(port) => {
+            line.extend_from_slice(b"in")?;
+            push_spaced(alloc, line, &[*port])?;
+            line.extend_from_slice(b"\n")
+        }
+        Event::Out(port, byte) => {
+            line.extend_from_slice(b"out")?;
+            push_spaced(alloc, line, &[*port])?;
+            push_spaced(alloc, line, &[*byte])?;
+            line.extend_from_slice(b"\n")
+        }
         Event::End => line.extend_from_slice(b"end\n"),
     }
-}
-
-// Adds the line of an IN: the port.
-fn push_in(alloc: Global, line: &mut Vec<u8>, port: u8) -> Result<(), AllocError>
-    ensures { OnOk result (line.new.items ≡ line.old.items ++ in_line port) }
-{
-    line.extend_from_slice(b"in")?;
-    push_spaced(alloc, line, &[port])?;
-    line.extend_from_slice(b"\n")
-}
-
-// Adds the line of an OUT: the port, and then the byte.
-fn push_out(alloc: Global, line: &mut Vec<u8>, port: u8, byte: u8) -> Result<(), AllocError>
-    ensures { OnOk result (line.new.items ≡ line.old.items ++ out_line port byte) }
-{
-    line.extend_from_slice(b"out")?;
-    push_spaced(alloc, line, &[port])?;
-    push_spaced(alloc, line, &[byte])?;
-    line.extend_from_slice(b"\n")
 }
 
 // Adds the line of a call.

@@ -29,8 +29,4 @@ fn block_is_in_range(block: &Block)
 
 fn bytes_are_in_range(bytes: &[u8])
     ensures { All (λ n. n < 256) bytes.now }
-{
-    for byte in bytes {
-        let _byte = *byte;
-    }
-}
+{}

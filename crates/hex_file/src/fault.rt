@@ -6,7 +6,7 @@ use std::alloc::AllocError;
 use thiserror::Error;
 
 /// Why bytes are not read as a HEX file.
-#[derive(Clone, Copy, Debug, PartialEq, Eq, Drop, Error)]
+#[derive(Clone, Copy, Debug, Drop, Error)]
 pub enum HexFault {
     /// They are none: this line, counted from 1, is the first that is neither a data line nor an end line, or all lines have data and
     /// this is their number plus 1.

@@ -22,5 +22,10 @@ pub fn first_line(text: &[u8]) -> Option<(&[u8], &[u8])>
 fn line_feed(text: &[u8]) -> Option<usize>
     ensures { result ≡ position (λ b. b == 10) text.now }
 {
-    text.iter().position(|byte| *byte == b'\n')
+    for k in 0..text.len() {
+        if text[k] == b'\n' {
+            return Some(k);
+        }
+    }
+    None
 }

@@ -1,13 +1,10 @@
-use Rattle.std.proofs.Common.{sym, subst, Some}
-use Rattle.std.specs.Prelude.{option_copied}
+use Rattle.std.proofs.Common.{refl, sym, subst}
 use Rattle.std.proofs.lemmas.Result.{IfOk-from_err}
 use Rattle.cmd_arguments.specs.ReadCommands.{both_read}
 use Rattle.cmd_common.specs.declared.stop.Stop.TheVariants.{OutOfMemory}
 use Rattle.cmd_common.proofs.Told.{handed_on}
 use Rattle.cmd_runs.specs.declared.halt.Halt.TheVariants.{By}
 use Rattle.cmd_runs.specs.Supplies.{IsFillBy}
-use Rattle.cmd_runs.specs.Lasts.{NamesNoFile}
-use Rattle.cmd_runs.proofs.Naming.{names_no_file}
 use Rattle.cmd_runs.specs.Works.{HaltsFrom, unloaded}
 use Rattle.cmd_runs.proofs.Working.{left_has, left_halts}
 use Rattle.cmd_runs.specs.BothLoads.{AreToRun, no_memory}
@@ -56,17 +53,9 @@ returns g c =
     let image = c.args.image.now in
     let supply = c.args.devices80.now in
     let m = runs_made c.in_ok-made.made c.make_runs.new.devices80 in
-    let came = c.came_to-came.result in
-    let name = option_copied c.kept_disk_name-name.result in
     let disk = c.disk.result.now in
     record {
       made = c.leave_runs.ensures.made;
-      came = left_has w (λ begin. AreToRun command begin program image supply) start mid new m c.in_ok-made.ensures.made came name disk c.came_to-came.ensures c.kept_disk_name-name.ensures c.disk.ensures c.leave_runs.result c.leave_runs.ensures.left;
-      halted = left_halts w (λ begin. AreToRun command begin program image supply) start mid new m c.in_ok-made.ensures.made came name disk c.came_to-came.ensures c.kept_disk_name-name.ensures c.disk.ensures c.leave_runs.result c.leave_runs.ensures.halted;
+      came = left_has w (λ begin. AreToRun command begin program image supply) start mid new m c.in_ok-made.ensures.made _ _ disk refl refl c.disk.ensures c.leave_runs.result c.leave_runs.ensures.left;
+      halted = left_halts w (λ begin. AreToRun command begin program image supply) start mid new m c.in_ok-made.ensures.made _ _ disk refl refl c.disk.ensures c.leave_runs.result c.leave_runs.ensures.halted;
     }
-
-pub leave_runs-requires : goal.leave_runs-requires
-leave_runs-requires g c =
-    let made = c.in_ok-made.made in
-    let second = Some made.second.steps in
-    subst (NamesNoFile second) (sym c.came_to-came.ensures) (names_no_file second c.args.command.now.run.steps made.line made.first)

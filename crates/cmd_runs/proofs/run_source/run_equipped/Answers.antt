@@ -1,10 +1,7 @@
-use Rattle.std.proofs.Common.{[], subst, sym, None}
-use Rattle.std.specs.Prelude.{option_copied}
+use Rattle.std.proofs.Common.{[], refl}
 use Rattle.std.proofs.lemmas.Result.{IfOk-from_err}
 use Rattle.cmd_arguments.specs.ReadCommands.{run80_read}
-use Rattle.cmd_runs.specs.Lasts.{NamesNoFile}
 use Rattle.cmd_runs.specs.Runs80.{kind80}
-use Rattle.cmd_runs.proofs.Naming.{names_no_file}
 use Rattle.cmd_runs.proofs.OneRun.{ran_halts, ran_has, left_halted}
 use Rattle.cmd_runs.proofs.Leaving.{line_stands}
 use Rattle.cmd_runs.proofs.run_source.run_equipped.Goals as goal
@@ -30,16 +27,11 @@ returns g c =
     let devices = c.args.devices.now in
     let o = c.in_ok-ran.ran in
     let left = c.run_program.new.devices in
-    let came = c.came_to-came in
-    let name = c.kept_disk_name-name in
     let r = c.leave_runs in
     record {
       made = r.ensures.made;
       came = ran_has (kind80 command) start program devices mid c.from-limit.result c.from-limit.ensures new o c.line_of-line.result left c.in_ok-ran.ensures.run (λ begin read run. line_stands command program read.stands.named.gives.program.program.lawful [] devices left o start mid run c.line_of-line.result c.line_of-line.ensures)
-          came.result (option_copied name.result) c.disk.result.now came.ensures name.ensures c.disk.ensures r.result r.ensures.left;
+          _ _ c.disk.result.now refl refl c.disk.ensures r.result r.ensures.left;
       halted = left_halted (kind80 command) start program devices mid c.from-limit.result c.from-limit.ensures new o c.line_of-line.result left c.in_ok-ran.ensures.run (λ begin read run. line_stands command program read.stands.named.gives.program.program.lawful [] devices left o start mid run c.line_of-line.result c.line_of-line.ensures)
-          came.result (option_copied name.result) c.disk.result.now came.ensures name.ensures c.disk.ensures r.result r.ensures.halted;
+          _ _ c.disk.result.now refl refl c.disk.ensures r.result r.ensures.halted;
     }
-
-pub leave_runs-requires : goal.leave_runs-requires
-leave_runs-requires g c = subst (NamesNoFile None) (sym c.came_to-came.ensures) (names_no_file None c.args.command.now.run.steps c.line_of-line.result c.in_ok-ran.ran)

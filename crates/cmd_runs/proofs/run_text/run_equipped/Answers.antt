@@ -1,10 +1,7 @@
-use Rattle.std.proofs.Common.{refl, subst, sym, None}
-use Rattle.std.specs.Prelude.{option_copied}
+use Rattle.std.proofs.Common.{refl}
 use Rattle.std.proofs.lemmas.Result.{IfOk-from_err}
 use Rattle.cmd_arguments.specs.ReadCommands.{run86_read}
-use Rattle.cmd_runs.specs.Lasts.{NamesNoFile}
 use Rattle.cmd_runs.specs.Runs86.{kind86}
-use Rattle.cmd_runs.proofs.Naming.{names_no_file}
 use Rattle.cmd_runs.proofs.OneRun.{fill_halts, ran_halts, ran_has, left_halted}
 use Rattle.cmd_runs.proofs.run_text.run_equipped.Goals as goal
 
@@ -37,16 +34,11 @@ returns g c =
     let devices = c.args.devices.now in
     let o = c.in_ok-ran.ran in
     let left = c.run_image.new.devices in
-    let came = c.came_to-came in
-    let name = c.kept_disk_name-name in
     let r = c.leave_runs in
     record {
       made = r.ensures.made;
       came = ran_has (kind86 command) start image devices mid c.from-limit.result c.from-limit.ensures new o 0 left c.in_ok-ran.ensures.run (λ begin read run. refl)
-          came.result (option_copied name.result) c.disk.result.now came.ensures name.ensures c.disk.ensures r.result r.ensures.left;
+          _ _ c.disk.result.now refl refl c.disk.ensures r.result r.ensures.left;
       halted = left_halted (kind86 command) start image devices mid c.from-limit.result c.from-limit.ensures new o 0 left c.in_ok-ran.ensures.run (λ begin read run. refl)
-          came.result (option_copied name.result) c.disk.result.now came.ensures name.ensures c.disk.ensures r.result r.ensures.halted;
+          _ _ c.disk.result.now refl refl c.disk.ensures r.result r.ensures.halted;
     }
-
-pub leave_runs-requires : goal.leave_runs-requires
-leave_runs-requires g c = subst (NamesNoFile None) (sym c.came_to-came.ensures) (names_no_file None c.args.command.now.run.steps 0 c.in_ok-ran.ran)
