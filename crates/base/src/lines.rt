@@ -6,8 +6,8 @@ ghost use Rattle.base.specs.Cut.{without_cr};
 pub fn without_cr(line: &[u8]) -> &[u8]
     ensures { result.now ≡ without_cr line.now }
 {
-    let Some((last, front)) = line.split_last() else {
-        return line;
-    };
-    if *last == b'\r' { front } else { line }
+    match line {
+        [front @ .., b'\r'] => front,
+        _ => line,
+    }
 }

@@ -93,7 +93,7 @@ impl Part {
 }
 
 /// A condition of a jump, call or return (8080 Assembly Language Programming Manual, "Jump instructions").
-#[derive(Clone, Copy, PartialEq, Eq)]
+#[derive(Clone, Copy)]
 pub enum Cond {
     Nz,
     Z,
@@ -268,5 +268,8 @@ fn is_set(byte: u8, place: u8) -> bool
 fn is_clear(flag: Option<bool>) -> Option<bool>
     ensures { result ≡ option_map not flag }
 {
-    flag.map(|value| !value)
+    match flag {
+        Some(value) => Some(!value),
+        None => None,
+    }
 }

@@ -244,28 +244,54 @@ fn with_fields(
     ensures { result ≡ with_fields form mode reg rm byte word }
 {
     match form {
-        FieldsForm::MovReg8 => Some(Instr86::MovReg8(reg8(reg)?, operand8(mode, rm)?)),
-        FieldsForm::MovMem8 => {
-            let from = reg8(reg)?;
-            Some(Instr86::MovMem8(ptr(mode, rm)?, from))
-        }
-        FieldsForm::MovMemNum if reg == 0 => Some(Instr86::MovMemNum(ptr(mode, rm)?, byte?)),
-        FieldsForm::MovMemNum => None,
-        FieldsForm::MovReg16 => Some(Instr86::MovReg16(reg16(reg)?, operand16(mode, rm, word)?)),
-        FieldsForm::MovDirect16 => {
-            let from = reg16(reg)?;
-            Some(Instr86::MovDirect16(direct(mode, rm, word)?, from))
-        }
+        FieldsForm::MovReg8 => match (reg8(reg), operand8(mode, rm)) {
+            (Some(to), Some(from)) => Some(Instr86::MovReg8(to, from)),
+            _ => None,
+        },
+        FieldsForm::MovMem8 => match (reg8(reg), ptr(mode, rm)) {
+            (Some(from), Some(to)) => Some(Instr86::MovMem8(to, from)),
+            _ => None,
+        },
+        FieldsForm::MovMemNum if reg == 0 => match (ptr(mode, rm), byte) {
+            (Some(to), Some(n)) => Some(Instr86::MovMemNum(to, n)),
+            _ => None,
+        },
+        FieldsForm::MovReg16 => match (reg16(reg), operand16(mode, rm, word)) {
+            (Some(to), Some(from)) => Some(Instr86::MovReg16(to, from)),
+            _ => None,
+        },
+        FieldsForm::MovDirect16 => match (reg16(reg), direct(mode, rm, word)) {
+            (Some(from), Some(to)) => Some(Instr86::MovDirect16(to, from)),
+            _ => None,
+        },
         FieldsForm::Alu(op) if reg == 0 => Some(Instr86::Alu(op, operand8(mode, rm)?)),
         FieldsForm::Alu(op) => or_cl_cl(op, mode, reg, rm),
-        FieldsForm::Add16 => Some(Instr86::Add16(reg16(reg)?, register16(mode, rm)?)),
-        FieldsForm::Count8 => Some(Instr86::Count8(count(reg)?, operand8(mode, rm)?)),
-        FieldsForm::Xchg8 => Some(Instr86::Xchg8(reg8(reg)?, register8(mode, rm)?)),
-        FieldsForm::Xchg16 => Some(Instr86::Xchg16(reg16(reg)?, register16(mode, rm)?)),
-        FieldsForm::Rotate8 => Some(Instr86::Rotate8(rotate(reg)?, register8(mode, rm)?)),
-        FieldsForm::Rotate16 => Some(Instr86::Rotate16(rotate(reg)?, register16(mode, rm)?)),
+        FieldsForm::Add16 => match (reg16(reg), register16(mode, rm)) {
+            (Some(to), Some(from)) => Some(Instr86::Add16(to, from)),
+            _ => None,
+        },
+        FieldsForm::Count8 => match (count(reg), operand8(mode, rm)) {
+            (Some(by), Some(on)) => Some(Instr86::Count8(by, on)),
+            _ => None,
+        },
+        FieldsForm::Xchg8 => match (reg8(reg), register8(mode, rm)) {
+            (Some(to), Some(from)) => Some(Instr86::Xchg8(to, from)),
+            _ => None,
+        },
+        FieldsForm::Xchg16 => match (reg16(reg), register16(mode, rm)) {
+            (Some(to), Some(from)) => Some(Instr86::Xchg16(to, from)),
+            _ => None,
+        },
+        FieldsForm::Rotate8 => match (rotate(reg), register8(mode, rm)) {
+            (Some(kind), Some(on)) => Some(Instr86::Rotate8(kind, on)),
+            _ => None,
+        },
+        FieldsForm::Rotate16 => match (rotate(reg), register16(mode, rm)) {
+            (Some(kind), Some(on)) => Some(Instr86::Rotate16(kind, on)),
+            _ => None,
+        },
         FieldsForm::Not8 if reg == 2 => Some(Instr86::Not8(register8(mode, rm)?)),
-        FieldsForm::Not8 => None,
+        FieldsForm::MovMemNum | FieldsForm::Not8 => None,
     }
 }
 

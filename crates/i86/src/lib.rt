@@ -68,7 +68,7 @@ pub enum Operand16 {
 }
 
 /// An operation of two operands on AL.
-#[derive(Clone, Copy, PartialEq, Eq)]
+#[derive(Clone, Copy)]
 pub enum AluOp {
     Add,
     Or,
@@ -81,14 +81,14 @@ pub enum AluOp {
 }
 
 /// INC or DEC.
-#[derive(Clone, Copy, PartialEq, Eq)]
+#[derive(Clone, Copy)]
 pub enum Count {
     Inc,
     Dec,
 }
 
 /// A rotation by one bit.
-#[derive(Clone, Copy, PartialEq, Eq)]
+#[derive(Clone, Copy)]
 pub enum Rotate {
     Rol,
     Ror,

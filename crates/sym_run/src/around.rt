@@ -2,7 +2,7 @@
 
 ghost use Rattle.std.specs.Prelude.{◌≡◌, ◌||◌, not, Some, None, option_map};
 ghost use Rattle.sym_block_def.specs.Walk86.{after_label, way_to, is_passed, met, comes_next, back_from_call, back_from_system};
-ghost use Rattle.sym_run.specs.Around.{surroundings_of, met_of, IsWalkStep, WayMayBe, follows_by};
+ghost use Rattle.sym_run.specs.Around.{surroundings_of, met_of, WayMayBe};
 
 use crate::index::Index86;
 use asm86_line_types::{Label, Stmt86};
@@ -64,57 +64,25 @@ pub fn is_passed(around: &Around<'_>, label: Label) -> bool
     }
 }
 
-// What a walk meets at a statement; none where it passes on to the next one.
-fn met_at<'a>(around: &Around<'_>, stmt: Stmt86, rest: &'a [Stmt86]) -> Option<Met<'a>>
-    ensures { IsWalkStep (surroundings_of around.now) stmt rest.now result }
-{
-    match stmt {
-        Stmt86::Mark(label) => {
-            if is_passed(around, label) {
-                None
-            } else {
-                Some(Met::EndsAt(label))
-            }
-        }
-        Stmt86::Run(_)
-        | Stmt86::MovOffset(..)
-        | Stmt86::Jmp(_)
-        | Stmt86::Jmps(_)
-        | Stmt86::Jcc(..)
-        | Stmt86::Call(_) => Some(Met::Instruction(stmt, rest)),
-        Stmt86::Cseg
-        | Stmt86::Dseg
-        | Stmt86::Org(_)
-        | Stmt86::Rb(_)
-        | Stmt86::Db(_)
-        | Stmt86::Dw(_)
-        | Stmt86::EndText => Some(Met::Nothing),
-    }
-}
-
 /// What a walk meets.
 pub fn meets<'a>(around: &Around<'_>, from: &'a [Stmt86]) -> Met<'a>
     ensures { met_of result ≡ met (surroundings_of around.now) from.now }
 {
     let mut rest = from;
     while let Some((stmt, others)) = rest.split_first() {
-        if let Some(found) = met_at(around, *stmt, others) {
-            return found;
+        match *stmt {
+            Stmt86::Mark(label) if is_passed(around, label) => rest = others,
+            Stmt86::Mark(label) => return Met::EndsAt(label),
+            Stmt86::Run(_)
+            | Stmt86::MovOffset(..)
+            | Stmt86::Jmp(_)
+            | Stmt86::Jmps(_)
+            | Stmt86::Jcc(..)
+            | Stmt86::Call(_) => return Met::Instruction(*stmt, others),
+            _ => return Met::Nothing,
         }
-        rest = others;
     }
     Met::Nothing
-}
-
-// Whether a statement is the label of an address; none where it is no label.
-fn is_label_of(stmt: Stmt86, a: u16) -> Option<bool>
-    ensures { result ≡ follows_by stmt a }
-{
-    match stmt {
-        Stmt86::Mark(Label::At(b)) => Some(b == a),
-        Stmt86::Mark(_) => Some(false),
-        _ => None,
-    }
 }
 
 // Whether the label of the address after the block follows with only labels between.
@@ -123,10 +91,10 @@ fn comes_next(around: &Around<'_>, from: &[Stmt86]) -> bool
 {
     let mut rest = from;
     while let Some((stmt, others)) = rest.split_first() {
-        match is_label_of(*stmt, around.after) {
-            Some(true) => return true,
-            Some(false) => rest = others,
-            None => return false,
+        match stmt {
+            Stmt86::Mark(Label::At(a)) if *a == around.after => return true,
+            Stmt86::Mark(_) => rest = others,
+            _ => return false,
         }
     }
     false

@@ -4,7 +4,7 @@ ghost use Rattle.std.specs.Prelude.{◌≡◌, List, Result, Ok, None};
 ghost use Rattle.asm86_line_types.specs.declared.line.Stmt86.{Stmt86 as Statement};
 ghost use Rattle.asm86_line_types.specs.declared.line.Stmt86.TheVariants.{Run as Running};
 ghost use Rattle.sym_block_def.specs.declared.reason.Reason.{Reason as Refusal};
-ghost use Rattle.sym_block_def.specs.Outcome.{Way as WayTree, One, Two};
+ghost use Rattle.sym_block_def.specs.Outcome.{Way as WayTree, Two};
 ghost use Rattle.sym_block_def.specs.Symbolic86.{Symbolic86};
 ghost use Rattle.sym_block_def.specs.Walk86.{Surroundings, call_way, end_at, jump_to, met, way_by, way_from, flag_of_jump, jumps_at};
 ghost use Rattle.sym_micro.specs.Machine.{as86};
@@ -132,8 +132,8 @@ pub fn both_from(
     Ok((straight, jumped))
 }
 
-// The way that ends so. None only where the terms had no room for a node more.
-fn way_of(terms: &mut Terms, run: &Run, last: Last) -> Option<Way>
+/// The way that ends so. None only where the terms had no room for a node more.
+pub fn way_of(terms: &mut Terms, run: &Run, last: Last) -> Option<Way>
     requires { IsReady terms.old run.now }
     ensures ready { IsReady terms.new run.now }
     ensures finds { (tree : WayTree) → LastIs (as86 (machine_of terms.old run.now)) tree last → FindsWay terms.old terms.new 3 tree result }
@@ -143,14 +143,6 @@ fn way_of(terms: &mut Terms, run: &Run, last: Last) -> Option<Way>
         Last::Return => return_way(terms, run),
         Last::ByBx => Some(Way::ByTerms(run.held.h, run.held.l)),
     }
-}
-
-/// The exit by one way that ends so. None only where the terms had no room for a node more.
-pub fn one_exit(terms: &mut Terms, run: &Run, last: Last) -> Option<Exit>
-    requires { IsReady terms.old run.now }
-    ensures { (tree : WayTree) → LastIs (as86 (machine_of terms.old run.now)) tree last → FindsExit terms.old terms.new 3 (One tree) result }
-{
-    Some(Exit::One(way_of(terms, run, last)?))
 }
 
 // The flag of a conditional jump.

@@ -1,7 +1,7 @@
 // What a term is compared with, which need not be a node.
 
 ghost use Rattle.std.specs.Prelude.{◌≡◌};
-ghost use Rattle.sym_terms.specs.Term.{Num, Unknown, same_term};
+ghost use Rattle.sym_terms.specs.Term.{Unknown, same_term};
 ghost use Rattle.sym_terms.specs.Making.{half_of};
 ghost use Rattle.sym_terms.specs.Trees.{tree_in, IsGiven};
 ghost use Rattle.sym_run.specs.Seen.{tree_of_seen, SeenIsGiven};
@@ -52,7 +52,10 @@ pub fn is(terms: &Terms, s: Term, seen: Seen) -> bool
     match seen {
         Seen::Of(t) => same(terms, s, t),
         Seen::Half(word, high) => is_half(terms, s, word, high),
-        Seen::Number(n) => is_number(terms, s, n),
+        Seen::Number(n) => match terms.head(s) {
+            Head::Num(m) => m == n,
+            _ => false,
+        },
         Seen::Unknown => is_unknown(terms, s),
     }
 }
@@ -65,16 +68,6 @@ fn is_half(terms: &Terms, s: Term, word: Term, high: bool) -> bool
     match terms.head(s) {
         Head::High(other) => high && same(terms, other, word),
         Head::Low(other) => !high && same(terms, other, word),
-        _ => false,
-    }
-}
-
-fn is_number(terms: &Terms, s: Term, n: u16) -> bool
-    requires { IsGiven terms.now s }
-    ensures { result ≡ same_term (tree_in terms.now s) (Num n) }
-{
-    match terms.head(s) {
-        Head::Num(m) => m == n,
         _ => false,
     }
 }

@@ -4,7 +4,7 @@ ghost use Rattle.std.specs.Prelude.{◌≡◌, ℕ, ◌≤◌, length, drop};
 ghost use Rattle.sym_block_def.specs.Block80.{MayRun};
 ghost use Rattle.sym_run.specs.Around.{surroundings_of};
 ghost use Rattle.sym_run.specs.Places.{IsPlace};
-ghost use Rattle.sym_run.specs.Stop.{pass, stop, goes_to, is_last, next_after, ends_by, stop_from, way_stop, is_way_end, two_ways_stop, jump_label, stop_of_walk, walk_end, EndsSayWhy, IsAt, StopsAt};
+ghost use Rattle.sym_run.specs.Stop.{pass, stop, goes_to, is_last, next_after, ends_by, stop_from, way_stop, is_way_end, two_ways_stop, stop_of_walk, walk_end, EndsSayWhy, IsAt, StopsAt};
 
 use crate::around::{Around, is_passed, way_to};
 use crate::block::addresses;
@@ -138,16 +138,6 @@ fn two_ways_stop(around: &Around<'_>, room: u32, label: Label, here: usize, next
     }
 }
 
-// The label of a conditional jump.
-fn jump_label(stmt: Stmt86) -> Option<Label>
-    ensures { result ≡ jump_label stmt }
-{
-    match stmt {
-        Stmt86::Jcc(_, label) => Some(label),
-        _ => None,
-    }
-}
-
 // Where a walk from a place on ends.
 fn stop_of_walk(around: &Around<'_>, room: u32, from: usize) -> usize
     requires { from ≤ length around.now.text.now }
@@ -160,9 +150,9 @@ fn stop_of_walk(around: &Around<'_>, room: u32, from: usize) -> usize
     if stop.room == 0 {
         return stop.at;
     }
-    match jump_label(*stmt) {
-        Some(label) => two_ways_stop(around, stop.room - 1, label, stop.at, stop.at + 1),
-        None => stop.at,
+    match stmt {
+        Stmt86::Jcc(_, label) => two_ways_stop(around, stop.room - 1, *label, stop.at, stop.at + 1),
+        _ => stop.at,
     }
 }
 

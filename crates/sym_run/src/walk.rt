@@ -5,23 +5,24 @@ ghost use Rattle.std.specs.Vec.{vec_capacity};
 ghost use Rattle.asm86_line_types.specs.declared.line.Label.TheVariants.{At};
 ghost use Rattle.sym_terms.specs.Trees.{tree_in};
 ghost use Rattle.sym_block_def.specs.Block80.{MayRun};
-ghost use Rattle.sym_block_def.specs.Walk86.{after_label, is_call, met, run_by, two_ways, walk_by, walk_through, walk_behind, walk86};
+ghost use Rattle.sym_block_def.specs.Outcome.{Way as WayTree};
+ghost use Rattle.sym_block_def.specs.Walk86.{after_label, is_call, met, one_way, run_by, two_ways, walk_by, walk_through, walk_behind, walk86};
 ghost use Rattle.sym_micro.specs.Machine.{as86};
 ghost use Rattle.sym_micro.specs.Stands.{machine_of, IsReady};
 ghost use Rattle.sym_run.specs.Around.{surroundings_of};
-ghost use Rattle.sym_run.specs.Ends.{WalksTo, Advances};
+ghost use Rattle.sym_run.specs.Ends.{LastIs, WalksTo, Advances};
 
 use crate::around::{Around, Met, behind, meets};
 use crate::block::addresses;
 use crate::ends::{End, Next, by_exit, call, direct_call, end_at, jump, port};
 use crate::index::Index86;
-use crate::lasts::{Last, both_from, one_exit, two_exit};
+use crate::lasts::{Last, both_from, two_exit, way_of};
 use asm80_program_types::Program80;
 use asm86_line_types::{Jump, Label, Stmt86};
 use cells::{Keep, Place};
 use i86::Instr86;
 use sym_block_def::Reason;
-use sym_micro::{Run, Way, begin};
+use sym_micro::{Exit, Run, Way, begin};
 use sym_step::{offset, step86};
 use sym_terms::{Head, Terms};
 
@@ -59,6 +60,15 @@ fn two_ways(
     }
 }
 
+// An instruction that ends the walk by one way.
+fn one_way<'a>(terms: &mut Terms, run: &Run, last: Last) -> Option<Next<'a>>
+    requires { IsReady terms.old run.now }
+    ensures { (tree : WayTree) → LastIs (as86 (machine_of terms.old run.now)) tree last → Advances terms.old terms.new run.now run.now (λ on. one_way (as86 (machine_of terms.old run.now)) tree) result }
+{
+    let way = way_of(terms, run, last)?;
+    Some(Next::Ends(Ok(by_exit(Exit::One(way)))))
+}
+
 // One instruction that is no jump and no call by a label.
 fn run_instr<'a>(
     around: &Around<'_>,
@@ -72,14 +82,8 @@ fn run_instr<'a>(
     ensures { Advances terms.old terms.new run.old run.new (λ on. run_by (surroundings_of around.now) on rest.now (as86 (machine_of terms.old run.old)) instr) result }
 {
     match instr {
-        Instr86::Ret => {
-            let exit = one_exit(terms, run, Last::Return)?;
-            Some(Next::Ends(Ok(by_exit(exit))))
-        }
-        Instr86::JmpBx => {
-            let exit = one_exit(terms, run, Last::ByBx)?;
-            Some(Next::Ends(Ok(by_exit(exit))))
-        }
+        Instr86::Ret => one_way(terms, run, Last::Return),
+        Instr86::JmpBx => one_way(terms, run, Last::ByBx),
         Instr86::Int224 => {
             let is_call = is_call(terms, run);
             Some(Next::Ends(direct_call(around, rest, is_call)))

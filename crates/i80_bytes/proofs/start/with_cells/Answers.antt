@@ -1,7 +1,11 @@
 use Rattle.std.proofs.Common.{◌∙◌}
+use Rattle.std.proofs.lemmas.Result.{IfOk-from_err}
 use Rattle.cpu80_untagged.specs.ProcessorState.{untagged_memory}
 use Rattle.dialogue.proofs.ByteMemory.{put_cells_more}
 use Rattle.i80_bytes.proofs.start.with_cells.Goals as goal
+
+pub returns-in_err-from_slice : goal.returns-in_err-from_slice
+returns-in_err-from_slice c = IfOk-from_err c.from_residual.result _ c.from_residual.ensures.0
 
 pub loop-at-preserved : goal.loop-at-preserved
 loop-at-preserved c =

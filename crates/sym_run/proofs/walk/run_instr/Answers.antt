@@ -1,5 +1,5 @@
 -- How each arm ends. Of what a step leaves and of the ways that no term is made for, a search finds it too, but takes long.
-use Rattle.std.proofs.Common.{◌≡◌, ◌∙◌, ℕ, Bool, true, false, cond, List, Some, None, Result, Ok, Err, refl, ap, subst, sym, lit≤, arith}
+use Rattle.std.proofs.Common.{◌≡◌, ◌∙◌, ℕ, Bool, true, cond, List, Some, None, Result, Ok, Err, refl, ap, subst, sym, arith}
 use Rattle.cells.specs.declared.Place.TheVariants.{At as AtPlace}
 use Rattle.i86.specs.declared.Jump.{Jump}
 use Rattle.i86.specs.declared.Instr86.{Instr86}
@@ -11,7 +11,7 @@ use Rattle.sym_block_def.specs.declared.reason.Reason.{Reason}
 use Rattle.sym_block_def.specs.declared.reason.Reason.TheVariants.{Form}
 use Rattle.sym_block_def.specs.Outcome.{One, In, Out, Sys as AskSystem, Outcome}
 use Rattle.sym_block_def.specs.Symbolic86.{Symbolic86, effect86}
-use Rattle.sym_block_def.specs.Walk86.{Surroundings, return_way, bx_way, outcome86, run_by, direct_call, port_way, back_from_system}
+use Rattle.sym_block_def.specs.Walk86.{Surroundings, return_way, bx_way, one_way, outcome86, run_by, direct_call, port_way, back_from_system}
 use Rattle.sym_micro.specs.declared.run.Run.{Run}
 use Rattle.sym_micro.specs.Machine.{Machine, as86}
 use Rattle.sym_micro.specs.Stands.{machine_of, IsReady, GoesOn}
@@ -19,7 +19,7 @@ use Rattle.sym_run.specs.declared.ends.End.{End}
 use Rattle.sym_run.specs.declared.ends.Next.TheVariants.{Ends as EndsSo}
 use Rattle.sym_run.specs.Around.{surroundings_of}
 use Rattle.sym_run.specs.Ends.{Advances, EndStands, OnTo}
-use Rattle.sym_run.proofs.Steps.{advances_as, end_missing, end_found, exit_missing, exit_found}
+use Rattle.sym_run.proofs.Steps.{advances_as}
 use Rattle.sym_run.proofs.walk.run_instr.Goals as goal
 
 -- an end for which no term is made
@@ -51,57 +51,21 @@ goes_on_by w on rest s (JmpShort n) a b c d e f g h k l = absurd (k n refl)
 goes_on_by w on rest s (CallNear n) a b c d e f g h k l = absurd (l n refl)
 goes_on_by w on rest s i a b c d e f g h k l = refl
 
-pub returns-in_err-exit-in-Ret : goal.returns-in_err-exit-in-Ret
-returns-in_err-exit-in-Ret c =
+pub returns-in-Ret : goal.returns-in-Ret
+returns-in-Ret c =
     let old = c.args.terms.now in
-    let new = c.one_exit.new.terms in
     let r = c.args.run.now in
     let s = as86 (machine_of old r) in
-    let t = Ok (outcome86 s false (One (return_way s))) in
     let w = surroundings_of c.args.around.now in
-    subst (λ x. Advances old new r r (λ on. run_by w on c.args.rest.now s c.args.instr) x) (sym c.from_residual.ensures)
-    (end_missing old new 3 r r t (λ on. run_by w on c.args.rest.now s c.args.instr) (lit≤ tt)
-    (exit_missing old new 3 r (One (return_way s)) t c.requires.ready (c.in_err-exit-in-Ret.ensures (return_way s) refl)))
+    advances_as old c.one_way.new.terms r r (λ on. run_by w on c.args.rest.now s c.args.instr) (λ on. one_way s (return_way s)) c.one_way.result (λ on. ap (run_by w on c.args.rest.now s) c.in-Ret.is) (c.one_way.ensures (return_way s) refl)
 
-pub returns-in_ok-exit-in-Ret : goal.returns-in_ok-exit-in-Ret
-returns-in_ok-exit-in-Ret c =
+pub returns-in-JmpBx : goal.returns-in-JmpBx
+returns-in-JmpBx c =
     let old = c.args.terms.now in
-    let new = c.one_exit.new.terms in
     let r = c.args.run.now in
     let s = as86 (machine_of old r) in
-    let t = Ok (outcome86 s false (One (return_way s))) in
     let w = surroundings_of c.args.around.now in
-    let end : End = record { exit = c.in_ok-exit-in-Ret.exit; direct = false } in
-    subst (λ (e : End). Advances old new r r (λ on. run_by w on c.args.rest.now s c.args.instr) (Some (EndsSo (Ok e)))) (sym c.by_exit.ensures)
-    (advances_as old new r r (λ on. run_by w on c.args.rest.now s c.args.instr) (λ on. t) (Some (EndsSo (Ok end))) (λ on. ap (run_by w on c.args.rest.now s) c.in-Ret.is)
-    (end_found old new 3 r r t (Ok end) (lit≤ tt)
-    (exit_found old new 3 r (One (return_way s)) c.in_ok-exit-in-Ret.exit c.requires.ready (c.in_ok-exit-in-Ret.ensures (return_way s) refl))))
-
-pub returns-in_err-exit-in-JmpBx : goal.returns-in_err-exit-in-JmpBx
-returns-in_err-exit-in-JmpBx c =
-    let old = c.args.terms.now in
-    let new = c.one_exit-in-JmpBx.new.terms in
-    let r = c.args.run.now in
-    let s = as86 (machine_of old r) in
-    let t = Ok (outcome86 s false (One (bx_way s))) in
-    let w = surroundings_of c.args.around.now in
-    subst (λ x. Advances old new r r (λ on. run_by w on c.args.rest.now s c.args.instr) x) (sym c.from_residual-in_err-exit-in-JmpBx.ensures)
-    (end_missing old new 3 r r t (λ on. run_by w on c.args.rest.now s c.args.instr) (lit≤ tt)
-    (exit_missing old new 3 r (One (bx_way s)) t c.requires.ready (c.in_err-exit-in-JmpBx.ensures (bx_way s) refl)))
-
-pub returns-in_ok-exit-in-JmpBx : goal.returns-in_ok-exit-in-JmpBx
-returns-in_ok-exit-in-JmpBx c =
-    let old = c.args.terms.now in
-    let new = c.one_exit-in-JmpBx.new.terms in
-    let r = c.args.run.now in
-    let s = as86 (machine_of old r) in
-    let t = Ok (outcome86 s false (One (bx_way s))) in
-    let w = surroundings_of c.args.around.now in
-    let end : End = record { exit = c.in_ok-exit-in-JmpBx.exit; direct = false } in
-    subst (λ (e : End). Advances old new r r (λ on. run_by w on c.args.rest.now s c.args.instr) (Some (EndsSo (Ok e)))) (sym c.by_exit-in-JmpBx.ensures)
-    (advances_as old new r r (λ on. run_by w on c.args.rest.now s c.args.instr) (λ on. t) (Some (EndsSo (Ok end))) (λ on. ap (run_by w on c.args.rest.now s) c.in-JmpBx.is)
-    (end_found old new 3 r r t (Ok end) (lit≤ tt)
-    (exit_found old new 3 r (One (bx_way s)) c.in_ok-exit-in-JmpBx.exit c.requires.ready (c.in_ok-exit-in-JmpBx.ensures (bx_way s) refl))))
+    advances_as old c.one_way-in-JmpBx.new.terms r r (λ on. run_by w on c.args.rest.now s c.args.instr) (λ on. one_way s (bx_way s)) c.one_way-in-JmpBx.result (λ on. ap (run_by w on c.args.rest.now s) c.in-JmpBx.is) (c.one_way-in-JmpBx.ensures (bx_way s) refl)
 
 pub returns-in-Int224 : goal.returns-in-Int224
 returns-in-Int224 c =
@@ -145,7 +109,7 @@ returns-in_err-step86-in_default c =
     let s = as86 (machine_of old r) in
     let w = surroundings_of c.args.around.now in
     let tree : OnTo → Result Outcome Reason = λ on. run_by w on c.args.rest.now s c.args.instr in
-    subst (λ x. Advances old new r c.step86.new.run tree x) (sym c.from_residual-in_err-step86-in_default.ensures)
+    subst (λ x. Advances old new r c.step86.new.run tree x) (sym c.from_residual.ensures)
     (step_missing old new r c.step86.new.run (λ m. as86 m ≡ effect86 s c.args.instr) tree c.in_err-step86-in_default.ensures)
 
 pub returns-in_ok-step86-in_default : goal.returns-in_ok-step86-in_default

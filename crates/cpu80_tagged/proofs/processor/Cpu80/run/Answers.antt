@@ -1,9 +1,10 @@
-use Rattle.std.proofs.Common.{◌≡◌, List, Result, Ok, refl, sym, ap, subst, ◌∙◌}
+use Rattle.std.proofs.Common.{◌≡◌, List, length, Result, Ok, refl, sym, ap, subst, ◌∙◌}
 use Rattle.std.specs.Vec.{with_items}
 use Rattle.std.proofs.lemmas.List.{with_items_is}
 use Rattle.cells.specs.declared.Cell.{Cell}
 use Rattle.cells.specs.declared.Rule.{Rule}
 use Rattle.dialogue.specs.Run.{Ran, Ends}
+use Rattle.cpu80_tagged.specs.Area.{HasUses}
 use Rattle.cpu80_tagged.specs.State.{State80}
 use Rattle.cpu80_tagged.specs.Step.{step80}
 use Rattle.cpu80_tagged.specs.Draft.{memory_of, memory_written, state_of_draft as draft_state}
@@ -69,4 +70,22 @@ returns-in-Err c =
       step = subst (λ a. IsTaggedStep a (Left c.in-Err.rule) before before) (c.in-Err.ensures.answer ∙ ap (step80 p) same) (refl, refl);
       asked = ap waits c.requires.runs;
       machine = record { uses = c.requires.machine.uses; place = c.requires.machine.place; phase = c.requires.machine.phase };
+    }
+
+pub invariant_of-draft : goal.invariant_of-draft
+invariant_of-draft c = record { full = ap length c.as_slice-2.ensures.value ∙ c.args.self.now.full; fits = refl }
+
+pub invariant_of-area : goal.invariant_of-area
+invariant_of-area c = record { agrees = subst (HasUses c.args.program.now) (sym c.as_slice.ensures.value) c.requires.machine.uses }
+
+pub make-requires-clause-full : goal.make-requires-clause-full
+make-requires-clause-full c = ap length c.as_mut_slice.ensures.value ∙ c.args.self.now.full
+
+pub invariant_of-self : goal.invariant_of-self
+invariant_of-self c =
+    let memory = c.args.self.now.memory in
+    let same : length c.make.new.memory ≡ length c.as_mut_slice.result.now = c.make.auto.memory in
+    record {
+      full = ap length (with_items_is memory c.make.new.memory (same ∙ c.as_mut_slice.ensures.len)) ∙ same ∙ ap length c.as_mut_slice.ensures.value ∙ c.args.self.now.full;
+      all_used = c.args.self.now.all_used;
     }
