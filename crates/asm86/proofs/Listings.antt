@@ -1,9 +1,11 @@
 -- Statements of a line behind those of the lines before it.
-use Rattle.std.proofs.Common.{◌≡◌, ℕ, ◌+◌, ◌<◌, ◌||◌, ◌&&◌, Bool, true, false, not, List, [], ◌∷◌, ◌++◌, take, drop, length, suc, Option, Some, Result, Ok, Err, refl, sym, ap, ◌∙◌, append_assoc}
+use Rattle.std.proofs.Common.{◌≡◌, ℕ, ◌+◌, ◌<◌, ◌||◌, ◌&&◌, Bool, true, false, not, List, [], ◌∷◌, ◌++◌, take, drop, length, suc, Option, Some, None, Result, Ok, Err, true≢false, refl, sym, ap, subst, ◌∙◌, append_assoc, arith, rules, tests}
 use Rattle.std.proofs.Math.Seq.{split_at}
 use Rattle.std.proofs.Math.ListN.{get_or}
 use Rattle.std.proofs.lemmas.List.{map-append, take_more}
 use Rattle.std.proofs.lemmas.Result.{err_from_is_err_and}
+use borrow.Author.Tests.{eqb-true}
+use Rattle.std.specs.Prelude.{◌==◌}
 use Rattle.std.specs.Result.{IsErrAnd}
 use Rattle.asm86_line_types.specs.declared.line.Line86.{Line86}
 use Rattle.asm86_line_types.specs.declared.line.Stmt86.{Stmt86}
@@ -15,7 +17,7 @@ use Rattle.asm86.specs.declared.text_fault.TextFault.{TextFault}
 use Rattle.asm86.specs.declared.text_fault.TextFault.TheVariants.{Line, Memory}
 use Rattle.asm86.specs.declared.listing.Listing.{Listing}
 use Rattle.asm86.specs.Stream.{lines_of_number, are_in_order, unread, misplaced}
-use Rattle.asm86.specs.Reader.{ListsMore, ListsLine, ReadsNumbered, ReadsBy, TextReader}
+use Rattle.asm86.specs.Reader.{ListsMore, ListsLine, ReadsNumbered, ReadsBy, ReadsRest, TextReader}
 
 still_false : (m e f g i j : Bool) → (f ≡ false → g ≡ false) → (i ≡ false → j ≡ false) → (m && ((not e || f) && i)) ≡ false → (m && ((not e || g) && j)) ≡ false
 still_false false e f g i j p q h = refl
@@ -90,3 +92,26 @@ long_fails old n line e h = (e, unread (long h))
 pub refuses : (line : List ℕ) (listing : Listing) (f : TextFault) (old : TextReader) (held : Option (List ℕ)) → ListsLine line listing listing (Err f) → old.lines ≡ listing.lines.items → old.number ≡ listing.number → ReadsBy line old (record { lines = listing.lines.items; number = listing.number; held = held; fault = Some f }) (Some f)
 refuses line listing Memory old held h l n = tt
 refuses line listing (Line m rule) old held h l n = rw (l, n) h
+
+-- what a line makes of a reader goes by its statements and its number of lines alone
+pub read_alike : (line wanted : List ℕ) (a b new : TextReader) (f : Option TextFault) → line ≡ wanted → a.lines ≡ b.lines → a.number ≡ b.number → ReadsBy line a new f → ReadsBy wanted b new f
+read_alike line wanted a b new None e l n h = rw (sym e, sym l, sym n) h
+read_alike line wanted a b new (Some Memory) e l n h = tt
+read_alike line wanted a b new (Some (Line m rule)) e l n h = rw (sym e, sym l, sym n) h
+
+-- a last line that is not empty
+pub rest_read : (line rest : List ℕ) (old new : TextReader) → line ≡ rest → (length line == 0) ≡ false → ReadsBy line old new new.fault → ReadsRest rest old new
+rest_read line [] old new e some h = absurd (true≢false (subst (λ (xs : List ℕ). (length xs == 0) ≡ false) e some))
+rest_read line (b ∷ bytes) old new e some h = subst (λ xs. ReadsBy xs old new new.fault) e h
+
+-- a last line that is empty
+pub no_rest : (line rest : List ℕ) (old new : TextReader) → line ≡ rest → line ≡ [] → new ≡ old → ReadsRest rest old new
+no_rest line [] old new e none same = same
+no_rest line (b ∷ bytes) old new e none same = absurd (cc (sym e ∙ none))
+
+pub no_bytes : (line : List ℕ) → (length line == 0) ≡ true → line ≡ []
+no_bytes [] e = refl
+no_bytes (b ∷ bytes) e = let none = eqb-true (length (b ∷ bytes)) 0 e in absurd (omega (arith, none))
+
+pub some_bytes : (line : List ℕ) → 256 < length line → (length line == 0) ≡ false
+some_bytes line many = search (rules, tests)

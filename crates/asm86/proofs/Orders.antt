@@ -109,3 +109,12 @@ pub code_ends_nothing : (x : Stmt86) (ended : Bool) → (x ≡ EndText → ⊥) 
 code_ends_nothing x true h = refl
 code_ends_nothing EndText false h = absurd (h refl)
 code_ends_nothing _ false h = refl
+
+-- a statement that does not end the text, and one that does
+pub goes_on : (x : Stmt86) (ended : Bool) → ends_text x ≡ false → ended ≡ (ended || ends_text x)
+goes_on x true h = refl
+goes_on x false h = sym h
+
+pub comes_to_end : (x : Stmt86) (ended : Bool) → ends_text x ≡ true → true ≡ (ended || ends_text x)
+comes_to_end x true h = refl
+comes_to_end x false h = sym h

@@ -243,5 +243,12 @@ fn line_len(bytes: &[u8]) -> usize
     ensures value { result ≡ line_len bytes.now }
     ensures within { result ≤ length bytes.now }
 {
-    bytes.iter().take_while(|b| **b != b'\n').count()
+    let mut count = 0;
+    for b in bytes {
+        if *b == b'\n' {
+            return count;
+        }
+        count += 1;
+    }
+    count
 }

@@ -10,5 +10,4 @@ mod Numerals
 mod Parts
 mod Pieces
 pub mod ReadBack
-mod Tables
 mod WrittenWords

@@ -88,7 +88,12 @@ fn items(alloc: Global, size: Size, operands: &[Operand]) -> Result<Vec<Stmt86>,
 fn are_items(size: Size, operands: &[Operand]) -> bool
     ensures { result ≡ list_all (λ operand. is_some (item_of size operand)) operands.now }
 {
-    operands.iter().all(|operand| is_item(size, *operand))
+    for operand in operands {
+        if !is_item(size, *operand) {
+            return false;
+        }
+    }
+    true
 }
 
 fn is_item(size: Size, operand: Operand) -> bool

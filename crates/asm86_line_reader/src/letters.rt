@@ -11,7 +11,12 @@ use std::alloc::{AllocError, Global};
 pub fn has_no_lower(line: &[u8]) -> bool
     ensures { result ≡ list_all (λ b. not (is_lower b)) line.now }
 {
-    line.iter().all(|b| !b.is_ascii_lowercase())
+    for b in line {
+        if b.is_ascii_lowercase() {
+            return false;
+        }
+    }
+    true
 }
 
 /// The line in capitals.
@@ -39,7 +44,14 @@ pub fn inside_len(bytes: &[u8]) -> usize
     ensures value { result ≡ inside_len bytes.now }
     ensures within { result ≤ length bytes.now }
 {
-    bytes.iter().take_while(|b| is_inside(**b)).count()
+    let mut count = 0;
+    for b in bytes {
+        if !is_inside(*b) {
+            return count;
+        }
+        count += 1;
+    }
+    count
 }
 
 /// The sign that a byte is.

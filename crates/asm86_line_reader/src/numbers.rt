@@ -29,7 +29,12 @@ fn all_digits(base: u32, digits: &[u8]) -> bool
     requires { (2 ≤ base) × (base ≤ 16) }
     ensures { result ≡ list_all (λ c. nat_lt (digit_value c) base) digits.now }
 {
-    digits.iter().all(|c| char::from(*c).is_digit(base))
+    for digit in digits {
+        if !char::from(*digit).is_digit(base) {
+            return false;
+        }
+    }
+    true
 }
 
 /// The value of a word that begins with a digit, if it is a number.

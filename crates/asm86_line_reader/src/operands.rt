@@ -23,7 +23,14 @@ fn part_len(tokens: &[Token]) -> usize
     ensures value { result ≡ prefix_len (λ token. not (is_comma token)) tokens.now }
     ensures within { result ≤ length tokens.now }
 {
-    tokens.iter().take_while(|token| !is_comma(**token)).count()
+    let mut count = 0;
+    for token in tokens {
+        if is_comma(*token) {
+            return count;
+        }
+        count += 1;
+    }
+    count
 }
 
 /// The operands that tokens are, with commas between them, if they are some.

@@ -162,10 +162,12 @@ fn listed_in(lists: &[Words<'_>], word: &[u8]) -> Option<Token>
 fn look(table: &[(&str, Token)], word: &[u8]) -> Option<Token>
     ensures { result ≡ word_in_table (map (λ e. (e.0.now, e.1)) table.now) word.now }
 {
-    match table.iter().find(|e| e.0.as_bytes() == word) {
-        Some((_, token)) => Some(*token),
-        None => None,
+    for (name, token) in table {
+        if name.as_bytes() == word {
+            return Some(*token);
+        }
     }
+    None
 }
 
 // The label that L, K or U with four hexadecimal digits is.

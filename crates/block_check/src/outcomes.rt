@@ -2,8 +2,6 @@
 
 ghost use Rattle.std.specs.Prelude.{◌≡◌, ◌||◌};
 ghost use Rattle.std.specs.List.{find};
-ghost use Rattle.block_check_def.specs.Agree.{agrees};
-ghost use Rattle.sym_block_def.specs.Outcome.{term_in};
 ghost use Rattle.block_check_def.specs.BlockMatch.{is_last, is_boot_alone, sp_agrees, kept_reason};
 ghost use Rattle.sym_micro.specs.Exits.{tree_of_way, tree_of_exit};
 ghost use Rattle.xlt_pool.specs.Contents.{Contents};
@@ -16,23 +14,13 @@ use crate::exits::exit_agrees;
 use cells::{Keep, Part};
 use sym_run::{Exit, Reason, Way, Work};
 
-// Whether a part agrees with its partner.
-fn part_agrees(work: &Work, part: Part) -> bool
-    requires { AreReady work.now }
-    ensures { result ≡ agrees (term_in (first_outcome work.now).held part) (term_in (second_of work.now).held part) }
-{
-    let one = work.first().part(part);
-    let other = work.second().part(part);
-    work.agree(one, other)
-}
-
 // Whether a part is lost, or is kept and does not agree.
 fn is_bad(work: &Work, kept: &Wanted, back: Keep, part: Part) -> bool
     requires { AreReady work.now }
     ensures { result ≡ is_bad_by (wanted_parts kept.now) (lost_of back) (first_outcome work.now) (second_of work.now) part }
 {
     let is_lost = work.second().direct() && loses(back, part);
-    is_lost || wants(kept, part) && !part_agrees(work, part)
+    is_lost || wants(kept, part) && !work.agree(work.first().part(part), work.second().part(part))
 }
 
 // The first of some parts that is bad.

@@ -44,15 +44,23 @@ pub fn is_apart(graph: &Graph, inner: &[Line86], rest: &[Line86]) -> bool
 fn are_inner(graph: &Graph, lines: &[Line86]) -> bool
     ensures { result ≡ list_all (λ line. is_inner graph.now.program line.stmt) lines.now }
 {
-    lines.iter().all(|line| is_inner(graph, line.stmt))
+    for line in lines {
+        if !is_inner(graph, line.stmt) {
+            return false;
+        }
+    }
+    true
 }
 
 fn are_labels(lines: &[Line86]) -> bool
     ensures { result ≡ list_all (λ line. is_label line.stmt) lines.now }
 {
-    lines
-        .iter()
-        .all(|line| matches!(line.stmt, Stmt86::Mark(_)))
+    for line in lines {
+        if !matches!(line.stmt, Stmt86::Mark(_)) {
+            return false;
+        }
+    }
+    true
 }
 
 fn begins_with_label(lines: &[Line86]) -> bool

@@ -27,7 +27,7 @@ pub use frame::{ending, prologue, runtime};
 pub use laws::lean_texts_are_one;
 pub use lean::lean_text;
 pub use operands::label_of;
-pub use plain::{plain_text, put_data};
+pub use plain::plain_text;
 pub use rows::template;
 pub use sequence::Sequence;
 pub use text::Text;

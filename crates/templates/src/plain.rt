@@ -1,7 +1,7 @@
 // The plain text of a program.
-ghost use Rattle.std.specs.Prelude.{◌≡◌, ◌+◌, ◌*◌, ◌^◌, ◌<◌, ◌≤◌, ◌++◌, length, OnOk, IfOk, vec_len};
+ghost use Rattle.std.specs.Prelude.{◌≡◌, ◌+◌, ◌*◌, ◌^◌, ◌<◌, ◌≤◌, ◌∷◌, ◌++◌, length, OnOk, IfOk, vec_len};
 ghost use Rattle.std.specs.Option.{option_to_list};
-ghost use Rattle.templates.specs.Plain.{body, org_at, cell_statement, data_from, plain_statements, plain};
+ghost use Rattle.templates.specs.Plain.{prologue, body, org_at, cell_statement, data_from, runtime, ending, plain};
 
 use crate::frame::{ending, prologue, runtime};
 use crate::rows::template;
@@ -51,8 +51,8 @@ fn put_cell(text: &mut Text, next: u16, at: u16, cell: Cell) -> Result<(), Alloc
     }
 }
 
-/// The data cells in order.
-pub fn put_data(text: &mut Text, program: &Program80) -> Result<(), AllocError>
+// The data cells in order.
+fn put_data(text: &mut Text, program: &Program80) -> Result<(), AllocError>
     requires { length text.old < 2 ^ 20 }
     ensures value { OnOk result (text.new ≡ text.old ++ data_from 0 program.now.cells) }
     ensures most { OnOk result (length text.new ≤ length text.old + 2 * 65022) }
@@ -66,20 +66,26 @@ pub fn put_data(text: &mut Text, program: &Program80) -> Result<(), AllocError>
     Ok(())
 }
 
-// All statements of the text.
-fn put_program(text: &mut Text, program: &Program80) -> Result<(), AllocError>
-    requires { length text.old ≡ 0 }
-    ensures value { OnOk result (text.new ≡ text.old ++ plain_statements program.now) }
+/// A text that begins as each text does: CSEG and the prologue.
+pub fn begun(alloc: Global, program: &Program80) -> Result<Text, AllocError>
+    ensures { IfOk result (λ text. text ≡ Stmt86.Cseg ∷ prologue program.now.top) }
+{
+    let mut text = Text::new(alloc);
+    text.push(Stmt86::Cseg)?;
+    text.append(prologue(program.top()).as_slice())?;
+    Ok(text)
+}
+
+/// What ends each text, behind its instructions: the runtime, the data, and room for the stack.
+pub fn put_end(text: &mut Text, program: &Program80) -> Result<(), AllocError>
+    requires { length text.old ≤ 8 + 13 * 65022 }
+    ensures value { OnOk result (text.new ≡ text.old ++ (runtime ++ Stmt86.Dseg ∷ (data_from 0 program.now.cells ++ ending program.now.top))) }
     ensures most { OnOk result (length text.new < 2 ^ 20) }
 {
-    let top = program.top();
-    text.push(Stmt86::Cseg)?;
-    text.append(prologue(top).as_slice())?;
-    put_body(text, program)?;
     text.append(runtime().as_slice())?;
     text.push(Stmt86::Dseg)?;
     put_data(text, program)?;
-    text.append(ending(top).as_slice())
+    text.append(ending(program.top()).as_slice())
 }
 
 /// The plain text of a program: between the prologue and the runtime each instruction's label and its statements with a
@@ -88,7 +94,8 @@ pub fn plain_text(alloc: Global, program: &Program80) -> Result<Vec<Line86>, All
     ensures value { IfOk result (λ lines. lines.items ≡ plain program.now) }
     ensures few { IfOk result (λ lines. vec_len lines < 2 ^ 20) }
 {
-    let mut text = Text::new(alloc);
-    put_program(&mut text, program)?;
+    let mut text = begun(alloc, program)?;
+    put_body(&mut text, program)?;
+    put_end(&mut text, program)?;
     Ok(text.into_lines())
 }

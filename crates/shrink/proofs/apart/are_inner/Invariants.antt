@@ -1,0 +1,7 @@
+use Rattle.std.proofs.Common.{◌≡◌, drop}
+use Rattle.std.specs.List.{list_all}
+use Rattle.shrink.specs.Apart.{is_inner}
+use Rattle.shrink.proofs.apart.are_inner.Given as goal
+
+abbrev pub invariant-loop-line : goal.invariant-loop-line
+invariant-loop-line l = list_all (λ line. is_inner l.graph.program line.stmt) l.lines ≡ list_all (λ line. is_inner l.graph.program line.stmt) (drop l.line-index l.lines)
