@@ -9,14 +9,11 @@ pub fn is_same(
     one: Option<&Event>,
     other: Option<&Event>,
 ) -> Result<bool, AllocError> {
-    let text = event_text(alloc, one)?;
-    Ok(text == event_text(alloc, other)?)
-}
-
-fn event_text(alloc: Global, event: Option<&Event>) -> Result<String, AllocError> {
     let mut text = String::new(alloc);
-    push_event(&mut text, event)?;
-    Ok(text)
+    push_event(&mut text, one)?;
+    let mut second = String::new(alloc);
+    push_event(&mut second, other)?;
+    Ok(text == second)
 }
 
 /// Adds what waits for its reply: `in 7`, `out 8 255`, or a call with its function, its argument, what it reads and what it may
@@ -53,15 +50,19 @@ fn push_argument(text: &mut String, argument: ArgWord) -> Result<(), AllocError>
     }
 }
 
-fn push_ranges(text: &mut String, name: &str, ranges: &[Option<Range>]) -> Result<(), AllocError> {
+/// Adds the ranges that there are.
+pub fn push_ranges(
+    text: &mut String,
+    name: &str,
+    ranges: &[Option<Range>],
+) -> Result<(), AllocError> {
     for range in ranges {
         push_range(text, name, *range)?;
     }
     Ok(())
 }
 
-/// Adds a range, if there is one.
-pub fn push_range(text: &mut String, name: &str, range: Option<Range>) -> Result<(), AllocError> {
+fn push_range(text: &mut String, name: &str, range: Option<Range>) -> Result<(), AllocError> {
     match range {
         Some(Range { at, len }) => {
             push_word(text, name, at)?;

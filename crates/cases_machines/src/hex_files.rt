@@ -1,8 +1,9 @@
 // HEX files of sources, and what an 8080 that fetches bytes does with the cells of one.
+use crate::events::push_event;
 use crate::programs::program80;
 use crate::scripts::reply;
 use asm80_program_types::Program80;
-use dialogue::{ArgWord, Event, Page};
+use dialogue::{Event, Page};
 use i80_bytes::{Byte80, HexFault, HexFile, StepBytes, hex_text};
 use std::alloc::{AllocError, Global};
 
@@ -38,15 +39,15 @@ pub fn run(alloc: Global, file: &str) -> Result<String, AllocError> {
         bytes.extend_from_slice(line.as_bytes())?;
         bytes.push(b'\n')?;
     }
-    let mut told = String::from_str(alloc, " ")?;
+    let mut told = String::new(alloc);
     if bytes.len() > 0x1_0000 {
-        told.push_str("too long")?;
+        told.push_str(" too long")?;
         return Ok(told);
     }
     match HexFile::read(alloc, bytes.as_slice()) {
         Ok(hex) => push_run(alloc, &mut told, &hex)?,
-        Err(HexFault::Bad(line)) => write!(told, "refused: line {line}")?,
-        Err(HexFault::Memory) => told.push_str("out of memory")?,
+        Err(HexFault::Bad(line)) => write!(told, " refused: line {line}")?,
+        Err(HexFault::Memory) => told.push_str(" out of memory")?,
     }
     Ok(told)
 }
@@ -54,7 +55,7 @@ pub fn run(alloc: Global, file: &str) -> Result<String, AllocError> {
 // Adds what the cells do, over a fill of 76H, which is no encoding, and with choices of 0.
 fn push_run(alloc: Global, told: &mut String, hex: &HexFile) -> Result<(), AllocError> {
     let Some(page) = Page::of_tail(b"") else {
-        return told.push_str("no page");
+        return told.push_str(" no page");
     };
     let fill = vec![in alloc; 0x76u8; 0x1_0000]?;
     let mut machine = Byte80::new(alloc, hex, TOP, &page, fill.as_slice())?;
@@ -62,12 +63,12 @@ fn push_run(alloc: Global, told: &mut String, hex: &HexFile) -> Result<(), Alloc
         match machine.step(0) {
             StepBytes::Ran => {}
             StepBytes::Asked => push_talk(alloc, told, &mut machine)?,
-            StepBytes::Ended => return write!(told, "ended after {}", count + 1),
-            StepBytes::NoInstruction(at) => return write!(told, "no instruction at {at:04X}"),
-            StepBytes::OddCall(function) => return write!(told, "odd call {function}"),
+            StepBytes::Ended => return write!(told, " ended after {}", count + 1),
+            StepBytes::NoInstruction(at) => return write!(told, " no instruction at {at:04X}"),
+            StepBytes::OddCall(function) => return write!(told, " odd call {function}"),
         }
     }
-    write!(told, "at {:04X}", machine.pc())
+    write!(told, " at {:04X}", machine.pc())
 }
 
 // Adds what the machine asks, and gives an IN 41H, and all else 0.
@@ -80,22 +81,9 @@ fn push_talk(alloc: Global, told: &mut String, machine: &mut Byte80) -> Result<(
     } else {
         0
     };
-    push_event(told, &event)?;
+    push_event(told, Some(&event))?;
     if !machine.reply(&reply(alloc, answer), 0) {
-        told.push_str("refused ")?;
+        told.push_str(" refused")?;
     }
     Ok(())
-}
-
-fn push_event(told: &mut String, event: &Event) -> Result<(), AllocError> {
-    match event {
-        Event::Call(request) => match request.shape.arg {
-            ArgWord::None => write!(told, "call {} ", request.shape.function),
-            ArgWord::Byte(byte) => write!(told, "call {} {byte:02X} ", request.shape.function),
-            ArgWord::Word(word) => write!(told, "call {} {word:04X} ", request.shape.function),
-        },
-        Event::In(port) => write!(told, "in {port} "),
-        Event::Out(port, byte) => write!(told, "out {port} {byte:02X} "),
-        Event::End => told.push_str("end "),
-    }
 }

@@ -107,14 +107,6 @@ pub struct Bytes80<'a> {
     pub program: &'a Program80,
 }
 
-impl<'a> Bytes80<'a> {
-    // Whether it asks this.
-    fn asks(&self, alloc: Global, event: Option<&Event>) -> Result<bool, AllocError> {
-        let own = self.cpu.asked(alloc)?;
-        is_same(alloc, own.as_ref(), event)
-    }
-}
-
 impl<'a> Machine for Bytes80<'a> {
     ghost use Rattle.std.specs.Prelude.{⊤};
 
@@ -211,7 +203,8 @@ impl<'a> Machine for Both80<'a> {
 
     fn asked(&self, alloc: Global) -> Result<Option<Event>, AllocError> {
         let event = self.tagged.asked(alloc)?;
-        let is_same = self.bytes.asks(alloc, event.as_ref())?;
+        let other = self.bytes.asked(alloc)?;
+        let is_same = is_same(alloc, event.as_ref(), other.as_ref())?;
         Ok(if is_same { event } else { None })
     }
 

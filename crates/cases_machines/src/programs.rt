@@ -122,22 +122,11 @@ fn both80(
     program: &Program80,
     page: &Page,
 ) -> Result<Option<String>, AllocError> {
-    let mut machine = paired80(alloc, case, program, page)?;
-    Ok(Some(script(alloc, &mut machine, choice_of(case), case.words)?))
-}
-
-fn paired80<'a>(
-    alloc: Global,
-    case: &Case<'_>,
-    program: &'a Program80,
-    page: &Page,
-) -> Result<Both80<'a>, AllocError>
-    ensures { IfOk result (λ machine. IsMachineOf machine.tagged.program.now machine.tagged.cpu) }
-{
     let tagged = running80(alloc, program, page)?;
     let cpu = plain80(alloc, case, program, page)?;
     let bytes = Bytes80 { cpu, program };
-    Ok(Both80 { tagged, bytes })
+    let mut machine = Both80 { tagged, bytes };
+    Ok(Some(script(alloc, &mut machine, choice_of(case), case.words)?))
 }
 
 fn plain80(

@@ -18,17 +18,12 @@ pub fn script<M: Machine>(
 {
     let mut text = String::new(alloc);
     for word in words.split(' ') {
-        push_separator(&mut text)?;
+        if !text.is_empty() {
+            text.push(';')?;
+        }
         push_answer(alloc, &mut text, machine, choice, word)?;
     }
     Ok(text)
-}
-
-fn push_separator(text: &mut String) -> Result<(), AllocError> {
-    if text.is_empty() {
-        return Ok(());
-    }
-    text.push(';')
 }
 
 fn push_answer<M: Machine>(

@@ -1,5 +1,5 @@
 // Single instructions of the 8086, and its calls of the system with their replies.
-use crate::events::push_range;
+use crate::events::push_ranges;
 use crate::states::{push_changes, put, start};
 use crate::words::{bytes_of, number_of, push_number, value_of};
 use cpu86::processor::Processor;
@@ -68,7 +68,8 @@ fn call(
         Interrupt::Ends => text.push_str(" ends"),
         Interrupt::Odd(function) => push_number(text, " odd ", u32::from(function)),
         Interrupt::Asks(shape) => {
-            push_shape(text, shape)?;
+            push_number(text, " asks ", u32::from(shape.function))?;
+            push_ranges(text, " ", &shape.reads)?;
             match number_of(words, "answer") {
                 Some(answer) => reply(
                     alloc,
@@ -82,15 +83,6 @@ fn call(
             }
         }
     }
-}
-
-// The function and what it reads.
-fn push_shape(text: &mut String, shape: Shape) -> Result<(), AllocError> {
-    push_number(text, " asks ", u32::from(shape.function))?;
-    for range in &shape.reads {
-        push_range(text, " ", *range)?;
-    }
-    Ok(())
 }
 
 // Takes the reply with this answer, which writes what the words say.

@@ -77,18 +77,13 @@ fn push_changed_word(text: &mut String, name: &str, old: u16, new: u16) -> Resul
 fn push_memory(text: &mut String, before: &[Cell], after: &[Cell]) -> Result<(), AllocError> {
     let mut at = 0u16;
     for (old, new) in before.iter().zip(after) {
-        push_changed_place(text, at, *old, *new)?;
+        if *old != *new {
+            push_word(text, " ", at)?;
+            push_cell(text, "=", *new)?;
+        }
         at = at.wrapping_add(1);
     }
     Ok(())
-}
-
-fn push_changed_place(text: &mut String, at: u16, old: Cell, new: Cell) -> Result<(), AllocError> {
-    if old == new {
-        return Ok(());
-    }
-    push_word(text, " ", at)?;
-    push_cell(text, "=", new)
 }
 
 // Adds what a cell holds: a number, a half of an address, a byte of flags, or nothing known.
