@@ -25,5 +25,5 @@ pub use asm80_tokens::{
 };
 pub use intel::Intel;
 pub use parse::{operand_list, statement_has_one_tree};
-pub use parser::{expression, expression_has_one_tree, first};
+pub use parser::{expression, expression_has_one_tree};
 pub use reader::{LineReader, Lines, stream_has_one_outcome};

@@ -9,7 +9,8 @@ ghost use Rattle.asm80_statement_types.specs.WellFormed.{IsWellFormed};
 ghost use Rattle.asm80_text.specs.Statement.{IsStatement};
 ghost use Rattle.asm80_text.specs.Results.{GivesBody, GivesOperand, GivesOperandList, GivesOperands, GivesStatement, label_of, past_colon, past_label, past_number};
 
-use crate::{expression, first};
+use crate::expression;
+use crate::parser::first;
 use asm80_statement_types::{Arg, Args, Bytes, Name80, Stmt80};
 use asm80_tokens::{Notation, ParseFault, Token, as_operation};
 use std::alloc::Global;
