@@ -4,7 +4,7 @@ use Rattle.std.specs.Prelude.{cond, not, reverse, option_to_list, ◌||◌, ◌&
 use Rattle.std.specs.List.{list_any}
 use Rattle.std.proofs.lemmas.List.{map-append, reverse-append, append-nil}
 use Rattle.std.proofs.lemmas.List.Sorted.{list_any-IsPermutation, IsPermutation-reverse}
-use Rattle.asm80_statement_types.specs.Tree.{Statement}
+use Rattle.asm80_types.specs.Tree.{Statement}
 use Rattle.asm80_source_def.specs.declared.operation.Operation.{Operation}
 use Rattle.asm80_source_def.specs.declared.operation.Operation.TheVariants.{If, EndIf}
 use Rattle.asm80_source_def.specs.Walk.{Walk, operation_in, is_endif, is_taken, directive_meaning, is_true, ifs_by, skipped_ifs}

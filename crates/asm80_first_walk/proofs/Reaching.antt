@@ -3,8 +3,8 @@ use Rattle.std.proofs.Common.{◌≡◌, ℕ, ◌+◌, ◌<◌, inl, inr, drop, 
 use Rattle.std.specs.Prelude.{filter}
 use Rattle.std.proofs.lemmas.List.{append-nil, length-map, get_or-map, get_or_default}
 use Rattle.std.proofs.lemmas.Bool.{cases_Bool}
-use Rattle.asm80_statement_types.specs.declared.stmt.Stmt80.{Stmt80}
-use Rattle.asm80_statement_types.specs.Tree.{Statement, statement_of}
+use Rattle.asm80_types.specs.declared.stmt.Stmt80.{Stmt80}
+use Rattle.asm80_types.specs.Tree.{Statement, statement_of}
 use Rattle.asm80_source_def.specs.Walk.{Walk, WalkRow, is_taken, walk_after, ends, rows_from, walk_after_all, rows, walked, row_is_taken}
 use Rattle.asm80_source_def.specs.FirstFaults.{first_fault}
 use Rattle.asm80_first_walk.specs.declared.walked.Taken.{Taken}

@@ -2,7 +2,7 @@
 use Rattle.std.proofs.Common.{◌≡◌, ℕ, List, [], ◌∷◌, ◌++◌, Bool, true, false, Option, Some, None, refl, sym, ap, ◌∙◌}
 use Rattle.std.specs.Prelude.{cond, reverse}
 use Rattle.std.specs.Option.{option_or}
-use Rattle.asm80_statement_types.specs.Tree.{Statement}
+use Rattle.asm80_types.specs.Tree.{Statement}
 use Rattle.asm80_source_def.specs.declared.operation.Operation.{Operation}
 use Rattle.asm80_source_def.specs.declared.operation.Operation.TheVariants.{Org, End, Equ, Set, If, Ds}
 use Rattle.asm80_source_def.specs.declared.rule.AsmRule.{AsmRule}

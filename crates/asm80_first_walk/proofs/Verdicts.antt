@@ -4,7 +4,7 @@ use Rattle.std.specs.Prelude.{cond, not, ◌&&◌, ◌||◌, nat_le, unwrap_or}
 use Rattle.std.specs.Option.{option_or}
 use Rattle.std.proofs.lemmas.Bool.{le-leb, lt-leb}
 use Rattle.std.proofs.lemmas.List.{length-map, length-reverse}
-use Rattle.asm80_statement_types.specs.Tree.{Statement}
+use Rattle.asm80_types.specs.Tree.{Statement}
 use Rattle.asm80_source_def.specs.declared.operation.Operation.{Operation}
 use Rattle.asm80_source_def.specs.declared.operation.Operation.TheVariants.{If, EndIf}
 use Rattle.asm80_source_def.specs.declared.rule.AsmRule.{AsmRule}

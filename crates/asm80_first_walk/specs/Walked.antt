@@ -1,7 +1,7 @@
 -- What the first walk gives, by the definitions.
 use Rattle.std.specs.Prelude.{◌≡◌, ◌<◌, List, [], ◌∷◌, length, map, filter, get_or, Some, None, Result, Ok, Err}
-use Rattle.asm80_statement_types.specs.declared.stmt.Stmt80.{Stmt80}
-use Rattle.asm80_statement_types.specs.Tree.{statement_of}
+use Rattle.asm80_types.specs.declared.stmt.Stmt80.{Stmt80}
+use Rattle.asm80_types.specs.Tree.{statement_of}
 use Rattle.asm80_source_def.specs.Walk.{WalkRow, rows, walked, row_is_taken, row_operation, directive_meaning}
 use Rattle.asm80_source_def.specs.FirstFaults.{first_fault}
 use Rattle.asm80_first_walk.specs.declared.walked.Taken.{Taken}

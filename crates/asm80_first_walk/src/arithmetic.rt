@@ -3,7 +3,7 @@
 ghost use Rattle.std.specs.Prelude.{◌≡◌};
 ghost use Rattle.asm80_source_def.specs.Values.{binary, divides};
 
-use asm80_statement_types::Two;
+use asm80_types::Two;
 
 /// What an operator gives of two operands; None where the divisor is 0.
 pub fn binary(op: Two, a: u16, b: u16) -> Option<u16>

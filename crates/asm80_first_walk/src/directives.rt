@@ -2,8 +2,8 @@
 
 ghost use Rattle.std.specs.Prelude.{◌≡◌, map};
 ghost use Rattle.std.specs.List.{list_any};
-ghost use Rattle.asm80_statement_types.specs.declared.arg.Arg.{Arg};
-ghost use Rattle.asm80_statement_types.specs.Tree.{operand_of, Statement, statement_of};
+ghost use Rattle.asm80_types.specs.declared.arg.Arg.{Arg};
+ghost use Rattle.asm80_types.specs.Tree.{operand_of, Statement, statement_of};
 ghost use Rattle.asm80_first_walk.specs.Scopes.{scope_of};
 ghost use Rattle.asm80_source_def.specs.Values.{operand_has_unknown, operand_divides_by_zero};
 ghost use Rattle.asm80_source_def.specs.Walk.{Walk, operation_in, operand_meaning, directive_meaning, label_meaning_by, kind_of_label, address_by, is_end_directive, is_endif, is_true};
@@ -15,7 +15,7 @@ use crate::size::size_of;
 use crate::values::UNKNOWN;
 use crate::{Scope, is_no_value, meaning_of, operand_divides_by_zero, operand_has_unknown};
 use asm80_source_def::{AsmRule, Meaning, NameKind, Operation};
-use asm80_statement_types::{Arg, Stmt80};
+use asm80_types::{Arg, Stmt80};
 
 /// The operation of a statement.
 pub fn operation_in(statement: &Stmt80) -> Option<Operation>

@@ -4,7 +4,7 @@ ghost use Rattle.asm80_first_walk.specs.Walked.{Walks};
 
 use crate::walked::{AsmFault, Walked};
 use crate::walker::Walker;
-use asm80_statement_types::Stmt80;
+use asm80_types::Stmt80;
 use std::alloc::Global;
 
 /// The first walk through the statements of a source: those that are taken, with their addresses, and all names, or the first

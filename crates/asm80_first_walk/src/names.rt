@@ -9,7 +9,7 @@ ghost use Rattle.asm80_source_def.specs.Walk.{meaning_in};
 ghost use Rattle.asm80_first_walk.specs.Entries.{name_of_entry};
 
 use asm80_source_def::{AsmRule, Meaning, NameKind};
-use asm80_statement_types::Name80;
+use asm80_types::Name80;
 use indexmap::IndexMap;
 use std::alloc::{AllocError, Global};
 use std::marker::Model;

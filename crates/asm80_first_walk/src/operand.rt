@@ -2,7 +2,7 @@
 
 ghost use Rattle.std.specs.Prelude.{◌≡◌, ℕ, List};
 ghost use Rattle.std.specs.List.{list_any};
-ghost use Rattle.asm80_statement_types.specs.Tree.{operand_of};
+ghost use Rattle.asm80_types.specs.Tree.{operand_of};
 ghost use Rattle.base.specs.Addresses.{has_address, is_among, IsSetOf};
 ghost use Rattle.asm80_first_walk.specs.Scopes.{scope_of};
 ghost use Rattle.asm80_source_def.specs.Values.{is_no_value, operand_has_unknown, operand_divides_by_zero, operand_number, operand_place, operand_places_inside};
@@ -11,7 +11,7 @@ use crate::scope::Scope;
 use crate::values::{
     divides_by_zero, has_place_within, has_register, has_unknown, number_of, place_alone,
 };
-use asm80_statement_types::Arg;
+use asm80_types::Arg;
 use base::AddressSet;
 
 /// Whether an operand is a string of two or more characters, or has a register's name.

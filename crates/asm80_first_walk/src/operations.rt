@@ -4,7 +4,7 @@ ghost use Rattle.std.specs.Prelude.{◌≡◌, List, ℕ, find, map, option_map,
 ghost use Rattle.std.specs.List.{list_all};
 ghost use Rattle.std.specs.Borrow.{Bor};
 ghost use Rattle.std.specs.Str.{bytes_eq};
-ghost use Rattle.asm80_statement_types.specs.Words.{is_operation};
+ghost use Rattle.asm80_types.specs.Words.{is_operation};
 ghost use Rattle.asm80_source_def.specs.declared.operation.Operation.{Operation};
 ghost use Rattle.asm80_source_def.specs.Operations.{operation_of};
 ghost use Rattle.asm80_first_walk.specs.Tables.{begins_with_letter, by_letter, entries_of};

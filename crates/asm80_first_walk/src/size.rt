@@ -1,12 +1,12 @@
 //! How many cells statements fill.
 
 ghost use Rattle.std.specs.Prelude.{◌≡◌, ◌%◌, map, sum_by};
-ghost use Rattle.asm80_statement_types.specs.Tree.{operand_of, Statement};
+ghost use Rattle.asm80_types.specs.Tree.{operand_of, Statement};
 ghost use Rattle.asm80_source_def.specs.Operations.{operand_kinds};
 ghost use Rattle.asm80_source_def.specs.Walk.{bytes_of_item, size_by, size_of_kinds};
 
 use asm80_source_def::Operation;
-use asm80_statement_types::Arg;
+use asm80_types::Arg;
 
 /// The cells that a statement fills, modulo 65,536, also where its operands are refused later.
 pub fn size_of(operation: Option<Operation>, args: &[Arg]) -> u16

@@ -2,8 +2,8 @@
 
 ghost use Rattle.std.specs.Prelude.{◌≡◌, false, cond, is_none};
 ghost use Rattle.std.specs.List.{list_any};
-ghost use Rattle.asm80_statement_types.specs.Tree.{tree_of};
-ghost use Rattle.asm80_statement_types.specs.Words.{is_register};
+ghost use Rattle.asm80_types.specs.Tree.{tree_of};
+ghost use Rattle.asm80_types.specs.Words.{is_register};
 ghost use Rattle.base.specs.Addresses.{has_address};
 ghost use Rattle.asm80_first_walk.specs.Scopes.{scope_of};
 ghost use Rattle.asm80_source_def.specs.Values.{meaning_of_name, value_of_tree, has_register, has_undefined, divides, divides_by_zero, place_of_name, places_in, places_inside, place_alone};
@@ -12,7 +12,7 @@ ghost use Rattle.asm80_source_def.specs.Walk.{meaning_in, meaning_of};
 use crate::arithmetic::{binary, divides};
 use crate::scope::Scope;
 use asm80_source_def::Meaning;
-use asm80_statement_types::{Expr, Name80, is_register};
+use asm80_types::{Expr, Name80, is_register};
 use base::AddressSet;
 
 /// What a fault hides.

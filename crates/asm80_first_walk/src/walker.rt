@@ -2,7 +2,7 @@
 
 ghost use Rattle.std.specs.Prelude.{◌≡◌, ◌∷◌, [], ◌++◌, true, false, cond, ℕ, map, IfOk, OnOk, None};
 ghost use Rattle.std.specs.Option.{option_or};
-ghost use Rattle.asm80_statement_types.specs.Tree.{operand_of, Statement, statement_of};
+ghost use Rattle.asm80_types.specs.Tree.{operand_of, Statement, statement_of};
 ghost use Rattle.asm80_first_walk.specs.Scopes.{scope_of};
 ghost use Rattle.asm80_source_def.specs.declared.rule.AsmRule.TheVariants.{V2, V5, V6, V7};
 ghost use Rattle.asm80_source_def.specs.declared.meaning.Meaning.{Meaning};
@@ -19,7 +19,7 @@ use crate::ifs::{OpenIf, some_skips};
 use crate::walked::{Taken, Walked};
 use crate::{Names, Scope};
 use asm80_source_def::{AsmRule, Meaning, NameKind, Operation};
-use asm80_statement_types::{Arg, Name80, Stmt80};
+use asm80_types::{Arg, Name80, Stmt80};
 use std::alloc::{AllocError, Global};
 use std::marker::Model;
 

@@ -2,9 +2,9 @@
 use Rattle.std.specs.Prelude.{◌≡◌, ◌↔◌, ℕ, List, Contains, Option, Some, None}
 use Rattle.std.specs.Option.{option_or}
 use Rattle.cells.specs.declared.Cell.{Cell}
-use Rattle.asm80_statement_types.specs.Tree.{Statement}
-use Rattle.asm80_program_types.specs.declared.program.Placed.{Placed}
-use Rattle.asm80_program_types.specs.Program.{Program, IsProgram}
+use Rattle.asm80_types.specs.Tree.{Statement}
+use Rattle.asm80_types.specs.declared.program.Placed.{Placed}
+use Rattle.asm80_types.specs.Program.{Program, IsProgram}
 use Rattle.asm80_source_def.specs.declared.rule.AsmRule.{AsmRule}
 use Rattle.asm80_source_def.specs.Walk.{Walk, WalkRow, rows, walked}
 use Rattle.asm80_source_def.specs.FirstFaults.{Refusal, first_fault}

@@ -5,7 +5,7 @@ use Rattle.std.specs.Option.{option_or}
 use Rattle.std.specs.List.{list_any}
 use Rattle.i80.specs.declared.Pair.{Pair as Pair80}
 use Rattle.i80.specs.declared.Pair.TheVariants as pairs
-use Rattle.asm80_statement_types.specs.Tree.{Operand}
+use Rattle.asm80_types.specs.Tree.{Operand}
 use Rattle.asm80_source_def.specs.declared.operation.Operation.{Operation}
 use Rattle.asm80_source_def.specs.declared.operation.Operation.TheVariants.{Db, Dw, Lxi, Rst, Foreign}
 use Rattle.asm80_source_def.specs.declared.operation.Kind.{Kind}

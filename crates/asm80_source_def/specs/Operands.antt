@@ -11,7 +11,7 @@ use Rattle.i80.specs.declared.Pair.{Pair}
 use Rattle.i80.specs.declared.Pair.TheVariants as pairs
 use Rattle.i80.specs.declared.StackPair.{StackPair}
 use Rattle.i80.specs.declared.StackPair.TheVariants as stack_pairs
-use Rattle.asm80_statement_types.specs.Tree.{Named, Operand, String, Whole}
+use Rattle.asm80_types.specs.Tree.{Named, Operand, String, Whole}
 use Rattle.asm80_source_def.specs.declared.operation.Operation.{Operation}
 use Rattle.asm80_source_def.specs.declared.operation.Operation.TheVariants.{Db, Dw, Mov}
 use Rattle.asm80_source_def.specs.declared.operation.Kind.{Kind}

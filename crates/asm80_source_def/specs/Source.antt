@@ -1,11 +1,11 @@
 -- A source: bytes that are a program for a top of the program area, or are refused at a line for a rule. Which statements the
 -- bytes have is a reading, whatever it is; which program statements are, or for which rule they are none, knows no bytes.
 use Rattle.std.specs.Prelude.{ℕ, List, Some, None}
-use Rattle.asm80_statement_types.specs.declared.fault.LineRule.{LineRule}
-use Rattle.asm80_statement_types.specs.declared.fault.ReadFault.TheVariants.{Syntax}
-use Rattle.asm80_statement_types.specs.Tree.{Statement}
-use Rattle.asm80_statement_types.specs.Reading.{Reading}
-use Rattle.asm80_program_types.specs.Program.{Program}
+use Rattle.asm80_types.specs.declared.fault.LineRule.{LineRule}
+use Rattle.asm80_types.specs.declared.fault.ReadFault.TheVariants.{Syntax}
+use Rattle.asm80_types.specs.Tree.{Statement}
+use Rattle.asm80_types.specs.Reading.{Reading}
+use Rattle.asm80_types.specs.Program.{Program}
 use Rattle.asm80_source_def.specs.declared.rule.AsmRule.{AsmRule}
 use Rattle.asm80_source_def.specs.Assembly.{IsAssembled, IsRefused}
 

@@ -1,10 +1,10 @@
 -- The values of expressions: 16 bits, unsigned, wrapping (CP/M 2.2 Operating System Manual, the assembler, "Forming the
 -- operand"). A value that a fault hides is None.
 use Rattle.std.specs.Prelude.{ℕ, ◌+◌, ◌-◌, ◌*◌, ◌/◌, ◌%◌, ◌^◌, ◌==◌, nat_lt, ◌||◌, Bool, true, false, cond, List, [], ◌∷◌, ◌++◌, Option, Some, None, option_map, option_and_then, option_to_list, is_none, bit_and, bit_or, bit_xor}
-use Rattle.asm80_statement_types.specs.declared.expr.Two.{Two}
-use Rattle.asm80_statement_types.specs.declared.expr.Two.TheVariants.{Mul, Div, Mod, Shl, Shr, Add, Sub, And, Or, Xor}
-use Rattle.asm80_statement_types.specs.Tree.{Tree, Number, Place, Named, Inverted, Negated, Binary, Operand, String, Whole}
-use Rattle.asm80_statement_types.specs.Words.{is_register}
+use Rattle.asm80_types.specs.declared.expr.Two.{Two}
+use Rattle.asm80_types.specs.declared.expr.Two.TheVariants.{Mul, Div, Mod, Shl, Shr, Add, Sub, And, Or, Xor}
+use Rattle.asm80_types.specs.Tree.{Tree, Number, Place, Named, Inverted, Negated, Binary, Operand, String, Whole}
+use Rattle.asm80_types.specs.Words.{is_register}
 use Rattle.asm80_source_def.specs.declared.meaning.Meaning.{Meaning}
 
 -- what a fault hides

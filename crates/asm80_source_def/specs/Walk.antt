@@ -2,7 +2,7 @@
 -- System Manual, the assembler, "Operand field", "Assembler directives").
 use Rattle.std.specs.Prelude.{ℕ, ◌+◌, ◌*◌, ◌%◌, ◌==◌, not, ◌&&◌, ◌||◌, Bool, true, false, cond, List, [], ◌∷◌, length, Option, Some, None, option_and_then, option_map, drop, sum_by}
 use Rattle.std.specs.List.{list_any}
-use Rattle.asm80_statement_types.specs.Tree.{Tree, Number, Place, Named, Inverted, Negated, Binary, Operand, String, Whole, Statement}
+use Rattle.asm80_types.specs.Tree.{Tree, Number, Place, Named, Inverted, Negated, Binary, Operand, String, Whole, Statement}
 use Rattle.asm80_source_def.specs.declared.operation.Operation.{Operation}
 use Rattle.asm80_source_def.specs.declared.operation.Operation.TheVariants.{Org, End, Equ, Set, If, EndIf, Db, Dw, Ds}
 use Rattle.asm80_source_def.specs.declared.operation.Kind.{Kind}

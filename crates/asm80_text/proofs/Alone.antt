@@ -1,10 +1,10 @@
 -- Tokens are one statement.
 use Rattle.std.proofs.Common.{◌≡◌, ℕ, List, [], ◌∷◌, ◌++◌, Option, Some, refl, sym, ap, ◌∙◌, arith}
-use Rattle.asm80_statement_types.specs.Tree.{Operand, Whole, Statement}
-use Rattle.asm80_tokens.specs.declared.token.Token.{Token}
-use Rattle.asm80_tokens.specs.declared.token.Token.TheVariants.{Word, Comma, Colon}
-use Rattle.asm80_tokens.specs.Spelling.{Spelling}
-use Rattle.asm80_tokens.specs.Coherent.{IsCoherent}
+use Rattle.asm80_types.specs.Tree.{Operand, Whole, Statement}
+use Rattle.asm80_text.specs.declared.token.Token.{Token}
+use Rattle.asm80_text.specs.declared.token.Token.TheVariants.{Word, Comma, Colon}
+use Rattle.asm80_text.specs.Spelling.{Spelling}
+use Rattle.asm80_text.specs.Coherent.{IsCoherent}
 use Rattle.asm80_text.specs.Grammar.{Ends}
 use Rattle.asm80_text.proofs.Unambiguous.{one_expression}
 use Rattle.asm80_text.specs.Statement.{IsOperand, text, value, AreOperands, last, more, HasOperands, bare, full, IsBody, nothing, operated, IsLabeled, unlabeled, labeled, with_colon, IsStatement, unnumbered, numbered, IsStatementOf, kept, AreStatements, none_left, next}

@@ -1,13 +1,13 @@
 -- What the functions on bodies and statements found.
 use Rattle.std.proofs.Common.{◌≡◌, ℕ, List, [], ◌∷◌, Option, Some, None, Err, refl, sym, ◌∙◌, inl, inr, ◌⊎◌}
-use Rattle.asm80_statement_types.specs.Tree.{Operand, Statement}
-use Rattle.asm80_tokens.specs.declared.token.Token.{Token}
-use Rattle.asm80_tokens.specs.declared.token.Token.TheVariants.{Digits, Word, Colon}
-use Rattle.asm80_tokens.specs.declared.fault.ParseFault.{ParseFault}
-use Rattle.asm80_tokens.specs.declared.fault.ParseFault.TheVariants as faults
-use Rattle.asm80_tokens.specs.Spelling.{Spelling}
-use Rattle.asm80_tokens.specs.Words.{as_operation}
-use Rattle.asm80_tokens.specs.TokenResults.{GivesOperation}
+use Rattle.asm80_types.specs.Tree.{Operand, Statement}
+use Rattle.asm80_text.specs.declared.token.Token.{Token}
+use Rattle.asm80_text.specs.declared.token.Token.TheVariants.{Digits, Word, Colon}
+use Rattle.asm80_text.specs.declared.fault.ParseFault.{ParseFault}
+use Rattle.asm80_text.specs.declared.fault.ParseFault.TheVariants as faults
+use Rattle.asm80_text.specs.Spelling.{Spelling}
+use Rattle.asm80_text.specs.Words.{as_operation}
+use Rattle.asm80_text.specs.TokenResults.{GivesOperation}
 use Rattle.asm80_text.proofs.Operations.{CanOperate, word, operator, inverse, can_operate}
 use Rattle.asm80_text.specs.Statement.{IsBody, nothing, operated, IsLabeled, unlabeled, labeled, with_colon, IsStatement, unnumbered, numbered, IsStatementOf}
 use Rattle.asm80_text.specs.Results.{GivesBody, GivesStatement, past_number, past_colon, label_of, past_label}

@@ -1,15 +1,15 @@
 -- What an expression begins with, and what each way to begin leaves.
 use Rattle.std.proofs.Common.{◌≡◌, ◌≢◌, ℕ, zero, suc, ◌<◌, ◌-◌, List, [], ◌∷◌, refl, sym, ap, subst, ◌∙◌, arith, Option, Some, None, Result, Ok, Err}
-use Rattle.asm80_statement_types.specs.declared.expr.Two.{Two}
-use Rattle.asm80_statement_types.specs.declared.expr.Two.TheVariants.{Mul, Div, Mod, Shl, Shr, Add, Sub, And, Or, Xor}
+use Rattle.asm80_types.specs.declared.expr.Two.{Two}
+use Rattle.asm80_types.specs.declared.expr.Two.TheVariants.{Mul, Div, Mod, Shl, Shr, Add, Sub, And, Or, Xor}
 use Rattle.std.specs.Borrow.{Bor}
 use Rattle.std.proofs.lemmas.Option.{same_Some}
-use Rattle.asm80_statement_types.specs.declared.expr.Expr.{Expr}
-use Rattle.asm80_statement_types.specs.Tree.{tree_of, Tree, Number, Place, Named, Inverted, Negated, Binary}
-use Rattle.asm80_tokens.specs.declared.token.Token.{Token}
-use Rattle.asm80_tokens.specs.declared.token.Token.TheVariants.{Digits, Num, Here, Word, Register, Op, Not, Open, Close}
-use Rattle.asm80_tokens.specs.declared.fault.ParseFault.{ParseFault}
-use Rattle.asm80_tokens.specs.declared.fault.ParseFault.TheVariants as faults
+use Rattle.asm80_types.specs.declared.expr.Expr.{Expr}
+use Rattle.asm80_types.specs.Tree.{tree_of, Tree, Number, Place, Named, Inverted, Negated, Binary}
+use Rattle.asm80_text.specs.declared.token.Token.{Token}
+use Rattle.asm80_text.specs.declared.token.Token.TheVariants.{Digits, Num, Here, Word, Register, Op, Not, Open, Close}
+use Rattle.asm80_text.specs.declared.fault.ParseFault.{ParseFault}
+use Rattle.asm80_text.specs.declared.fault.ParseFault.TheVariants as faults
 use Rattle.asm80_text.specs.TreeResults.{Sure, Never, Gives, Stops, IsNotOf, term_of}
 use Rattle.asm80_text.specs.Grammar.{level_of, next_operator, IsLooser, Spells, Begins, Ends, EndsInside, alone, joined, digits, number, here, name, register, parens, tighter, minus, plus, inverse}
 use Rattle.asm80_text.proofs.Chain.{Extends, done, step, Chained, unrolled, ends_inside_all}

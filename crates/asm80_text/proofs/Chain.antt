@@ -1,9 +1,9 @@
 -- A chain of operators of one level, read from the left.
 use Rattle.std.proofs.Common.{◌≡◌, ℕ, zero, suc, ◌<◌, List, ◌∷◌, length, refl, arith, Option, Some, None}
-use Rattle.asm80_statement_types.specs.declared.expr.Two.{Two}
-use Rattle.asm80_statement_types.specs.Tree.{Tree, Binary}
-use Rattle.asm80_tokens.specs.declared.token.Token.{Token}
-use Rattle.asm80_tokens.specs.declared.token.Token.TheVariants.{Op}
+use Rattle.asm80_types.specs.declared.expr.Two.{Two}
+use Rattle.asm80_types.specs.Tree.{Tree, Binary}
+use Rattle.asm80_text.specs.declared.token.Token.{Token}
+use Rattle.asm80_text.specs.declared.token.Token.TheVariants.{Op}
 use Rattle.asm80_text.specs.Grammar.{level_of, next_operator, IsLooser, Spells, Begins, Ends, EndsInside, alone, joined, digits, number, here, name, register, parens, tighter, minus, plus, inverse}
 
 -- From left with the tokens ts, operators of level n and their right operands lead to e with the tokens rest.

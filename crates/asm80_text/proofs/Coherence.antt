@@ -1,7 +1,7 @@
 -- Intel's spelling is that of statements.
 use Rattle.std.proofs.Common.{◌≡◌, sym, ◌∙◌, subst, List, ℕ, true}
-use Rattle.asm80_statement_types.specs.Words.{is_operation}
-use Rattle.asm80_tokens.specs.Coherent.{IsCoherent}
+use Rattle.asm80_types.specs.Words.{is_operation}
+use Rattle.asm80_text.specs.Coherent.{IsCoherent}
 use Rattle.asm80_text.specs.Intel.{intel_spelling}
 use Rattle.asm80_text.proofs.Alone.{one_operand_list}
 use Rattle.asm80_text.proofs.Lawful.{list_lawful}

@@ -1,7 +1,7 @@
 -- How many parentheses are open, one token further.
 use Rattle.std.proofs.Common.{◌≡◌, ℕ, suc, max, ◌+◌, ◌≤◌, ◌<◌, List, [], ◌∷◌, Bool, true, false, ltb, drop, get_or, length, refl, sym, ap, ◌∙◌, arith, inl, inr, drop-cons, add-one}
 use Rattle.std.proofs.lemmas.Bool.{cases_lt, lt-ltb, le-ltb}
-use Rattle.asm80_tokens.specs.declared.token.Token.{Token}
+use Rattle.asm80_text.specs.declared.token.Token.{Token}
 use Rattle.asm80_text.specs.Line.{open_after, most_open}
 
 max_above : (n m : ℕ) → n ≤ 16 → ltb 16 (max n m) ≡ ltb 16 m

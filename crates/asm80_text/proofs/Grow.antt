@@ -1,11 +1,11 @@
 -- A stream that grows by a byte.
 use Rattle.std.proofs.Common.{◌≡◌, ◌≢◌, ℕ, ◌+◌, List, [], ◌∷◌, ◌++◌, length, Option, Some, None, Ok, Err, refl, sym, ◌∙◌, append_assoc, arith}
 use Rattle.std.proofs.lemmas.List.{append-nil}
-use Rattle.asm80_statement_types.specs.declared.fault.LineRule.{LineRule}
-use Rattle.asm80_statement_types.specs.declared.fault.ReadFault.{ReadFault}
-use Rattle.asm80_statement_types.specs.declared.fault.ReadFault.TheVariants.{Syntax}
-use Rattle.asm80_statement_types.specs.Tree.{Statement}
-use Rattle.asm80_tokens.specs.Spelling.{Spelling}
+use Rattle.asm80_types.specs.declared.fault.LineRule.{LineRule}
+use Rattle.asm80_types.specs.declared.fault.ReadFault.{ReadFault}
+use Rattle.asm80_types.specs.declared.fault.ReadFault.TheVariants.{Syntax}
+use Rattle.asm80_types.specs.Tree.{Statement}
+use Rattle.asm80_text.specs.Spelling.{Spelling}
 use Rattle.asm80_text.specs.Line.{LineGives}
 use Rattle.asm80_text.specs.Stream.{LinesGive, none_left, next, fails}
 

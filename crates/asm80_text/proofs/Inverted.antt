@@ -1,13 +1,13 @@
 -- A row of NOTs before a sum.
 use Rattle.std.proofs.Common.{◌≡◌, suc, ◌+◌, List, [], ◌∷◌, drop, Option, Some, None, Err, refl, arith}
 use Rattle.std.specs.List.{prefix_len}
-use Rattle.asm80_statement_types.specs.declared.expr.Two.{Two}
-use Rattle.asm80_statement_types.specs.declared.expr.Two.TheVariants.{Mul, Div, Mod, Shl, Shr, Add, Sub, And, Or, Xor}
-use Rattle.asm80_tokens.specs.declared.fault.ParseFault.{ParseFault}
-use Rattle.asm80_tokens.specs.declared.fault.ParseFault.TheVariants as faults
-use Rattle.asm80_tokens.specs.declared.token.Token.{Token}
-use Rattle.asm80_tokens.specs.declared.token.Token.TheVariants.{Not}
-use Rattle.asm80_statement_types.specs.Tree.{Tree}
+use Rattle.asm80_types.specs.declared.expr.Two.{Two}
+use Rattle.asm80_types.specs.declared.expr.Two.TheVariants.{Mul, Div, Mod, Shl, Shr, Add, Sub, And, Or, Xor}
+use Rattle.asm80_text.specs.declared.fault.ParseFault.{ParseFault}
+use Rattle.asm80_text.specs.declared.fault.ParseFault.TheVariants as faults
+use Rattle.asm80_text.specs.declared.token.Token.{Token}
+use Rattle.asm80_text.specs.declared.token.Token.TheVariants.{Not}
+use Rattle.asm80_types.specs.Tree.{Tree}
 use Rattle.asm80_text.specs.Grammar.{next_operator, Spells, Begins, Ends, EndsInside}
 use Rattle.asm80_text.specs.TreeResults.{Sure, Never, Gives, IsNotOf, is_not, inverted}
 use Rattle.asm80_text.proofs.Cases.{inverse_read, inverse_never, upright_read, upright_never, chain_starts, chain_never, chain_ends}

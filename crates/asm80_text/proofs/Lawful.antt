@@ -2,15 +2,15 @@
 use Rattle.std.proofs.Common.{◌≡◌, ℕ, List, [], false, Option, Some, None, All, refl}
 use Rattle.std.specs.List.{AllByRecursion}
 use Rattle.std.proofs.lemmas.List.Elements.{All-from_recursion, recursion_from_All}
-use Rattle.asm80_tokens.specs.declared.token.Token.{Token}
-use Rattle.asm80_statement_types.specs.Tree.{Tree, Operand, Statement}
-use Rattle.asm80_tokens.specs.Spelling.{Spelling}
-use Rattle.asm80_tokens.specs.Tokens.{IsLawful}
-use Rattle.asm80_tokens.specs.Coherent.{IsCoherent}
+use Rattle.asm80_text.specs.declared.token.Token.{Token}
+use Rattle.asm80_types.specs.Tree.{Tree, Operand, Statement}
+use Rattle.asm80_text.specs.Spelling.{Spelling}
+use Rattle.asm80_text.specs.Tokens.{IsLawful}
+use Rattle.asm80_text.specs.Coherent.{IsCoherent}
 use Rattle.asm80_text.proofs.Operations.{operates}
 use Rattle.asm80_text.specs.Grammar.{Spells, Begins, alone, joined, digits, number, here, name, register, parens, tighter, minus, plus, inverse}
-use Rattle.asm80_statement_types.specs.Words.{is_register}
-use Rattle.asm80_statement_types.specs.WellFormed.{IsLawfulOperand, IsWellFormed}
+use Rattle.asm80_types.specs.Words.{is_register}
+use Rattle.asm80_types.specs.WellFormed.{IsLawfulOperand, IsWellFormed}
 use Rattle.asm80_text.specs.Statement.{IsOperand, text, value, AreOperands, last, more, HasOperands, bare, full, IsBody, nothing, operated, IsLabeled, unlabeled, labeled, with_colon, IsStatement, unnumbered, numbered, IsStatementOf}
 
 abbrev AreLawful : Spelling → List Token → Type 0

@@ -1,3 +1,10 @@
+pub mod Significant
+pub mod Digits
+pub mod Names
+pub mod Quotes
+pub mod Symbols
+pub mod Lexing
+pub mod FirstToken
 pub mod Operations
 pub mod Chain
 pub mod Cases

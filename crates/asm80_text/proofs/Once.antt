@@ -1,15 +1,15 @@
 -- A line gives one thing.
 use Rattle.std.proofs.Common.{◌≡◌, ℕ, ◌≤◌, List, Bool, true, false, Option, Result, Ok, Err, length, refl, ap, arith}
-use Rattle.asm80_statement_types.specs.declared.fault.LineRule.{LineRule}
-use Rattle.asm80_statement_types.specs.declared.fault.ReadFault.{ReadFault}
-use Rattle.asm80_statement_types.specs.declared.fault.ReadFault.TheVariants.{Syntax, Memory}
-use Rattle.asm80_statement_types.specs.declared.stmt.Stmt80.{Stmt80}
-use Rattle.asm80_tokens.specs.declared.token.Token.{Token}
-use Rattle.asm80_tokens.specs.Spelling.{Spelling}
-use Rattle.asm80_tokens.specs.Coherent.{IsCoherent}
-use Rattle.asm80_tokens.specs.Tokens.{Lexes}
-use Rattle.asm80_statement_types.specs.Tree.{Statement}
-use Rattle.asm80_tokens.proofs.Lexing.{one_reading}
+use Rattle.asm80_types.specs.declared.fault.LineRule.{LineRule}
+use Rattle.asm80_types.specs.declared.fault.ReadFault.{ReadFault}
+use Rattle.asm80_types.specs.declared.fault.ReadFault.TheVariants.{Syntax, Memory}
+use Rattle.asm80_types.specs.declared.stmt.Stmt80.{Stmt80}
+use Rattle.asm80_text.specs.declared.token.Token.{Token}
+use Rattle.asm80_text.specs.Spelling.{Spelling}
+use Rattle.asm80_text.specs.Coherent.{IsCoherent}
+use Rattle.asm80_text.specs.Tokens.{Lexes}
+use Rattle.asm80_types.specs.Tree.{Statement}
+use Rattle.asm80_text.proofs.Lexing.{one_reading}
 use Rattle.asm80_text.specs.Line.{parts_of, PartsGive, deep, malformed, formed, TextGives, reserved, faulty, sound, LineGives, late, long, remark, told, IsRemark}
 use Rattle.asm80_text.specs.Results.{ReadsText, ReadsLine}
 use Rattle.asm80_text.proofs.Alone.{one_list_of_statements}

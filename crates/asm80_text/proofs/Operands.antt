@@ -2,12 +2,12 @@
 use Rattle.std.proofs.Common.{◌≡◌, ◌≢◌, ℕ, ◌<◌, List, [], ◌∷◌, ◌++◌, length, Bool, true, false, eqb, Result, Ok, Err, refl, sym, ap, ◌∙◌, append_assoc, arith}
 use Rattle.std.proofs.lemmas.Bool.{eqb-true}
 use Rattle.std.specs.Global.{Vec}
-use Rattle.asm80_statement_types.specs.declared.arg.Arg.{Arg}
-use Rattle.asm80_statement_types.specs.Tree.{Tree, Operand, String, Whole}
-use Rattle.asm80_tokens.specs.declared.token.Token.{Token}
-use Rattle.asm80_tokens.specs.declared.token.Token.TheVariants.{Text, Comma}
-use Rattle.asm80_tokens.specs.declared.fault.ParseFault.{ParseFault}
-use Rattle.asm80_tokens.specs.declared.fault.ParseFault.TheVariants as faults
+use Rattle.asm80_types.specs.declared.arg.Arg.{Arg}
+use Rattle.asm80_types.specs.Tree.{Tree, Operand, String, Whole}
+use Rattle.asm80_text.specs.declared.token.Token.{Token}
+use Rattle.asm80_text.specs.declared.token.Token.TheVariants.{Text, Comma}
+use Rattle.asm80_text.specs.declared.fault.ParseFault.{ParseFault}
+use Rattle.asm80_text.specs.declared.fault.ParseFault.TheVariants as faults
 use Rattle.asm80_text.specs.Grammar.{Spells, Begins, Ends, alone, joined, tighter}
 use Rattle.asm80_text.specs.TreeResults.{Sure, Gives}
 use Rattle.asm80_text.proofs.Chain.{spells_shorter}

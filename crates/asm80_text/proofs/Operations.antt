@@ -5,14 +5,14 @@ use Rattle.std.specs.Str.{bytes_eq}
 use Rattle.std.proofs.lemmas.Bool.{cases_Bool}
 use Rattle.std.proofs.lemmas.Slice.Eq.{bytes_eq-Decides}
 use borrow.Author.Tests.{ltb-true}
-use Rattle.asm80_statement_types.specs.Words.{operations, is_operation as is_intel_operation}
+use Rattle.asm80_types.specs.Words.{operations, is_operation as is_intel_operation}
 use Rattle.std.specs.Prelude.{codes, if◌then◌else◌}
-use Rattle.asm80_statement_types.specs.declared.expr.Two.{Two}
-use Rattle.asm80_tokens.specs.declared.token.Token.{Token}
-use Rattle.asm80_tokens.specs.declared.token.Token.TheVariants.{Digits, Num, Here, Word, Register, Operation, Text, Op, Not, Open, Close, Comma, Colon, Bang, Stray}
-use Rattle.asm80_tokens.specs.Spelling.{Spelling}
-use Rattle.asm80_tokens.specs.Words.{operator_name, if_operation, as_operation}
-use Rattle.asm80_tokens.specs.Tokens.{IsLawful}
+use Rattle.asm80_types.specs.declared.expr.Two.{Two}
+use Rattle.asm80_text.specs.declared.token.Token.{Token}
+use Rattle.asm80_text.specs.declared.token.Token.TheVariants.{Digits, Num, Here, Word, Register, Operation, Text, Op, Not, Open, Close, Comma, Colon, Bang, Stray}
+use Rattle.asm80_text.specs.Spelling.{Spelling}
+use Rattle.asm80_text.specs.Words.{operator_name, if_operation, as_operation}
+use Rattle.asm80_text.specs.Tokens.{IsLawful}
 
 pub data CanOperate : Token → Type 0 where
   word : {w : List ℕ} → CanOperate (Operation w)

@@ -1,10 +1,10 @@
 -- Operands of tokens in range are in range.
 use Rattle.std.proofs.Common.{List, ℕ}
 use Rattle.std.specs.List.{AllByRecursion}
-use Rattle.asm80_statement_types.specs.Tree.{Tree, Operand}
-use Rattle.asm80_statement_types.specs.Ranges.{HasWords, IsInRange}
-use Rattle.asm80_tokens.specs.declared.token.Token.{Token}
-use Rattle.asm80_tokens.specs.Small.{AreSmall}
+use Rattle.asm80_types.specs.Tree.{Tree, Operand}
+use Rattle.asm80_types.specs.Ranges.{HasWords, IsInRange}
+use Rattle.asm80_text.specs.declared.token.Token.{Token}
+use Rattle.asm80_text.specs.Small.{AreSmall}
 use Rattle.asm80_text.specs.Grammar.{Spells, Begins, alone, joined, digits, number, here, name, register, parens, tighter, minus, plus, inverse}
 use Rattle.asm80_text.specs.Statement.{IsOperand, text, value, AreOperands, last, more, HasOperands, bare, full}
 

@@ -1,8 +1,8 @@
 -- Tokens spell one expression.
 use Rattle.std.proofs.Common.{◌≡◌, ℕ, zero, suc, ◌<◌, ◌≤◌, ◌+◌, ◌*◌, List, ◌∷◌, length, refl, ap, arith}
-use Rattle.asm80_statement_types.specs.Tree.{Tree, Inverted, Negated, Binary}
-use Rattle.asm80_tokens.specs.declared.token.Token.{Token}
-use Rattle.asm80_tokens.specs.declared.token.Token.TheVariants.{Close}
+use Rattle.asm80_types.specs.Tree.{Tree, Inverted, Negated, Binary}
+use Rattle.asm80_text.specs.declared.token.Token.{Token}
+use Rattle.asm80_text.specs.declared.token.Token.TheVariants.{Close}
 use Rattle.asm80_text.specs.Grammar.{Spells, Begins, Ends, EndsInside, alone, digits, number, here, name, register, parens, tighter, minus, plus, inverse}
 use Rattle.asm80_text.specs.TreeResults.{Sure}
 use Rattle.asm80_text.proofs.Chain.{Extends, done, step, unrolled, ends_inside_all, spells_shorter, begins_shorter}

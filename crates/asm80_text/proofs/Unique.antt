@@ -2,19 +2,19 @@
 use Rattle.std.proofs.Common.{◌≡◌, ◌≢◌, ℕ, List, [], ◌∷◌, ◌++◌, map, Bool, Option, Some, None, Result, Ok, Err, refl, sym, ap, subst, ◌∙◌, arith, inl, inr, ◌⊎◌}
 use Rattle.std.specs.Global.{Vec}
 use Rattle.std.specs.List.{flat_map, AllByRecursion}
-use Rattle.asm80_statement_types.specs.declared.fault.LineRule.{LineRule}
-use Rattle.asm80_statement_types.specs.declared.fault.ReadFault.{ReadFault}
-use Rattle.asm80_statement_types.specs.declared.fault.ReadFault.TheVariants.{Syntax, Memory}
-use Rattle.asm80_statement_types.specs.Tree.{Statement, statement_of}
-use Rattle.asm80_statement_types.specs.Reading.{Finishes}
-use Rattle.asm80_tokens.specs.Spelling.{Spelling}
-use Rattle.asm80_tokens.specs.Coherent.{IsCoherent}
+use Rattle.asm80_types.specs.declared.fault.LineRule.{LineRule}
+use Rattle.asm80_types.specs.declared.fault.ReadFault.{ReadFault}
+use Rattle.asm80_types.specs.declared.fault.ReadFault.TheVariants.{Syntax, Memory}
+use Rattle.asm80_types.specs.Tree.{Statement, statement_of}
+use Rattle.asm80_types.specs.Reading.{Finishes}
+use Rattle.asm80_text.specs.Spelling.{Spelling}
+use Rattle.asm80_text.specs.Coherent.{IsCoherent}
 use Rattle.asm80_text.proofs.Once.{one_line}
 use Rattle.asm80_text.proofs.Steps.{not_memory, none_not_memory}
 use Rattle.base.specs.Cut.{Cut, ended}
 use Rattle.base.proofs.Cuts.{split_same, not_in, regroup, one_cut}
 use Rattle.asm80_text.specs.Stream.{IsPlain, IsStream, open_yet, closed, complete, LinesGive, none_left, next, fails, StreamGives, HoldsFault}
-use Rattle.asm80_statement_types.specs.declared.stmt.Stmt80.{Stmt80}
+use Rattle.asm80_types.specs.declared.stmt.Stmt80.{Stmt80}
 use Rattle.asm80_text.specs.Reader.{Reader, After, answer_of, Agrees}
 
 ok_is : (a b : List Statement) → ◌≡◌ {A = Result (List Statement) LineRule} (Ok a) (Ok b) → a ≡ b

@@ -1,11 +1,11 @@
 -- The grammar of expressions, as a relation between tokens and a tree (CP/M 2.2 Operating System Manual, the assembler,
 -- "Arithmetic and logical operators" and "Precedence of operators"; the order of the operators is this project's).
 use Rattle.std.specs.Prelude.{◌≡◌, ℕ, zero, suc, ◌<◌, List, ◌∷◌, Option, Some, None}
-use Rattle.asm80_statement_types.specs.declared.expr.Two.{Two}
-use Rattle.asm80_statement_types.specs.declared.expr.Two.TheVariants.{Mul, Div, Mod, Shl, Shr, Add, Sub, And, Or, Xor}
-use Rattle.asm80_statement_types.specs.Tree.{Tree, Number, Place, Named, Inverted, Negated, Binary}
-use Rattle.asm80_tokens.specs.declared.token.Token.{Token}
-use Rattle.asm80_tokens.specs.declared.token.Token.TheVariants.{Digits, Num, Here, Word, Register, Op, Not, Open, Close}
+use Rattle.asm80_types.specs.declared.expr.Two.{Two}
+use Rattle.asm80_types.specs.declared.expr.Two.TheVariants.{Mul, Div, Mod, Shl, Shr, Add, Sub, And, Or, Xor}
+use Rattle.asm80_types.specs.Tree.{Tree, Number, Place, Named, Inverted, Negated, Binary}
+use Rattle.asm80_text.specs.declared.token.Token.{Token}
+use Rattle.asm80_text.specs.declared.token.Token.TheVariants.{Digits, Num, Here, Word, Register, Op, Not, Open, Close}
 
 -- how tightly an operator binds: 1 is the tightest
 abbrev pub level_of : Two → ℕ

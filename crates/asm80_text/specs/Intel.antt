@@ -1,11 +1,11 @@
 -- Sources in Intel's spelling: the operations of statements are its operations, the registers of statements its other reserved
 -- words, and an operation is followed by its operands (Intel 8080 Assembly Language Programming Manual, chapter 2).
 use Rattle.std.specs.Prelude.{◌≡◌, ℕ, List}
-use Rattle.asm80_statement_types.specs.Tree.{Operand}
-use Rattle.asm80_statement_types.specs.Words.{is_operation, is_register}
-use Rattle.asm80_statement_types.specs.Reading.{Reading}
-use Rattle.asm80_tokens.specs.declared.token.Token.{Token}
-use Rattle.asm80_tokens.specs.Spelling.{Spelling}
+use Rattle.asm80_types.specs.Tree.{Operand}
+use Rattle.asm80_types.specs.Words.{is_operation, is_register}
+use Rattle.asm80_types.specs.Reading.{Reading}
+use Rattle.asm80_text.specs.declared.token.Token.{Token}
+use Rattle.asm80_text.specs.Spelling.{Spelling}
 use Rattle.asm80_text.specs.Statement.{HasOperands}
 use Rattle.asm80_text.specs.Stream.{StreamGives}
 

@@ -1,16 +1,16 @@
 -- What a line gives: its statements, or the rule that it breaks.
 use Rattle.std.specs.Prelude.{◌≡◌, ℕ, ◌+◌, ◌-◌, ◌<◌, ◌≤◌, max, List, [], ◌∷◌, Bool, true, false, Option, Some, None, is_some, Result, Ok, Err, length, nat_lt, if◌then◌else◌}
 use Rattle.std.specs.List.{slice_split, list_any}
-use Rattle.asm80_statement_types.specs.declared.expr.Two.{Two}
-use Rattle.asm80_statement_types.specs.declared.expr.Two.TheVariants.{Mul, Div, Add, Sub}
-use Rattle.asm80_statement_types.specs.declared.fault.LineRule.{LineRule}
-use Rattle.asm80_statement_types.specs.declared.fault.LineRule.TheVariants as rules
-use Rattle.asm80_tokens.specs.declared.token.Token.{Token}
-use Rattle.asm80_tokens.specs.declared.token.Token.TheVariants.{Digits, Register, Operation, Op, Not, Open, Close, Colon, Bang}
-use Rattle.asm80_statement_types.specs.Tree.{Statement}
-use Rattle.asm80_tokens.specs.Spelling.{Spelling}
-use Rattle.asm80_tokens.specs.Words.{as_operation}
-use Rattle.asm80_tokens.specs.Tokens.{Lexes}
+use Rattle.asm80_types.specs.declared.expr.Two.{Two}
+use Rattle.asm80_types.specs.declared.expr.Two.TheVariants.{Mul, Div, Add, Sub}
+use Rattle.asm80_types.specs.declared.fault.LineRule.{LineRule}
+use Rattle.asm80_types.specs.declared.fault.LineRule.TheVariants as rules
+use Rattle.asm80_text.specs.declared.token.Token.{Token}
+use Rattle.asm80_text.specs.declared.token.Token.TheVariants.{Digits, Register, Operation, Op, Not, Open, Close, Colon, Bang}
+use Rattle.asm80_types.specs.Tree.{Statement}
+use Rattle.asm80_text.specs.Spelling.{Spelling}
+use Rattle.asm80_text.specs.Words.{as_operation}
+use Rattle.asm80_text.specs.Tokens.{Lexes}
 use Rattle.asm80_text.specs.Statement.{AreStatements}
 
 -- ---- the statements of a line

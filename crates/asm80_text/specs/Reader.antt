@@ -1,13 +1,13 @@
 -- What a reader of lines holds.
 use Rattle.std.specs.Prelude.{◌≡◌, ◌≢◌, ℕ, ◌+◌, List, [], ◌∷◌, ◌++◌, Bool, true, false, Option, Some, None, Result, Ok, Err, length, map, nat_lt, if◌then◌else◌}
 use Rattle.std.specs.Global.{Vec}
-use Rattle.asm80_statement_types.specs.declared.fault.LineRule.{LineRule}
-use Rattle.asm80_statement_types.specs.declared.fault.LineRule.TheVariants as rules
-use Rattle.asm80_statement_types.specs.declared.fault.ReadFault.{ReadFault}
-use Rattle.asm80_statement_types.specs.declared.fault.ReadFault.TheVariants.{Syntax, Memory}
-use Rattle.asm80_statement_types.specs.declared.stmt.Stmt80.{Stmt80}
-use Rattle.asm80_statement_types.specs.Tree.{Statement, statement_of}
-use Rattle.asm80_tokens.specs.Spelling.{Spelling}
+use Rattle.asm80_types.specs.declared.fault.LineRule.{LineRule}
+use Rattle.asm80_types.specs.declared.fault.LineRule.TheVariants as rules
+use Rattle.asm80_types.specs.declared.fault.ReadFault.{ReadFault}
+use Rattle.asm80_types.specs.declared.fault.ReadFault.TheVariants.{Syntax, Memory}
+use Rattle.asm80_types.specs.declared.stmt.Stmt80.{Stmt80}
+use Rattle.asm80_types.specs.Tree.{Statement, statement_of}
+use Rattle.asm80_text.specs.Spelling.{Spelling}
 use Rattle.base.specs.Held.{HoldsLine}
 use Rattle.asm80_text.specs.Line.{LineGives}
 use Rattle.base.specs.Cut.{without_cr}

@@ -2,17 +2,17 @@
 use Rattle.std.specs.Prelude.{◌≡◌, ℕ, List, ◌∷◌, ◌++◌, map, Option, Some, None, Result, Ok, Err}
 use Rattle.std.specs.Borrow.{Bor}
 use Rattle.std.specs.Global.{Vec}
-use Rattle.asm80_statement_types.specs.declared.arg.Arg.{Arg}
-use Rattle.asm80_statement_types.specs.declared.stmt.Stmt80.{Stmt80}
-use Rattle.asm80_tokens.specs.declared.token.Token.{Token}
-use Rattle.asm80_tokens.specs.declared.token.Token.TheVariants.{Digits, Word, Colon}
-use Rattle.asm80_statement_types.specs.declared.fault.LineRule.{LineRule}
-use Rattle.asm80_tokens.specs.declared.fault.ParseFault.{ParseFault}
-use Rattle.asm80_tokens.specs.declared.fault.ParseFault.TheVariants as parse
-use Rattle.asm80_statement_types.specs.declared.fault.ReadFault.{ReadFault}
-use Rattle.asm80_statement_types.specs.declared.fault.ReadFault.TheVariants as read
-use Rattle.asm80_statement_types.specs.Tree.{Operand, operand_of, Statement, statement_of}
-use Rattle.asm80_tokens.specs.Spelling.{Spelling}
+use Rattle.asm80_types.specs.declared.arg.Arg.{Arg}
+use Rattle.asm80_types.specs.declared.stmt.Stmt80.{Stmt80}
+use Rattle.asm80_text.specs.declared.token.Token.{Token}
+use Rattle.asm80_text.specs.declared.token.Token.TheVariants.{Digits, Word, Colon}
+use Rattle.asm80_types.specs.declared.fault.LineRule.{LineRule}
+use Rattle.asm80_text.specs.declared.fault.ParseFault.{ParseFault}
+use Rattle.asm80_text.specs.declared.fault.ParseFault.TheVariants as parse
+use Rattle.asm80_types.specs.declared.fault.ReadFault.{ReadFault}
+use Rattle.asm80_types.specs.declared.fault.ReadFault.TheVariants as read
+use Rattle.asm80_types.specs.Tree.{Operand, operand_of, Statement, statement_of}
+use Rattle.asm80_text.specs.Spelling.{Spelling}
 use Rattle.asm80_text.specs.Grammar.{Ends}
 use Rattle.asm80_text.specs.Statement.{IsOperand, AreOperands, HasOperands, IsBody, IsStatementOf, kept, AreStatements}
 use Rattle.asm80_text.specs.Line.{TextGives, LineGives}

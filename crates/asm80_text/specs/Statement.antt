@@ -2,11 +2,11 @@
 -- words are a label, and on what an operand is, are this project's). Which words are operations, and what an operation's tokens
 -- are, is a matter of the spelling.
 use Rattle.std.specs.Prelude.{◌≡◌, ℕ, List, [], ◌∷◌, ◌++◌, Option, Some, None}
-use Rattle.asm80_statement_types.specs.Tree.{Tree, Operand, String, Whole, Statement}
-use Rattle.asm80_tokens.specs.declared.token.Token.{Token}
-use Rattle.asm80_tokens.specs.declared.token.Token.TheVariants.{Digits, Word, Text, Comma, Colon}
-use Rattle.asm80_tokens.specs.Spelling.{Spelling}
-use Rattle.asm80_tokens.specs.Words.{as_operation}
+use Rattle.asm80_types.specs.Tree.{Tree, Operand, String, Whole, Statement}
+use Rattle.asm80_text.specs.declared.token.Token.{Token}
+use Rattle.asm80_text.specs.declared.token.Token.TheVariants.{Digits, Word, Text, Comma, Colon}
+use Rattle.asm80_text.specs.Spelling.{Spelling}
+use Rattle.asm80_text.specs.Words.{as_operation}
 use Rattle.asm80_text.specs.Grammar.{Spells}
 
 -- an operand at the front of the tokens, and the tokens behind it: a string of two or more characters, or an expression

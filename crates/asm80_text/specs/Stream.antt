@@ -1,11 +1,11 @@
 -- The lines of a stream of bytes, and what they give (CP/M 2.2 Operating System Manual, the assembler, "Program format").
 use Rattle.std.specs.Prelude.{◌≡◌, ◌≢◌, ℕ, suc, List, [], ◌∷◌, ◌++◌, Bool, true, false, ◌==◌, ◌&&◌, if◌then◌else◌, Option, Some, None, Ok, Err, map}
 use Rattle.std.specs.List.{prefix_len}
-use Rattle.asm80_statement_types.specs.declared.fault.LineRule.{LineRule}
-use Rattle.asm80_statement_types.specs.declared.fault.ReadFault.{ReadFault}
-use Rattle.asm80_statement_types.specs.declared.fault.ReadFault.TheVariants.{Syntax}
-use Rattle.asm80_statement_types.specs.Tree.{Statement}
-use Rattle.asm80_tokens.specs.Spelling.{Spelling}
+use Rattle.asm80_types.specs.declared.fault.LineRule.{LineRule}
+use Rattle.asm80_types.specs.declared.fault.ReadFault.{ReadFault}
+use Rattle.asm80_types.specs.declared.fault.ReadFault.TheVariants.{Syntax}
+use Rattle.asm80_types.specs.Tree.{Statement}
+use Rattle.asm80_text.specs.Spelling.{Spelling}
 use Rattle.base.specs.Cut.{Cut, without_cr, last_line}
 use Rattle.asm80_text.specs.Line.{LineGives}
 

@@ -1,13 +1,13 @@
 -- What the functions on expressions return, by the definitions.
 use Rattle.std.specs.Prelude.{◌≡◌, ℕ, List, Bool, true, false, zero, suc, Option, Some, None, Result, Ok, Err}
 use Rattle.std.specs.Borrow.{Bor}
-use Rattle.asm80_statement_types.specs.declared.expr.Expr.{Expr}
-use Rattle.asm80_statement_types.specs.declared.expr.Two.{Two}
-use Rattle.asm80_tokens.specs.declared.token.Token.{Token}
-use Rattle.asm80_tokens.specs.declared.token.Token.TheVariants as tokens
-use Rattle.asm80_tokens.specs.declared.fault.ParseFault.{ParseFault}
-use Rattle.asm80_tokens.specs.declared.fault.ParseFault.TheVariants as parse
-use Rattle.asm80_statement_types.specs.Tree.{Tree, Number, Place, Named, tree_of, Inverted}
+use Rattle.asm80_types.specs.declared.expr.Expr.{Expr}
+use Rattle.asm80_types.specs.declared.expr.Two.{Two}
+use Rattle.asm80_text.specs.declared.token.Token.{Token}
+use Rattle.asm80_text.specs.declared.token.Token.TheVariants as tokens
+use Rattle.asm80_text.specs.declared.fault.ParseFault.{ParseFault}
+use Rattle.asm80_text.specs.declared.fault.ParseFault.TheVariants as parse
+use Rattle.asm80_types.specs.Tree.{Tree, Number, Place, Named, tree_of, Inverted}
 use Rattle.asm80_text.specs.Grammar.{level_of, next_operator}
 
 -- The rule holds of this tree and this rest, at which it may end, and of no other with a rest at which it may end.

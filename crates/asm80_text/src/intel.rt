@@ -1,8 +1,8 @@
 //! Intel's spelling.
 
 use crate::parse::operand_list;
-use asm80_statement_types::{Arg, Name80};
-use asm80_tokens::{Notation, ParseFault, Token};
+use crate::{Notation, ParseFault, Token};
+use asm80_types::{Arg, Name80};
 use std::alloc::Global;
 
 /// Intel's spelling, which is that of the statements themselves (Intel 8080 Assembly Language Programming Manual, chapter 2).
@@ -16,11 +16,11 @@ impl Notation for Intel {
 
     fn is_operation(word: &[u8]) -> bool {
         // (most registers are one letter, and no operation is)
-        word.len() > 1 && asm80_statement_types::is_operation(word)
+        word.len() > 1 && asm80_types::is_operation(word)
     }
 
     fn is_register(word: &[u8]) -> bool {
-        asm80_statement_types::is_register(word)
+        asm80_types::is_register(word)
     }
 
     fn operation(

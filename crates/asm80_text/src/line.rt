@@ -1,14 +1,14 @@
 //! One line.
 
 ghost use Rattle.std.specs.Prelude.{◌↔◌, ◌≤◌, All, IsTrue, OnOk, map};
-ghost use Rattle.asm80_tokens.specs.Tokens.{IsLawful};
-ghost use Rattle.asm80_statement_types.specs.WellFormed.{AreWellFormed};
+ghost use Rattle.asm80_text.specs.Tokens.{IsLawful};
+ghost use Rattle.asm80_types.specs.WellFormed.{AreWellFormed};
 ghost use Rattle.asm80_text.specs.Line.{IsRemark};
 ghost use Rattle.asm80_text.specs.Results.{ReadsLine, ReadsText};
 
 use crate::parts::{has_bang, parts_of, some_has_reserved_label, some_is_deep, statements};
-use asm80_statement_types::{LineRule, ReadFault, Stmt80};
-use asm80_tokens::{Notation, ParseFault, Token, tokens_of};
+use crate::{Notation, ParseFault, Token, tokens_of};
+use asm80_types::{LineRule, ReadFault, Stmt80};
 use std::alloc::Global;
 
 /// The most lines of a source.

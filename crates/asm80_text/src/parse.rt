@@ -2,17 +2,16 @@
 
 ghost use Rattle.std.specs.Prelude.{◌≡◌, ◌≢◌, ◌∷◌, ℕ, All, IfOk, List, MatchOption, Option, option_map};
 ghost use Rattle.std.specs.Borrow.{Bor};
-ghost use Rattle.asm80_tokens.specs.declared.token.Token.{Token};
-ghost use Rattle.asm80_tokens.specs.Tokens.{IsLawful};
-ghost use Rattle.asm80_statement_types.specs.Tree.{Operand, statement_of};
-ghost use Rattle.asm80_statement_types.specs.WellFormed.{IsWellFormed};
+ghost use Rattle.asm80_text.specs.declared.token.Token.{Token};
+ghost use Rattle.asm80_text.specs.Tokens.{IsLawful};
+ghost use Rattle.asm80_types.specs.Tree.{Operand, statement_of};
+ghost use Rattle.asm80_types.specs.WellFormed.{IsWellFormed};
 ghost use Rattle.asm80_text.specs.Statement.{IsStatement};
 ghost use Rattle.asm80_text.specs.Results.{GivesBody, GivesOperand, GivesOperandList, GivesOperands, GivesStatement, label_of, past_colon, past_label, past_number};
 
-use crate::expression;
 use crate::parser::first;
-use asm80_statement_types::{Arg, Args, Bytes, Name80, Stmt80};
-use asm80_tokens::{Notation, ParseFault, Token, as_operation};
+use crate::{Notation, ParseFault, Token, as_operation, expression};
+use asm80_types::{Arg, Args, Bytes, Name80, Stmt80};
 use std::alloc::Global;
 
 /// The statement that all of the tokens are.

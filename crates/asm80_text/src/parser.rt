@@ -2,13 +2,13 @@
 
 ghost use Rattle.std.specs.Prelude.{◌≡◌, ◌≢◌, ◌≤◌, ◌<◌, List, [], ◌∷◌, false, IfOk, IfSome, MatchOption, length, option_map};
 ghost use Rattle.std.specs.List.{prefix_len};
-ghost use Rattle.asm80_tokens.specs.declared.token.Token.{Token};
-ghost use Rattle.asm80_statement_types.specs.Tree.{Tree, tree_of};
+ghost use Rattle.asm80_text.specs.declared.token.Token.{Token};
+ghost use Rattle.asm80_types.specs.Tree.{Tree, tree_of};
 ghost use Rattle.asm80_text.specs.Grammar.{level_of, Spells, Begins, Ends, EndsInside};
 ghost use Rattle.asm80_text.specs.TreeResults.{Gives, Stops, inverted, is_not, term_of};
 
-use asm80_statement_types::{Expr, Two};
-use asm80_tokens::{ParseFault, Token};
+use crate::{ParseFault, Token};
+use asm80_types::{Expr, Two};
 use std::alloc::{AllocError, Global};
 
 /// The expression at the front of the tokens, up to where it cannot go on, and the tokens after it.

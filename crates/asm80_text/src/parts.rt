@@ -2,18 +2,18 @@
 
 ghost use Rattle.std.specs.Prelude.{◌≡◌, ◌≤◌, ◌++◌, All, IfOk, List, OnErr, OnOk, is_some, map};
 ghost use Rattle.std.specs.List.{list_any};
-ghost use Rattle.asm80_tokens.specs.Tokens.{IsLawful};
-ghost use Rattle.asm80_statement_types.specs.Tree.{statement_of};
-ghost use Rattle.asm80_statement_types.specs.WellFormed.{AreWellFormed, IsWellFormed};
+ghost use Rattle.asm80_text.specs.Tokens.{IsLawful};
+ghost use Rattle.asm80_types.specs.Tree.{statement_of};
+ghost use Rattle.asm80_types.specs.WellFormed.{AreWellFormed, IsWellFormed};
 ghost use Rattle.asm80_text.specs.Statement.{kept};
 ghost use Rattle.asm80_text.specs.Line.{begins_with_reserved, has_reserved_label, is_bang, is_deep, is_name, is_reserved, open_after, parts_of};
-ghost use Rattle.asm80_statement_types.specs.declared.stmt.Stmt80.{Stmt80};
+ghost use Rattle.asm80_types.specs.declared.stmt.Stmt80.{Stmt80};
 ghost use Rattle.asm80_text.specs.Results.{AddsStatement, GivesStatements};
-ghost use Rattle.asm80_tokens.specs.Words.{as_operation};
+ghost use Rattle.asm80_text.specs.Words.{as_operation};
 
 use crate::parse::statement;
-use asm80_statement_types::{Stmt80, Two};
-use asm80_tokens::{Notation, ParseFault, Token, as_operation};
+use crate::{Notation, ParseFault, Token, as_operation};
+use asm80_types::{Stmt80, Two};
 use std::alloc::{AllocError, Global};
 
 /// The most parentheses that may be open in a statement.

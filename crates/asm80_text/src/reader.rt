@@ -1,19 +1,19 @@
 //! A reader of lines that is fed a stream in pieces.
 
 ghost use Rattle.std.specs.Prelude.{◌≡◌, ◌≢◌, ◌<◌, ◌≤◌, ◌+◌, ◌∷◌, [], ◌++◌, ◌⊎◌, ℕ, List, Option, None, Some, Err, IfOk, IfSome, MatchResult, length, true, false};
-ghost use Rattle.asm80_statement_types.specs.declared.fault.ReadFault.{ReadFault};
-ghost use Rattle.asm80_statement_types.specs.declared.fault.ReadFault.TheVariants.{Memory, Syntax};
-ghost use Rattle.asm80_statement_types.specs.declared.fault.LineRule.{LineRule};
-ghost use Rattle.asm80_statement_types.specs.Tree.{Statement};
-ghost use Rattle.asm80_statement_types.specs.WellFormed.{AreWellFormed};
+ghost use Rattle.asm80_types.specs.declared.fault.ReadFault.{ReadFault};
+ghost use Rattle.asm80_types.specs.declared.fault.ReadFault.TheVariants.{Memory, Syntax};
+ghost use Rattle.asm80_types.specs.declared.fault.LineRule.{LineRule};
+ghost use Rattle.asm80_types.specs.Tree.{Statement};
+ghost use Rattle.asm80_types.specs.WellFormed.{AreWellFormed};
 ghost use Rattle.asm80_text.specs.Stream.{HoldsFault, StreamGives, plain_len};
-ghost use Rattle.asm80_statement_types.specs.Reading.{Finishes, HasOneOutcome};
+ghost use Rattle.asm80_types.specs.Reading.{Finishes, HasOneOutcome};
 ghost use Rattle.asm80_text.specs.Reader.{Adds, Advances, After, Agrees, EndsLine, EndsStream, answer_of, rule_of_long};
 
 use crate::intel::Intel;
 use crate::line::{MOST_LINES, read_line};
-use asm80_statement_types::{LineRule, ReadFault, StatementReader, Stmt80};
-use asm80_tokens::{Notation, Token};
+use crate::{Notation, Token};
+use asm80_types::{LineRule, ReadFault, StatementReader, Stmt80};
 use base::{HeldLine, without_cr};
 use std::alloc::{AllocError, Global};
 use std::marker::{Model, PhantomData};
@@ -48,9 +48,9 @@ impl<N: Notation> Model for LineReader<N> {
 
     ghost Value = { Reader };
 
-    ghost use Rattle.asm80_statement_types.specs.contracts.expr.Expr as e;
+    ghost use Rattle.asm80_types.specs.contracts.expr.Expr as e;
     ghost use Rattle.std.specs.Coded.{codes};
-    ghost use Rattle.asm80_statement_types.specs.WellFormed.{AreWellFormed};
+    ghost use Rattle.asm80_types.specs.WellFormed.{AreWellFormed};
 
     ghost coded = { Prim.hlevel (codes, e.the_row.coded) };
 

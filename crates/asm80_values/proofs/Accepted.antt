@@ -11,7 +11,7 @@ use Rattle.i80.specs.declared.Pair.TheVariants as pairs
 use Rattle.i80.specs.declared.Instr80.{Instr80}
 use Rattle.i80.specs.declared.Instr80.TheVariants as i80
 use Rattle.i80.specs.Columns.{is_well_formed, length80}
-use Rattle.asm80_statement_types.specs.Tree.{Operand, Statement}
+use Rattle.asm80_types.specs.Tree.{Operand, Statement}
 use Rattle.asm80_source_def.specs.declared.operation.Operation.{Operation}
 use Rattle.asm80_source_def.specs.declared.operation.Operation.TheVariants as op
 use Rattle.asm80_source_def.specs.declared.operation.Kind.{Kind}

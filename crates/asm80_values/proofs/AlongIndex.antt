@@ -1,8 +1,8 @@
 -- Along the second walk, by the index of the next row.
 use Rattle.std.proofs.Common.{◌≡◌, ℕ, ◌+◌, suc, Bool, ◌<◌, ◌≤◌, length, List, [], ◌∷◌, ◌++◌, drop, get_or, map, filter, Ok, Err, sym, ap, subst, ◌∙◌, add-one, append-nil, drop-cons, drop_of_length-le}
 use Rattle.std.specs.Option.{option_to_list}
-use Rattle.asm80_statement_types.specs.declared.stmt.Stmt80.{Stmt80}
-use Rattle.asm80_statement_types.specs.Tree.{statement_of}
+use Rattle.asm80_types.specs.declared.stmt.Stmt80.{Stmt80}
+use Rattle.asm80_types.specs.Tree.{statement_of}
 use Rattle.base.specs.Addresses.{IsSetOf}
 use Rattle.asm80_first_walk.specs.declared.walked.Taken.{Taken}
 use Rattle.asm80_first_walk.specs.declared.walked.AsmFault.{AsmFault}

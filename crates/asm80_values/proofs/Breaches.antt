@@ -3,7 +3,7 @@ use Rattle.std.proofs.Common.{◌≡◌, ℕ, zero, suc, ◌-◌, ◌<◌, nat_l
 use Rattle.std.specs.List.{list_any}
 use Rattle.std.specs.Option.{option_or}
 use Rattle.std.proofs.lemmas.Bool.Decides.{nat_tests}
-use Rattle.asm80_statement_types.specs.Tree.{Operand}
+use Rattle.asm80_types.specs.Tree.{Operand}
 use Rattle.asm80_values.specs.declared.form.Form.{Form}
 use Rattle.asm80_values.specs.declared.form.Form.TheVariants.{Nothing, Instruction, Data}
 use Rattle.asm80_source_def.specs.declared.operation.Operation.{Operation}

@@ -2,8 +2,8 @@
 use Rattle.std.proofs.Common.{◌≡◌, ℕ, Option, None, Some, ◌||◌, ◌&&◌, Bool, true, false, eqb, List, [], ◌∷◌, length, map, zip, refl, sym, ap, ◌∙◌}
 use Rattle.std.specs.List.{list_any}
 use Rattle.std.proofs.lemmas.Bool.{ne_eqb}
-use Rattle.asm80_statement_types.specs.declared.arg.Arg.{Arg}
-use Rattle.asm80_statement_types.specs.Tree.{Operand, operand_of}
+use Rattle.asm80_types.specs.declared.arg.Arg.{Arg}
+use Rattle.asm80_types.specs.Tree.{Operand, operand_of}
 use Rattle.asm80_source_def.specs.declared.operation.Kind.{Kind}
 use Rattle.asm80_source_def.specs.declared.operation.Kind.TheVariants.{Register, Pair as PairKind, Indirect, Stack, Byte, Word, Address, Target, Restart}
 use Rattle.asm80_source_def.specs.Values.{Scope, operand_number}

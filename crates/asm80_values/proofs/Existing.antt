@@ -7,9 +7,9 @@ use Rattle.std.proofs.lemmas.Bool.Decides.{nat_tests}
 use Rattle.std.proofs.lemmas.Option.{none-some}
 use Rattle.cells.specs.declared.Cell.{Cell}
 use Rattle.cells.proofs.Options.{if_none}
-use Rattle.asm80_program_types.specs.declared.program.Placed.{Placed}
-use Rattle.asm80_program_types.specs.Program.{Program, program_of, is_top}
-use Rattle.asm80_statement_types.specs.Tree.{Statement}
+use Rattle.asm80_types.specs.declared.program.Placed.{Placed}
+use Rattle.asm80_types.specs.Program.{Program, program_of, is_top}
+use Rattle.asm80_types.specs.Tree.{Statement}
 use Rattle.asm80_source_def.specs.declared.operation.Operation.{Operation}
 use Rattle.asm80_source_def.specs.declared.rule.AsmRule.{AsmRule}
 use Rattle.asm80_source_def.specs.declared.rule.AsmRule.TheVariants.{S3, S6, S7}
@@ -27,7 +27,7 @@ use Rattle.asm80_values.proofs.Sound.{are_sound}
 use Rattle.asm80_values.proofs.Chain.{or_none, line_none}
 use Rattle.asm80_values.proofs.Held.{lawful, held}
 use Rattle.asm80_values.proofs.Placing.{program_laid}
-use Rattle.asm80_statement_types.specs.Ranges.{AreInRange}
+use Rattle.asm80_types.specs.Ranges.{AreInRange}
 use Rattle.asm80_values.proofs.InOrder.{has_order}
 use Rattle.asm80_values.proofs.Walked.{IsWordWalk, IsWordRow, rows_word, walk_word, start_word, operands_see}
 use Rattle.asm80_values.proofs.Forms.{has_form}

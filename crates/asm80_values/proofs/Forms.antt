@@ -13,8 +13,8 @@ use Rattle.i80.specs.declared.Pair.{Pair}
 use Rattle.i80.specs.declared.Pair.TheVariants as pairs
 use Rattle.i80.specs.declared.Instr80.{Instr80}
 use Rattle.i80.specs.declared.Instr80.TheVariants as i80
-use Rattle.asm80_program_types.specs.Program.{IsCoded}
-use Rattle.asm80_statement_types.specs.Tree.{Operand, String, Whole}
+use Rattle.asm80_types.specs.Program.{IsCoded}
+use Rattle.asm80_types.specs.Tree.{Operand, String, Whole}
 use Rattle.asm80_values.specs.declared.form.Form.{Form}
 use Rattle.asm80_values.specs.declared.form.Form.TheVariants.{Instruction, Data}
 use Rattle.asm80_values.specs.Forms.{HoldsByte, IsForm}
@@ -25,7 +25,7 @@ use Rattle.asm80_source_def.specs.Operands.{src_of, pair_of_operand, indirect_of
 use Rattle.asm80_source_def.specs.Items.{Setting, is_instruction_op, is_data_op, value, byte, code_address, word_by, word_of, move, instruction, numbers, cells_of_byte, cells_of_word_by, cells_of_word, data_by}
 use Rattle.asm80_source_def.specs.Layout.{is_foreign_by, operands_by, misses, computes, loads_code}
 use Rattle.asm80_values.specs.Items.{IsFormBy}
-use Rattle.asm80_statement_types.specs.Ranges.{IsInRange}
+use Rattle.asm80_types.specs.Ranges.{IsInRange}
 use Rattle.asm80_values.proofs.Values.{IsWord, SeesWords, operand_word}
 
 abbrev IsCodedOption : Option Instr80 → Type 0

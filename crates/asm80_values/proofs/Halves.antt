@@ -6,7 +6,7 @@ use Rattle.std.proofs.lemmas.List.Elements.{All-nil, All-head, All-tail, All-con
 use Rattle.cells.specs.declared.Cell.{Cell}
 use Rattle.cells.specs.declared.Cell.TheVariants.{Num, Lo, Hi}
 use Rattle.cells.specs.declared.Place.TheVariants.{At as AtPlace}
-use Rattle.asm80_program_types.specs.Program.{Program, cell_in, cell_at, is_start, IsDatum, AreData}
+use Rattle.asm80_types.specs.Program.{Program, cell_in, cell_at, is_start, IsDatum, AreData}
 use Rattle.asm80_values.specs.Forms.{HoldsByte}
 use Rattle.asm80_source_def.specs.Items.{laid_from}
 use Rattle.asm80_values.specs.Programs.{AreHalved}

@@ -8,7 +8,7 @@ use Rattle.std.proofs.lemmas.List.Folds.{flat_map-map}
 use Rattle.std.proofs.lemmas.Grind.{flat_map-append}
 use Rattle.cells.specs.declared.Cell.{Cell}
 use Rattle.cells.specs.declared.Cell.TheVariants.{Num}
-use Rattle.asm80_program_types.proofs.Marks.{cons_option-one}
+use Rattle.asm80_types.proofs.Marks.{cons_option-one}
 use Rattle.asm80_source_def.specs.Items.{numbers, laid_from}
 
 pub found_more :

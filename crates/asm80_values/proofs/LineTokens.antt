@@ -3,18 +3,18 @@ use Rattle.std.proofs.Common.{◌≡◌, ℕ, ◌-◌, ◌<◌, ◌==◌, nat_le
 use Rattle.std.specs.List.{list_all}
 use Rattle.std.specs.Str.{bytes_eq}
 use Rattle.std.proofs.lemmas.Bool.{and_parts, leb-true}
-use Rattle.asm80_tokens.specs.declared.token.Token.{Token}
-use Rattle.asm80_tokens.specs.declared.token.Token.TheVariants.{Digits, Num, Here, Word, Register, Operation, Text, Op, Not, Open, Close, Comma, Colon, Bang, Stray}
-use Rattle.asm80_statement_types.specs.declared.expr.Two.TheVariants.{Mul, Div, Mod, Shl, Shr, Add, Sub, And, Or, Xor}
-use Rattle.asm80_statement_types.specs.declared.fault.LineRule.TheVariants as rules
-use Rattle.asm80_tokens.specs.Letters.{is_digit, is_upper, is_lower, is_printable, significant, inside_len}
-use Rattle.asm80_tokens.specs.Numbers.{base_named, digit_of, total, value_in, value_with, number_of}
-use Rattle.asm80_tokens.specs.Spelling.{Spelling}
-use Rattle.asm80_tokens.specs.Words.{name_token, word_token}
-use Rattle.asm80_tokens.specs.Strings.{quoted}
-use Rattle.asm80_tokens.specs.Tokens.{Scanned, Got, Bad, number_found, number_at, word_at, text_token, string_found, string_at, sign_token, token_at}
-use Rattle.asm80_tokens.specs.Small.{IsSmall}
-use Rattle.asm80_statement_types.specs.Ranges.{AreBytes}
+use Rattle.asm80_text.specs.declared.token.Token.{Token}
+use Rattle.asm80_text.specs.declared.token.Token.TheVariants.{Digits, Num, Here, Word, Register, Operation, Text, Op, Not, Open, Close, Comma, Colon, Bang, Stray}
+use Rattle.asm80_types.specs.declared.expr.Two.TheVariants.{Mul, Div, Mod, Shl, Shr, Add, Sub, And, Or, Xor}
+use Rattle.asm80_types.specs.declared.fault.LineRule.TheVariants as rules
+use Rattle.asm80_text.specs.Letters.{is_digit, is_upper, is_lower, is_printable, significant, inside_len}
+use Rattle.asm80_text.specs.Numbers.{base_named, digit_of, total, value_in, value_with, number_of}
+use Rattle.asm80_text.specs.Spelling.{Spelling}
+use Rattle.asm80_text.specs.Words.{name_token, word_token}
+use Rattle.asm80_text.specs.Strings.{quoted}
+use Rattle.asm80_text.specs.Tokens.{Scanned, Got, Bad, number_found, number_at, word_at, text_token, string_found, string_at, sign_token, token_at}
+use Rattle.asm80_text.specs.Small.{IsSmall}
+use Rattle.asm80_types.specs.Ranges.{AreBytes}
 
 -- ---- tokens
 

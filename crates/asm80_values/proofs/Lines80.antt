@@ -3,14 +3,14 @@
 use Rattle.std.proofs.Common.{◌≡◌, ℕ, suc, List, [], ◌∷◌, ◌++◌, length, false, Option, Some, None, Result, Ok, Err, inl, inr, ◌⊎◌}
 use Rattle.std.specs.List.{list_any}
 use Rattle.std.proofs.lemmas.Bool.{cases_Bool, cases_eq, cases_lt}
-use Rattle.asm80_statement_types.specs.declared.fault.LineRule.{LineRule}
-use Rattle.asm80_statement_types.specs.declared.fault.LineRule.TheVariants as rules
-use Rattle.asm80_statement_types.specs.declared.fault.ReadFault.{ReadFault}
-use Rattle.asm80_statement_types.specs.declared.fault.ReadFault.TheVariants.{Syntax}
-use Rattle.asm80_tokens.specs.declared.token.Token.{Token}
-use Rattle.asm80_statement_types.specs.Tree.{Statement}
+use Rattle.asm80_types.specs.declared.fault.LineRule.{LineRule}
+use Rattle.asm80_types.specs.declared.fault.LineRule.TheVariants as rules
+use Rattle.asm80_types.specs.declared.fault.ReadFault.{ReadFault}
+use Rattle.asm80_types.specs.declared.fault.ReadFault.TheVariants.{Syntax}
+use Rattle.asm80_text.specs.declared.token.Token.{Token}
+use Rattle.asm80_types.specs.Tree.{Statement}
 use Rattle.asm80_text.specs.Line.{parts_of, has_reserved_label, is_deep, PartsGive, deep, malformed, formed, TextGives, reserved, faulty, sound, IsRemark, LineGives, late, long, remark, told}
-use Rattle.asm80_tokens.specs.Spelling.{Spelling}
+use Rattle.asm80_text.specs.Spelling.{Spelling}
 use Rattle.asm80_text.specs.Stream.{LinesGive, none_left, next, fails}
 use Rattle.asm80_values.proofs.Tokens80.{lexed}
 

@@ -13,8 +13,8 @@ use Rattle.i80.specs.declared.Goal.TheVariants.{At, Boot, Bdos}
 use Rattle.i80.specs.declared.Instr80.{Instr80}
 use Rattle.i80.specs.declared.Instr80.TheVariants as i80
 use Rattle.i80.specs.Columns.{is_well_formed, length80}
-use Rattle.asm80_program_types.specs.Program.{if_instr, if_code, IsCoded}
-use Rattle.asm80_statement_types.specs.Tree.{Operand, String, Whole, Statement}
+use Rattle.asm80_types.specs.Program.{if_instr, if_code, IsCoded}
+use Rattle.asm80_types.specs.Tree.{Operand, String, Whole, Statement}
 use Rattle.asm80_values.specs.Forms.{HoldsByte}
 use Rattle.asm80_values.specs.declared.form.Form.{Form}
 use Rattle.asm80_values.specs.declared.form.Form.TheVariants.{Nothing, Instruction, Data}

@@ -5,14 +5,14 @@ use Rattle.std.proofs.lemmas.Option.{none-some}
 use Rattle.std.proofs.lemmas.List.Elements.{All-contains, All-cons, Contains-append_right, Contains-append_cases, Contains-append_left, Contains-push}
 use Rattle.cells.specs.declared.Cell.{Cell}
 use Rattle.i80.specs.Columns.{length80}
-use Rattle.asm80_program_types.specs.declared.program.Placed.{Placed}
-use Rattle.asm80_program_types.specs.Program.{Program, program_of, AreLaid, CellsAreLaid}
-use Rattle.asm80_program_types.proofs.Lookup.{length80-positive}
-use Rattle.asm80_statement_types.specs.Reading.{Reading, HasOneOutcome}
-use Rattle.asm80_statement_types.specs.Tree.{Statement}
-use Rattle.asm80_statement_types.specs.declared.fault.LineRule.{LineRule}
-use Rattle.asm80_statement_types.specs.declared.fault.ReadFault.{ReadFault}
-use Rattle.asm80_statement_types.specs.declared.fault.ReadFault.TheVariants.{Syntax}
+use Rattle.asm80_types.specs.declared.program.Placed.{Placed}
+use Rattle.asm80_types.specs.Program.{Program, program_of, AreLaid, CellsAreLaid}
+use Rattle.asm80_types.proofs.Lookup.{length80-positive}
+use Rattle.asm80_types.specs.Reading.{Reading, HasOneOutcome}
+use Rattle.asm80_types.specs.Tree.{Statement}
+use Rattle.asm80_types.specs.declared.fault.LineRule.{LineRule}
+use Rattle.asm80_types.specs.declared.fault.ReadFault.{ReadFault}
+use Rattle.asm80_types.specs.declared.fault.ReadFault.TheVariants.{Syntax}
 use Rattle.asm80_source_def.specs.declared.rule.AsmRule.{AsmRule}
 use Rattle.asm80_source_def.specs.FirstFaults.{Refusal}
 use Rattle.asm80_source_def.specs.Walk.{Walk, WalkRow, rows, walked}

@@ -13,9 +13,9 @@ use Rattle.cells.specs.declared.Cell.{Cell}
 use Rattle.cells.proofs.Options.{if_none}
 use Rattle.i80.specs.declared.Instr80.{Instr80}
 use Rattle.i80.specs.Columns.{length80, is_well_formed}
-use Rattle.asm80_program_types.specs.declared.program.Placed.{Placed}
-use Rattle.asm80_program_types.specs.Program.{Program, covers, placed_in, is_start, cell_at, named_by, AreLaid, CellsAreLaid, IsInstructionLaid, NameStarts, IsCoded, AreCoded, IsProgram, program_of}
-use Rattle.asm80_program_types.proofs.Lookup.{top_range, length80-positive}
+use Rattle.asm80_types.specs.declared.program.Placed.{Placed}
+use Rattle.asm80_types.specs.Program.{Program, covers, placed_in, is_start, cell_at, named_by, AreLaid, CellsAreLaid, IsInstructionLaid, NameStarts, IsCoded, AreCoded, IsProgram, program_of}
+use Rattle.asm80_types.proofs.Lookup.{top_range, length80-positive}
 use Rattle.asm80_values.specs.Forms.{HoldsByte}
 use Rattle.asm80_values.specs.declared.form.Form.{Form}
 use Rattle.asm80_values.specs.declared.form.Form.TheVariants.{Nothing, Instruction, Data}

@@ -1,7 +1,7 @@
 -- The items of rows, from the forms of their operands.
 use Rattle.std.proofs.Common.{◌≡◌, true, List, Option, Some, Result, Ok, refl, subst}
 use mathlib.Core.Bool.{or-true}
-use Rattle.asm80_statement_types.specs.Tree.{Operand}
+use Rattle.asm80_types.specs.Tree.{Operand}
 use Rattle.asm80_values.specs.declared.fault.FormFault.{FormFault}
 use Rattle.asm80_values.specs.declared.form.Form.{Form}
 use Rattle.asm80_values.specs.declared.form.Form.TheVariants.{Nothing, Instruction, Data}

@@ -5,7 +5,7 @@ use Rattle.std.proofs.Math.Path.{fun_ext}
 use Rattle.std.proofs.lemmas.List.{length-map}
 use Rattle.std.proofs.lemmas.List.Concat.{length-flat_map}
 use Rattle.cells.specs.declared.Cell.TheVariants.{Num}
-use Rattle.asm80_statement_types.specs.Tree.{Operand, String, Whole, Statement}
+use Rattle.asm80_types.specs.Tree.{Operand, String, Whole, Statement}
 use Rattle.asm80_source_def.specs.declared.operation.Operation.{Operation}
 use Rattle.asm80_source_def.specs.declared.operation.Operation.TheVariants.{Db, Dw}
 use Rattle.asm80_source_def.specs.Walk.{bytes_of_item, size_by}

@@ -1,14 +1,14 @@
 -- A source has an outcome, since its stream has one.
 use Rattle.std.proofs.Common.{◌≡◌, ℕ, List, Option, Some, None, true, refl, subst}
-use Rattle.asm80_statement_types.specs.declared.fault.LineRule.{LineRule}
-use Rattle.asm80_statement_types.specs.declared.fault.ReadFault.{ReadFault}
-use Rattle.asm80_statement_types.specs.declared.fault.ReadFault.TheVariants.{Syntax}
-use Rattle.asm80_statement_types.specs.Tree.{Statement}
+use Rattle.asm80_types.specs.declared.fault.LineRule.{LineRule}
+use Rattle.asm80_types.specs.declared.fault.ReadFault.{ReadFault}
+use Rattle.asm80_types.specs.declared.fault.ReadFault.TheVariants.{Syntax}
+use Rattle.asm80_types.specs.Tree.{Statement}
 use Rattle.asm80_text.specs.Stream.{LinesGive, none_left, next, fails, StreamGives}
-use Rattle.asm80_program_types.specs.Program.{Program, is_top}
+use Rattle.asm80_types.specs.Program.{Program, is_top}
 use Rattle.asm80_source_def.specs.FirstFaults.{Refusal}
 use Rattle.asm80_source_def.specs.Assembly.{refusal}
-use Rattle.asm80_tokens.specs.Spelling.{Spelling}
+use Rattle.asm80_text.specs.Spelling.{Spelling}
 use Rattle.asm80_source_def.specs.Source.{IsSource, IsNoSource, SourceRule, OfLine, OfProgram, faulty, refused}
 
 -- a fault of lines is that of a rule on a line

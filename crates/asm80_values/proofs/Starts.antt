@@ -5,9 +5,9 @@ use Rattle.std.specs.Option.{option_to_list}
 use Rattle.std.proofs.lemmas.List.{take_more}
 use Rattle.std.proofs.lemmas.List.Elements.{filter_map-append}
 use Rattle.std.proofs.lemmas.List.Folds.{list_any-append}
-use Rattle.asm80_statement_types.specs.declared.stmt.Stmt80.{Stmt80}
+use Rattle.asm80_types.specs.declared.stmt.Stmt80.{Stmt80}
 use Rattle.base.specs.Addresses.{is_among}
-use Rattle.asm80_program_types.proofs.Marks.{cons_option-one}
+use Rattle.asm80_types.proofs.Marks.{cons_option-one}
 use Rattle.asm80_first_walk.specs.declared.walked.Taken.{Taken}
 use Rattle.asm80_first_walk.specs.Walked.{Stand}
 use Rattle.asm80_source_def.specs.Walk.{WalkRow, row_is_taken, row_operation}

@@ -1,21 +1,21 @@
 -- The statements of a stream are in range, since its tokens are.
 use Rattle.std.proofs.Common.{ℕ, List, [], ◌∷◌, ◌++◌, Bool, true, false, cond, Option, Some, None, Result, Ok, Err, subst}
 use Rattle.std.specs.List.{onto_first, AllByRecursion}
-use Rattle.asm80_statement_types.specs.declared.fault.LineRule.{LineRule}
-use Rattle.asm80_statement_types.specs.declared.fault.ReadFault.{ReadFault}
-use Rattle.asm80_tokens.specs.declared.token.Token.{Token}
-use Rattle.asm80_statement_types.specs.Tree.{Operand, Statement}
-use Rattle.asm80_tokens.specs.Spelling.{Spelling}
-use Rattle.asm80_tokens.specs.Coherent.{IsCoherent}
-use Rattle.asm80_tokens.specs.Small.{IsSmall, AreSmall}
-use Rattle.asm80_tokens.specs.Tokens.{Lexes, ends, blank, comment, token, faulty}
+use Rattle.asm80_types.specs.declared.fault.LineRule.{LineRule}
+use Rattle.asm80_types.specs.declared.fault.ReadFault.{ReadFault}
+use Rattle.asm80_text.specs.declared.token.Token.{Token}
+use Rattle.asm80_types.specs.Tree.{Operand, Statement}
+use Rattle.asm80_text.specs.Spelling.{Spelling}
+use Rattle.asm80_text.specs.Coherent.{IsCoherent}
+use Rattle.asm80_text.specs.Small.{IsSmall, AreSmall}
+use Rattle.asm80_text.specs.Tokens.{Lexes, ends, blank, comment, token, faulty}
 use Rattle.asm80_text.specs.Statement.{IsBody, nothing, operated, IsLabeled, unlabeled, labeled, with_colon, IsStatement, unnumbered, numbered, kept_by, kept, AreStatements}
 use Rattle.asm80_text.specs.Statement as statement
 use Rattle.asm80_text.specs.Line.{is_bang, parts_of, PartsGive, deep, malformed, formed, TextGives, reserved, sound, LineGives, late, long, remark, told}
 use Rattle.asm80_text.specs.Line as line
 use Rattle.asm80_text.specs.Stream.{LinesGive, StreamGives}
 use Rattle.asm80_text.specs.Stream as stream
-use Rattle.asm80_statement_types.specs.Ranges.{IsInRange, AreInRange}
+use Rattle.asm80_types.specs.Ranges.{IsInRange, AreInRange}
 use Rattle.asm80_values.proofs.LineTokens.{GotSmall, token_small}
 
 -- ---- a statement

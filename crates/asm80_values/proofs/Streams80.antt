@@ -1,12 +1,12 @@
 -- Each stream is cut into lines, and so none is without an outcome.
 use Rattle.std.proofs.Common.{ℕ, List, [], ◌∷◌, ◌++◌, Bool, true, Option, refl, subst, append_assoc, inl, inr}
 use Rattle.std.proofs.lemmas.Bool.{cases_eq}
-use Rattle.asm80_statement_types.specs.declared.fault.ReadFault.{ReadFault}
-use Rattle.asm80_statement_types.specs.Tree.{Statement}
+use Rattle.asm80_types.specs.declared.fault.ReadFault.{ReadFault}
+use Rattle.asm80_types.specs.Tree.{Statement}
 use Rattle.base.specs.Cut.{Cut}
 use Rattle.base.proofs.Cuts.{cut_byte, cut_line}
 use Rattle.asm80_text.specs.Stream.{IsPlain, IsStream, closed, complete, StreamGives}
-use Rattle.asm80_tokens.specs.Spelling.{Spelling}
+use Rattle.asm80_text.specs.Spelling.{Spelling}
 use Rattle.asm80_values.proofs.Lines80.{lines_give}
 
 record Lined (stream : List ℕ) : Type 0 where

@@ -3,13 +3,13 @@ use Rattle.std.proofs.Common.{◌≡◌, ◌≢◌, ℕ, suc, ◌≤◌, ◌<◌
 use Rattle.std.specs.List.{list_all, prefix_len}
 use Rattle.std.proofs.lemmas.Bool.{cases_Bool, cases_eq}
 use Rattle.std.proofs.lemmas.List.{length-drop}
-use Rattle.asm80_statement_types.specs.declared.fault.LineRule.{LineRule}
-use Rattle.asm80_tokens.specs.declared.token.Token.{Token}
-use Rattle.asm80_tokens.specs.Letters.{is_digit, is_upper, is_lower, is_inside, is_printable, is_blank, inside_len, comment_len, significant}
-use Rattle.asm80_tokens.specs.Numbers.{number_of}
-use Rattle.asm80_tokens.specs.Strings.{with_char, quoted}
-use Rattle.asm80_tokens.specs.Tokens.{Scanned, Got, Bad, number_found, number_at, word_at, string_found, string_at, token_at, Lexes, ends, blank, comment, token, faulty}
-use Rattle.asm80_tokens.specs.Spelling.{Spelling}
+use Rattle.asm80_types.specs.declared.fault.LineRule.{LineRule}
+use Rattle.asm80_text.specs.declared.token.Token.{Token}
+use Rattle.asm80_text.specs.Letters.{is_digit, is_upper, is_lower, is_inside, is_printable, is_blank, inside_len, comment_len, significant}
+use Rattle.asm80_text.specs.Numbers.{number_of}
+use Rattle.asm80_text.specs.Strings.{with_char, quoted}
+use Rattle.asm80_text.specs.Tokens.{Scanned, Got, Bad, number_found, number_at, word_at, string_found, string_at, token_at, Lexes, ends, blank, comment, token, faulty}
+use Rattle.asm80_text.specs.Spelling.{Spelling}
 
 -- ---- a token and the bytes behind it
 

@@ -4,13 +4,13 @@ use Rattle.std.specs.Prelude.{IfSome}
 use Rattle.std.specs.Int.Bits.{and_lt}
 use Rattle.std.proofs.Math.Nat.{div-le_self, mod-lt, mod-le}
 use Rattle.std.proofs.lemmas.Nat.{or_lt, xor_lt}
-use Rattle.asm80_statement_types.specs.declared.expr.Two.{Two}
-use Rattle.asm80_statement_types.specs.declared.expr.Two.TheVariants.{Mul, Div, Mod, Shl, Shr, Add, Sub, And, Or, Xor}
-use Rattle.asm80_statement_types.specs.Tree.{Tree, Number, Place, Named, Inverted, Negated, Binary, Operand, String, Whole}
-use Rattle.asm80_statement_types.specs.Words.{is_register}
+use Rattle.asm80_types.specs.declared.expr.Two.{Two}
+use Rattle.asm80_types.specs.declared.expr.Two.TheVariants.{Mul, Div, Mod, Shl, Shr, Add, Sub, And, Or, Xor}
+use Rattle.asm80_types.specs.Tree.{Tree, Number, Place, Named, Inverted, Negated, Binary, Operand, String, Whole}
+use Rattle.asm80_types.specs.Words.{is_register}
 use Rattle.asm80_source_def.specs.declared.meaning.Meaning.{Meaning}
 use Rattle.asm80_source_def.specs.Values.{Scope, binary, meaning_value, meaning_of_name, value_of_tree, operand_number}
-use Rattle.asm80_statement_types.specs.Ranges.{HasWords, IsInRange}
+use Rattle.asm80_types.specs.Ranges.{HasWords, IsInRange}
 
 -- a value, if there is one, is a word
 abbrev pub IsWord : Option ℕ → Type 0

@@ -3,7 +3,7 @@ use Rattle.std.proofs.Common.{ℕ, ◌+◌, ◌%◌, ◌<◌, Bool, true, false,
 use Rattle.std.specs.List.{AllByRecursion}
 use Rattle.std.specs.Str.{bytes_eq}
 use Rattle.std.proofs.Math.Nat.{mod-lt}
-use Rattle.asm80_statement_types.specs.Tree.{Tree, Number, Place, Named, Inverted, Negated, Binary, Operand, String, Whole, Statement}
+use Rattle.asm80_types.specs.Tree.{Tree, Number, Place, Named, Inverted, Negated, Binary, Operand, String, Whole, Statement}
 use Rattle.asm80_source_def.specs.declared.operation.Operation.{Operation}
 use Rattle.asm80_source_def.specs.declared.operation.Operation.TheVariants.{Org, Equ, Set, Ds}
 use Rattle.asm80_source_def.specs.declared.meaning.Meaning.{Meaning}
@@ -12,7 +12,7 @@ use Rattle.asm80_source_def.specs.Names.{Name, named, most_names, is_settable, r
 use Rattle.asm80_source_def.specs.Walk.{Walk, WalkRow, at_start, operation_in, is_taken, meaning_in, scope, or_unknown, meaning_of, operand_meaning, directive_meaning, label_meaning_by, definition, names_by, size_by, or_at, address_by, after_by, walk_after, ends, rows_from, walk_after_all}
 use Rattle.asm80_source_def.specs.Values.{meaning_of_name}
 use Rattle.asm80_source_def.specs.Operands.{meaning_by, operand_scope}
-use Rattle.asm80_statement_types.specs.Ranges.{HasWords, IsInRange, AreInRange}
+use Rattle.asm80_types.specs.Ranges.{HasWords, IsInRange, AreInRange}
 use Rattle.asm80_values.proofs.Values.{IsWord, IsWordly, SeesWords, name_wordly, number_word}
 
 abbrev IsWordName : Name → Type 0

@@ -4,8 +4,8 @@ use Rattle.std.specs.List.{list_any}
 use Rattle.cells.specs.declared.Cell.{Cell}
 use Rattle.cells.specs.declared.Cell.TheVariants.{Num}
 use Rattle.i80.specs.declared.Instr80.{Instr80}
-use Rattle.asm80_program_types.specs.Program.{IsCoded}
-use Rattle.asm80_statement_types.specs.Tree.{Operand}
+use Rattle.asm80_types.specs.Program.{IsCoded}
+use Rattle.asm80_types.specs.Tree.{Operand}
 use Rattle.asm80_values.specs.declared.fault.FormFault.{FormFault}
 use Rattle.asm80_values.specs.declared.fault.FormFault.TheVariants.{Rule, Memory}
 use Rattle.asm80_values.specs.declared.form.Form.{Form}

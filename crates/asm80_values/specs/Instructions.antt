@@ -2,7 +2,7 @@
 use Rattle.std.specs.Prelude.{Option, Some, None, option_map}
 use Rattle.i80.specs.declared.Instr80.{Instr80}
 use Rattle.i80.specs.declared.Instr80.TheVariants as i80
-use Rattle.asm80_statement_types.specs.Tree.{Operand}
+use Rattle.asm80_types.specs.Tree.{Operand}
 use Rattle.asm80_source_def.specs.declared.operation.Operation.{Operation}
 use Rattle.asm80_source_def.specs.declared.operation.Operation.TheVariants as op
 use Rattle.asm80_source_def.specs.Operands.{src_of, pair_of_operand, indirect_of, stack_of}

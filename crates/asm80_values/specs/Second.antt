@@ -1,7 +1,7 @@
 -- What the second walk gives, by the definitions.
 use Rattle.std.specs.Prelude.{◌≡◌, ℕ, ◌^◌, ◌<◌, ◌||◌, Bool, true, false, ◌++◌, cond, List, map, filter, option_to_list, Option, Some, None, Result, Ok, Err}
-use Rattle.asm80_statement_types.specs.declared.stmt.Stmt80.{Stmt80}
-use Rattle.asm80_statement_types.specs.Tree.{statement_of}
+use Rattle.asm80_types.specs.declared.stmt.Stmt80.{Stmt80}
+use Rattle.asm80_types.specs.Tree.{statement_of}
 use Rattle.base.specs.Addresses.{has_address, IsSetOf}
 use Rattle.asm80_first_walk.specs.declared.walked.Taken.{Taken}
 use Rattle.asm80_first_walk.specs.declared.walked.AsmFault.{AsmFault}

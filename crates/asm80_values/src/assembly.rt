@@ -1,8 +1,8 @@
 // From the statements of a source to its program.
 ghost use Rattle.std.specs.Prelude.{◌≡◌, ℕ, List, true, map, IfOk, Err};
-ghost use Rattle.asm80_statement_types.specs.declared.stmt.Stmt80.{Stmt80};
-ghost use Rattle.asm80_statement_types.specs.Tree.{statement_of};
-ghost use Rattle.asm80_program_types.specs.Program.{is_top};
+ghost use Rattle.asm80_types.specs.declared.stmt.Stmt80.{Stmt80};
+ghost use Rattle.asm80_types.specs.Tree.{statement_of};
+ghost use Rattle.asm80_types.specs.Program.{is_top};
 ghost use Rattle.asm80_source_def.specs.declared.rule.AsmRule.{AsmRule};
 ghost use Rattle.asm80_source_def.specs.Assembly.{IsAssembled, IsRefused};
 ghost use Rattle.asm80_values.specs.Second.{AreFound};
@@ -12,8 +12,7 @@ use crate::layout::layout_fault;
 use crate::program::program_of_items;
 use crate::second_walk::{items_of, starts_of};
 use asm80_first_walk::{AsmFault, walk};
-use asm80_program_types::Program80;
-use asm80_statement_types::Stmt80;
+use asm80_types::{Program80, Stmt80};
 use base::AddressSet;
 use std::alloc::Global;
 

@@ -1,12 +1,12 @@
 // The cells of DB and DW (CP/M 2.2 Operating System Manual, the assembler, "The DB directive", "The DW directive").
 ghost use Rattle.std.specs.Prelude.{◌≡◌, ◌++◌, ◌<◌, All, IfOk, OnOk, map, flat_map};
-ghost use Rattle.asm80_statement_types.specs.Tree.{operand_of};
+ghost use Rattle.asm80_types.specs.Tree.{operand_of};
 ghost use Rattle.asm80_values.specs.Forms.{HoldsByte};
 ghost use Rattle.asm80_values.specs.Settings.{setting_of};
 ghost use Rattle.asm80_source_def.specs.Items.{numbers, cells_of_byte, cells_of_word};
 
 use crate::setting::{Setting, byte, code_address, value};
-use asm80_statement_types::Arg;
+use asm80_types::Arg;
 use cells::{Cell, Place};
 use std::alloc::{AllocError, Global};
 

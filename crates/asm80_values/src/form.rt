@@ -1,6 +1,6 @@
 // What a statement's operands make.
 ghost use Rattle.std.specs.Prelude.{◌≡◌, Some, true, false, IfOk, OnErr, map};
-ghost use Rattle.asm80_statement_types.specs.Tree.{operand_of};
+ghost use Rattle.asm80_types.specs.Tree.{operand_of};
 ghost use Rattle.asm80_values.specs.Forms.{IsForm, GivesForm};
 ghost use Rattle.asm80_values.specs.Settings.{setting_of};
 ghost use Rattle.asm80_source_def.specs.Items.{is_data_op, is_instruction_op};
@@ -13,7 +13,7 @@ use crate::profile::{is_foreign, items_compute, strays_of};
 use crate::rules::rule_of_operands;
 use crate::setting::Setting;
 use asm80_source_def::{Kind, Operation};
-use asm80_statement_types::Arg;
+use asm80_types::Arg;
 use cells::Cell;
 use i80::Instr80;
 use std::alloc::{AllocError, Global};

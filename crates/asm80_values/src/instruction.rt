@@ -1,7 +1,7 @@
 // The instruction of an operation with its operands (Intel 8080 Assembly Language Programming Manual, chapter 2).
 ghost use Rattle.std.specs.Prelude.{◌≡◌, ◌==◌, ◌<◌, [], ◌∷◌, length, cond, Some, None, IfSome, map};
-ghost use Rattle.asm80_statement_types.specs.Tree.{operand_of};
-ghost use Rattle.asm80_program_types.specs.Program.{IsCoded};
+ghost use Rattle.asm80_types.specs.Tree.{operand_of};
+ghost use Rattle.asm80_types.specs.Program.{IsCoded};
 ghost use Rattle.asm80_values.specs.Settings.{setting_of};
 ghost use Rattle.asm80_source_def.specs.Items.{goal, instruction, word_of};
 ghost use Rattle.asm80_values.specs.Instructions.{register_instruction, target_instruction};
@@ -9,7 +9,7 @@ ghost use Rattle.asm80_values.specs.Instructions.{register_instruction, target_i
 use crate::registers::{indirect_of, pair_of, src_of, stack_of};
 use crate::setting::{Setting, byte, code_address, value};
 use asm80_source_def::Operation;
-use asm80_statement_types::Arg;
+use asm80_types::Arg;
 use i80::{Goal, Instr80, Pair, Word};
 
 // The immediate word of LXI, a code address or a number; that of LXI SP is a number always.

@@ -1,15 +1,15 @@
 // Laws of sources: each has at most one outcome, and none is without.
 ghost use Rattle.std.specs.Prelude.{◌≡◌, ℕ, List, Option, true, None};
-ghost use Rattle.asm80_statement_types.specs.declared.fault.ReadFault.{ReadFault};
-ghost use Rattle.asm80_statement_types.specs.Ranges.{AreInRange};
-ghost use Rattle.asm80_statement_types.specs.Tree.{Statement};
+ghost use Rattle.asm80_types.specs.declared.fault.ReadFault.{ReadFault};
+ghost use Rattle.asm80_types.specs.Ranges.{AreInRange};
+ghost use Rattle.asm80_types.specs.Tree.{Statement};
 ghost use Rattle.asm80_text.specs.Stream.{StreamGives};
-ghost use Rattle.asm80_program_types.specs.Program.{Program, is_top};
+ghost use Rattle.asm80_types.specs.Program.{Program, is_top};
 ghost use Rattle.asm80_source_def.specs.Assembly.{refusal, IsAssembled};
 ghost use Rattle.asm80_source_def.specs.Source.{IsSource, IsNoSource, SourceRule};
 
-use asm80_statement_types::StatementReader;
 use asm80_text::Notation;
+use asm80_types::StatementReader;
 
 /// By the reading of any reader the bytes of a source, with a top of the program area, have at most one outcome: a program, or a
 /// line and rule, and never both.

@@ -37,8 +37,8 @@ mod second_walk;
 mod setting;
 
 pub use asm80_first_walk::AsmFault;
-pub use asm80_program_types::Program80;
 pub use asm80_source_def::AsmRule;
+pub use asm80_types::Program80;
 pub use assembly::assemble;
 pub use fault::FormFault;
 pub use form::{Data, Form, Instruction, form_of};

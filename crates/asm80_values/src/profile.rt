@@ -1,7 +1,7 @@
 // The rules of the layout and of this project's profile that operands break: S1, S2, S4 and S5.
 ghost use Rattle.std.specs.Prelude.{◌≡◌, false, Some, map, zip};
 ghost use Rattle.std.specs.List.{list_any};
-ghost use Rattle.asm80_statement_types.specs.Tree.{operand_of};
+ghost use Rattle.asm80_types.specs.Tree.{operand_of};
 ghost use Rattle.asm80_values.specs.Settings.{setting_of};
 ghost use Rattle.asm80_source_def.specs.Items.{is_data_op};
 ghost use Rattle.asm80_source_def.specs.Layout.{is_foreign_by, misses, misses_by, computes, computes_by, loads_code, loads_code_by, loads_sp, operands_by, same_kind};
@@ -11,7 +11,7 @@ use crate::registers::pair_of;
 use crate::setting::{Setting, code_address, value};
 use asm80_first_walk::has_place_inside;
 use asm80_source_def::{Kind, Operation};
-use asm80_statement_types::Arg;
+use asm80_types::Arg;
 use i80::Pair;
 
 /// S1: whether an instruction is not of the profile: HLT, EI, DI, and RST of a number other than 0.

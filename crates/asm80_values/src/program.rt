@@ -2,13 +2,13 @@
 ghost use Rattle.std.specs.Prelude.{◌≡◌, ◌++◌, IfOk, OnOk};
 ghost use Rattle.std.specs.List.{filter_map, flat_map};
 ghost use Rattle.std.specs.List.Sorted.{IsPermutation};
-ghost use Rattle.asm80_program_types.specs.Program.{IsProgram};
+ghost use Rattle.asm80_types.specs.Program.{IsProgram};
 ghost use Rattle.asm80_source_def.specs.Items.{laid_from};
 ghost use Rattle.asm80_values.specs.Programs.{AreLawful, placed_item, data_item};
 
 use crate::Form;
 use crate::item::{Item, address_of_cell};
-use asm80_program_types::{Placed, Program80};
+use asm80_types::{Placed, Program80};
 use cells::Cell;
 use std::alloc::{AllocError, Global};
 

@@ -1,9 +1,9 @@
 // Registers as operands.
 ghost use Rattle.std.specs.Prelude.{◌≡◌, option_map};
-ghost use Rattle.asm80_statement_types.specs.Tree.{operand_of};
+ghost use Rattle.asm80_types.specs.Tree.{operand_of};
 ghost use Rattle.asm80_source_def.specs.Operands.{register_name, src_of, pair_of_operand, indirect_of, stack_of};
 
-use asm80_statement_types::{Arg, Expr};
+use asm80_types::{Arg, Expr};
 use i80::{Pair, Reg, Src, StackPair};
 
 // The name that an operand is.

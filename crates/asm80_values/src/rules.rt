@@ -1,7 +1,7 @@
 // The rules of operands: V5, V1, V4 and V3, in this order.
 ghost use Rattle.std.specs.Prelude.{◌≡◌, ◌||◌, IfSome, None, false, is_some, map, zip};
 ghost use Rattle.std.specs.List.{list_any};
-ghost use Rattle.asm80_statement_types.specs.Tree.{operand_of};
+ghost use Rattle.asm80_types.specs.Tree.{operand_of};
 ghost use Rattle.asm80_first_walk.specs.Scopes.{scope_of};
 ghost use Rattle.asm80_source_def.specs.declared.rule.AsmRule.TheVariants.{V1, V3, V4};
 ghost use Rattle.asm80_source_def.specs.FirstFaults.{rule_if};
@@ -14,7 +14,7 @@ use asm80_first_walk::{
     Scope, is_no_value, operand_divides_by_zero, operand_has_unknown, operand_number,
 };
 use asm80_source_def::{AsmRule, Kind, Operation};
-use asm80_statement_types::Arg;
+use asm80_types::Arg;
 use i80::Src;
 
 // Whether an operand is of a kind.

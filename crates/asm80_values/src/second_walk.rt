@@ -1,8 +1,8 @@
 // The second walk: the operands of instructions, DB and DW.
 ghost use Rattle.std.specs.Prelude.{◌≡◌, ◌||◌, ℕ, List, not, filter, option_to_list, map, Some, None, OnOk, IfOk, MatchResult};
 ghost use Rattle.base.specs.Addresses.{has_address, is_among, IsSetOf};
-ghost use Rattle.asm80_statement_types.specs.declared.stmt.Stmt80.{Stmt80};
-ghost use Rattle.asm80_statement_types.specs.Tree.{Statement, operand_of, statement_of};
+ghost use Rattle.asm80_types.specs.declared.stmt.Stmt80.{Stmt80};
+ghost use Rattle.asm80_types.specs.Tree.{Statement, operand_of, statement_of};
 ghost use Rattle.asm80_values.specs.Forms.{IsForm};
 ghost use Rattle.asm80_first_walk.specs.Walked.{IsRowOf as StandsForRow, Stand, IsWalked};
 ghost use Rattle.asm80_source_def.specs.Names.{Name, is_settable};
@@ -15,7 +15,7 @@ use crate::item::Item;
 use crate::{Form, FormFault, Setting, form_of, kinds_of};
 use asm80_first_walk::{AsmFault, Names, Scope, Taken, Walked, size_of};
 use asm80_source_def::{NameKind, Operation};
-use asm80_statement_types::{Arg, Stmt80};
+use asm80_types::{Arg, Stmt80};
 use base::AddressSet;
 use std::alloc::{AllocError, Global};
 

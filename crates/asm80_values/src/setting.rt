@@ -1,11 +1,11 @@
 // Where operands are evaluated.
 ghost use Rattle.std.specs.Prelude.{◌≡◌};
-ghost use Rattle.asm80_statement_types.specs.Tree.{operand_of};
+ghost use Rattle.asm80_types.specs.Tree.{operand_of};
 ghost use Rattle.asm80_values.specs.Settings.{setting_of};
 ghost use Rattle.asm80_source_def.specs.Items.{value, byte, code_address};
 
 use asm80_first_walk::{Scope, operand_number, operand_place};
-use asm80_statement_types::Arg;
+use asm80_types::Arg;
 use base::AddressSet;
 
 /// Where operands are evaluated: what they see, and the addresses at which instructions start.

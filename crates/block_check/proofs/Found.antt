@@ -6,13 +6,13 @@ use Rattle.asm86_line_types.specs.declared.line.Stmt86.TheVariants.{Mark}
 use Rattle.sym_block_def.specs.declared.reason.Reason.TheVariants.{Missing, Length, Form}
 use Rattle.sym_block_def.specs.Walk86.{walk86}
 use Rattle.sym_run.specs.Stop.{Stop, reason_at, reason_by as reason_of_end, stop_in, EndsSayWhy}
-use Rattle.asm80_program_types.specs.declared.program.Placed.{Placed}
+use Rattle.asm80_types.specs.declared.program.Placed.{Placed}
 use Rattle.sym_block_def.specs.Block80.{MayRun}
 use Rattle.xlt_pool.specs.Contents.{Contents}
 use Rattle.sym_block_def.specs.declared.reason.Reason.{Reason}
-use Rattle.asm80_program_types.specs.Program.{Program, placed_in, is_start}
+use Rattle.asm80_types.specs.Program.{Program, placed_in, is_start}
 use Rattle.sym_block_def.specs.Outcome.{Goto, ByTerms, Call, Sys, SysReturn, Boot, Leave, In, Out, Exit, One, Two, Outcome}
-use Rattle.block_check_def.specs.BlockMatch.{Keeps, kept_by_exit, lost_by, outcome_reason, walked_reason}
+use Rattle.sym_block_def.specs.BlockMatch.{Keeps, kept_by_exit, lost_by, outcome_reason, walked_reason}
 use Rattle.sym_run.specs.Outcomes.{OutcomeIds, OutcomeStands, WalkComesTo, WorkState}
 use Rattle.block_check.specs.Kept.{kept_behind, lost_of}
 use Rattle.block_check.specs.Comparing.{outcome_of, OutcomeIsGiven, AreReady, AreReadyFor, AreReadyAfter, AreCompared, first_outcome, second_of, reason_by, verdict_of, AfterShown}

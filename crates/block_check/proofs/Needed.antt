@@ -2,7 +2,7 @@
 use Rattle.std.proofs.Common.{◌≡◌, ◌∙◌, ℕ, Option, Some, None, refl, sym}
 use Rattle.std.specs.Prelude.{is_some, cond}
 use Rattle.cells.specs.Parts.{Parts, nothing}
-use Rattle.asm80_program_types.specs.Program.{Program}
+use Rattle.asm80_types.specs.Program.{Program}
 use Rattle.flow.proofs.OneNeeds.{needs_once}
 use Rattle.flow.specs.declared.node.Node.TheVariants.{Start}
 use Rattle.flow.specs.Blocks.{block_at, IsLeader, BlocksCut}

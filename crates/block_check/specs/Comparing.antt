@@ -8,8 +8,8 @@ use Rattle.sym_terms.specs.Trees.{tree_in, IsGiven}
 use Rattle.sym_block_def.specs.declared.reason.Reason.{Reason}
 use Rattle.sym_block_def.specs.declared.reason.Reason.TheVariants.{Missing, Length, Form, Actions, Exits}
 use Rattle.sym_block_def.specs.Outcome.{Outcome, term_in}
-use Rattle.block_check_def.specs.Agree.{agrees, actions_agree, exit_agrees}
-use Rattle.block_check_def.specs.BlockMatch.{kept_reason}
+use Rattle.sym_block_def.specs.Agree.{agrees, actions_agree, exit_agrees}
+use Rattle.sym_block_def.specs.BlockMatch.{kept_reason}
 use Rattle.sym_micro.specs.Stands.{trees_of_held, trees_of_actions, HeldIsGiven, ActionsAreGiven}
 use Rattle.sym_micro.specs.Exits.{tree_of_exit, ExitIsGiven}
 use Rattle.sym_run.specs.Outcomes.{OutcomeIds, OutcomeStands, WalkComesTo}

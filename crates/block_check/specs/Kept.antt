@@ -2,9 +2,9 @@
 use Rattle.std.specs.Prelude.{◌≡◌, ℕ, Option, Some, None, IsTrue}
 use Rattle.cells.specs.Parts.{Parts, nothing}
 use Rattle.sym_block_def.specs.Outcome.{Exit, One, Sys}
-use Rattle.block_check_def.specs.BlockMatch.{Keeps, kept_at}
+use Rattle.sym_block_def.specs.BlockMatch.{Keeps, kept_at}
 use Rattle.simulation_def.specs.Ones.{all_kept}
-use Rattle.asm80_program_types.specs.Program.{Program}
+use Rattle.asm80_types.specs.Program.{Program}
 use Rattle.flow.specs.declared.node.Node.TheVariants.{Start, Return}
 use Rattle.flow.specs.Blocks.{block_at}
 use Rattle.flow.specs.Solving.{AreNeeds}

@@ -1,7 +1,7 @@
 // Whether the loads and stores of two outcomes agree.
 
 ghost use Rattle.std.specs.Prelude.{◌≡◌};
-ghost use Rattle.block_check_def.specs.Agree.{action_agrees, actions_agree};
+ghost use Rattle.sym_block_def.specs.Agree.{action_agrees, actions_agree};
 ghost use Rattle.sym_micro.specs.Stands.{tree_of_action, trees_of_actions, ActionIsGiven, ActionsAreGiven};
 
 use crate::pairs::pairs_agree;

@@ -2,7 +2,7 @@
 
 ghost use Rattle.std.specs.Prelude.{◌≡◌};
 ghost use Rattle.cells.specs.Parts.{has, union};
-ghost use Rattle.block_check_def.specs.BlockMatch.{parts_asked};
+ghost use Rattle.sym_block_def.specs.BlockMatch.{parts_asked};
 ghost use Rattle.block_check.specs.Kept.{wanted_parts, lost_of};
 
 use cells::{Keep, Part};

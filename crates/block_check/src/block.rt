@@ -1,7 +1,7 @@
 // Whether a block matches.
 
 ghost use Rattle.std.specs.Prelude.{◌≡◌, true, ℕ, Some, Ok, IsTrue};
-ghost use Rattle.asm80_program_types.specs.Program.{is_start};
+ghost use Rattle.asm80_types.specs.Program.{is_start};
 ghost use Rattle.flow.specs.Blocks.{IsLeader, block_at};
 ghost use Rattle.flow.specs.Solving.{Needs, AreAllNeeds};
 ghost use Rattle.simulation_def.specs.Needed.{needed_by};
@@ -9,13 +9,13 @@ ghost use Rattle.simulation_def.specs.Ones.{all_kept};
 ghost use Rattle.sym_block_def.specs.Block80.{MayRun, block80};
 ghost use Rattle.sym_block_def.specs.Outcome.{Outcome};
 ghost use Rattle.sym_block_def.specs.Walk86.{walk86};
-ghost use Rattle.block_check_def.specs.BlockMatch.{Keeps, block_reason};
+ghost use Rattle.sym_block_def.specs.BlockMatch.{Keeps, block_reason};
 ghost use Rattle.block_check.specs.Kept.{KeepsAre, AreFound};
 ghost use Rattle.block_check.specs.Comparing.{HoldsOutcomes, AreReadyAfter, AreCompared, AfterShown, verdict_of};
 
 use crate::kept::{Kept, kept_behind, kept_by_exit, kept_from};
 use crate::outcomes::reason_of;
-use asm80_program_types::Program80;
+use asm80_types::Program80;
 use flow::{Graph, blocks_cut_the_program};
 use sym_run::{Index86, Reason, Work, ends_say_why};
 

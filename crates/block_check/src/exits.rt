@@ -1,7 +1,7 @@
 // Whether the exits of two outcomes agree.
 
 ghost use Rattle.std.specs.Prelude.{◌≡◌};
-ghost use Rattle.block_check_def.specs.Agree.{way_agrees, ways_agree, exit_agrees};
+ghost use Rattle.sym_block_def.specs.Agree.{way_agrees, ways_agree, exit_agrees};
 ghost use Rattle.sym_micro.specs.Exits.{tree_of_way, tree_of_exit, WayIsGiven, ExitIsGiven};
 
 use crate::pairs::pairs_agree;

@@ -3,12 +3,12 @@
 ghost use Rattle.std.specs.Prelude.{◌≡◌, IsTrue};
 ghost use Rattle.flow.specs.Blocks.{block_at};
 ghost use Rattle.xlt_pool.specs.Contents.{Contents};
-ghost use Rattle.block_check_def.specs.BlockMatch.{Keeps, kept_at, kept_after_way, kept_by_exit};
+ghost use Rattle.sym_block_def.specs.BlockMatch.{Keeps, kept_at, kept_after_way, kept_by_exit};
 ghost use Rattle.sym_micro.specs.Exits.{tree_of_way, tree_of_exit};
 ghost use Rattle.block_check.specs.Kept.{wanted_parts, KeepsAre, AreFound, AreKept, kept_behind};
 
 use crate::asked::{Wanted, all_of, both, of_system};
-use asm80_program_types::Program80;
+use asm80_types::Program80;
 use cells::{Keep, Place};
 use flow::{Graph, needs_are_closed};
 use sym_run::{Exit, Way};

@@ -2,7 +2,7 @@
 
 ghost use Rattle.std.specs.Prelude.{◌≡◌, ◌||◌};
 ghost use Rattle.std.specs.List.{find};
-ghost use Rattle.block_check_def.specs.BlockMatch.{is_last, is_boot_alone, sp_agrees, kept_reason};
+ghost use Rattle.sym_block_def.specs.BlockMatch.{is_last, is_boot_alone, sp_agrees, kept_reason};
 ghost use Rattle.sym_micro.specs.Exits.{tree_of_way, tree_of_exit};
 ghost use Rattle.xlt_pool.specs.Contents.{Contents};
 ghost use Rattle.block_check.specs.Kept.{wanted_parts, lost_of};

@@ -2,7 +2,7 @@
 
 ghost use Rattle.std.specs.Prelude.{◌≡◌, ◌&&◌};
 ghost use Rattle.sym_terms.specs.Trees.{tree_in, IsGiven};
-ghost use Rattle.block_check_def.specs.Agree.{agrees};
+ghost use Rattle.sym_block_def.specs.Agree.{agrees};
 
 use sym_run::Work;
 use sym_terms::Term;

@@ -1,13 +1,13 @@
 -- What is said of a block is of its outcome and of the walk's.
 use Rattle.std.proofs.Common.{◌≡◌, ◌∙◌, ℕ, zero, suc, List, [], ◌∷◌, Option, Some, None, Result, Ok, Err, refl, sym, subst}
-use Rattle.asm80_program_types.specs.Program.{Program}
+use Rattle.asm80_types.specs.Program.{Program}
 use Rattle.asm86_line_types.specs.declared.line.Stmt86.{Stmt86}
 use Rattle.asm86_line_types.specs.declared.line.Stmt86.TheVariants.{Mark}
 use Rattle.cells.specs.Parts.{Parts}
 use Rattle.sym_block_def.specs.declared.reason.Reason.{Reason}
 use Rattle.sym_block_def.specs.Outcome.{Outcome}
 use Rattle.sym_block_def.specs.Walk86.{walk86}
-use Rattle.block_check_def.specs.BlockMatch.{Keeps, walked_reason}
+use Rattle.sym_block_def.specs.BlockMatch.{Keeps, walked_reason}
 use Rattle.sym_run.specs.Outcomes.{WorkState}
 use Rattle.sym_run.specs.Stop.{Stop, reason_at, reason_by, stop_in, EndsSayWhy}
 use Rattle.block_check.specs.Comparing.{AreCompared, first_outcome, second_of}

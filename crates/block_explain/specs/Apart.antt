@@ -2,7 +2,7 @@
 use Rattle.std.specs.Prelude.{Bool, cond, List, [], ◌∷◌, Option, Some, None}
 use Rattle.sym_terms.specs.Term.{Term, same_bool}
 use Rattle.sym_block_def.specs.Outcome.{Action, Load8, Load16, Store8, Store16, Way, ByTerms, Exit, One, Two}
-use Rattle.block_check_def.specs.Agree.{agrees, action_agrees}
+use Rattle.sym_block_def.specs.Agree.{agrees, action_agrees}
 use Rattle.block_explain.specs.Smallest.{TermPair, pair}
 
 -- a load or a store on either side, where there is one

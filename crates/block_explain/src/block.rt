@@ -7,7 +7,7 @@ ghost use Rattle.simulation_def.specs.Needed.{needed_by};
 ghost use Rattle.block_explain.specs.Explained.{IsSaid};
 
 use crate::explain::explain_outcomes;
-use asm80_program_types::Program80;
+use asm80_types::Program80;
 use block_check::{Index86, Reason, Verdict, Work, check};
 use flow::Graph;
 use std::alloc::{AllocError, Global};

@@ -2,7 +2,7 @@
 use crate::source::statements_of;
 use asm80_first_walk::{Taken, Walked, walk};
 use asm80_source_def::Meaning;
-use asm80_statement_types::{ReadFault, Stmt80};
+use asm80_types::{ReadFault, Stmt80};
 use std::alloc::{AllocError, Global};
 
 // What the label of a statement stands for at the end.

@@ -7,7 +7,7 @@ use asm80_first_walk::{
     operand_has_unknown, operand_number, operand_place, operation_of, walk,
 };
 use asm80_source_def::{Meaning, NameKind};
-use asm80_statement_types::{Arg, ReadFault, Stmt80};
+use asm80_types::{Arg, ReadFault, Stmt80};
 use asm80_values::{Form, FormFault, Setting, form_of};
 use base::AddressSet;
 use cells::Cell;

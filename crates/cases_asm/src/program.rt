@@ -1,11 +1,10 @@
 // A program as text.
 ghost use Rattle.std.specs.Prelude.{◌≡◌, true};
-ghost use Rattle.asm80_program_types.specs.Program.{is_top};
+ghost use Rattle.asm80_types.specs.Program.{is_top};
 
 use crate::codes::{push_cell, push_code};
 use crate::source::statements_of;
-use asm80_program_types::Program80;
-use asm80_statement_types::ReadFault;
+use asm80_types::{Program80, ReadFault};
 use asm80_values::assemble;
 use cells::Cell;
 use std::alloc::{AllocError, Global};

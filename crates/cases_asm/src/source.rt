@@ -1,6 +1,6 @@
 // Sources in the lines of the standard input.
-use asm80_statement_types::{ReadFault, StatementReader, Stmt80};
 use asm80_text::Lines;
+use asm80_types::{ReadFault, StatementReader, Stmt80};
 use std::alloc::{AllocError, Global};
 
 /// The bytes that a line stands for: `|` is the end of a line of source, `~` is 255 blanks, and `^` and a character a control

@@ -1,6 +1,6 @@
 // Statements as text.
 use crate::source::statements_by;
-use asm80_statement_types::{Arg, Expr, Name80, ReadFault, StatementReader, Stmt80, Two};
+use asm80_types::{Arg, Expr, Name80, ReadFault, StatementReader, Stmt80, Two};
 use std::alloc::{AllocError, Global};
 
 fn sign(op: Two) -> &'static str {

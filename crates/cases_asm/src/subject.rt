@@ -1,6 +1,6 @@
 // What a case is read as.
 ghost use Rattle.std.specs.Prelude.{◌≡◌};
-ghost use Rattle.asm80_program_types.specs.Program.{is_top};
+ghost use Rattle.asm80_types.specs.Program.{is_top};
 
 use crate::addresses::addresses_text;
 use crate::operands::{Asked, operands_text};
@@ -8,8 +8,8 @@ use crate::program::program_text;
 use crate::source::bytes_of;
 use crate::statements::statements_text;
 use crate::texts;
-use asm80_statement_types::ReadFault;
 use asm80_text::Lines;
+use asm80_types::ReadFault;
 use std::alloc::{AllocError, Global};
 use zilog80::ZLines;
 

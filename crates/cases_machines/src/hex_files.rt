@@ -2,7 +2,7 @@
 use crate::events::push_event;
 use crate::programs::program80;
 use crate::scripts::reply;
-use asm80_program_types::Program80;
+use asm80_types::Program80;
 use dialogue::{Event, Page};
 use i80_bytes::{Byte80, HexFault, HexFile, StepBytes, hex_text};
 use std::alloc::{AllocError, Global};

@@ -2,7 +2,7 @@
 use crate::events::is_same;
 use crate::states;
 use crate::tagged::{Held, push_changes};
-use asm80_program_types::Program80;
+use asm80_types::Program80;
 use cells::{Place, Rule};
 use cpu80::{Cpu80, Plain80, Step80, StepPlain};
 use cpu86::processor::Processor;

@@ -1,6 +1,6 @@
 -- What a block needs, and what its runs give.
 use Rattle.std.specs.Prelude.{◌≡◌, ℕ, length, Option, Some, Result, Ok}
-use Rattle.asm80_program_types.specs.Program.{Program}
+use Rattle.asm80_types.specs.Program.{Program}
 use Rattle.sym_block_def.specs.declared.reason.Reason.{Reason}
 use Rattle.sym_block_def.specs.Block80.{instrs_from, OnlyLastEnds}
 use Rattle.sym_run.specs.Outcomes.{WorkState}

@@ -10,7 +10,7 @@ use crate::shown::{push_exit, reason_text};
 use crate::sources::{is_top, plain_index, program_below, program_of, text_index};
 use crate::texts::{lean_lines, whole_text};
 use anyhow::bail;
-use asm80_program_types::Program80;
+use asm80_types::Program80;
 use cells::{Keep, Part};
 use std::alloc::{AllocError, Global};
 use sym_run::{Index86, Work};

@@ -4,7 +4,7 @@ ghost use Rattle.std.specs.Prelude.{◌≡◌, true};
 ghost use Rattle.sym_block_def.specs.Block80.{MayRun};
 ghost use Rattle.cases_symrun.specs.Given.{Follow};
 
-use asm80_program_types::Program80;
+use asm80_types::Program80;
 use i80::{ends, length};
 
 // Whether so many instructions stand one after the other from an address on, of which only the last may end a block.

@@ -5,7 +5,7 @@ ghost use Rattle.asm86_line_types.specs.Order.{at_start, in_order};
 
 use crate::sources::program_of;
 use anyhow::bail;
-use asm80_program_types::Program80;
+use asm80_types::Program80;
 use asm86::{Image86, Label, Line86, Stmt86, Text86, TextFault, image, write_line};
 use std::alloc::{AllocError, Global};
 use templates::{plain_text, template};

@@ -1,5 +1,5 @@
 // Blocks, needs and saves of programs.
-use asm80_program_types::Program80;
+use asm80_types::Program80;
 use cells::{Keep, Part};
 use flow::{Graph, saves};
 use std::alloc::{AllocError, Global};

@@ -3,7 +3,7 @@
 ghost use Rattle.cases_symrun.specs.Given.{IsRun};
 
 use crate::blocks::is_block;
-use asm80_program_types::Program80;
+use asm80_types::Program80;
 use cells::Keep;
 use sym_run::{Index86, Reason, Work};
 

@@ -1,10 +1,9 @@
 // Programs and texts of cases.
 ghost use Rattle.std.specs.Prelude.{◌≡◌, true};
-ghost use Rattle.asm80_program_types.specs.Program.{is_top};
+ghost use Rattle.asm80_types.specs.Program.{is_top};
 
-use asm80_program_types::Program80;
-use asm80_statement_types::{ReadFault, Stmt80};
 use asm80_text::Lines;
+use asm80_types::{Program80, ReadFault, Stmt80};
 use asm80_values::assemble;
 use asm86::{Line86, Text86, TextFault};
 use std::alloc::{AllocError, Global};

@@ -1,5 +1,5 @@
 // Plain and lean texts of programs.
-use asm80_program_types::Program80;
+use asm80_types::Program80;
 use asm86::{Line86, code_size, write_line};
 use flow::Graph;
 use std::alloc::{AllocError, Global};

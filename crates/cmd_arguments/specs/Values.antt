@@ -3,7 +3,7 @@ use Rattle.std.specs.Prelude.{â„•, Option, Some, None, length, nat_lt, nat_le, â
 use Rattle.std.specs.List.{list_all}
 use Rattle.std.specs.Char.{is_digit}
 use Rattle.std.specs.Str.Parse.{digits_value}
-use Rattle.asm80_program_types.specs.Program.{is_top}
+use Rattle.asm80_types.specs.Program.{is_top}
 use Rattle.cmd_arguments.specs.Table.{Word}
 
 -- the number that 1 to `most` digits of a base write, letters in either case

@@ -3,7 +3,7 @@ use Rattle.std.proofs.Common.{◌≡◌, ◌∙◌, ℕ, inl, ⊎_elim, List, re
 use Rattle.std.specs.Prelude.{Result}
 use Rattle.host.specs.Host.{HostState}
 use Rattle.asm86_line_types.specs.declared.line.Line86.{Line86}
-use Rattle.asm80_program_types.specs.Program.{Program}
+use Rattle.asm80_types.specs.Program.{Program}
 use Rattle.xlt_core.specs.Names.{Shown, NotShown as NotFound, OneFinding}
 use Rattle.cmd_arguments.specs.Words.{Check}
 use Rattle.cmd_common.specs.Names.{FileNames, two_names}

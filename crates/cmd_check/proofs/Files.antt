@@ -9,7 +9,7 @@ use Rattle.asm86.proofs.Outcomes.{same_lines}
 use Rattle.asm86.specs.declared.fault.ImageFault.{ImageFault}
 use Rattle.asm86.specs.Images.{IsNoImage}
 use Rattle.asm86.proofs.OneOutcome.{never_both, one_fault}
-use Rattle.asm80_program_types.specs.Program.{Program}
+use Rattle.asm80_types.specs.Program.{Program}
 use Rattle.asm80_source_def.specs.Source.{IsSource, SourceRule, IsNoSource, OfLine, OfProgram}
 use Rattle.cmd_arguments.specs.Words.{Check}
 use Rattle.cmd_common.specs.Names.{FileNames, two_names}

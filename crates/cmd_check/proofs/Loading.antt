@@ -7,7 +7,7 @@ use Rattle.host.proofs.HostLemmas.{OnlyReads-trans, SameFaults-trans}
 use Rattle.asm86_line_types.specs.declared.line.Line86.{Line86}
 use Rattle.asm86.specs.Stream.{TextGives}
 use Rattle.asm86.specs.declared.fault.ImageFault.TheVariants.{Line}
-use Rattle.asm80_program_types.specs.Program.{Program}
+use Rattle.asm80_types.specs.Program.{Program}
 use Rattle.cmd_common.specs.Sources.{SourceGives, reading_of}
 use Rattle.asm80_source_def.specs.Source.{IsSource}
 use Rattle.cmd_arguments.specs.Words.{Check}

@@ -8,7 +8,7 @@ use Rattle.asm86_line_types.specs.Written.{written_text}
 use Rattle.asm86.specs.Images.{HasImage}
 use Rattle.asm86.specs.Stream.{TextGives}
 use Rattle.asm86.proofs.Outcomes.{same_lines}
-use Rattle.asm80_program_types.specs.Program.{Program, IsProgram}
+use Rattle.asm80_types.specs.Program.{Program, IsProgram}
 use Rattle.commented_text.specs.Commented.{kept_of, IsOutput}
 use Rattle.commented_text.specs.Reading.{ReadsAs}
 use Rattle.templates.specs.declared.translation.Mode.{Mode}

@@ -5,7 +5,7 @@ use Rattle.asm86_line_types.specs.declared.line.Line86.{Line86}
 use Rattle.asm86_line_types.specs.Image.{image_of}
 use Rattle.asm86.specs.Stream.{TextGives}
 use Rattle.asm86.specs.declared.fault.ImageFault.{ImageFault}
-use Rattle.asm80_program_types.specs.Program.{Program}
+use Rattle.asm80_types.specs.Program.{Program}
 use Rattle.asm80_source_def.specs.Source.{IsSource}
 use Rattle.sym_block_def.specs.declared.reason.Reason.{Reason}
 use Rattle.xlt_core.specs.Names.{Same, Shown as IsFoundShown, NotShown as IsFoundNot, IsFinding}

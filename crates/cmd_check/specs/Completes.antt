@@ -5,7 +5,7 @@ use Rattle.asm86_line_types.specs.declared.line.Line86.{Line86}
 use Rattle.asm86_line_types.specs.Image.{Assembles}
 use Rattle.asm86.specs.Stream.{TextGives}
 use Rattle.asm86.specs.declared.fault.ImageFault.{ImageFault}
-use Rattle.asm80_program_types.specs.Program.{Program}
+use Rattle.asm80_types.specs.Program.{Program}
 use Rattle.asm80_source_def.specs.Source.{IsSource, IsNoSource, SourceRule}
 use Rattle.xlt_core.specs.Names.{Finding, Shown, NotShown as NotFound, IsFinding}
 use Rattle.cmd_arguments.specs.Words.{Check}

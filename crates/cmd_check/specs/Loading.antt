@@ -2,7 +2,7 @@
 use Rattle.std.specs.Prelude.{◌≡◌, Result, Ok, Err}
 use Rattle.std.specs.Global.{Vec}
 use Rattle.asm86_line_types.specs.declared.line.Line86.{Line86}
-use Rattle.asm80_program_types.specs.Program.{Program}
+use Rattle.asm80_types.specs.Program.{Program}
 use Rattle.cmd_common.specs.declared.stop.Stop.{Stop}
 use Rattle.cmd_common.specs.Texts.{HasOneImage, ImageStops}
 use Rattle.cmd_check.specs.declared.inputs.Loaded.{Loaded}

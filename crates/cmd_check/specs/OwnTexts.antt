@@ -3,7 +3,7 @@ use Rattle.std.specs.Prelude.{◌≡◌, ℕ, Bool, ◌⊎◌, List}
 use Rattle.cmd_common.specs.Sources.{reading_of}
 use Rattle.host.specs.Host.{HostState}
 use Rattle.asm86_line_types.specs.declared.line.Line86.{Line86}
-use Rattle.asm80_program_types.specs.Program.{Program}
+use Rattle.asm80_types.specs.Program.{Program}
 use Rattle.asm80_source_def.specs.Source.{IsSource}
 use Rattle.templates.specs.declared.translation.Mode.{Mode}
 use Rattle.templates.specs.Translation.{IsText, CodeFits}

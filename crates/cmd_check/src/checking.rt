@@ -2,7 +2,7 @@
 ghost use Rattle.std.specs.Prelude.{◌≡◌, ◌<◌, ◌^◌, true, length, IfOk, IfErr};
 ghost use Rattle.std.specs.String.{string_bytes};
 ghost use Rattle.host.specs.Host.{SameFiles};
-ghost use Rattle.asm80_program_types.specs.Program.{is_top};
+ghost use Rattle.asm80_types.specs.Program.{is_top};
 ghost use Rattle.asm86_line_types.specs.Image.{IsImage};
 ghost use Rattle.cmd_arguments.specs.ReadCommands.{check_read};
 ghost use Rattle.cmd_check.specs.Checks.{SaysShown, FindStops, Shows, Stops, CheckGives};
@@ -12,7 +12,7 @@ ghost use Rattle.cmd_check.specs.OwnTexts.{ShowsOwnText};
 use crate::finding::find;
 use crate::inputs::load;
 use crate::laws::checks_have_one_outcome;
-use asm80_program_types::Program80;
+use asm80_types::Program80;
 use cmd_arguments::Check;
 use cmd_common::{InputNames, LoadedText, Stop, say_done, say_stop, shown_line};
 use commented_text::commented_texts_read_back;

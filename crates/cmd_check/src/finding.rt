@@ -3,7 +3,7 @@ ghost use Rattle.std.specs.Prelude.{◌<◌, ◌^◌, length, IfOk, IfErr};
 ghost use Rattle.asm86_line_types.specs.Image.{IsImage};
 ghost use Rattle.cmd_check.specs.Checks.{IsShown, FindStops};
 
-use asm80_program_types::Program80;
+use asm80_types::Program80;
 use cmd_common::{LoadedText, Stop};
 use std::alloc::Global;
 use xlt_core::{Finding, validate_loaded};

@@ -1,13 +1,13 @@
 // The program of a source, and a text that has an image.
 ghost use Rattle.std.specs.Prelude.{◌≡◌, ◌<◌, ◌^◌, true, length, IfOk, IfErr};
-ghost use Rattle.asm80_program_types.specs.Program.{is_top};
+ghost use Rattle.asm80_types.specs.Program.{is_top};
 ghost use Rattle.asm86_line_types.specs.Image.{IsImage, statements};
 ghost use Rattle.asm86_line_types.specs.Order.{at_start, in_order};
 ghost use Rattle.cmd_arguments.specs.ReadCommands.{check_read};
 ghost use Rattle.cmd_check.specs.Checks.{Loads, LoadStops};
 ghost use Rattle.cmd_check.specs.Loading.{AreLoaded, NotLoaded};
 
-use asm80_program_types::Program80;
+use asm80_types::Program80;
 use asm86_line_types::Line86;
 use cmd_arguments::Check;
 use cmd_common::{InputFile, LoadedText, Stop, read_source, read_text};

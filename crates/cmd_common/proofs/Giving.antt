@@ -1,9 +1,9 @@
 -- What the statements of a source are, its bytes are.
 use Rattle.std.proofs.Common.{ℕ, List}
 use Rattle.std.specs.Prelude.{Result, Ok, Err, None}
-use Rattle.asm80_statement_types.specs.Tree.{Statement}
-use Rattle.asm80_statement_types.specs.Reading.{Reading}
-use Rattle.asm80_program_types.specs.Program.{Program}
+use Rattle.asm80_types.specs.Tree.{Statement}
+use Rattle.asm80_types.specs.Reading.{Reading}
+use Rattle.asm80_types.specs.Program.{Program}
 use Rattle.asm80_source_def.specs.Source.{refused}
 use Rattle.cmd_common.specs.declared.stop.Stop.{Stop}
 use Rattle.cmd_common.specs.Sources.{of_program, SourceGives, StatementsGive, breaks}

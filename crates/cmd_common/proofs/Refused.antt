@@ -2,8 +2,8 @@
 use Rattle.std.proofs.Common.{◌≡◌, ℕ, List, sym, subst}
 use Rattle.std.specs.Prelude.{Result, Err}
 use Rattle.host.specs.Host.{HostState, OnlyReads, SameFaults}
-use Rattle.asm80_statement_types.specs.Reading.{Reading}
-use Rattle.asm80_program_types.specs.Program.{Program}
+use Rattle.asm80_types.specs.Reading.{Reading}
+use Rattle.asm80_types.specs.Program.{Program}
 use Rattle.cmd_common.specs.declared.stop.Stop.{Stop}
 use Rattle.cmd_common.specs.Files.{input_limit, IsWholeFile}
 use Rattle.cmd_common.specs.Sources.{SourceStops, SourceGives, ReadsSource}

@@ -1,10 +1,10 @@
 -- What is known of sources, in a spelling: one is that of one program, or is refused by one line and rule, and not both. So a command stops
 -- for one reason.
 use Rattle.std.proofs.Common.{◌≡◌, ℕ, Bool, true, false, List}
-use Rattle.asm80_statement_types.specs.Reading.{Reading}
+use Rattle.asm80_types.specs.Reading.{Reading}
 use Rattle.asm80_text.specs.Intel.{intel_reading}
 use Rattle.zilog80.specs.Zilog.{zilog_reading}
-use Rattle.asm80_program_types.specs.Program.{Program}
+use Rattle.asm80_types.specs.Program.{Program}
 use Rattle.asm80_source_def.specs.Source.{IsSource, OfLine, OfProgram}
 use Rattle.cmd_common.specs.declared.stop.Stop.{Stop}
 use Rattle.cmd_common.specs.Sources.{reading_of, SourceLaw, SourceStops, of_line, of_program}

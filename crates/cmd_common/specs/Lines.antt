@@ -7,8 +7,8 @@ use Rattle.cells.specs.declared.Part.{Part}
 use Rattle.cells.specs.declared.Part.TheVariants.{A, B, C, D, E, H, L, S, Z, Ac, P, Cy}
 use Rattle.cells.specs.declared.Rule.{Rule}
 use Rattle.cells.specs.declared.Rule.TheVariants as profile
-use Rattle.asm80_statement_types.specs.declared.fault.LineRule.{LineRule}
-use Rattle.asm80_statement_types.specs.declared.fault.LineRule.TheVariants.{L1, L2, L3, L4, L5, L6, L7, L8}
+use Rattle.asm80_types.specs.declared.fault.LineRule.{LineRule}
+use Rattle.asm80_types.specs.declared.fault.LineRule.TheVariants.{L1, L2, L3, L4, L5, L6, L7, L8}
 use Rattle.asm80_source_def.specs.declared.rule.AsmRule.{AsmRule}
 use Rattle.asm80_source_def.specs.declared.rule.AsmRule.TheVariants.{V1, V2, V3, V4, V5, V6, V7, S1, S2, S3, S4, S5, S6, S7}
 use Rattle.asm86_line_types.specs.declared.line.TextRule.{TextRule}

@@ -1,12 +1,12 @@
 -- What the file of a source is to a command.
 use Rattle.std.specs.Prelude.{◌≡◌, ℕ, codes, Bool, true, false, List, Result, Ok, Err}
 use Rattle.host.specs.Host.{HostState}
-use Rattle.asm80_statement_types.specs.declared.fault.LineRule.{LineRule}
-use Rattle.asm80_statement_types.specs.Tree.{Statement}
-use Rattle.asm80_statement_types.specs.Reading.{Reading}
+use Rattle.asm80_types.specs.declared.fault.LineRule.{LineRule}
+use Rattle.asm80_types.specs.Tree.{Statement}
+use Rattle.asm80_types.specs.Reading.{Reading}
 use Rattle.asm80_text.specs.Intel.{intel_reading}
 use Rattle.zilog80.specs.Zilog.{zilog_reading}
-use Rattle.asm80_program_types.specs.Program.{Program}
+use Rattle.asm80_types.specs.Program.{Program}
 use Rattle.asm80_source_def.specs.declared.rule.AsmRule.{AsmRule}
 use Rattle.asm80_source_def.specs.Assembly.{IsAssembled, IsRefused}
 use Rattle.asm80_source_def.specs.Source.{IsSource, IsNoSource, SourceRule, OfLine, OfProgram}

@@ -3,7 +3,7 @@ ghost use Rattle.std.specs.Prelude.{◌≡◌};
 ghost use Rattle.cmd_common.specs.Lines.{asm_rule, line_rule, profile_rule, text_rule};
 
 use asm80_source_def::AsmRule;
-use asm80_statement_types::LineRule;
+use asm80_types::LineRule;
 use asm86_line_types::TextRule;
 use cells::Rule;
 

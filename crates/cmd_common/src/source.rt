@@ -1,8 +1,8 @@
 // The program of a source's file.
 ghost use Rattle.std.specs.Prelude.{◌≡◌, true, ℕ, Bool, List, IfOk, IfErr, OnOk, map};
 ghost use Rattle.host.specs.Host.{SameFaults, OnlyReads};
-ghost use Rattle.asm80_program_types.specs.Program.{is_top};
-ghost use Rattle.asm80_statement_types.specs.Tree.{statement_of};
+ghost use Rattle.asm80_types.specs.Program.{is_top};
+ghost use Rattle.asm80_types.specs.Tree.{statement_of};
 ghost use Rattle.asm80_text.specs.Intel.{intel_reading};
 ghost use Rattle.cmd_common.specs.declared.names.InputFile.TheVariants.{First};
 ghost use Rattle.cmd_common.specs.Files.{ReadStops, input_limit};
@@ -11,9 +11,8 @@ ghost use Rattle.cmd_common.specs.Sources.{ReadsSource, SourceGives, SourceLaw, 
 use crate::files::{SOURCE_LIMIT, read_named_into};
 use crate::names::InputFile;
 use crate::stop::Stop;
-use asm80_program_types::Program80;
-use asm80_statement_types::{ReadFault, StatementReader, Stmt80};
 use asm80_text::Lines;
+use asm80_types::{Program80, ReadFault, StatementReader, Stmt80};
 use asm80_values::{AsmFault, assemble, source_has_one_outcome};
 use host::Host;
 use host_files::Sink;

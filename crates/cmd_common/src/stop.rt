@@ -8,7 +8,7 @@ use crate::names::{InputFile, InputNames};
 use crate::reasons::reason_name;
 use crate::rules::{asm_rule, line_rule, profile_rule, text_rule};
 use asm80_source_def::AsmRule;
-use asm80_statement_types::LineRule;
+use asm80_types::LineRule;
 use asm86_line_types::TextRule;
 use cells::Rule;
 use std::alloc::{AllocError, Global};

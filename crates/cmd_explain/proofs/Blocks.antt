@@ -2,7 +2,7 @@
 use Rattle.std.proofs.Common.{◌≡◌, ◌∙◌, ℕ, ◌+◌, ◌-◌, ◌≤◌, List, [], ◌++◌, length, Option, Some, None, refl, sym, ap, subst, append_assoc, append-nil}
 use Rattle.std.specs.Prelude.{drop}
 use Rattle.std.proofs.lemmas.List.{drop_all}
-use Rattle.asm80_program_types.specs.Program.{Program, line_at}
+use Rattle.asm80_types.specs.Program.{Program, line_at}
 use Rattle.asm86_line_types.specs.declared.line.Label.TheVariants.{At}
 use Rattle.asm86_line_types.specs.declared.line.Line86.{Line86}
 use Rattle.asm86_line_types.specs.declared.line.Stmt86.{Stmt86}
@@ -11,7 +11,7 @@ use Rattle.flow.specs.Blocks.{blocks, place_after}
 use Rattle.flow.proofs.Indexed.{IsBlockAt}
 use Rattle.sym_block_def.specs.declared.reason.Reason.{Reason}
 use Rattle.sym_block_def.specs.Walk86.{after_label}
-use Rattle.block_check_def.specs.BlockMatch.{Keeps, block_reason}
+use Rattle.sym_block_def.specs.BlockMatch.{Keeps, block_reason}
 use Rattle.simulation_def.specs.Matches.{or_next, blocks_reason}
 use Rattle.cmd_explain.specs.Lines.{block_line, source_lines}
 use Rattle.cmd_explain.specs.Explained.{WhyTold, BlockTold, ToldIfAny, BlocksTold}

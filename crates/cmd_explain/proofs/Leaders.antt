@@ -1,8 +1,8 @@
 -- The block of a leader, and the instructions at both its ends.
 use Rattle.std.proofs.Common.{◌≡◌, ◌∙◌, ℕ, ◌-◌, ◌<◌, true, Option, Some, ap, subst, sym, arith}
 use Rattle.std.specs.Option.{unwrap_or}
-use Rattle.asm80_program_types.specs.Program.{Program, is_start}
-use Rattle.asm80_program_types.proofs.Lookup.{start_is}
+use Rattle.asm80_types.specs.Program.{Program, is_start}
+use Rattle.asm80_types.proofs.Lookup.{start_is}
 use Rattle.flow.specs.Blocks.{IsBlockOf, IsLeader, block_at, place_after, BlocksCut}
 use Rattle.flow.proofs.Further.{instr_behind}
 

@@ -2,7 +2,7 @@
 use Rattle.std.proofs.Common.{◌≡◌, ◌∙◌, ℕ, suc, Bool, true, false, List, [], ◌∷◌, ◌++◌, length, length-append, Option, Some, None, Result, Ok, Err, refl, sym, ap, subst, arith}
 use Rattle.std.proofs.lemmas.List.{length-map}
 use Rattle.cells.specs.declared.Cell.{Cell}
-use Rattle.asm80_program_types.specs.Program.{Program}
+use Rattle.asm80_types.specs.Program.{Program}
 use Rattle.asm86_line_types.specs.declared.line.Label.TheVariants.{At}
 use Rattle.asm86_line_types.specs.declared.line.Line86.{Line86}
 use Rattle.asm86_line_types.specs.declared.line.Stmt86.{Stmt86}
@@ -15,7 +15,7 @@ use Rattle.sym_block_def.specs.declared.reason.Reason.TheVariants.{Opening, Runt
 use Rattle.sym_block_def.specs.Block80.{block80}
 use Rattle.sym_block_def.specs.Outcome.{Outcome}
 use Rattle.sym_block_def.specs.Walk86.{after_label, walk86}
-use Rattle.block_check_def.specs.BlockMatch.{Keeps, block_reason}
+use Rattle.sym_block_def.specs.BlockMatch.{Keeps, block_reason}
 use Rattle.simulation_def.specs.Needed.{needed_by}
 use Rattle.sym_run.specs.Stop.{walk_end}
 use Rattle.block_explain.specs.Explained.{told, LinesAre}

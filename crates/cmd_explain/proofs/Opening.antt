@@ -5,7 +5,7 @@ use Rattle.asm86_line_types.specs.declared.line.Line86.{Line86}
 use Rattle.asm86_line_types.specs.declared.line.Stmt86.{Stmt86}
 use Rattle.asm86_line_types.specs.declared.line.Stmt86.TheVariants.{Cseg, Mark}
 use Rattle.asm86_line_types.specs.Image.{statements}
-use Rattle.asm80_program_types.specs.Program.{Program}
+use Rattle.asm80_types.specs.Program.{Program}
 use Rattle.templates.specs.Plain.{prologue}
 use Rattle.simulation_def.specs.Matches.{HasOpening}
 use Rattle.cmd_explain.specs.Lines.{ends_at, wanted_line}

@@ -1,7 +1,7 @@
 -- From what the work comes to, to what the command gives.
 use Rattle.std.proofs.Common.{◌∙◌, ℕ, List}
 use Rattle.host.specs.Host.{HostState, SameFiles}
-use Rattle.asm80_program_types.specs.Program.{Program}
+use Rattle.asm80_types.specs.Program.{Program}
 use Rattle.asm86_line_types.specs.declared.line.Line86.{Line86}
 use Rattle.xlt_core.specs.Names.{Finding, Shown, NotShown}
 use Rattle.cmd_arguments.specs.Words.{Check}

@@ -1,7 +1,7 @@
 -- Why a text is not shown for a program: what is said of each block that does not match, ascending, or of what stands before the blocks.
 use Rattle.std.specs.Prelude.{◌≡◌, ◌≢◌, ℕ, ◌-◌, Bool, true, false, List, [], ◌∷◌, ◌++◌, Option, Some, None}
 use Rattle.cells.specs.declared.Cell.{Cell}
-use Rattle.asm80_program_types.specs.Program.{Program, line_at}
+use Rattle.asm80_types.specs.Program.{Program, line_at}
 use Rattle.asm86_line_types.specs.declared.line.Label.TheVariants.{At}
 use Rattle.asm86_line_types.specs.declared.line.Line86.{Line86}
 use Rattle.asm86_line_types.specs.declared.line.Stmt86.{Stmt86}
@@ -14,7 +14,7 @@ use Rattle.sym_block_def.specs.declared.reason.Reason.{Reason}
 use Rattle.sym_block_def.specs.declared.reason.Reason.TheVariants.{Opening, Runtime, DataPart, Length, Form}
 use Rattle.sym_block_def.specs.Block80.{block80}
 use Rattle.sym_block_def.specs.Walk86.{after_label, walk86}
-use Rattle.block_check_def.specs.BlockMatch.{Keeps, block_reason}
+use Rattle.sym_block_def.specs.BlockMatch.{Keeps, block_reason}
 use Rattle.simulation_def.specs.Matches.{byte_at}
 use Rattle.simulation_def.specs.Needed.{needed_by}
 use Rattle.sym_run.specs.Stop.{walk_end}

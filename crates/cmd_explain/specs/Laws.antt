@@ -1,6 +1,6 @@
 -- A law of explanations.
 use Rattle.std.specs.Prelude.{◌≡◌, ℕ, List}
-use Rattle.asm80_program_types.specs.Program.{Program}
+use Rattle.asm80_types.specs.Program.{Program}
 use Rattle.asm86_line_types.specs.declared.line.Line86.{Line86}
 use Rattle.asm86_line_types.specs.Image.{Image}
 use Rattle.cmd_explain.specs.Explained.{Explained}

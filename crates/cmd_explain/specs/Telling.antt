@@ -1,6 +1,6 @@
 -- More of an explanation.
 use Rattle.std.specs.Prelude.{◌≡◌, ℕ, Option, Some, None, List, ◌++◌}
-use Rattle.asm80_program_types.specs.Program.{Program, line_at}
+use Rattle.asm80_types.specs.Program.{Program, line_at}
 use Rattle.sym_block_def.specs.declared.reason.Reason.{Reason}
 use Rattle.cmd_explain.specs.Lines.{block_line, source_lines}
 

@@ -1,7 +1,7 @@
 -- What the work of `explain` comes to before anything is said, and what is said of it.
 use Rattle.std.specs.Prelude.{◌≡◌, ℕ, List}
 use Rattle.host.specs.Host.{HostState}
-use Rattle.asm80_program_types.specs.Program.{Program}
+use Rattle.asm80_types.specs.Program.{Program}
 use Rattle.asm86_line_types.specs.declared.line.Line86.{Line86}
 use Rattle.asm86_line_types.specs.Image.{image_of}
 use Rattle.sym_block_def.specs.declared.reason.Reason.{Reason}

@@ -2,21 +2,21 @@
 
 ghost use Rattle.std.specs.Prelude.{◌≡◌, ◌++◌, ◌<◌, ◌≤◌, ◌-◌, ℕ, List, true, Some, drop, length, IfOk, OnOk};
 ghost use Rattle.std.specs.String.{string_bytes};
-ghost use Rattle.asm80_program_types.specs.Program.{is_start, line_at};
+ghost use Rattle.asm80_types.specs.Program.{is_start, line_at};
 ghost use Rattle.asm86_line_types.specs.declared.line.Label.TheVariants.{At};
 ghost use Rattle.asm86_line_types.specs.declared.line.Stmt86.{Stmt86};
 ghost use Rattle.asm86_line_types.specs.Image.{statements};
 ghost use Rattle.flow.specs.Blocks.{IsStraight, place_after};
 ghost use Rattle.sym_block_def.specs.Block80.{MayRun};
 ghost use Rattle.sym_block_def.specs.Walk86.{after_label};
-ghost use Rattle.block_check_def.specs.BlockMatch.{Keeps};
+ghost use Rattle.sym_block_def.specs.BlockMatch.{Keeps};
 ghost use Rattle.block_explain.specs.Explained.{IsSaid};
 ghost use Rattle.cmd_explain.specs.Lines.{block_line, source_lines};
 ghost use Rattle.cmd_explain.specs.Explained.{ReasonTold, LabelTold, BlockTold, ends_walk};
 ghost use Rattle.cmd_explain.specs.Telling.{Tells, HasHead};
 
 use crate::lines::tell_end;
-use asm80_program_types::Program80;
+use asm80_types::Program80;
 use asm86_line_types::{Label, Line86};
 use block_explain::Said;
 use cmd_common::{reason_name, word_digits};

@@ -4,7 +4,7 @@ ghost use Rattle.std.specs.Prelude.{◌≡◌, ◌<◌, ◌≤◌, ◌^◌, true
 ghost use Rattle.std.specs.String.{string_bytes};
 ghost use Rattle.host.specs.Host.{SameFiles, SameFaults, OnlySays, Says, WriteFault};
 ghost use Rattle.host_files.specs.Transfer.{CutsLine};
-ghost use Rattle.asm80_program_types.specs.Program.{is_top};
+ghost use Rattle.asm80_types.specs.Program.{is_top};
 ghost use Rattle.asm86_line_types.specs.Image.{IsImage};
 ghost use Rattle.cmd_arguments.specs.ReadCommands.{check_read};
 ghost use Rattle.cmd_common.specs.declared.stop.Stop.TheVariants.{OutOfMemory, NotShown};
@@ -16,7 +16,7 @@ ghost use Rattle.cmd_explain.specs.Explains.{SaysBefore, ExplainGives};
 ghost use Rattle.cmd_explain.specs.Worked.{last_line, SaysFound, IsMadeOf, ComesTo};
 
 use crate::telling::{Explanation, explain_text};
-use asm80_program_types::Program80;
+use asm80_types::Program80;
 use cmd_arguments::Check;
 use cmd_check::{checks_have_one_outcome, load};
 use cmd_common::{

@@ -14,7 +14,7 @@ ghost use Rattle.cmd_explain.specs.Explained.{FrameTold, OpeningTold, DataTold, 
 ghost use Rattle.cmd_explain.specs.Telling.{Tells};
 
 use crate::lines::{tell_end, tell_wanted};
-use asm80_program_types::Program80;
+use asm80_types::Program80;
 use asm86::Image86;
 use asm86_line_types::{Label, Line86, Stmt86};
 use block_explain::label_words;

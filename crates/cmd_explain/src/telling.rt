@@ -7,7 +7,7 @@ ghost use Rattle.asm86_line_types.specs.declared.line.Line86.{Line86};
 ghost use Rattle.asm86_line_types.specs.Image.{IsImage, image_of, statements};
 ghost use Rattle.flow.specs.Blocks.{IsLeader, blocks, block_at};
 ghost use Rattle.flow.specs.Solving.{Needs, AreAllNeeds};
-ghost use Rattle.block_check_def.specs.BlockMatch.{block_reason};
+ghost use Rattle.sym_block_def.specs.BlockMatch.{block_reason};
 ghost use Rattle.simulation_def.specs.Matches.{blocks_reason};
 ghost use Rattle.simulation_def.specs.Needed.{needed_by};
 ghost use Rattle.xlt_core.specs.Names.{Same, IsFinding, IfShown};
@@ -16,7 +16,7 @@ ghost use Rattle.cmd_explain.specs.Telling.{Tells, first_of};
 
 use crate::block::{Sides, tell_block};
 use crate::frame::tell_frame;
-use asm80_program_types::Program80;
+use asm80_types::Program80;
 use asm86::Image86;
 use asm86_line_types::{Line86, cells_are_sorted};
 use block_explain::explain_block;

@@ -1,6 +1,6 @@
 -- What is true of each image that is kept in a command file.
 use Rattle.std.specs.Prelude.{List}
-use Rattle.asm80_program_types.specs.Program.{Program}
+use Rattle.asm80_types.specs.Program.{Program}
 use Rattle.asm86_line_types.specs.declared.line.Line86.{Line86}
 use Rattle.asm86_line_types.specs.Image.{Image, IsImage}
 use Rattle.simulation_def.specs.Same.{Same}

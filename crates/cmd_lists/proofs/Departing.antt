@@ -7,8 +7,8 @@ use Rattle.std.proofs.lemmas.List.Elements.{All-append, All-cons, All-get_or, Al
 use Rattle.std.proofs.lemmas.Option.{same_Some}
 use Rattle.cells.specs.declared.Rule.TheVariants.{P1}
 use Rattle.host.specs.Host.{HostState, Says, said_more}
-use Rattle.asm80_program_types.specs.Program.{Program, is_start}
-use Rattle.asm80_program_types.proofs.Lookup.{start_is}
+use Rattle.asm80_types.specs.Program.{Program, is_start}
+use Rattle.asm80_types.proofs.Lookup.{start_is}
 use Rattle.flow.specs.Blocks.{place_after, BlocksCut}
 use Rattle.leaving.specs.declared.departure.Certainty.TheVariants.{Sure}
 use Rattle.leaving.specs.declared.departure.Departure.{Departure}

@@ -5,8 +5,8 @@ use Rattle.std.specs.Fmt.{decimal}
 use Rattle.std.proofs.lemmas.List.{append-nil, take_more}
 use Rattle.std.proofs.lemmas.List.Elements.{filter-append, All-append, All-map, All-cons, All-from_get_or}
 use Rattle.cells.specs.Parts.{Parts, nothing, has}
-use Rattle.asm80_program_types.specs.declared.program.Placed.{Placed}
-use Rattle.asm80_program_types.specs.Program.{Program, IsProgram}
+use Rattle.asm80_types.specs.declared.program.Placed.{Placed}
+use Rattle.asm80_types.specs.Program.{Program, IsProgram}
 use Rattle.flow.specs.Saves.{is_word_sum, is_sum_in, is_sum_at, AreSaves}
 use Rattle.flow.proofs.Sets.{same_members}
 use Rattle.flow.proofs.Wires.{placed_at}

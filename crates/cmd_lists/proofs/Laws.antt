@@ -1,6 +1,6 @@
 -- What is known of lists of a source's program, to the commands.
 use Rattle.std.proofs.Common.{◌≡◌, ℕ, List, ap, subst, ◌∙◌}
-use Rattle.asm80_program_types.specs.Program.{Program}
+use Rattle.asm80_types.specs.Program.{Program}
 use Rattle.cmd_arguments.specs.Words.{Listing}
 use Rattle.cmd_common.specs.Sources.{SourceLaw, reading_of}
 use Rattle.cmd_common.specs.Kinds.{KindLaws}

@@ -3,7 +3,7 @@ use Rattle.std.specs.Prelude.{◌≡◌, ℕ, codes, List, [], ◌∷◌, ◌++�
 use Rattle.std.specs.List.{concat}
 use Rattle.std.specs.Fmt.{decimal}
 use Rattle.host.specs.Host.{HostState, IsFile, Says}
-use Rattle.asm80_program_types.specs.Program.{Program, line_at}
+use Rattle.asm80_types.specs.Program.{Program, line_at}
 use Rattle.asm80_source_def.specs.Source.{IsSource}
 use Rattle.leaving.specs.declared.departure.Certainty.{Certainty}
 use Rattle.leaving.specs.declared.departure.Certainty.TheVariants.{Sure, May}

@@ -2,7 +2,7 @@
 -- says lines.
 use Rattle.std.specs.Prelude.{ℕ, List, [], None}
 use Rattle.std.specs.List.{concat}
-use Rattle.asm80_program_types.specs.Program.{Program}
+use Rattle.asm80_types.specs.Program.{Program}
 use Rattle.asm80_source_def.specs.Source.{IsSource}
 use Rattle.cmd_arguments.specs.Words.{Listing}
 use Rattle.cmd_common.specs.Files.{input_limit}

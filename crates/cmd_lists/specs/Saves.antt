@@ -3,8 +3,8 @@
 use Rattle.std.specs.Prelude.{◌≡◌, ℕ, codes, Bool, true, false, ◌||◌, if◌then◌else◌, List, [], ◌∷◌, ◌++◌, map, length, filter, count_by}
 use Rattle.std.specs.Fmt.{decimal}
 use Rattle.cells.specs.Parts.{Parts}
-use Rattle.asm80_program_types.specs.declared.program.Placed.{Placed}
-use Rattle.asm80_program_types.specs.Program.{Program}
+use Rattle.asm80_types.specs.declared.program.Placed.{Placed}
+use Rattle.asm80_types.specs.Program.{Program}
 use Rattle.flow.specs.Saves.{is_sum_at, AreSaves}
 use Rattle.cmd_arguments.specs.Words.{Listing}
 use Rattle.cmd_common.specs.Lines.{word_digits, saves_line}

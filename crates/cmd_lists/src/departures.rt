@@ -2,14 +2,14 @@
 ghost use Rattle.std.specs.Prelude.{◌≡◌, true, map, All, IfOk};
 ghost use Rattle.std.specs.String.{string_bytes};
 ghost use Rattle.host.specs.Host.{SameFiles};
-ghost use Rattle.asm80_program_types.specs.Program.{is_top, is_start};
+ghost use Rattle.asm80_types.specs.Program.{is_top, is_start};
 ghost use Rattle.cmd_arguments.specs.ReadCommands.{listing_read};
 ghost use Rattle.cmd_common.specs.Makes.{MakeGives, MakeCompletes};
 ghost use Rattle.leaving.specs.Leaving.{leaving};
 ghost use Rattle.cmd_lists.specs.Departures.{leaves_kind, HasDepartures, AreLinesOf, AreDepartureLines, departure_line, certainty_text};
 
 use crate::list::{Listed, list};
-use asm80_program_types::Program80;
+use asm80_types::Program80;
 use cmd_arguments::Listing;
 use cmd_common::{leaves_line, profile_rule, word_digits};
 use flow::blocks_cut_the_program;

@@ -3,12 +3,12 @@ ghost use Rattle.std.specs.Prelude.{◌≡◌, ◌<◌, true, map, length, All, 
 ghost use Rattle.std.specs.List.{concat};
 ghost use Rattle.std.specs.String.{string_bytes};
 ghost use Rattle.host.specs.Host.{SameFiles};
-ghost use Rattle.asm80_program_types.specs.Program.{is_top};
+ghost use Rattle.asm80_types.specs.Program.{is_top};
 ghost use Rattle.cmd_arguments.specs.ReadCommands.{listing_read};
 ghost use Rattle.cmd_common.specs.Makes.{MakeGives, MakeCompletes, HasMade, MakeStops};
 ghost use Rattle.cmd_lists.specs.Lists.{list_kind};
 
-use asm80_program_types::Program80;
+use asm80_types::Program80;
 use cmd_arguments::Listing;
 use cmd_common::{InputNames, Stop, read_source, say_report, say_stop, sources_have_one_outcome};
 use host::Host;
@@ -18,7 +18,7 @@ use std::alloc::{AllocError, Global};
 pub trait Listed {
     ghost use Rattle.std.specs.Prelude.{◌≡◌, ◌<◌, ℕ, List, map, length, All, IfOk};
     ghost use Rattle.std.specs.String.{string_bytes};
-    ghost use Rattle.asm80_program_types.specs.Program.{Program, IsProgram};
+    ghost use Rattle.asm80_types.specs.Program.{Program, IsProgram};
 
     // These are its lines.
     ghost are_lines: { Program → List (List ℕ) → Type 0 };

@@ -2,14 +2,14 @@
 ghost use Rattle.std.specs.Prelude.{◌≡◌, true, map, IfOk};
 ghost use Rattle.std.specs.String.{string_bytes};
 ghost use Rattle.host.specs.Host.{SameFiles};
-ghost use Rattle.asm80_program_types.specs.Program.{is_top};
+ghost use Rattle.asm80_types.specs.Program.{is_top};
 ghost use Rattle.cmd_arguments.specs.ReadCommands.{listing_read};
 ghost use Rattle.cmd_common.specs.Makes.{MakeGives, MakeCompletes};
 ghost use Rattle.cmd_lists.specs.Saves.{letter_if, save_text, save_line, report_lines, flags_kind};
 
 use crate::list::{Listed, list};
 use crate::savings::{Saving, saved_among, saves_any, savings_of};
-use asm80_program_types::Program80;
+use asm80_types::Program80;
 use cells::{Keep, Part};
 use cmd_arguments::Listing;
 use cmd_common::{saves_line, word_digits};

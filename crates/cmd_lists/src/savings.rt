@@ -2,7 +2,7 @@
 ghost use Rattle.std.specs.Prelude.{◌≡◌, IfOk, IsTrue, count_by};
 ghost use Rattle.cmd_lists.specs.Saves.{sums, AreSavings, saves_any};
 
-use asm80_program_types::Program80;
+use asm80_types::Program80;
 use cells::{Keep, Part};
 use flow::{Graph, is_word_sum, saves};
 use std::alloc::{AllocError, Global};

@@ -3,7 +3,7 @@ use Rattle.std.proofs.Common.{◌≡◌, ℕ, List, ap, subst, ◌∙◌, arith}
 use Rattle.host.specs.Host.{HostState}
 use Rattle.hex_file.specs.HexFile.{IsHexOf}
 use Rattle.hex_file.specs.Written.{AreCells, IsWritten}
-use Rattle.asm80_program_types.specs.Program.{Program, IsProgram}
+use Rattle.asm80_types.specs.Program.{Program, IsProgram}
 use Rattle.i80_bytes.specs.Cells.{program_cells}
 use Rattle.i80_bytes.specs.Follows.{BytesFollow}
 use Rattle.cmd_arguments.specs.Words.{Hex80}

@@ -5,7 +5,7 @@ use Rattle.asm86_line_types.specs.declared.line.Line86.{Line86}
 use Rattle.asm86_line_types.specs.Image.{Image, IsImage}
 use Rattle.asm86.specs.declared.fault.ImageFault.{ImageFault}
 use Rattle.asm86.specs.Images.{HasImage, IsNoImage}
-use Rattle.asm80_program_types.specs.Program.{Program}
+use Rattle.asm80_types.specs.Program.{Program}
 use Rattle.simulation_def.specs.Same.{Same}
 use Rattle.cmd_file.specs.Written.{command_file_of}
 use Rattle.cmd_file.specs.Loaded.{loaded}

@@ -4,7 +4,7 @@ use Rattle.host.specs.Host.{HostState, IsFile, Rewrites}
 use Rattle.asm86_line_types.specs.declared.line.Line86.{Line86}
 use Rattle.asm86_line_types.specs.Image.{Image, IsImage}
 use Rattle.asm86.specs.Images.{HasImage}
-use Rattle.asm80_program_types.specs.Program.{Program}
+use Rattle.asm80_types.specs.Program.{Program}
 use Rattle.simulation_def.specs.Same.{Same}
 use Rattle.cmd_file.specs.CommandFile.{IsCommandFile}
 use Rattle.cmd_file.specs.Written.{command_file_of, written}

@@ -6,7 +6,7 @@ use Rattle.dialogue.specs.Run.{IsNotStopped}
 use Rattle.dialogue.specs.Fill.{IsFill}
 use Rattle.hex_file.specs.HexFile.{IsHexOf}
 use Rattle.hex_file.specs.Written.{IsWritten}
-use Rattle.asm80_program_types.specs.Program.{Program}
+use Rattle.asm80_types.specs.Program.{Program}
 use Rattle.asm80_source_def.specs.Source.{IsSource}
 use Rattle.cpu80_tagged.specs.Start.{IsPage, run80}
 use Rattle.cpu80_untagged.specs.Step.{Fetch}

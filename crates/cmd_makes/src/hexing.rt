@@ -2,7 +2,7 @@
 ghost use Rattle.std.specs.Prelude.{◌≡◌, true, length, IfOk, IfErr};
 ghost use Rattle.std.specs.String.{string_bytes};
 ghost use Rattle.hex_file.specs.Written.{IsWritten};
-ghost use Rattle.asm80_program_types.specs.Program.{is_top};
+ghost use Rattle.asm80_types.specs.Program.{is_top};
 ghost use Rattle.i80_bytes.specs.Cells.{program_cells};
 ghost use Rattle.cmd_arguments.specs.ReadCommands.{hex80_read};
 ghost use Rattle.cmd_common.specs.Lines.{hex_line};
@@ -10,7 +10,7 @@ ghost use Rattle.cmd_common.specs.Makes.{MakeGives, MakeCompletes, HasMade, Make
 ghost use Rattle.cmd_makes.specs.Hexes.{hex_kind, HasHexFile};
 
 use crate::write_made;
-use asm80_program_types::Program80;
+use asm80_types::Program80;
 use cmd_arguments::Hex80;
 use cmd_common::{
     InputNames, Stop, hex_line, read_source, say_done, say_stop, sources_have_one_outcome,

@@ -10,7 +10,7 @@ use Rattle.dialogue.specs.declared.request.Reply.{Reply}
 use Rattle.dialogue.specs.Run.{Status, Going, Waiting, Over, Stopped, IsNotStopped, IsFrontOf}
 use Rattle.dialogue.specs.Same.{SameDialogue}
 use Rattle.cells.specs.declared.Rule.{Rule}
-use Rattle.asm80_program_types.specs.Program.{Program}
+use Rattle.asm80_types.specs.Program.{Program}
 use Rattle.asm86_line_types.specs.Image.{Image}
 use Rattle.host.specs.Host.{HostState}
 use Rattle.cpu80_tagged.specs.State.{State80}

@@ -2,7 +2,7 @@
 use Rattle.std.proofs.Common.{◌≡◌, ℕ, ◌^◌, ◌<◌, ◌∙◌, List, [], ◌∷◌, Option, Some, refl, subst}
 use Rattle.std.specs.Prelude.{All, length}
 use Rattle.i86.specs.declared.Instr86.{Instr86}
-use Rattle.asm80_program_types.specs.Program.{Program}
+use Rattle.asm80_types.specs.Program.{Program}
 use Rattle.asm86_line_types.specs.Image.{Image}
 use Rattle.host.specs.Host.{HostState}
 use Rattle.cpu80_tagged.specs.Start.{IsPage}

@@ -8,8 +8,8 @@ use Rattle.dialogue.specs.declared.request.Event.{Event}
 use Rattle.dialogue.specs.declared.request.Event.TheVariants.{Call as Asked, In as AskedIn, Out as AskedOut, End}
 use Rattle.dialogue.specs.Fits.{fits_event}
 use Rattle.dialogue.specs.Run.{Answer, Ran, Asks, Ends, Stops, Status, Going, Waiting, Over, Stopped, Run, take_reply, settle, turn_by, turn, turns, start_run}
-use Rattle.asm80_program_types.specs.declared.program.Placed.{Placed}
-use Rattle.asm80_program_types.specs.Program.{Program, IsProgram, line_of_placed, placed_in}
+use Rattle.asm80_types.specs.declared.program.Placed.{Placed}
+use Rattle.asm80_types.specs.Program.{Program, IsProgram, line_of_placed, placed_in}
 use Rattle.cpu80_tagged.specs.State.{State80}
 use Rattle.cpu80_tagged.specs.Call.{Return, is_place}
 use Rattle.cpu80_tagged.specs.Step.{step_at, step80, return_at, replied_to, replied80, machine80}

@@ -1,6 +1,6 @@
 -- The one thing that `both` comes to by the whole bytes of its source and its devices' files, where no call of the host fails.
 use Rattle.std.specs.Prelude.{ℕ, List, Result, Err}
-use Rattle.asm80_program_types.specs.Program.{Program}
+use Rattle.asm80_types.specs.Program.{Program}
 use Rattle.cmd_common.specs.Sources.{reading_of}
 use Rattle.asm80_source_def.specs.Source.{IsSource}
 use Rattle.asm86_line_types.specs.declared.line.Line86.{Line86}

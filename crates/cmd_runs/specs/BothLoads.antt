@@ -2,7 +2,7 @@
 -- the program's lean text.
 use Rattle.std.specs.Prelude.{ℕ, List}
 use Rattle.i86.specs.Decode.{HasReader}
-use Rattle.asm80_program_types.specs.Program.{Program}
+use Rattle.asm80_types.specs.Program.{Program}
 use Rattle.asm86_line_types.specs.declared.line.Line86.{Line86}
 use Rattle.asm86_line_types.specs.Image.{Image, IsImage}
 use Rattle.host.specs.Host.{HostState, SameFaults}

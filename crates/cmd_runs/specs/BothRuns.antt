@@ -4,7 +4,7 @@
 use Rattle.std.specs.Prelude.{◌≡◌, ℕ, ◌+◌, ◌*◌, codes, List, Some}
 use Rattle.dialogue.specs.declared.request.Reply.{Reply}
 use Rattle.dialogue.specs.Run.{IsFrontOf}
-use Rattle.asm80_program_types.specs.Program.{Program}
+use Rattle.asm80_types.specs.Program.{Program}
 use Rattle.asm86_line_types.specs.Image.{Image}
 use Rattle.host.specs.Host.{HostState}
 use Rattle.bdos_small.specs.Supply.{Supply}

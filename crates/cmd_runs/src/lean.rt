@@ -1,13 +1,13 @@
 // The image of a program's lean text.
 ghost use Rattle.std.specs.Prelude.{◌≡◌, ◌^◌, ◌<◌, IfOk, IfErr, length, vec_len};
-ghost use Rattle.asm80_program_types.specs.Program.{IsProgram};
+ghost use Rattle.asm80_types.specs.Program.{IsProgram};
 ghost use Rattle.asm86_line_types.specs.Image.{Assembles, IsImage};
 ghost use Rattle.templates.specs.declared.translation.Mode.TheVariants.{Lean};
 ghost use Rattle.templates.specs.Translation.{IsText, CodeFits};
 ghost use Rattle.cmd_common.specs.declared.stop.Stop.TheVariants.{OutOfMemory};
 ghost use Rattle.cmd_runs.specs.BothLoads.{HasLean, LeanStops};
 
-use asm80_program_types::Program80;
+use asm80_types::Program80;
 use asm86::{Image86, image};
 use asm86_line_types::Line86;
 use cmd_common::Stop;

@@ -12,7 +12,7 @@ ghost use Rattle.cmd_runs.specs.BothMaking.{runs_made};
 use crate::halt::Halt;
 use crate::run_source::line_of;
 use crate::running::{run_image, run_program};
-use asm80_program_types::Program80;
+use asm80_types::Program80;
 use asm86::Image86;
 use bdos_small::Devices;
 use cmd_arguments::Both;

@@ -1,6 +1,6 @@
 // The work of `both`: a source's program runs on the tagged 8080, and the image of its lean text on the 8086.
 ghost use Rattle.std.specs.Prelude.{◌≡◌, true, IfOk, IfErr};
-ghost use Rattle.asm80_program_types.specs.Program.{IsProgram, is_top};
+ghost use Rattle.asm80_types.specs.Program.{IsProgram, is_top};
 ghost use Rattle.cmd_arguments.specs.ReadCommands.{both_read};
 ghost use Rattle.cmd_runs.specs.Keeping.{DiskAlone};
 ghost use Rattle.cmd_runs.specs.Supplies.{given_of, HasDisk};
@@ -20,7 +20,7 @@ use crate::making::make_runs;
 use crate::names::run_names;
 use crate::run_source::{Named, read_program};
 use crate::supplies::{Supplies, devices_like, devices_of, fill_of};
-use asm80_program_types::Program80;
+use asm80_types::Program80;
 use asm86::Image86;
 use bdos_disk::disks_read_back;
 use bdos_small::Devices;

@@ -1,7 +1,7 @@
 // The work of `run80`: a source's program runs on the tagged 8080 over devices.
 ghost use Rattle.std.specs.Prelude.{◌≡◌, ℕ, true, IfOk, IfErr, OnOk};
 ghost use Rattle.host.specs.Host.{SameFaults, OnlyReads};
-ghost use Rattle.asm80_program_types.specs.Program.{is_top};
+ghost use Rattle.asm80_types.specs.Program.{is_top};
 ghost use Rattle.cmd_arguments.specs.ReadCommands.{run_options_read, run80_read};
 ghost use Rattle.cmd_runs.specs.Keeping.{DiskAlone};
 ghost use Rattle.cmd_runs.specs.Lasts.{IsLastMade};
@@ -17,7 +17,7 @@ use crate::last::Last;
 use crate::names::run_names;
 use crate::running::run_program;
 use crate::supplies::{Supplies, devices_of, read_supplies};
-use asm80_program_types::Program80;
+use asm80_types::Program80;
 use bdos_disk::disks_read_back;
 use bdos_small::Devices;
 use cells::Place;

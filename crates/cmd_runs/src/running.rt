@@ -1,11 +1,11 @@
 // The runs of the machines.
 ghost use Rattle.std.specs.Prelude.{◌≡◌, ◌≤◌, true, IfOk, IfErr, length};
-ghost use Rattle.asm80_program_types.specs.Program.{is_top};
+ghost use Rattle.asm80_types.specs.Program.{is_top};
 ghost use Rattle.cmd_runs.specs.Supplies.{fill_by};
 ghost use Rattle.cmd_runs.specs.Settings.{setting80, setting86, RunComesTo, IsRunCutOff};
 ghost use Rattle.cmd_runs.specs.RunsHex.{setting_of_bytes};
 
-use asm80_program_types::Program80;
+use asm80_types::Program80;
 use asm86::Image86;
 use bdos_small::Devices;
 use dialogue::Page;

@@ -5,7 +5,7 @@ use Rattle.std.specs.List.{list_any, find, AllByRecursion}
 use Rattle.std.proofs.lemmas.Bool.{le-leb}
 use Rattle.std.proofs.lemmas.Bool.Decides.{nat_tests}
 use Rattle.std.proofs.lemmas.List.Folds.{list_any-append}
-use Rattle.asm80_statement_types.specs.Tree.{Statement}
+use Rattle.asm80_types.specs.Tree.{Statement}
 use Rattle.asm80_source_def.specs.declared.rule.AsmRule.{AsmRule}
 use Rattle.asm80_source_def.specs.declared.rule.AsmRule.TheVariants.{S1, S2, S4, S5, S6, S7}
 use Rattle.asm80_source_def.specs.Walk.{Walk, WalkRow, size_of_statement, rows, walked}

@@ -2,7 +2,7 @@
 use Rattle.std.proofs.Common.{◌≡◌, ℕ, zero, suc, ◌+◌, ◌/◌, ◌<◌, ◌≤◌, not, ◌||◌, Bool, true, false, List, [], ◌∷◌, ◌++◌, length, Some, None, nat_lt, refl, ap, ◌∙◌, arith}
 use Rattle.std.specs.List.{AllByRecursion}
 use Rattle.std.specs.Fmt.{decimal}
-use Rattle.asm80_statement_types.specs.Words.{registers}
+use Rattle.asm80_types.specs.Words.{registers}
 use Rattle.asm80_source_def.specs.Operations.{operation_table}
 use Rattle.asm80_source_def.specs.Names.{Name, named, most_names}
 use Rattle.asm80_source_def.specs.Walk.{Walk, WalkRow}

@@ -3,7 +3,7 @@ use Rattle.std.proofs.Common.{ℕ, zero, suc, ◌<◌, List, [], ◌∷◌, ◌+
 use Rattle.std.specs.List.{flat_map, AllByRecursion}
 use Rattle.std.proofs.lemmas.Grind.{flat_map-append}
 use Rattle.std.proofs.lemmas.List.{map-append}
-use Rattle.asm80_statement_types.specs.Ranges.{IsInRange, AreInRange}
+use Rattle.asm80_types.specs.Ranges.{IsInRange, AreInRange}
 use Rattle.cmd_sample.specs.Written.{Argument, Written, unlabelled, statements_from}
 use Rattle.cmd_sample.specs.Sample.{up_to, turns_of, letter_of, byte_of, call, routine, sample_lines, sample_statements}
 

@@ -4,14 +4,14 @@ use Rattle.std.specs.List.{list_all, AllByRecursion}
 use Rattle.std.proofs.lemmas.Bool.{le-ltb, lt-ltb, ne_eqb}
 use Rattle.std.proofs.lemmas.Bool.Decides.{nat_tests}
 use Rattle.std.proofs.Math.Seq.{take-append_seam, drop-append_seam}
-use Rattle.asm80_statement_types.specs.Name.{IsNameByte}
-use Rattle.asm80_tokens.specs.declared.token.Token.{Token}
-use Rattle.asm80_tokens.specs.declared.token.Token.TheVariants.{Digits}
-use Rattle.asm80_tokens.specs.Letters.{is_digit, is_inside, is_blank, upper, significant, inside_len}
-use Rattle.asm80_tokens.specs.Numbers.{base_named, digit_of, total, value_in, number_of}
-use Rattle.asm80_tokens.specs.Words.{word_token}
+use Rattle.asm80_types.specs.Name.{IsNameByte}
+use Rattle.asm80_text.specs.declared.token.Token.{Token}
+use Rattle.asm80_text.specs.declared.token.Token.TheVariants.{Digits}
+use Rattle.asm80_text.specs.Letters.{is_digit, is_inside, is_blank, upper, significant, inside_len}
+use Rattle.asm80_text.specs.Numbers.{base_named, digit_of, total, value_in, number_of}
+use Rattle.asm80_text.specs.Words.{word_token}
 use Rattle.asm80_text.specs.Intel.{intel_spelling}
-use Rattle.asm80_tokens.specs.Tokens.{Got, number_token, number_at, word_at, token_at, Lexes, token}
+use Rattle.asm80_text.specs.Tokens.{Got, number_token, number_at, word_at, token_at, Lexes, token}
 use Rattle.cmd_sample.proofs.Each.{each_last, each_by}
 use Rattle.cmd_sample.proofs.Decimals.{IsDigit}
 

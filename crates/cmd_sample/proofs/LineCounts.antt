@@ -4,10 +4,10 @@ use Rattle.std.specs.List.{Contains, filter_map, cons_option}
 use Rattle.std.proofs.lemmas.Bool.Decides.{nat_tests}
 use Rattle.std.proofs.lemmas.List.Elements.{All-contains, All-cons, Contains-append_right, Contains-append_cases, Contains-append_left, Contains-push}
 use Rattle.i80.specs.Columns.{length80}
-use Rattle.asm80_program_types.specs.declared.program.Placed.{Placed}
-use Rattle.asm80_program_types.specs.Program.{Program, AreLaid}
-use Rattle.asm80_program_types.proofs.Lookup.{length80-positive}
-use Rattle.asm80_statement_types.specs.Tree.{Statement}
+use Rattle.asm80_types.specs.declared.program.Placed.{Placed}
+use Rattle.asm80_types.specs.Program.{Program, AreLaid}
+use Rattle.asm80_types.proofs.Lookup.{length80-positive}
+use Rattle.asm80_types.specs.Tree.{Statement}
 use Rattle.asm80_source_def.specs.Walk.{Walk, WalkRow, at_start, ends, walk_after, rows_from, rows, walked}
 use Rattle.asm80_source_def.specs.Items.{placed_row, placed}
 use Rattle.asm80_source_def.specs.Assembly.{IsAssembled}

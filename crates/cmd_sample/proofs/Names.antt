@@ -6,10 +6,10 @@ use Rattle.std.specs.Str.{bytes_eq}
 use Rattle.std.proofs.lemmas.Slice.Eq.{bytes_eq-Decides}
 use Rattle.std.proofs.Math.Bool.{true≢false}
 use Rattle.std.proofs.lemmas.Bool.{cases_Bool}
-use Rattle.asm80_tokens.specs.declared.token.Token.TheVariants.{Word}
-use Rattle.asm80_tokens.specs.Letters.{is_digit}
-use Rattle.asm80_statement_types.specs.Words.{operations, registers}
-use Rattle.asm80_tokens.specs.Words.{word_token}
+use Rattle.asm80_text.specs.declared.token.Token.TheVariants.{Word}
+use Rattle.asm80_text.specs.Letters.{is_digit}
+use Rattle.asm80_types.specs.Words.{operations, registers}
+use Rattle.asm80_text.specs.Words.{word_token}
 use Rattle.asm80_text.specs.Intel.{intel_spelling}
 use Rattle.cmd_sample.proofs.Decimals.{IsDigit}
 

@@ -5,15 +5,15 @@ use Rattle.std.specs.List.{list_all, flat_map, AllByRecursion}
 use Rattle.std.specs.Fmt.{decimal}
 use Rattle.std.proofs.lemmas.List.{length-map}
 use Rattle.std.proofs.lemmas.Bool.Decides.{nat_tests}
-use Rattle.asm80_statement_types.specs.Name.{IsNameByte}
-use Rattle.asm80_tokens.specs.Letters.{is_upper}
-use Rattle.asm80_tokens.specs.Numbers.{total, value_in, number_of}
-use Rattle.asm80_statement_types.specs.Words.{operations, registers}
-use Rattle.asm80_tokens.specs.Words.{word_token}
+use Rattle.asm80_types.specs.Name.{IsNameByte}
+use Rattle.asm80_text.specs.Letters.{is_upper}
+use Rattle.asm80_text.specs.Numbers.{total, value_in, number_of}
+use Rattle.asm80_types.specs.Words.{operations, registers}
+use Rattle.asm80_text.specs.Words.{word_token}
 use Rattle.asm80_text.specs.Intel.{intel_spelling}
 use Rattle.asm80_text.specs.Grammar.{alone, tighter, digits, number, name, register}
-use Rattle.asm80_tokens.specs.declared.token.Token.{Token}
-use Rattle.asm80_tokens.specs.declared.token.Token.TheVariants.{Digits, Num, Word, Register, Operation}
+use Rattle.asm80_text.specs.declared.token.Token.{Token}
+use Rattle.asm80_text.specs.declared.token.Token.TheVariants.{Digits, Num, Word, Register, Operation}
 use Rattle.asm80_text.specs.Statement.{value}
 use Rattle.cmd_sample.specs.Written as written
 use Rattle.cmd_sample.specs.Sample.{up_to, turns_of, letter_of, byte_of, call, routine, begin, sample_lines}

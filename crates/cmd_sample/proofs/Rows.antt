@@ -3,11 +3,11 @@ use Rattle.std.proofs.Common.{◌≡◌, ℕ, ◌+◌, ◌-◌, ◌*◌, ◌≤�
 use Rattle.std.specs.List.{slice_split, list_any, AllByRecursion}
 use Rattle.std.proofs.lemmas.Bool.{le-ltb, ne_eqb}
 use Rattle.std.proofs.lemmas.List.{length-append}
-use Rattle.asm80_tokens.specs.declared.token.Token.{Token}
-use Rattle.asm80_tokens.specs.declared.token.Token.TheVariants.{Word, Operation, Comma, Colon}
-use Rattle.asm80_tokens.specs.Tokens.{Lexes, ends, blank, token, Got, token_at}
+use Rattle.asm80_text.specs.declared.token.Token.{Token}
+use Rattle.asm80_text.specs.declared.token.Token.TheVariants.{Word, Operation, Comma, Colon}
+use Rattle.asm80_text.specs.Tokens.{Lexes, ends, blank, token, Got, token_at}
 use Rattle.asm80_text.specs.Intel.{intel_spelling}
-use Rattle.asm80_statement_types.specs.Tree.{Operand}
+use Rattle.asm80_types.specs.Tree.{Operand}
 use Rattle.asm80_text.specs.Statement.{IsOperand, AreOperands, last, more, bare, full, IsBody, operated, unlabeled, with_colon, IsStatement, unnumbered, AreStatements, none_left, next}
 use Rattle.asm80_text.specs.Line.{is_bang, open_after, most_open, is_deep, begins_with_colon, has_reserved_label, parts_of, formed, TextGives, sound, IsRemark, LineGives, told}
 use Rattle.base.specs.Cut.{without_cr}

@@ -1,12 +1,12 @@
 -- The made source is never refused, and the code of its lean text is never too large.
 use Rattle.std.proofs.Common.{◌≡◌, ℕ, List, None, sym, ◌∙◌, ap, subst, arith}
 use Rattle.std.proofs.lemmas.Option.{none-some}
-use Rattle.asm80_statement_types.specs.Reading.{HasOneOutcome}
-use Rattle.asm80_statement_types.specs.Tree.{Statement}
+use Rattle.asm80_types.specs.Reading.{HasOneOutcome}
+use Rattle.asm80_types.specs.Tree.{Statement}
 use Rattle.asm80_source_def.specs.Assembly.{refusal, IsAssembled}
 use Rattle.asm80_text.specs.Intel.{intel_reading}
 use Rattle.asm80_source_def.specs.Source.{IsSource, faulty, refused}
-use Rattle.asm80_program_types.specs.Program.{Program}
+use Rattle.asm80_types.specs.Program.{Program}
 use Rattle.asm86_line_types.specs.declared.line.Line86.{Line86}
 use Rattle.templates.specs.declared.translation.Mode.TheVariants.{Lean}
 use Rattle.templates.specs.Translation.{IsText, CodeFits, IsTooLarge}

@@ -17,8 +17,8 @@ use Rattle.asm86_line_types.specs.declared.line.Stmt86.TheVariants.{Dseg, Mark, 
 use Rattle.asm86_line_types.specs.Layout.{sizes_of}
 use Rattle.asm86_line_types.specs.Image.{statements}
 use Rattle.asm86_line_types.proofs.Sizes.{sizes_of-append}
-use Rattle.asm80_program_types.specs.declared.program.Placed.{Placed}
-use Rattle.asm80_program_types.specs.Program.{Program}
+use Rattle.asm80_types.specs.declared.program.Placed.{Placed}
+use Rattle.asm80_types.specs.Program.{Program}
 use Rattle.flow.specs.Blocks.{cut_from}
 use Rattle.flow.proofs.Cuts.{flat, flat-cut}
 use Rattle.templates.specs.Template.{template}

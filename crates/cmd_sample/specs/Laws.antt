@@ -1,7 +1,7 @@
 -- The made source is lines of the assembler and a program, and the code of its lean text fits.
 use Rattle.std.specs.Prelude.{◌≡◌, ℕ, ◌<◌, ◌≤◌, List, None}
 use Rattle.asm80_text.specs.Intel.{intel_reading}
-use Rattle.asm80_program_types.specs.Program.{Program}
+use Rattle.asm80_types.specs.Program.{Program}
 use Rattle.asm80_source_def.specs.Assembly.{refusal, IsAssembled}
 use Rattle.asm86_line_types.specs.declared.line.Line86.{Line86}
 use Rattle.asm86_line_types.specs.Layout.{sizes_of}

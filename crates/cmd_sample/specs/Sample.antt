@@ -2,7 +2,7 @@
 -- write a letter, by a jump from which the system returns to the caller. It is this project's own.
 use Rattle.std.specs.Prelude.{ℕ, ◌+◌, ◌%◌, zero, suc, codes, List, [], ◌∷◌, ◌++◌, map, flat_map}
 use Rattle.std.specs.Fmt.{decimal}
-use Rattle.asm80_statement_types.specs.Tree.{Number, Whole, Statement}
+use Rattle.asm80_types.specs.Tree.{Number, Whole, Statement}
 use Rattle.cmd_sample.specs.Written.{Argument, Written, name, number, labelled, unlabelled, text_of_source, statements_of}
 
 -- the numbers from 1 to n

@@ -2,7 +2,7 @@
 -- tab; a line without a label begins with a tab.
 use Rattle.std.specs.Prelude.{ℕ, suc, codes, List, [], ◌∷◌, ◌++◌, map, flat_map, Option, Some, None}
 use Rattle.std.specs.Fmt.{decimal}
-use Rattle.asm80_statement_types.specs.Tree.{Named, Number, Operand, Whole, Statement}
+use Rattle.asm80_types.specs.Tree.{Named, Number, Operand, Whole, Statement}
 
 -- an operand's text, and what it is
 pub record Argument : Type 0 where

@@ -12,8 +12,8 @@ ghost use Rattle.cmd_sample.specs.Samples.{IsCount};
 
 use crate::counts::Counts;
 use crate::{line_count, sample_code_fits, sample_is_accepted, sample_is_read, sample_text};
-use asm80_program_types::Program80;
 use asm80_text::{Intel, stream_has_one_outcome};
+use asm80_types::Program80;
 use asm86_line_types::{Line86, code_size};
 use cmd_common::program_of_bytes;
 use cmd_lists::{Saving, saved_among, savings_of};

@@ -6,7 +6,7 @@ use Rattle.host.specs.declared.HostFault.TheVariants.{Failed, Memory}
 use Rattle.host.specs.Host.{HostState, WriteFault}
 use Rattle.host.proofs.HostLemmas.{risen_on}
 use Rattle.asm86_line_types.specs.declared.line.Line86.{Line86}
-use Rattle.asm80_program_types.specs.Program.{Program}
+use Rattle.asm80_types.specs.Program.{Program}
 use Rattle.sym_block_def.specs.declared.reason.Reason.{Reason}
 use Rattle.xlt_core.specs.Names.{Shown, NotShown as NotFound}
 use Rattle.shrink.specs.Laws.{OneShrunk}

@@ -3,7 +3,7 @@ use Rattle.std.proofs.Common.{◌∙◌, ◌<◌, ⊎_elim, List, length, refl, 
 use Rattle.asm86_line_types.specs.declared.line.Line86.{Line86}
 use Rattle.asm86_line_types.specs.Image.{Assembles, image_of}
 use Rattle.asm86.specs.Refusals.{NotBoth}
-use Rattle.asm80_program_types.specs.Program.{Program}
+use Rattle.asm80_types.specs.Program.{Program}
 use Rattle.cmd_common.specs.declared.stop.Stop.{Stop}
 use Rattle.cmd_common.specs.Texts.{ImageStops, stop_of_image}
 use Rattle.cmd_shrink.specs.Shrinks.{line_of_left, LeftStops, no_memory}

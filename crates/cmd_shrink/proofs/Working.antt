@@ -4,7 +4,7 @@ use Rattle.host.specs.Host.{HostState}
 use Rattle.host.proofs.HostLemmas.{SameFaults-trans}
 use Rattle.asm86_line_types.specs.declared.line.Line86.{Line86}
 use Rattle.asm86_line_types.specs.Written.{written_text}
-use Rattle.asm80_program_types.specs.Program.{Program}
+use Rattle.asm80_types.specs.Program.{Program}
 use Rattle.cmd_arguments.specs.Words.{Shrink}
 use Rattle.cmd_common.specs.declared.stop.Stop.{Stop}
 use Rattle.cmd_common.proofs.WriteEnds.{writes_behind, fails_behind, wrote}

@@ -2,7 +2,7 @@
 use Rattle.std.specs.Prelude.{◌≡◌, ℕ, ◌-◌, ◌<◌, ◌≤◌, List, length, Result, Ok, Err}
 use Rattle.host.specs.Host.{HostState}
 use Rattle.asm86_line_types.specs.declared.line.Line86.{Line86}
-use Rattle.asm80_program_types.specs.Program.{Program}
+use Rattle.asm80_types.specs.Program.{Program}
 use Rattle.sym_block_def.specs.declared.reason.Reason.{Reason}
 use Rattle.xlt_core.specs.Names.{Shown, NotShown as NotFound, IsFinding}
 use Rattle.shrink.specs.Shrunk.{IsShrunk}

@@ -8,7 +8,7 @@ use Rattle.asm86_line_types.specs.Image.{Image, image_of, statements}
 use Rattle.asm86_line_types.specs.Written.{written_text}
 use Rattle.asm86.specs.Stream.{TextGives}
 use Rattle.asm86.specs.Images.{HasImage}
-use Rattle.asm80_program_types.specs.Program.{Program}
+use Rattle.asm80_types.specs.Program.{Program}
 use Rattle.asm80_text.specs.Intel.{intel_reading}
 use Rattle.asm80_source_def.specs.Source.{IsSource}
 use Rattle.xlt_core.specs.Names.{Same, IsFinding, Shown as IsFoundShown}

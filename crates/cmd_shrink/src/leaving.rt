@@ -1,13 +1,13 @@
 // What is left of a text.
 ghost use Rattle.std.specs.Prelude.{◌≡◌, ◌<◌, ◌≤◌, ◌^◌, ℕ, List, Ok, length, IfOk, IfErr};
 ghost use Rattle.std.specs.String.{string_bytes};
-ghost use Rattle.asm80_program_types.specs.Program.{IsProgram};
+ghost use Rattle.asm80_types.specs.Program.{IsProgram};
 ghost use Rattle.asm86_line_types.specs.Image.{Assembles, IsImage, image_of};
 ghost use Rattle.asm86.specs.Stream.{TextGives};
 ghost use Rattle.xlt_core.specs.Names.{Same, IsFinding, Shown};
 ghost use Rattle.cmd_shrink.specs.Shrinks.{line_of_left, IsLeft, LeftStops};
 
-use asm80_program_types::Program80;
+use asm80_types::Program80;
 use asm86::{Line86, code_size, images_exclude_refusals};
 use cmd_check::find;
 use cmd_common::{LoadedText, Stop, shrunk_line};

@@ -1,7 +1,7 @@
 // The work of `shrink`: a source and a text in, what is left of the text out.
 ghost use Rattle.std.specs.Prelude.{◌≡◌, ◌<◌, ◌^◌, ℕ, List, Ok, true, length, IfOk, IfErr};
 ghost use Rattle.std.specs.String.{string_bytes};
-ghost use Rattle.asm80_program_types.specs.Program.{is_top};
+ghost use Rattle.asm80_types.specs.Program.{is_top};
 ghost use Rattle.asm86_line_types.specs.Image.{IsImage};
 ghost use Rattle.asm86.specs.Stream.{TextGives};
 ghost use Rattle.cmd_arguments.specs.ReadCommands.{check_read, shrink_read};

@@ -11,7 +11,7 @@ use Rattle.commented_text.specs.Reading.{ReadsAs}
 use Rattle.asm86_line_types.specs.Written.{written_text}
 use Rattle.asm86.specs.Stream.{TextGives}
 use Rattle.host_files.specs.Transfer.{CutsLine}
-use Rattle.asm80_program_types.specs.Program.{Program, IsProgram}
+use Rattle.asm80_types.specs.Program.{Program, IsProgram}
 use Rattle.asm80_source_def.specs.Source.{IsSource, SourceRule, IsNoSource, OfLine, OfProgram}
 use Rattle.asm86_line_types.specs.declared.line.Line86.{Line86}
 use Rattle.cmd_arguments.specs.Words.{Translate}

@@ -4,7 +4,7 @@ use Rattle.std.specs.Prelude.{Result}
 use Rattle.host.specs.Host.{HostState, OnlyReads, SameFaults}
 use Rattle.host.proofs.HostLemmas.{SameFaults-trans}
 use Rattle.asm86_line_types.specs.declared.line.Line86.{Line86}
-use Rattle.asm80_program_types.specs.Program.{Program}
+use Rattle.asm80_types.specs.Program.{Program}
 use Rattle.asm80_source_def.specs.Source.{IsSource, OfLine, OfProgram}
 use Rattle.commented_text.specs.Commented.{kept_of, IsOutput}
 use Rattle.cmd_arguments.specs.Words.{Translate}

@@ -4,7 +4,7 @@ use Rattle.host.specs.declared.HostFault.TheVariants.{Failed, Memory}
 use Rattle.host.specs.Host.{HostState, Says, SameFaults, ReadFailed, WriteFailed, MemoryWanted}
 use Rattle.asm86_line_types.specs.declared.line.Line86.{Line86}
 use Rattle.asm86_line_types.specs.Image.{Image}
-use Rattle.asm80_program_types.specs.Program.{Program}
+use Rattle.asm80_types.specs.Program.{Program}
 use Rattle.asm80_source_def.specs.Source.{IsSource, SourceRule, IsNoSource}
 use Rattle.host_files.specs.Transfer.{IsLonger, CutsLine}
 use Rattle.commented_text.specs.Commented.{kept_of, IsOutput}

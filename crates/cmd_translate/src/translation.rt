@@ -2,7 +2,7 @@
 ghost use Rattle.std.specs.Prelude.{◌≡◌, ◌^◌, ◌<◌, true, IfOk, IfErr, OnOk, length, vec_len, option_map};
 ghost use Rattle.std.specs.String.{string_bytes};
 ghost use Rattle.host.specs.Host.{SameFaults, OnlyReads, OnlyWrites};
-ghost use Rattle.asm80_program_types.specs.Program.{is_top};
+ghost use Rattle.asm80_types.specs.Program.{is_top};
 ghost use Rattle.templates.specs.Style.{Style, styled};
 ghost use Rattle.cmd_common.specs.declared.names.InputFile.TheVariants.{First};
 ghost use Rattle.cmd_common.specs.Files.{ReadStops, input_limit};
@@ -13,7 +13,7 @@ ghost use Rattle.cmd_common.specs.declared.stop.Stop.TheVariants.{OutOfMemory};
 ghost use Rattle.cmd_translate.specs.Translates.{mode_of, line_of_text, TranslateGives, Completes};
 ghost use Rattle.cmd_translate.specs.TranslateWork.{TextStops, ReadsKept, WritesOut, WritesText, LosesText, Works, StopsBy};
 
-use asm80_program_types::Program80;
+use asm80_types::Program80;
 use asm86_line_types::{Line86, code_size};
 use cmd_arguments::Translate;
 use cmd_common::{

@@ -10,7 +10,7 @@ use Rattle.i80.specs.declared.Goal.TheVariants.{At as Address, Boot, Bdos}
 use Rattle.i80.specs.declared.Instr80.{Instr80}
 use Rattle.i80.specs.declared.Instr80.TheVariants.{Mov, Mvi, Lxi, Inx, Dcx, Dad, Push, Pop, Jif, Call, Cif}
 use Rattle.i80.specs.Columns.{is_well_formed}
-use Rattle.asm80_program_types.specs.declared.program.Placed.{Placed}
+use Rattle.asm80_types.specs.declared.program.Placed.{Placed}
 use Rattle.asm86_line_types.specs.declared.line.Label.TheVariants.{Skip, Sys}
 use Rattle.asm86_line_types.specs.declared.line.Stmt86.{Stmt86}
 use Rattle.asm86_line_types.specs.declared.line.Stmt86.TheVariants.{Mark, Jcc, Run, Jmp as JmpTo, Call as CallTo}

@@ -1,6 +1,6 @@
 -- What is yet to be written of a commented text.
 use Rattle.std.specs.Prelude.{ℕ, ◌+◌, ◌-◌, ◌*◌, min, max, List, [], ◌∷◌, ◌++◌, length, take, drop}
-use Rattle.asm80_program_types.specs.declared.program.Placed.{Placed}
+use Rattle.asm80_types.specs.declared.program.Placed.{Placed}
 use Rattle.asm86_line_types.specs.declared.line.Stmt86.{Stmt86}
 use Rattle.asm86_line_types.specs.Image.{statements}
 use Rattle.commented_text.specs.Commented.{comments, written}

@@ -1,7 +1,7 @@
 // A text with the lines of its source as comments is read as the text without.
 
 ghost use Rattle.std.specs.Prelude.{ℕ, List, Option, Ok};
-ghost use Rattle.asm80_program_types.specs.Program.{Program};
+ghost use Rattle.asm80_types.specs.Program.{Program};
 ghost use Rattle.asm86_line_types.specs.Image.{Image};
 ghost use Rattle.asm86_line_types.specs.Written.{written_text};
 ghost use Rattle.asm86_line_types.specs.declared.line.Line86.{Line86};

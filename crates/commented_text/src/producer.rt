@@ -5,7 +5,7 @@ ghost use Rattle.commented_text.specs.Commented.{comment_line, Commented};
 
 use crate::groups::group_size;
 use crate::lines::{next_line, source_of};
-use asm80_program_types::{Placed, Program80};
+use asm80_types::{Placed, Program80};
 use asm86_line_types::{Line86, write_line};
 use host_files::{Piece, Producer};
 

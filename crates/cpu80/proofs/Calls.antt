@@ -23,7 +23,7 @@ use Rattle.dialogue.specs.Shape.{is_within, ranges, shape_of, request_of}
 use Rattle.dialogue.specs.Fits.{answer_fits, answer_in, answer_kind_of, fits_row, fits, fits_event, dma_after}
 use Rattle.dialogue.specs.ByteMemory.{put, put_bytes, put_blocks, seen_by, word_at}
 use Rattle.dialogue.specs.Run.{Answer, Ran, Asks, Ends, Stops}
-use Rattle.asm80_program_types.specs.Program.{Program, IsProgram, is_code}
+use Rattle.asm80_types.specs.Program.{Program, IsProgram, is_code}
 use Rattle.cpu80_tagged.specs.State.{State80, num_of}
 use Rattle.cpu80_tagged.specs.Memory.{is_closed, is_write_protected, put as put80, read_word}
 use Rattle.cells.specs.Places.{same_place}
@@ -42,7 +42,7 @@ use Rattle.dialogue.specs.Choice.{byte_of}
 use Rattle.dialogue.proofs.Tried.{ok_is, err_is_not, then_is}
 use Rattle.cpu80.proofs.Stands.{Stands, RegsStand, CellsStand, StatesStand, put_stands, number}
 use Rattle.cpu80.proofs.Moves.{high_small, low_small, unprotected_free, reads_word}
-use Rattle.asm80_program_types.proofs.Standing.{start_range}
+use Rattle.asm80_types.proofs.Standing.{start_range}
 use Rattle.dialogue.proofs.Within.{AreWithin, call_writes, fit_within}
 
 -- after an event that both ask, whatever the reply that fits, the states stand for one another

@@ -4,7 +4,7 @@ use Rattle.std.specs.Prelude.{All}
 use Rattle.dialogue.specs.declared.request.Reply.{Reply}
 use Rattle.dialogue.specs.Run.{IsNotStopped, start_run, turns}
 use Rattle.dialogue.specs.Sight.{WhoSeesMoreAsksTheSame}
-use Rattle.asm80_program_types.specs.Program.{Program, IsProgram}
+use Rattle.asm80_types.specs.Program.{Program, IsProgram}
 use Rattle.cpu80_tagged.specs.Start.{IsPage, start80, run80}
 use Rattle.dialogue.specs.Fill.{IsFill}
 use Rattle.cpu80_untagged.specs.State.{UntaggedState}

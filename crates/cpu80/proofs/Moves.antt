@@ -19,7 +19,7 @@ use Rattle.dialogue.specs.ByteMemory.{put}
 use Rattle.dialogue.specs.Words.{wrap}
 use Rattle.base.specs.Operations.{flags_in}
 use Rattle.base.proofs.Bytes.{flag_bits}
-use Rattle.asm80_program_types.specs.Program.{Program, is_code}
+use Rattle.asm80_types.specs.Program.{Program, is_code}
 use Rattle.cpu80_tagged.specs.State.{State80, high_of, low_of, with_bc as with_bc80, with_de as with_de80, with_hl as with_hl80, with_num, with_a as with_a80, num_or}
 use Rattle.cpu80_tagged.specs.Memory.{is_closed, is_write_protected, unless_then, put as put80, address, word_fits, read_at, may_write, write_at, Halves, read_word, write_word}
 use Rattle.cpu80_tagged.specs.Effect.{source as source80, into as into80, lda as lda80, sta as sta80, lhld as lhld80, xchg as xchg80, xthl as xthl80, sphl as sphl80, push as push80, push_pair as push_pair80, popped as popped80, pop_pair as pop_pair80}

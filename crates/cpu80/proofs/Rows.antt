@@ -10,8 +10,8 @@ use Rattle.i80.specs.declared.Word.TheVariants.{Num as Number, Code}
 use Rattle.i80.specs.declared.Instr80.{Instr80}
 use Rattle.i80.specs.declared.Instr80.TheVariants.{Nop, Mov, Mvi, Lxi, Lda, Sta, Lhld, Shld, Ldax, Stax, Xchg, Xthl, Sphl, Pchl, Alu, AluI, Inr, Dcr, Inx, Dcx, Dad, Daa, Cma, Stc, Cmc, Rlc, Rrc, Ral, Rar, Push, Pop, Jmp, Jif, Call, Cif, Ret, Rif, Rst0, In, Out}
 use Rattle.i80.specs.Columns.{is_well_formed}
-use Rattle.asm80_program_types.specs.Program.{Program, IsProgram}
-use Rattle.asm80_program_types.proofs.Standing.{IsPlaced, start_range}
+use Rattle.asm80_types.specs.Program.{Program, IsProgram}
+use Rattle.asm80_types.proofs.Standing.{IsPlaced, start_range}
 use Rattle.cpu80_tagged.specs.State.{State80}
 use Rattle.cpu80_tagged.specs.Effect.{effect as effect80, lxi as lxi80}
 use Rattle.cpu80_untagged.specs.State.{UntaggedState, with_word}

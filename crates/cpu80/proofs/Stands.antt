@@ -13,7 +13,7 @@ use Rattle.dialogue.proofs.Tried.{ok_is, err_is_not, then_is}
 use Rattle.dialogue.specs.Tried.{try_then}
 use Rattle.dialogue.specs.ByteMemory.{put}
 use Rattle.std.proofs.lemmas.Bool.{eqb-true}
-use Rattle.asm80_program_types.specs.Program.{Program, is_code}
+use Rattle.asm80_types.specs.Program.{Program, is_code}
 use Rattle.cpu80_tagged.specs.State.{Regs80, State80, reg80, with_reg80, num_or}
 use Rattle.cpu80_tagged.specs.Memory.{put as put80}
 use Rattle.cpu80_untagged.specs.State.{UntaggedFlags, UntaggedRegs, UntaggedState, reg, with_reg}

@@ -6,14 +6,14 @@ use Rattle.std.proofs.lemmas.List.Elements.{All-head, All-tail}
 use Rattle.cells.specs.declared.Place.TheVariants.{At, Exit}
 use Rattle.cells.specs.declared.Cell.{Cell}
 use Rattle.cells.specs.declared.Cell.TheVariants.{Num, Lo, Hi, Psw, Junk}
-use Rattle.asm80_program_types.specs.Program.{Program, IsProgram, cell_in, cell_at, is_top, IsDatum, AreData}
+use Rattle.asm80_types.specs.Program.{Program, IsProgram, cell_in, cell_at, is_top, IsDatum, AreData}
 use Rattle.cpu80_tagged.specs.Start.{IsPage, start_cell80, cell_or_junk, start80}
 use Rattle.dialogue.specs.Fill.{IsFill}
 use Rattle.cpu80_untagged.specs.Start.{byte_of_cell, datum_or, system_byte, data_over, start_over}
 use Rattle.cpu80_untagged.specs.Follows.{HasData}
 use Rattle.cpu80.proofs.Stands.{Stands, StatesStand, number}
 use Rattle.cpu80.proofs.Moves.{high_small, low_small, high_of_place, low_of_place}
-use Rattle.asm80_program_types.proofs.Standing.{start_range}
+use Rattle.asm80_types.proofs.Standing.{start_range}
 
 -- bytes of a list of bytes; past its end there are zeros
 pub byte_in : (xs : List ℕ) (k : ℕ) → All (λ b. b < 256) xs → slice_index xs k < 256

@@ -18,7 +18,7 @@ use Rattle.i80.specs.Columns.{length80}
 use Rattle.dialogue.specs.declared.request.Event.{Event}
 use Rattle.dialogue.specs.declared.request.Event.TheVariants.{In as AskedIn, Out as AskedOut}
 use Rattle.dialogue.specs.Run.{Answer, Ran, Asks, Ends, Stops}
-use Rattle.asm80_program_types.specs.Program.{Program, IsProgram, instr_at, is_start}
+use Rattle.asm80_types.specs.Program.{Program, IsProgram, instr_at, is_start}
 use Rattle.cpu80_tagged.specs.State.{State80, num_or, with_a as with_a80}
 use Rattle.cpu80_tagged.specs.Effect.{effect as effect80, push as push80}
 use Rattle.cpu80_tagged.specs.Call.{Return as Return80, call_system as call_system80, place_if, place_in, popped_return as popped_return80, return_after as return_after80}
@@ -36,7 +36,7 @@ use Rattle.dialogue.specs.ByteMemory.{word_at}
 use Rattle.dialogue.proofs.Tried.{ok_is, err_is_not, then_is}
 use Rattle.cpu80.proofs.Stands.{FlagsStand, StatesStand, sets_sp, sets_place, number, number_is}
 use Rattle.cpu80.proofs.Moves.{sets_a, high_of_place, low_of_place, push_stands}
-use Rattle.asm80_program_types.proofs.Standing.{IsPlaced, is_placed, start_range}
+use Rattle.asm80_types.proofs.Standing.{IsPlaced, is_placed, start_range}
 use Rattle.cpu80.proofs.Rows.{effects_stand}
 use Rattle.cpu80.proofs.Calls.{IsAnswered, StepFollows, not_zero, Names, place_names, ReturnStands, pops, popped_stands, system_follows}
 

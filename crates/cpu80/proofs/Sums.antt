@@ -21,7 +21,7 @@ use Rattle.dialogue.specs.Choice.{byte_of}
 use Rattle.base.specs.Arithmetic.{as_bit, sum8, difference8, borrow8, turned_left, turned_right, bit7, bit0, daa_result, daa_carry, daa_excepted}
 use Rattle.base.specs.Operations.{flags_by, result_of, flags_of}
 use Rattle.base.proofs.Bytes.{bit_small, result_small}
-use Rattle.asm80_program_types.specs.Program.{Program}
+use Rattle.asm80_types.specs.Program.{Program}
 use Rattle.cpu80_tagged.specs.State.{State80, reg80, with_num, with_a as with_a80, with_flags as with_flags80, with_cy as with_cy80, num_or}
 use Rattle.cpu80_tagged.specs.Memory.{address, read_at, may_write}
 use Rattle.cpu80_tagged.specs.Effect.{source as source80, into as into80, known, carry_for as carry_for80, a_after as a_after80, alu_with, cleared, alu as alu80, counted, counted_up as counted_up80, counted_down as counted_down80, inr as inr80, dcr as dcr80, pair_num, add_to_pair as add_to_pair80, dad as dad80, daa_of, daa as daa80, cma as cma80, cmc as cmc80, rlc, rrc, ral, rar}

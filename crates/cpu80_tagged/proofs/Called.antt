@@ -8,7 +8,7 @@ use Rattle.dialogue.specs.Run.{Answer, Ran, Asks, Ends, Stops, Status, Going, Wa
 use Rattle.dialogue.specs.Calls.{Standing, settled}
 use Rattle.dialogue.specs.Histories.{Calls as MachineCalls, started as has_started, ran as has_run, asked as has_asked, took, ended as has_ended, stopped, IsRunAt}
 use Rattle.dialogue.proofs.Called.{calls_run}
-use Rattle.asm80_program_types.specs.Program.{Program}
+use Rattle.asm80_types.specs.Program.{Program}
 use Rattle.cpu80_tagged.specs.State.{State80}
 use Rattle.cpu80_tagged.specs.Start.{start80, run80}
 use Rattle.cpu80_tagged.specs.Step.{step80, replied80, machine80}

@@ -19,7 +19,7 @@ use Rattle.dialogue.specs.Table.{row_of}
 use Rattle.dialogue.specs.Tried.{try_then}
 use Rattle.dialogue.specs.Run.{Answer, Ran, Asks, Ends, Stops}
 use Rattle.dialogue.specs.Words.{wrap}
-use Rattle.asm80_program_types.specs.Program.{Program, instr_at, is_start}
+use Rattle.asm80_types.specs.Program.{Program, instr_at, is_start}
 use Rattle.cpu80_tagged.specs.State.{State80, num_of}
 use Rattle.cpu80_tagged.specs.Memory.{Halves, read_word}
 use Rattle.cpu80_tagged.specs.Effect.{effect, push}

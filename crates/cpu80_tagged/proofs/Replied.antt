@@ -21,7 +21,7 @@ use Rattle.dialogue.specs.Lawful.{IsLawfulRequest, IsShapeOver}
 use Rattle.dialogue.proofs.LawfulShapes.{made, made-lawful}
 use Rattle.dialogue.proofs.Lines.{line_short}
 use Rattle.dialogue.specs.Run.{Asks}
-use Rattle.asm80_program_types.specs.Program.{Program}
+use Rattle.asm80_types.specs.Program.{Program}
 use Rattle.cpu80_tagged.specs.State.{State80, num_of}
 use Rattle.cpu80_tagged.specs.Call.{seen_by_tagged, is_place}
 use Rattle.cpu80_tagged.specs.Step.{step80, return_at, replied80, replied_to}

@@ -4,14 +4,14 @@ use Rattle.std.proofs.lemmas.Bool.Decides.{nat_tests}
 use Rattle.std.proofs.lemmas.Bool.{ltb-true, ltb-false}
 use Rattle.std.proofs.lemmas.List.{get_or_append_left, get_or_past, get_or_push}
 use Rattle.cells.specs.declared.Cell.TheVariants.{Junk}
-use Rattle.asm80_program_types.specs.Program.{Program, IsProgram, cell_at, placed_in, covers, is_covered, is_code, is_start}
-use Rattle.asm80_program_types.specs.declared.program.Placed.{Placed}
+use Rattle.asm80_types.specs.Program.{Program, IsProgram, cell_at, placed_in, covers, is_covered, is_code, is_start}
+use Rattle.asm80_types.specs.declared.program.Placed.{Placed}
 use Rattle.cpu80_tagged.specs.declared.area.CellUse.{CellUse}
 use Rattle.cpu80_tagged.specs.declared.area.CellUse.TheVariants.{Closed}
 use Rattle.cpu80_tagged.specs.Area.{is_closed_use, is_start_use}
-use Rattle.asm80_program_types.proofs.CellSearch.{no_cell}
-use Rattle.asm80_program_types.proofs.Lookup.{length80-positive}
-use Rattle.asm80_program_types.proofs.Standing.{start_range}
+use Rattle.asm80_types.proofs.CellSearch.{no_cell}
+use Rattle.asm80_types.proofs.Lookup.{length80-positive}
+use Rattle.asm80_types.proofs.Standing.{start_range}
 use Rattle.cpu80_tagged.specs.Memory.{is_closed}
 use Rattle.cpu80_tagged.specs.Start.{start_cell80, cell_or_junk}
 

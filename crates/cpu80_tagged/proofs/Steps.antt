@@ -4,7 +4,7 @@ use Rattle.cells.specs.declared.Rule.{Rule}
 use Rattle.dialogue.specs.declared.request.Shape.{Shape}
 use Rattle.dialogue.specs.declared.request.Event.{Event}
 use Rattle.dialogue.specs.Run.{Ran, Asks}
-use Rattle.asm80_program_types.specs.Program.{Program}
+use Rattle.asm80_types.specs.Program.{Program}
 use Rattle.cpu80_tagged.specs.State.{State80, num_of}
 use Rattle.cpu80_tagged.specs.Call.{ask, is_place}
 use Rattle.cpu80_tagged.specs.Step.{step80, return_at}

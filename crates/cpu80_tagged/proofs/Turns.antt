@@ -1,7 +1,7 @@
 -- What a turn goes by: an effect that passed; and a turn that asks nothing owes no return.
 use Rattle.std.proofs.Common.{◌≡◌, Result, Ok, Err, sym, ap}
 use Rattle.cells.specs.declared.Rule.{Rule}
-use Rattle.asm80_program_types.specs.Program.{Program}
+use Rattle.asm80_types.specs.Program.{Program}
 use Rattle.cpu80_tagged.specs.State.{State80}
 use Rattle.cpu80_tagged.specs.Call.{Return}
 use Rattle.cpu80_tagged.specs.declared.turn.Turn.{Turn}

@@ -1,6 +1,6 @@
 -- What a program makes of each cell, as a machine keeps it.
 use Rattle.std.specs.Prelude.{◌≡◌, ℕ, Bool, true, false, List, length, slice_index_or}
-use Rattle.asm80_program_types.specs.Program.{Program, is_start}
+use Rattle.asm80_types.specs.Program.{Program, is_start}
 use Rattle.cpu80_tagged.specs.Memory.{is_closed}
 use Rattle.cpu80_tagged.specs.declared.area.CellUse.{CellUse}
 use Rattle.cpu80_tagged.specs.declared.area.CellUse.TheVariants.{Open, Closed, Start}

@@ -22,7 +22,7 @@ use Rattle.dialogue.specs.Shape.{Seen, shape_of, request_of}
 use Rattle.dialogue.specs.Fits.{answer_kind_of, dma_after}
 use Rattle.dialogue.specs.Run.{Answer, Asks, Ends, Stops}
 use Rattle.dialogue.specs.Words.{wrap}
-use Rattle.asm80_program_types.specs.Program.{Program, is_start}
+use Rattle.asm80_types.specs.Program.{Program, is_start}
 use Rattle.cpu80_tagged.specs.State.{Regs80, State80, num_of, junk_regs}
 use Rattle.cpu80_tagged.specs.Memory.{is_closed, is_write_protected, put, read_word}
 

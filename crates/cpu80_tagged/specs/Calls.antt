@@ -6,7 +6,7 @@ use Rattle.dialogue.specs.declared.request.Event.{Event}
 use Rattle.dialogue.specs.declared.request.Event.TheVariants.{End}
 use Rattle.dialogue.specs.Run.{Status, Going, Waiting, Over, Stopped}
 use Rattle.dialogue.specs.Histories.{IsRunAt}
-use Rattle.asm80_program_types.specs.Program.{Program}
+use Rattle.asm80_types.specs.Program.{Program}
 use Rattle.cpu80_tagged.specs.Start.{start80, run80}
 use Rattle.cpu80_tagged.specs.Step.{step80}
 use Rattle.cpu80_tagged.specs.declared.processor.Cpu80.{Cpu80}

@@ -5,7 +5,7 @@ use Rattle.cells.specs.declared.Rule.{Rule}
 use Rattle.cells.specs.Conditions.{holds}
 use Rattle.i80.specs.declared.Instr80.{Instr80}
 use Rattle.i80.specs.declared.Instr80.TheVariants.{Jmp, Jif, Call, Cif, Ret, Rif}
-use Rattle.asm80_program_types.specs.Program.{Program}
+use Rattle.asm80_types.specs.Program.{Program}
 use Rattle.cpu80_tagged.specs.State.{State80}
 use Rattle.cpu80_tagged.specs.Call.{Return, popped_return, return_after}
 

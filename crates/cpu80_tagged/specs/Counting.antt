@@ -6,7 +6,7 @@ use Rattle.i80.specs.declared.Op.{Op}
 use Rattle.i80.specs.declared.Src.{Src}
 use Rattle.dialogue.specs.Tried.{try_then}
 use Rattle.base.specs.Operations.{result_of, flags_of}
-use Rattle.asm80_program_types.specs.Program.{Program}
+use Rattle.asm80_types.specs.Program.{Program}
 use Rattle.cpu80_tagged.specs.State.{State80, with_flags}
 use Rattle.cpu80_tagged.specs.Effect.{counted, into}
 

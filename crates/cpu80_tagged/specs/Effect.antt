@@ -25,7 +25,7 @@ use Rattle.dialogue.specs.Tried.{try_then}
 use Rattle.dialogue.specs.Words.{wrap}
 use Rattle.base.specs.Arithmetic.{as_bit, sum8, carry4, difference8, turned_left, turned_right, bit7, bit0, daa_result, daa_carry, daa_excepted}
 use Rattle.base.specs.Operations.{flags_by, result_of, flags_of, flags_in}
-use Rattle.asm80_program_types.specs.Program.{Program}
+use Rattle.asm80_types.specs.Program.{Program}
 use Rattle.cpu80_tagged.specs.State.{State80, reg80, with_reg80, high_of, low_of, with_bc, with_de, with_hl, with_num, with_a, with_flags, with_cy, num_or}
 use Rattle.cpu80_tagged.specs.Memory.{Halves, address, read_at, may_write, write_at, read_word, write_word}
 

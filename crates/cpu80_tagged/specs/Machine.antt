@@ -9,7 +9,7 @@ use Rattle.dialogue.specs.Shape.{request_of}
 use Rattle.dialogue.specs.Fits.{fits_event}
 use Rattle.dialogue.specs.Lawful.{IsLawfulEvent}
 use Rattle.dialogue.specs.Run.{Answer, Ran, Asks, Ends, Stops}
-use Rattle.asm80_program_types.specs.Program.{Program}
+use Rattle.asm80_types.specs.Program.{Program}
 use Rattle.cpu80_tagged.specs.State.{State80, num_of}
 use Rattle.cpu80_tagged.specs.Call.{is_place, seen_by_tagged}
 use Rattle.cpu80_tagged.specs.Step.{step80, return_at, replied80}

@@ -4,7 +4,7 @@ use Rattle.cells.specs.declared.Cell.{Cell}
 use Rattle.cells.specs.declared.Rule.{Rule}
 use Rattle.cells.specs.declared.Rule.TheVariants.{P2, P3, P4, P8}
 use Rattle.dialogue.specs.Tried.{try_then}
-use Rattle.asm80_program_types.specs.Program.{Program, is_code}
+use Rattle.asm80_types.specs.Program.{Program, is_code}
 use Rattle.cpu80_tagged.specs.State.{State80, num_or}
 
 -- cells that a program of the profile neither reads nor writes: those of instructions, cells 0 to 5 and 8 to 5BH, and those

@@ -7,7 +7,7 @@ use Rattle.cells.specs.declared.Rule.{Rule}
 use Rattle.cells.specs.Conditions.{unknown_flags}
 use Rattle.dialogue.specs.declared.request.Reply.{Reply}
 use Rattle.dialogue.specs.Run.{Run, turns, start_run}
-use Rattle.asm80_program_types.specs.Program.{Program, cell_at}
+use Rattle.asm80_types.specs.Program.{Program, cell_at}
 use Rattle.cpu80_tagged.specs.State.{State80, junk_regs}
 use Rattle.cpu80_tagged.specs.Step.{machine80}
 

@@ -17,7 +17,7 @@ use Rattle.dialogue.specs.declared.request.Event.{Event}
 use Rattle.dialogue.specs.declared.request.Event.TheVariants.{Call as Asked, In as AskedIn, Out as AskedOut, End}
 use Rattle.dialogue.specs.Tried.{try_then}
 use Rattle.dialogue.specs.Run.{Answer, Ran, Asks, Ends, Stops, Machine}
-use Rattle.asm80_program_types.specs.Program.{Program, instr_at, is_start}
+use Rattle.asm80_types.specs.Program.{Program, instr_at, is_start}
 use Rattle.cpu80_tagged.specs.State.{State80, with_a, num_or}
 use Rattle.cpu80_tagged.specs.Effect.{effect, push}
 use Rattle.cpu80_tagged.specs.Call.{Return, call_system, place_in, popped_return, return_after, after_reply}

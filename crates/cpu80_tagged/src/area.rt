@@ -1,12 +1,12 @@
 // A program and what it makes of each cell.
 ghost use Rattle.std.specs.Prelude.{◌≡◌, ◌+◌, ◌≤◌, IfSome, IsTrue};
 ghost use Rattle.i80.specs.Columns.{is_well_formed, length80};
-ghost use Rattle.asm80_program_types.specs.Program.{instr_at, is_start};
+ghost use Rattle.asm80_types.specs.Program.{instr_at, is_start};
 ghost use Rattle.cpu80_tagged.specs.Memory.{is_closed, may_write};
 ghost use Rattle.cpu80_tagged.specs.Area.{HasUses};
 ghost use Rattle.cpu80_tagged.specs.Row.{tested};
 
-use asm80_program_types::Program80;
+use asm80_types::Program80;
 use cells::Rule;
 use i80::Instr80;
 

@@ -9,7 +9,7 @@ use crate::registers::Registers;
 use crate::replies::answered;
 use crate::sight::Sight;
 use crate::turn::{Question, Return, Turn};
-use asm80_program_types::Program80;
+use asm80_types::Program80;
 use cells::{Cell, Flags, Place, Rule};
 use dialogue::{
     Blocks, Event, Reply, Request, Shape, answer_of, dma_after, fits, fits_event, request_of,
@@ -55,7 +55,7 @@ impl Cpu80 {
     ghost use Rattle.std.specs.Prelude.{IfOk, true, false, All};
     ghost use Rattle.dialogue.specs.Fits.{fits};
     ghost use Rattle.dialogue.specs.Shape.{seen_by_view};
-    ghost use Rattle.asm80_program_types.specs.Program.{Program};
+    ghost use Rattle.asm80_types.specs.Program.{Program};
     ghost use Rattle.cpu80_tagged.specs.Step.{step80};
     ghost use Rattle.cpu80_tagged.specs.Draft.{memory_of, IsFresh, state_of_draft as draft_state};
     ghost use Rattle.cpu80_tagged.specs.Sight.{byte_over, writable_over, closed_in};

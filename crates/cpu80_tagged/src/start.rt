@@ -1,6 +1,6 @@
 // The start of a program.
 ghost use Rattle.std.specs.Prelude.{◌≡◌, ◌<◌, ◌≤◌, length, IfOk};
-ghost use Rattle.asm80_program_types.specs.Program.{is_start};
+ghost use Rattle.asm80_types.specs.Program.{is_start};
 ghost use Rattle.cpu80_tagged.specs.Memory.{is_closed};
 ghost use Rattle.cpu80_tagged.specs.Start.{start_cell80};
 ghost use Rattle.cpu80_tagged.specs.Area.{HasUses, is_closed_use, is_start_use};
@@ -9,7 +9,7 @@ ghost use Rattle.cpu80_tagged.specs.Draft.{memory_of};
 use crate::area::CellUse;
 use crate::processor::{Cpu80, Phase};
 use crate::replies::junk;
-use asm80_program_types::Program80;
+use asm80_types::Program80;
 use cells::{Cell, Flags, Place};
 use dialogue::Page;
 use std::alloc::{AllocError, Global};

@@ -3,8 +3,8 @@ use Rattle.std.proofs.Common.{◌≡◌, ℕ, ◌-◌, ◌<◌, ◌≤◌, ◌+�
 use mathlib.Core.Path.{fun_ext}
 use Rattle.std.proofs.lemmas.Bool.Decides.{nat_tests}
 use Rattle.std.proofs.lemmas.List.{get_or_append_left, get_or_push, get_or_past}
-use Rattle.asm80_program_types.specs.Program.{Program, IsProgram, cell_at}
-use Rattle.asm80_program_types.proofs.CellSearch.{no_cell}
+use Rattle.asm80_types.specs.Program.{Program, IsProgram, cell_at}
+use Rattle.asm80_types.proofs.CellSearch.{no_cell}
 use Rattle.cpu80_untagged.specs.Start.{datum_or, start_byte}
 
 -- past 64K there are zeros

@@ -6,7 +6,7 @@ use Rattle.i80.specs.declared.Instr80.{Instr80}
 use Rattle.dialogue.specs.declared.blocks.Block.{Block}
 use Rattle.dialogue.specs.declared.request.Reply.{Reply}
 use Rattle.dialogue.specs.Run.{Run, IsNotStopped, turns, start_run}
-use Rattle.asm80_program_types.specs.Program.{Program, IsProgram, instr_at, cell_at, is_code}
+use Rattle.asm80_types.specs.Program.{Program, IsProgram, instr_at, cell_at, is_code}
 use Rattle.cpu80_tagged.specs.State.{State80}
 use Rattle.cpu80_tagged.specs.Start.{IsPage, run80}
 use Rattle.dialogue.specs.Fill.{IsFill}

@@ -1,5 +1,5 @@
 -- The machine with a program, whose steps do not tell why it stops.
-use Rattle.asm80_program_types.specs.Program.{Program}
+use Rattle.asm80_types.specs.Program.{Program}
 use Rattle.dialogue.specs.Run.{Status, Going, Waiting, Over, Stopped}
 use Rattle.dialogue.specs.Calls.{Standing}
 use Rattle.cpu80_untagged.specs.State.{UntaggedState}

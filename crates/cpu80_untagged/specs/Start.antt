@@ -6,7 +6,7 @@ use Rattle.cells.specs.declared.Cell.{Cell}
 use Rattle.cells.specs.declared.Cell.TheVariants.{Num, Lo, Hi, Psw, Junk}
 use Rattle.dialogue.specs.declared.request.Reply.{Reply}
 use Rattle.dialogue.specs.Run.{Run, turns, start_run}
-use Rattle.asm80_program_types.specs.Program.{Program, cell_at}
+use Rattle.asm80_types.specs.Program.{Program, cell_at}
 use Rattle.cpu80_untagged.specs.State.{UntaggedState}
 use Rattle.cpu80_untagged.specs.Flags.{chosen_flags}
 use Rattle.cpu80_untagged.specs.Call.{Stop}

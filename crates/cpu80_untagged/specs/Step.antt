@@ -14,7 +14,7 @@ use Rattle.dialogue.specs.declared.request.Event.TheVariants.{Call as Asked, In 
 use Rattle.dialogue.specs.Run.{Answer, Ran, Asks, Ends, Stops, Machine}
 use Rattle.dialogue.specs.Words.{wrap}
 use Rattle.dialogue.specs.ByteMemory.{word_at}
-use Rattle.asm80_program_types.specs.Program.{Program, instr_at}
+use Rattle.asm80_types.specs.Program.{Program, instr_at}
 use Rattle.cpu80_untagged.specs.State.{UntaggedState, pair_word, with_a}
 use Rattle.cpu80_untagged.specs.Flags.{holds}
 use Rattle.cpu80_untagged.specs.Effect.{effect, push}

@@ -5,7 +5,7 @@ ghost use Rattle.cpu80_untagged.specs.Step.{Fetch, program_fetch};
 ghost use Rattle.cpu80_untagged.specs.ProcessorState.{untagged_state};
 
 use crate::processor::Processor;
-use asm80_program_types::Program80;
+use asm80_types::Program80;
 use i80::Instr80;
 
 /// What gives the machine its instructions, as a program does, or the bytes of memory.

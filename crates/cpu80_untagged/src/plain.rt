@@ -3,14 +3,14 @@ ghost use Rattle.std.specs.Prelude.{◌≡◌, None, Some, IfOk, IfSome, length}
 ghost use Rattle.dialogue.specs.Fits.{waits_in};
 ghost use Rattle.dialogue.specs.Lawful.{IsLawfulEvent};
 ghost use Rattle.dialogue.specs.Calls.{stepped, replied, IsOpen};
-ghost use Rattle.asm80_program_types.specs.Program.{Program};
+ghost use Rattle.asm80_types.specs.Program.{Program};
 ghost use Rattle.cpu80_untagged.specs.Start.{start_untagged};
 ghost use Rattle.cpu80_untagged.specs.Step.{program_fetch, step_untagged, replied_untagged};
 ghost use Rattle.cpu80_untagged.specs.Plain.{plain_standing, OfStatus, IsPlainOf};
 
 use crate::machine::{Untagged80, UntaggedStep};
 use crate::start::{start_memory, start_processor};
-use asm80_program_types::Program80;
+use asm80_types::Program80;
 use dialogue::{Event, Page, Reply};
 use std::alloc::{AllocError, Global};
 

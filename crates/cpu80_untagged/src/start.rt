@@ -7,7 +7,7 @@ use crate::flags::FlagBits;
 use crate::memory::Memory;
 use crate::processor::Processor;
 use crate::registers::Registers;
-use asm80_program_types::Program80;
+use asm80_types::Program80;
 use cells::{Cell, Place};
 use std::alloc::{AllocError, Global};
 

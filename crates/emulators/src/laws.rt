@@ -3,7 +3,7 @@ ghost use Rattle.std.specs.Prelude.{ℕ, List, Option};
 ghost use Rattle.i86.specs.declared.Instr86.{Instr86};
 ghost use Rattle.i86.specs.Decode.{IsOnlyReader};
 ghost use Rattle.i86.specs.Decoder.{decoded};
-ghost use Rattle.asm80_program_types.specs.Program.{Program};
+ghost use Rattle.asm80_types.specs.Program.{Program};
 ghost use Rattle.asm86_line_types.specs.Image.{Image};
 ghost use Rattle.cpu86.specs.Start.{Start};
 ghost use Rattle.emulator_loop.specs.Talk.{HasOneRun};

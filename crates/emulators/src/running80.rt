@@ -1,7 +1,7 @@
 // The tagged 8080 with its program.
 ghost use Rattle.std.specs.Prelude.{◌≡◌, IfOk};
 
-use asm80_program_types::Program80;
+use asm80_types::Program80;
 use cpu80_tagged::{Cpu80, Step80};
 use dialogue::{Event, Page, Reply};
 use emulator_loop::{Emulator, Turn, Why};

@@ -1,6 +1,6 @@
 // The 8080 that fetches bytes, with the choice that it takes at every step.
 ghost use Rattle.std.specs.Prelude.{◌≡◌, true, length, IfOk};
-ghost use Rattle.asm80_program_types.specs.Program.{is_top};
+ghost use Rattle.asm80_types.specs.Program.{is_top};
 
 use dialogue::{Event, Page, Reply};
 use emulator_loop::{Emulator, Turn, Why};

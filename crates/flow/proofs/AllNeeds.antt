@@ -7,8 +7,8 @@ use Rattle.cells.specs.declared.Part.{Part}
 use Rattle.cells.specs.Parts.{Parts, nothing, has}
 use Rattle.i80.specs.declared.Instr80.{Instr80}
 use Rattle.i80.specs.Columns.{uses80}
-use Rattle.asm80_program_types.specs.Program.{Program, placed_in, instr_at, is_start, starts}
-use Rattle.asm80_program_types.proofs.Standing.{no_instr}
+use Rattle.asm80_types.specs.Program.{Program, placed_in, instr_at, is_start, starts}
+use Rattle.asm80_types.proofs.Standing.{no_instr}
 use Rattle.flow.specs.declared.node.Node.{Node}
 use Rattle.flow.specs.declared.node.Node.TheVariants.{Start, Return}
 use Rattle.flow.specs.declared.search.Vertex.{Vertex}

@@ -7,9 +7,9 @@ use Rattle.std.proofs.lemmas.List.Sums.{sum_by_push, sum_by-cons}
 use Rattle.cells.specs.Parts.{has}
 use Rattle.i80.specs.declared.Instr80.TheVariants.{Nop}
 use Rattle.i80.specs.Columns.{uses80, defs80}
-use Rattle.asm80_program_types.specs.declared.program.Placed.{Placed}
-use Rattle.asm80_program_types.specs.Program.{Program, IsProgram}
-use Rattle.asm80_program_types.proofs.Lookup.{length-starts}
+use Rattle.asm80_types.specs.declared.program.Placed.{Placed}
+use Rattle.asm80_types.specs.Program.{Program, IsProgram}
+use Rattle.asm80_types.proofs.Lookup.{length-starts}
 use Rattle.flow.specs.declared.node.Node.TheVariants.{Return}
 use Rattle.flow.specs.declared.search.Vertex.{Vertex}
 use Rattle.flow.specs.Begin.{vertex_placed, vertex_return, first_vertices}

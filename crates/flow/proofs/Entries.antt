@@ -7,9 +7,9 @@ use Rattle.base.specs.Addresses.{is_among}
 use Rattle.i80.specs.declared.Instr80.{Instr80}
 use Rattle.i80.specs.declared.Instr80.TheVariants.{Jmp, Jif, Call, Cif}
 use Rattle.i80.specs.Columns.{ends80}
-use Rattle.asm80_program_types.specs.declared.program.Placed.{Placed}
-use Rattle.asm80_program_types.specs.Program.{Program, named_by}
-use Rattle.asm80_program_types.specs.Taken.{taken_places}
+use Rattle.asm80_types.specs.declared.program.Placed.{Placed}
+use Rattle.asm80_types.specs.Program.{Program, named_by}
+use Rattle.asm80_types.specs.Taken.{taken_places}
 use Rattle.flow.specs.Blocks.{target_of, target_placed, targets, is_entered, is_cut, end_of}
 
 pub target_named : (i : Instr80) (t : ℕ) → target_of i ≡ Some t → named_by i ≡ Some t

@@ -9,10 +9,10 @@ use Rattle.base.specs.Addresses.{is_among}
 use Rattle.i80.specs.declared.Instr80.{Instr80}
 use Rattle.i80.specs.declared.Instr80.TheVariants.{Nop}
 use Rattle.i80.specs.Columns.{length80, ends80}
-use Rattle.asm80_program_types.specs.declared.program.Placed.{Placed}
-use Rattle.asm80_program_types.specs.Program.{Program, IsProgram, instr_at, is_start}
-use Rattle.asm80_program_types.specs.Taken.{taken_places}
-use Rattle.asm80_program_types.proofs.Lookup.{above-laid, rising-laid, length80-positive}
+use Rattle.asm80_types.specs.declared.program.Placed.{Placed}
+use Rattle.asm80_types.specs.Program.{Program, IsProgram, instr_at, is_start}
+use Rattle.asm80_types.specs.Taken.{taken_places}
+use Rattle.asm80_types.proofs.Lookup.{above-laid, rising-laid, length80-positive}
 use Rattle.flow.specs.Blocks.{is_cut, is_entered, cut_from, extent, blocks, leader_of, count_in, block_at, end_of, target_of, targets, place_after, IsBlockOf, IsLeader, IsStraight, IsBehindNone, BlocksCut, Cause, First, Target, Taken, BehindEnd, BehindNone, BehindSixteen}
 use Rattle.flow.proofs.Cuts.{flat-cut, offset, block, within_flat, at_flat, Located, locate, one_location, joined_block, uncut_inside, sized_block, leader-first, next_block, ended_block, offset-zero}
 use Rattle.flow.proofs.Entries.{target_named, entered_target, entered_taken, cut_entered, cut_ended, cut_apart, target_among, contained}

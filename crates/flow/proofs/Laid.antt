@@ -4,9 +4,9 @@ use Rattle.std.specs.Prelude.{is_some}
 use Rattle.std.proofs.lemmas.Bool.{eqb-true, eq-eqb, ne_eqb, cases_lt}
 use Rattle.std.proofs.lemmas.List.{get_or-map}
 use Rattle.i80.specs.Columns.{length80}
-use Rattle.asm80_program_types.specs.declared.program.Placed.{Placed}
-use Rattle.asm80_program_types.specs.Program.{AreLaid, starts_of, placed_in}
-use Rattle.asm80_program_types.proofs.Lookup.{above-laid, rising-laid, length80-positive}
+use Rattle.asm80_types.specs.declared.program.Placed.{Placed}
+use Rattle.asm80_types.specs.Program.{AreLaid, starts_of, placed_in}
+use Rattle.asm80_types.proofs.Lookup.{above-laid, rising-laid, length80-positive}
 use Rattle.flow.specs.Blocks.{end_of}
 
 -- an instruction is found at its address

@@ -5,8 +5,8 @@ use Rattle.std.specs.Ordering.{nat_cmp}
 use Rattle.std.proofs.lemmas.Bool.{cases_lt, eqb-true}
 use Rattle.std.proofs.lemmas.List.{length-map, get_or-map}
 use Rattle.std.proofs.lemmas.List.Sorted.{searched}
-use Rattle.asm80_program_types.specs.Program.{Program, IsProgram}
-use Rattle.asm80_program_types.proofs.Lookup.{rising-laid}
+use Rattle.asm80_types.specs.Program.{Program, IsProgram}
+use Rattle.asm80_types.proofs.Lookup.{rising-laid}
 use Rattle.flow.specs.Blocks.{extent, blocks, leaders, leader_of, count_in, block_at}
 use Rattle.flow.proofs.Cuts.{offset, offset-rises, block}
 use Rattle.flow.proofs.Extents.{cut, no_placed, leader_placed, block_found}

@@ -6,8 +6,8 @@ use Rattle.std.proofs.lemmas.List.{get_or-map, length-map}
 use Rattle.std.proofs.lemmas.List.Elements.{All-nil, All-cons, All-head, All-tail}
 use Rattle.cells.specs.declared.Part.{Part}
 use Rattle.cells.specs.Parts.{has}
-use Rattle.asm80_program_types.specs.Program.{Program}
-use Rattle.asm80_program_types.specs.Taken.{taken_places}
+use Rattle.asm80_types.specs.Program.{Program}
+use Rattle.asm80_types.specs.Taken.{taken_places}
 use Rattle.flow.specs.declared.node.Node.{Node}
 use Rattle.flow.specs.declared.node.Node.TheVariants.{Start, Return}
 use Rattle.flow.specs.Graph.{IsEdge}

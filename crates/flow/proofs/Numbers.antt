@@ -8,8 +8,8 @@ use Rattle.std.proofs.lemmas.Bool.{cases_lt}
 use Rattle.std.proofs.lemmas.List.{length-map, get_or-map, get_or_append_left, get_or_push, length_push}
 use Rattle.std.proofs.lemmas.List.Elements.{Contains-push_cases}
 use Rattle.std.proofs.lemmas.List.Sorted.{searched}
-use Rattle.asm80_program_types.specs.Program.{Program, IsProgram, starts}
-use Rattle.asm80_program_types.proofs.Lookup.{rising-laid, length-starts}
+use Rattle.asm80_types.specs.Program.{Program, IsProgram, starts}
+use Rattle.asm80_types.proofs.Lookup.{rising-laid, length-starts}
 use Rattle.flow.specs.declared.node.Node.{Node}
 use Rattle.flow.specs.declared.node.Node.TheVariants.{Start, Return}
 use Rattle.flow.specs.Graph.{nodes}

@@ -1,8 +1,8 @@
 -- One pass over the instructions finds the blocks.
 use Rattle.std.proofs.Common.{◌≡◌, ℕ, suc, ◌+◌, Bool, true, false, cond, ◌||◌, List, [], ◌∷◌, ◌++◌, length, map, refl, sym, ap, ◌∙◌, zero-add, add-one, arith}
 use Rattle.std.specs.Prelude.{◌==◌}
-use Rattle.asm80_program_types.specs.declared.program.Placed.{Placed}
-use Rattle.asm80_program_types.specs.Program.{Program}
+use Rattle.asm80_types.specs.declared.program.Placed.{Placed}
+use Rattle.asm80_types.specs.Program.{Program}
 use Rattle.flow.specs.Blocks.{is_cut, onto, cut_from, leader_of, extent}
 use Rattle.flow.specs.Cut.{closed, blocks_from}
 

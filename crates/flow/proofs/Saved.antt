@@ -6,8 +6,8 @@ use Rattle.cells.specs.declared.Part.{Part}
 use Rattle.cells.specs.Parts.{Parts, nothing, has}
 use Rattle.i80.specs.declared.Instr80.{Instr80}
 use Rattle.i80.specs.Columns.{length80, uses80}
-use Rattle.asm80_program_types.specs.Program.{Program, instr_at, placed_in, is_start}
-use Rattle.asm80_program_types.proofs.Standing.{no_instr}
+use Rattle.asm80_types.specs.Program.{Program, instr_at, placed_in, is_start}
+use Rattle.asm80_types.proofs.Standing.{no_instr}
 use Rattle.flow.specs.declared.node.Node.TheVariants.{Start}
 use Rattle.flow.specs.Blocks.{address_after_instruction}
 use Rattle.flow.specs.Graph.{edges_at}

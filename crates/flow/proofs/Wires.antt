@@ -11,10 +11,10 @@ use Rattle.std.proofs.lemmas.List.Elements.{Contains-get_or, Contains-push, Cont
 use Rattle.std.proofs.lemmas.List.Sums.{sum_by-set, sum_by_more}
 use Rattle.i80.specs.declared.Instr80.{Instr80}
 use Rattle.i80.specs.Columns.{length80}
-use Rattle.asm80_program_types.specs.declared.program.Placed.{Placed}
-use Rattle.asm80_program_types.specs.Program.{Program, IsProgram, NameStarts, is_start, starts, instr_at, instr_of_placed, placed_in, named_by}
-use Rattle.asm80_program_types.specs.Taken.{taken_places, takes}
-use Rattle.asm80_program_types.proofs.Lookup.{length-starts}
+use Rattle.asm80_types.specs.declared.program.Placed.{Placed}
+use Rattle.asm80_types.specs.Program.{Program, IsProgram, NameStarts, is_start, starts, instr_at, instr_of_placed, placed_in, named_by}
+use Rattle.asm80_types.specs.Taken.{taken_places, takes}
+use Rattle.asm80_types.proofs.Lookup.{length-starts}
 use Rattle.flow.specs.declared.node.Node.{Node}
 use Rattle.flow.specs.declared.node.Node.TheVariants.{Start, Return}
 use Rattle.flow.specs.Graph.{nodes, edges, edge_to, edges_at, successors, IsEdge}

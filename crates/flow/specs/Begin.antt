@@ -2,8 +2,8 @@
 use Rattle.std.specs.Prelude.{true, List, [], ◌∷◌, ◌++◌, map}
 use Rattle.cells.specs.Parts.{nothing}
 use Rattle.i80.specs.Columns.{uses80, defs80}
-use Rattle.asm80_program_types.specs.declared.program.Placed.{Placed}
-use Rattle.asm80_program_types.specs.Program.{Program}
+use Rattle.asm80_types.specs.declared.program.Placed.{Placed}
+use Rattle.asm80_types.specs.Program.{Program}
 use Rattle.flow.specs.declared.search.Vertex.{Vertex}
 
 abbrev pub vertex_placed : Placed → Vertex

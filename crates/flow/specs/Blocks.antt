@@ -6,9 +6,9 @@ use Rattle.base.specs.Addresses.{is_among}
 use Rattle.i80.specs.declared.Instr80.{Instr80}
 use Rattle.i80.specs.declared.Instr80.TheVariants.{Jmp, Jif, Call, Cif}
 use Rattle.i80.specs.Columns.{length80, ends80}
-use Rattle.asm80_program_types.specs.declared.program.Placed.{Placed}
-use Rattle.asm80_program_types.specs.Program.{Program, if_instr, instr_at, is_start}
-use Rattle.asm80_program_types.specs.Taken.{taken_places}
+use Rattle.asm80_types.specs.declared.program.Placed.{Placed}
+use Rattle.asm80_types.specs.Program.{Program, if_instr, instr_at, is_start}
+use Rattle.asm80_types.specs.Taken.{taken_places}
 
 -- the instruction that a jump or call goes to
 abbrev pub target_of : Instr80 → Option ℕ

@@ -6,8 +6,8 @@ use Rattle.i80.specs.declared.Goal.TheVariants.{At, Boot, Bdos}
 use Rattle.i80.specs.declared.Instr80.{Instr80}
 use Rattle.i80.specs.declared.Instr80.TheVariants.{Pchl, Jmp, Jif, Call, Cif, Ret, Rif, Rst0}
 use Rattle.i80.specs.Columns.{length80}
-use Rattle.asm80_program_types.specs.Program.{Program, instr_at, is_start, starts}
-use Rattle.asm80_program_types.specs.Taken.{taken_places}
+use Rattle.asm80_types.specs.Program.{Program, instr_at, is_start, starts}
+use Rattle.asm80_types.specs.Taken.{taken_places}
 use Rattle.flow.specs.declared.node.Node.{Node}
 use Rattle.flow.specs.declared.node.Node.TheVariants.{Start, Return}
 

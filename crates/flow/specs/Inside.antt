@@ -1,7 +1,7 @@
 -- How a graph keeps what it is seen as.
 use Rattle.std.specs.Prelude.{◌≡◌, ℕ, ◌==◌, length, map}
 use Rattle.std.specs.Vec.{vec_capacity}
-use Rattle.asm80_program_types.specs.Program.{IsProgram}
+use Rattle.asm80_types.specs.Program.{IsProgram}
 use Rattle.flow.specs.Blocks.{blocks, leaders}
 use Rattle.flow.specs.declared.graph.Graph.TheInside.{Inside}
 use Rattle.flow.specs.Search.{IsQueue, AreVerticesOf, IsPassedOn}

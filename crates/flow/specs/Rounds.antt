@@ -1,6 +1,6 @@
 -- What a part of the search leaves as it was.
 use Rattle.std.specs.Prelude.{◌≡◌, ℕ, List, length}
-use Rattle.asm80_program_types.specs.Program.{Program}
+use Rattle.asm80_types.specs.Program.{Program}
 use Rattle.flow.specs.declared.search.Vertex.{Vertex}
 use Rattle.flow.specs.Search.{IsPassedOn, AreVerticesOf}
 use Rattle.flow.specs.Wiring.{IsWired}

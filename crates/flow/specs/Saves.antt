@@ -5,7 +5,7 @@ use Rattle.cells.specs.declared.Part.TheVariants.{S, Z, Ac, P}
 use Rattle.cells.specs.Parts.{Parts, has}
 use Rattle.i80.specs.declared.Instr80.{Instr80}
 use Rattle.i80.specs.declared.Instr80.TheVariants.{Inx, Dcx, Dad}
-use Rattle.asm80_program_types.specs.Program.{Program, instr_at}
+use Rattle.asm80_types.specs.Program.{Program, instr_at}
 use Rattle.flow.specs.declared.node.Node.TheVariants.{Start}
 use Rattle.flow.specs.Blocks.{address_after_instruction}
 use Rattle.flow.specs.Need.{Need}

@@ -4,7 +4,7 @@ use Rattle.std.specs.Prelude.{◌≡◌, ◌≢◌, ◌⊎◌, ℕ, ◌+◌, ◌
 use Rattle.std.specs.List.{Contains, sum_by, count_by}
 use Rattle.cells.specs.declared.Part.{Part}
 use Rattle.cells.specs.Parts.{Parts, nothing, has, weight}
-use Rattle.asm80_program_types.specs.Program.{Program}
+use Rattle.asm80_types.specs.Program.{Program}
 use Rattle.flow.specs.declared.node.Node.{Node}
 use Rattle.flow.specs.declared.node.Node.TheVariants.{Return}
 use Rattle.flow.specs.declared.search.Vertex.{Vertex}

@@ -2,7 +2,7 @@
 use Rattle.std.specs.Prelude.{◌≡◌, ◌↔◌, ℕ, Bool, true}
 use Rattle.cells.specs.declared.Part.{Part}
 use Rattle.cells.specs.Parts.{Parts, has}
-use Rattle.asm80_program_types.specs.Program.{Program}
+use Rattle.asm80_types.specs.Program.{Program}
 use Rattle.flow.specs.declared.node.Node.{Node}
 use Rattle.flow.specs.declared.node.Node.TheVariants.{Start, Return}
 use Rattle.flow.specs.Need.{Need}

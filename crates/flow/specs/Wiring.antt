@@ -1,7 +1,7 @@
 -- How the edges of a program are kept: for each node, the numbers of the nodes with an edge to it.
 use Rattle.std.specs.Prelude.{◌≡◌, ◌⊎◌, ℕ, ◌+◌, ◌<◌, List, [], ◌∷◌, map, length, take, Option, Some, None}
 use Rattle.std.specs.List.{Contains, sum_by}
-use Rattle.asm80_program_types.specs.Program.{Program}
+use Rattle.asm80_types.specs.Program.{Program}
 use Rattle.flow.specs.declared.node.Node.{Node}
 use Rattle.flow.specs.declared.sources.Row.{Row}
 use Rattle.flow.specs.declared.sources.Row.TheVariants.{None as NoRow, One, More}

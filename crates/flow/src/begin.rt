@@ -5,7 +5,7 @@ ghost use Rattle.std.specs.Vec.{vec_capacity};
 ghost use Rattle.flow.specs.Begin.{first_vertices};
 
 use crate::search::Vertex;
-use asm80_program_types::{Placed, Program80};
+use asm80_types::{Placed, Program80};
 use cells::Keep;
 use std::alloc::{AllocError, Global};
 

@@ -2,11 +2,11 @@
 
 ghost use Rattle.std.specs.Prelude.{◌≡◌, ◌+◌, ◌-◌, ◌<◌, ◌++◌, ◌∷◌, [], ◌||◌, ℕ, true, map, filter_map, if◌then◌else◌, All, IfOk, OnOk};
 ghost use Rattle.base.specs.Addresses.{has_address, is_among};
-ghost use Rattle.asm80_program_types.specs.Program.{Program};
+ghost use Rattle.asm80_types.specs.Program.{Program};
 ghost use Rattle.flow.specs.Blocks.{target_placed, blocks, leaders};
 ghost use Rattle.flow.specs.Cut.{Marks, ends_before, closed, blocks_from, extents, EndsInMemory};
 
-use asm80_program_types::{Placed, Program80};
+use asm80_types::{Placed, Program80};
 use base::AddressSet;
 use i80::{Goal, Instr80};
 use std::alloc::{AllocError, Global};

@@ -1,7 +1,7 @@
 // The flow graph of a program, with what is needed at each of its nodes.
 
 ghost use Rattle.std.specs.Prelude.{◌≡◌, ◌+◌, ◌*◌, ◌<◌, ◌≤◌, IfOk, IfSome, IsTrue, is_some};
-ghost use Rattle.asm80_program_types.specs.Program.{IsProgram, is_start};
+ghost use Rattle.asm80_types.specs.Program.{IsProgram, is_start};
 ghost use Rattle.flow.specs.declared.node.Node.TheVariants.{Start, Return};
 ghost use Rattle.flow.specs.Blocks.{leaders, block_at};
 ghost use Rattle.flow.specs.Graph.{edge_count};
@@ -14,7 +14,7 @@ use crate::node::Node;
 use crate::search::{Vertex, run};
 use crate::sources::Sources;
 use crate::wiring::{number_of, sources_of};
-use asm80_program_types::Program80;
+use asm80_types::Program80;
 use base::Steps;
 use cells::Keep;
 use std::alloc::{AllocError, Global};

@@ -1,6 +1,6 @@
 // Laws over the definitions of needs and blocks.
 
-ghost use Rattle.asm80_program_types.specs.Program.{Program, IsProgram};
+ghost use Rattle.asm80_types.specs.Program.{Program, IsProgram};
 ghost use Rattle.flow.specs.Blocks.{BlocksCut};
 ghost use Rattle.flow.specs.Need.{NeedsAreClosed};
 

@@ -2,7 +2,7 @@
 ghost use Rattle.std.specs.Prelude.{◌≡◌};
 ghost use Rattle.flow.specs.Blocks.{place_after};
 
-use asm80_program_types::Program80;
+use asm80_types::Program80;
 use i80::length;
 
 /// The address after so many instructions that stand one after the other from an address on.

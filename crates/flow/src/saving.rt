@@ -7,7 +7,7 @@ ghost use Rattle.flow.specs.Saves.{is_word_sum, is_saved, is_sum_at, AreSaves};
 
 use crate::graph::Graph;
 use crate::search::without;
-use asm80_program_types::Program80;
+use asm80_types::Program80;
 use cells::{Keep, Part};
 use i80::Instr80;
 

@@ -3,7 +3,7 @@
 ghost use Rattle.std.specs.Prelude.{◌≡◌, ◌+◌, ◌-◌, ◌^◌, ◌<◌, ◌++◌, [], ℕ, List, true, if◌then◌else◌, length, option_to_list, IfOk, OnOk, MatchOption, IsTrue, Some, None};
 ghost use Rattle.std.specs.List.{Contains};
 ghost use Rattle.i80.specs.Columns.{is_well_formed, length80};
-ghost use Rattle.asm80_program_types.specs.Program.{IsProgram, instr_at, named_by, starts};
+ghost use Rattle.asm80_types.specs.Program.{IsProgram, instr_at, named_by, starts};
 ghost use Rattle.flow.specs.declared.node.Node.{Node as NodeOf};
 ghost use Rattle.flow.specs.declared.node.Node.TheVariants.{Start, Return};
 ghost use Rattle.flow.specs.Graph.{edges, nodes, successors};
@@ -11,7 +11,7 @@ ghost use Rattle.flow.specs.Wiring.{IsNumber, IsWiredTo, IsWired, edge_if_node, 
 
 use crate::node::Node;
 use crate::sources::Sources;
-use asm80_program_types::{Placed, Program80};
+use asm80_types::{Placed, Program80};
 use i80::{Goal, Instr80};
 use std::alloc::{AllocError, Global};
 

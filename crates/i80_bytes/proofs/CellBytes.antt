@@ -6,9 +6,9 @@ use Rattle.std.proofs.lemmas.Bool.Decides.{nat_tests}
 use Rattle.cells.specs.declared.Cell.{Cell}
 use Rattle.i80.specs.Columns.{length80}
 use Rattle.i80_bytes.specs.Enc80.{enc80}
-use Rattle.asm80_program_types.specs.declared.program.Placed.{Placed}
-use Rattle.asm80_program_types.specs.Program.{placed_in, covers, is_covered, cell_in, AreLaid, CellsAreLaid}
-use Rattle.asm80_program_types.proofs.Lookup.{length80-positive, placed_above}
+use Rattle.asm80_types.specs.declared.program.Placed.{Placed}
+use Rattle.asm80_types.specs.Program.{placed_in, covers, is_covered, cell_in, AreLaid, CellsAreLaid}
+use Rattle.asm80_types.proofs.Lookup.{length80-positive, placed_above}
 use Rattle.i80_bytes.specs.Cells.{code_byte}
 
 placed_same : (y x : Placed) → Some y ≡ Some x → y ≡ x

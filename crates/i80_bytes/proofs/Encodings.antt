@@ -19,8 +19,8 @@ use Rattle.i80.specs.declared.Goal.TheVariants.{At, Boot, Bdos}
 use Rattle.i80.specs.declared.Instr80.{Instr80}
 use Rattle.i80.specs.declared.Instr80.TheVariants.{Nop, Mov, Mvi, Lxi, Lda, Sta, Lhld, Shld, Ldax, Stax, Xchg, Xthl, Sphl, Pchl, Alu, AluI, Inr, Dcr, Inx, Dcx, Dad, Daa, Cma, Stc, Cmc, Rlc, Rrc, Ral, Rar, Push, Pop, Jmp, Jif, Call, Cif, Ret, Rif, Rst0, In, Out}
 use Rattle.i80_bytes.specs.Enc80.{enc80, code_of_operand, code_of_pair, code_of_stack_pair, code_of_condition, code_of_operation, number_of, address_of, with_word}
-use Rattle.asm80_program_types.specs.Program.{Program, IsProgram, is_start, if_instr, if_code, IsCoded}
-use Rattle.asm80_program_types.proofs.Standing.{IsPlaced, start_range}
+use Rattle.asm80_types.specs.Program.{Program, IsProgram, is_start, if_instr, if_code, IsCoded}
+use Rattle.asm80_types.proofs.Standing.{IsPlaced, start_range}
 
 -- the fields of opcodes
 

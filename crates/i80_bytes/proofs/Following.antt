@@ -14,9 +14,9 @@ use Rattle.i80_bytes.specs.Enc80.{enc80, address_of}
 use Rattle.i80_bytes.specs.Decoded.{goal_at, as_told, IsPrefix, StandsFirst}
 use Rattle.i80_bytes.proofs.Readers.{encoding_length}
 use Rattle.dialogue.specs.Fill.{IsFill}
-use Rattle.asm80_program_types.specs.declared.program.Placed.{Placed}
-use Rattle.asm80_program_types.specs.Program.{Program, IsProgram, is_top, placed_in, instr_at, is_start, cell_at, if_instr}
-use Rattle.asm80_program_types.proofs.Standing.{IsPlaced, is_placed, placed_is, start_range}
+use Rattle.asm80_types.specs.declared.program.Placed.{Placed}
+use Rattle.asm80_types.specs.Program.{Program, IsProgram, is_top, placed_in, instr_at, is_start, cell_at, if_instr}
+use Rattle.asm80_types.proofs.Standing.{IsPlaced, is_placed, placed_is, start_range}
 use Rattle.cpu80_untagged.specs.State.{UntaggedState, next}
 use Rattle.cpu80_untagged.specs.Step.{Fetch, act_at, return_of}
 use Rattle.cpu80_untagged.specs.Start.{byte_of_cell, system_byte}

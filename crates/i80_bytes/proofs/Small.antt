@@ -1,8 +1,8 @@
 -- What a program has at its addresses are bytes.
 use Rattle.std.proofs.Common.{◌≡◌, ℕ, ◌-◌, ◌<◌, Option, Some, None, refl, ap, subst}
 use Rattle.cells.specs.declared.Cell.{Cell}
-use Rattle.asm80_program_types.specs.Program.{Program, IsProgram, instr_of_placed, cell_at}
-use Rattle.asm80_program_types.proofs.Standing.{is_placed}
+use Rattle.asm80_types.specs.Program.{Program, IsProgram, instr_of_placed, cell_at}
+use Rattle.asm80_types.proofs.Standing.{is_placed}
 use Rattle.cpu80_untagged.specs.Start.{byte_of_cell}
 use Rattle.cpu80.proofs.Starting.{datum_small}
 use Rattle.i80_bytes.specs.Cells.{code_byte, data_byte, or_else, program_byte}

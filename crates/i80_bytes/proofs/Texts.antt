@@ -9,9 +9,9 @@ use Rattle.i80.specs.declared.Instr80.TheVariants.{Nop}
 use Rattle.i80.specs.Columns.{length80}
 use Rattle.i80_bytes.specs.Enc80.{enc80}
 use Rattle.i80_bytes.proofs.Readers.{encoding_length}
-use Rattle.asm80_program_types.proofs.Standing.{placed_is}
-use Rattle.asm80_program_types.specs.declared.program.Placed.{Placed}
-use Rattle.asm80_program_types.specs.Program.{Program, IsProgram, placed_in, instr_at}
+use Rattle.asm80_types.proofs.Standing.{placed_is}
+use Rattle.asm80_types.specs.declared.program.Placed.{Placed}
+use Rattle.asm80_types.specs.Program.{Program, IsProgram, placed_in, instr_at}
 use Rattle.i80_bytes.specs.Cells.{code_byte, program_byte, with_address, program_cells}
 use Rattle.i80_bytes.proofs.CellBytes.{placed_byte, IsByteOf, code_byte_is}
 use Rattle.i80_bytes.specs.Text.{NoneFrom}

@@ -3,8 +3,8 @@ use Rattle.std.specs.Prelude.{ℕ, ◌-◌, cond, List, [], ◌∷◌, filter_ma
 use Rattle.std.specs.List.{range_with_len}
 use Rattle.cells.specs.declared.Cell.{Cell}
 use Rattle.i80_bytes.specs.Enc80.{enc80}
-use Rattle.asm80_program_types.specs.declared.program.Placed.{Placed}
-use Rattle.asm80_program_types.specs.Program.{Program, covers, cell_at}
+use Rattle.asm80_types.specs.declared.program.Placed.{Placed}
+use Rattle.asm80_types.specs.Program.{Program, covers, cell_at}
 use Rattle.cpu80_untagged.specs.Start.{byte_of_cell}
 
 -- the byte of an instruction's cell

@@ -3,7 +3,7 @@ use Rattle.std.specs.Prelude.{ℕ, List, All}
 use Rattle.dialogue.specs.declared.request.Reply.{Reply}
 use Rattle.dialogue.specs.Run.{IsNotStopped}
 use Rattle.dialogue.specs.Fill.{IsFill}
-use Rattle.asm80_program_types.specs.Program.{Program, IsProgram}
+use Rattle.asm80_types.specs.Program.{Program, IsProgram}
 use Rattle.cpu80_tagged.specs.Start.{IsPage, run80}
 use Rattle.cpu80_untagged.specs.Step.{Fetch}
 use Rattle.cpu80_untagged.specs.Follows.{WritesBytes, HasFollowed}

@@ -1,8 +1,8 @@
 -- What is found of a program's cells, address by address.
 use Rattle.std.specs.Prelude.{◌≡◌, ℕ, ◌+◌, ◌<◌, Some}
 use Rattle.i80.specs.Columns.{length80}
-use Rattle.asm80_program_types.specs.declared.program.Placed.{Placed}
-use Rattle.asm80_program_types.specs.Program.{Program, placed_in}
+use Rattle.asm80_types.specs.declared.program.Placed.{Placed}
+use Rattle.asm80_types.specs.Program.{Program, placed_in}
 
 -- no instruction that starts so many cells before an address has it among its cells
 abbrev pub NoneFrom : Program → ℕ → ℕ → Type 0

@@ -1,6 +1,6 @@
 // The 8080 that fetches bytes follows the tagged 8080, and a program's cells are cells of a HEX file.
 
-ghost use Rattle.asm80_program_types.specs.Program.{Program, IsProgram};
+ghost use Rattle.asm80_types.specs.Program.{Program, IsProgram};
 ghost use Rattle.hex_file.specs.Written.{AreCells};
 ghost use Rattle.i80_bytes.specs.Cells.{program_cells};
 ghost use Rattle.i80_bytes.specs.Follows.{BytesFollow};

@@ -3,7 +3,7 @@ ghost use Rattle.std.specs.Prelude.{◌≡◌, None, Some, true, IfOk, IfSome, O
 ghost use Rattle.dialogue.specs.Fits.{waits_in};
 ghost use Rattle.dialogue.specs.Lawful.{IsLawfulEvent};
 ghost use Rattle.dialogue.specs.Calls.{stepped, replied, IsOpen, IsStepTold, IsTaken};
-ghost use Rattle.asm80_program_types.specs.Program.{is_top};
+ghost use Rattle.asm80_types.specs.Program.{is_top};
 ghost use Rattle.cpu80_untagged.specs.Start.{address_of};
 ghost use Rattle.cpu80_untagged.specs.Step.{step_untagged, replied_untagged};
 ghost use Rattle.cpu80_untagged.specs.Standing.{status_of};

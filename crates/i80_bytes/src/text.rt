@@ -1,12 +1,12 @@
 // A program as a HEX file.
 ghost use Rattle.std.specs.Prelude.{◌≡◌, ◌<◌, Some, IfOk, MatchOption};
 ghost use Rattle.i80_bytes.specs.Cells.{code_byte, data_byte, program_byte, program_cells};
-ghost use Rattle.asm80_program_types.specs.Program.{IsProgram};
+ghost use Rattle.asm80_types.specs.Program.{IsProgram};
 ghost use Rattle.hex_file.specs.Written.{IsWritten};
 ghost use Rattle.i80_bytes.specs.Text.{NoneFrom};
 
 use crate::encoding::encode80;
-use asm80_program_types::Program80;
+use asm80_types::Program80;
 use cells::Cell;
 use cpu80_untagged::datum_or;
 use hex_file::write_cells;

@@ -7,8 +7,8 @@ use Rattle.i80.specs.declared.Reg.TheVariants.{C}
 use Rattle.i80.specs.Columns.{length80}
 use Rattle.dialogue.specs.Run.{Run, Going, IsNotStopped, Status, Waiting, Over, Stopped, settle}
 use Rattle.dialogue.proofs.Turns.{turns_add}
-use Rattle.asm80_program_types.specs.Program.{Program, IsProgram}
-use Rattle.asm80_program_types.proofs.Lookup.{start_is}
+use Rattle.asm80_types.specs.Program.{Program, IsProgram}
+use Rattle.asm80_types.proofs.Lookup.{start_is}
 use Rattle.cpu80_tagged.specs.State.{State80}
 use Rattle.cpu80_tagged.specs.Step.{step80, machine80}
 use Rattle.flow.specs.Blocks.{IsStraight, place_after}

@@ -1,7 +1,7 @@
 -- The front of a block: so many of its instructions, as a block to be run.
 use Rattle.std.proofs.Common.{◌≡◌, ℕ, zero, suc, ◌+◌, ◌<◌, ◌≤◌, length, refl, ap, arith}
 use Rattle.i80.specs.Columns.{length80}
-use Rattle.asm80_program_types.specs.Program.{Program}
+use Rattle.asm80_types.specs.Program.{Program}
 use Rattle.flow.specs.Blocks.{IsStraight}
 use Rattle.sym_block_def.specs.Block80.{MayRun, OnlyLastEnds, instrs_from}
 

@@ -8,7 +8,7 @@ use Rattle.cells.specs.declared.Rule.TheVariants.{P9}
 use Rattle.i80.specs.declared.Instr80.{Instr80}
 use Rattle.dialogue.specs.Run.{Run, Answer, Stops, Stopped, settle}
 use Rattle.dialogue.proofs.Turns.{turns_add}
-use Rattle.asm80_program_types.specs.Program.{Program, IsProgram, instr_at}
+use Rattle.asm80_types.specs.Program.{Program, IsProgram, instr_at}
 use Rattle.cpu80_tagged.specs.State.{State80}
 use Rattle.cpu80_tagged.specs.Step.{step80, machine80}
 use Rattle.flow.specs.Blocks.{blocks, place_after, IsStraight, IsBlockOf, BlocksCut}

@@ -2,10 +2,10 @@
 use Rattle.std.proofs.Common.{◌≡◌, ◌∙◌, ℕ, suc, ◌+◌, ◌-◌, ◌<◌, ◌≤◌, List, [], ◌∷◌, ◌++◌, length, get_or, map, Option, Some, None, refl, sym, ap, subst, arith, zero-add}
 use Rattle.std.specs.List.{flat_map, cons_option}
 use Rattle.i80.specs.declared.Instr80.{Instr80}
-use Rattle.asm80_program_types.specs.declared.program.Placed.{Placed}
-use Rattle.asm80_program_types.specs.Program.{Program, IsProgram, AreLaid, instr_at}
+use Rattle.asm80_types.specs.declared.program.Placed.{Placed}
+use Rattle.asm80_types.specs.Program.{Program, IsProgram, AreLaid, instr_at}
 use Rattle.flow.specs.Blocks.{cut_from, extent, leader_of, place_after}
-use Rattle.asm80_program_types.proofs.Lookup.{length80-positive}
+use Rattle.asm80_types.proofs.Lookup.{length80-positive}
 use Rattle.flow.proofs.Cuts.{flat, flat-cut, offset, block, within_flat, at_flat, Joined, joined_block}
 use Rattle.flow.proofs.Straight.{AreKnown, after_some}
 use Rattle.flow.proofs.Wires.{placed_at}

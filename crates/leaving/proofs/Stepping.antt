@@ -13,7 +13,7 @@ use Rattle.i80.specs.declared.Instr80.TheVariants.{Pchl, Jmp, Jif, Call, Cif, Re
 use Rattle.i80.specs.Columns.{length80}
 use Rattle.dialogue.specs.Table.{Row, row_of}
 use Rattle.dialogue.specs.Run.{Answer, Ends, Stops}
-use Rattle.asm80_program_types.specs.Program.{Program, instr_at, is_start}
+use Rattle.asm80_types.specs.Program.{Program, instr_at, is_start}
 use Rattle.cpu80_tagged.specs.State.{State80, num_of}
 use Rattle.cpu80_tagged.specs.Effect.{effect, push}
 use Rattle.cpu80_tagged.specs.Call.{Return, call_by, call_system, popped_return, return_after, ask_after}

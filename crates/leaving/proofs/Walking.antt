@@ -8,8 +8,8 @@ use Rattle.cells.specs.declared.Rule.TheVariants.{P1, P9}
 use Rattle.i80.specs.declared.Instr80.{Instr80}
 use Rattle.i80.specs.declared.Instr80.TheVariants.{Jmp, Jif, Call, Cif}
 use Rattle.i80.specs.Columns.{length80, ends80}
-use Rattle.asm80_program_types.specs.Program.{Program, instr_at, is_start}
-use Rattle.asm80_program_types.proofs.Lookup.{start_is}
+use Rattle.asm80_types.specs.Program.{Program, instr_at, is_start}
+use Rattle.asm80_types.proofs.Lookup.{start_is}
 use Rattle.flow.specs.Blocks.{blocks, leaders, block_at, place_after, IsStraight, BlocksCut}
 use Rattle.flow.proofs.Indexed.{block_at_index}
 use Rattle.sym_terms.specs.Term.{Term, Num}

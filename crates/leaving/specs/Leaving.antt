@@ -10,7 +10,7 @@ use Rattle.i80.specs.declared.Instr80.{Instr80}
 use Rattle.i80.specs.declared.Instr80.TheVariants.{Pchl, Jmp, Jif, Call, Cif, Ret, Rif, Rst0}
 use Rattle.i80.specs.Columns.{length80}
 use Rattle.dialogue.specs.Table.{row_of}
-use Rattle.asm80_program_types.specs.Program.{Program, instr_at, is_start}
+use Rattle.asm80_types.specs.Program.{Program, instr_at, is_start}
 use Rattle.flow.specs.Blocks.{blocks, place_after}
 use Rattle.sym_terms.specs.Term.{Term, Num}
 use Rattle.sym_block_def.specs.Block80.{block80}

@@ -8,7 +8,7 @@ use Rattle.cells.specs.Conditions.{holds}
 use Rattle.i80.specs.declared.Instr80.{Instr80}
 use Rattle.i80.specs.declared.Instr80.TheVariants.{Jif, Call, Cif}
 use Rattle.dialogue.specs.Run.{Run, Going, Stopped, turns}
-use Rattle.asm80_program_types.specs.Program.{Program, IsProgram, instr_at}
+use Rattle.asm80_types.specs.Program.{Program, IsProgram, instr_at}
 use Rattle.cpu80_tagged.specs.State.{State80}
 use Rattle.cpu80_tagged.specs.Step.{machine80}
 use Rattle.flow.specs.Blocks.{IsBlockOf, place_after}

@@ -1,13 +1,13 @@
 // The place of a block at which a run leaves the profile.
 ghost use Rattle.std.specs.Prelude.{◌≡◌, ◌<◌, ◌≤◌, ◌-◌, []};
 ghost use Rattle.std.specs.List.{cons_option};
-ghost use Rattle.asm80_program_types.specs.Program.{instr_at};
+ghost use Rattle.asm80_types.specs.Program.{instr_at};
 ghost use Rattle.flow.specs.Blocks.{IsStraight};
 ghost use Rattle.sym_block_def.specs.Block80.{MayRun};
 ghost use Rattle.leaving.specs.Leaving.{is_unlisted, asking, going_on, known_function, leaving_where, leaving_from};
 
 use crate::departure::{Certainty, Departure};
-use asm80_program_types::Program80;
+use asm80_types::Program80;
 use cells::{Part, Rule};
 use dialogue::row_of;
 use flow::place_after;

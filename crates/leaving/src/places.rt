@@ -4,7 +4,7 @@ ghost use Rattle.leaving.specs.Leaving.{leaving};
 
 use crate::block::place_of;
 use crate::departure::Departure;
-use asm80_program_types::Program80;
+use asm80_types::Program80;
 use flow::{Graph, blocks_cut_the_program};
 use std::alloc::{AllocError, Global};
 use sym_run::Work;

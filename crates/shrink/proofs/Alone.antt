@@ -10,11 +10,11 @@ use Rattle.asm86_line_types.specs.declared.line.Stmt86.{Stmt86}
 use Rattle.asm86_line_types.specs.declared.line.Stmt86.TheVariants.{Mark, Run}
 use Rattle.asm86_line_types.specs.declared.line.Line86.{Line86}
 use Rattle.asm86_line_types.specs.Image.{Image, image_of, statements}
-use Rattle.asm80_program_types.specs.Program.{Program}
+use Rattle.asm80_types.specs.Program.{Program}
 use Rattle.flow.specs.Blocks.{blocks, BlocksCut}
 use Rattle.flow.specs.Solving.{Needs, AreAllNeeds}
 use Rattle.sym_block_def.specs.declared.reason.Reason.{Reason}
-use Rattle.block_check_def.specs.BlockMatch.{block_reason}
+use Rattle.sym_block_def.specs.BlockMatch.{block_reason}
 use Rattle.block_check.specs.Comparing.{verdict_of}
 use Rattle.block_check.specs.declared.block.Verdict.TheVariants.{Shown}
 use Rattle.simulation_def.specs.Matches.{HasOpening, blocks_reason}

@@ -9,7 +9,7 @@ use Rattle.asm86_line_types.specs.Layout.{sizes_of}
 use Rattle.asm86_line_types.specs.Order.{ends_text}
 use Rattle.asm86_line_types.specs.Image.{Assembles, statements}
 use Rattle.asm86.specs.Stream.{has_end}
-use Rattle.asm80_program_types.specs.Program.{Program}
+use Rattle.asm80_types.specs.Program.{Program}
 use Rattle.flow.specs.Blocks.{blocks}
 use Rattle.flow.specs.Solving.{Needs, AreAllNeeds}
 use Rattle.flow.proofs.OneNeeds.{all_needs_once}

@@ -6,12 +6,12 @@ use Rattle.std.proofs.lemmas.List.Elements.{Contains-append_right}
 use Rattle.std.proofs.lemmas.Option.{same_Some}
 use Rattle.asm86_line_types.specs.declared.line.Stmt86.{Stmt86}
 use Rattle.asm86_line_types.specs.declared.line.Line86.{Line86}
-use Rattle.asm80_program_types.specs.Program.{Program}
+use Rattle.asm80_types.specs.Program.{Program}
 use Rattle.flow.specs.Blocks.{blocks, count_in}
 use Rattle.flow.specs.Solving.{Needs, AreAllNeeds}
 use Rattle.flow.proofs.OneNeeds.{all_needs_once}
 use Rattle.sym_block_def.specs.declared.reason.Reason.{Reason}
-use Rattle.block_check_def.specs.BlockMatch.{Keeps, block_reason}
+use Rattle.sym_block_def.specs.BlockMatch.{Keeps, block_reason}
 use Rattle.block_check.specs.Comparing.{verdict_of}
 use Rattle.block_check.specs.declared.block.Verdict.TheVariants.{NotShown as NotShownBlock}
 use Rattle.simulation_def.specs.Matches.{blocks_reason}

@@ -14,12 +14,12 @@ use Rattle.asm86_line_types.specs.declared.line.Label.TheVariants.{At, Skip, Use
 use Rattle.asm86_line_types.specs.declared.line.Stmt86.{Stmt86}
 use Rattle.asm86_line_types.specs.declared.line.Stmt86.TheVariants.{Mark, Run}
 use Rattle.asm86_line_types.specs.Layout.{same_label, marks}
-use Rattle.asm80_program_types.specs.Program.{Program, instr_at}
+use Rattle.asm80_types.specs.Program.{Program, instr_at}
 use Rattle.flow.specs.Blocks.{blocks, block_at, place_after, address_after_instruction, IsBlockOf, BlocksCut}
 use Rattle.sym_block_def.specs.Block80.{block80, before_more, instrs_from, addresses_from}
 use Rattle.sym_block_def.specs.Symbolic86.{start86}
 use Rattle.sym_block_def.specs.Walk86.{after_label, way_to, follows, surroundings, walk86}
-use Rattle.block_check_def.specs.BlockMatch.{Keeps, walked_reason, block_reason}
+use Rattle.sym_block_def.specs.BlockMatch.{Keeps, walked_reason, block_reason}
 use Rattle.simulation_def.specs.Matches.{or_next, blocks_reason}
 use Rattle.shrink.specs.Apart.{is_inner, is_label, begins_with_label}
 use Rattle.shrink.proofs.Matched.{is_leader}

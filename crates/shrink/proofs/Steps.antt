@@ -7,7 +7,7 @@ use Rattle.std.proofs.Math.Seq.{take-suc, take-length, take-append_seam, drop-co
 use Rattle.std.proofs.lemmas.List.{append-nil, length-take-le, take-append-drop}
 use Rattle.asm86_line_types.specs.declared.line.Line86.{Line86}
 use Rattle.asm86_line_types.specs.Image.{Assembles}
-use Rattle.asm80_program_types.specs.Program.{Program}
+use Rattle.asm80_types.specs.Program.{Program}
 use Rattle.flow.specs.Solving.{Needs, AreAllNeeds}
 use Rattle.shrink.specs.Candidates.{is_candidate}
 use Rattle.shrink.specs.Shrunk.{Shrinks, none, left_out, kept as stays_there, MatchesBlocks}

@@ -3,7 +3,7 @@ use Rattle.std.specs.Prelude.{◌≡◌, ◌≤◌, ℕ, List, [], ◌∷◌, le
 use Rattle.asm86_line_types.specs.declared.line.Line86.{Line86}
 use Rattle.asm86_line_types.specs.Layout.{sizes_of}
 use Rattle.asm86_line_types.specs.Image.{statements, Assembles}
-use Rattle.asm80_program_types.specs.Program.{Program}
+use Rattle.asm80_types.specs.Program.{Program}
 use Rattle.flow.specs.Solving.{Needs, AreAllNeeds}
 use Rattle.text_check.specs.declared.finding.Finding.TheVariants.{Shown}
 use Rattle.text_check.specs.Findings.{IsFinding}

@@ -8,7 +8,7 @@ ghost use Rattle.shrink.specs.Candidates.{is_candidate};
 ghost use Rattle.shrink.specs.Shrunk.{MatchesBlocks};
 
 use crate::apart::{is_apart, label_before};
-use asm80_program_types::Program80;
+use asm80_types::Program80;
 use asm86::{Image86, image};
 use asm86_line_types::{Line86, cells_are_sorted};
 use block_check::{Verdict, check};

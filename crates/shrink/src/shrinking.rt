@@ -10,7 +10,7 @@ ghost use Rattle.shrink.specs.Shrunk.{MatchesBlocks, IsShrunk};
 
 use crate::candidate::is_candidate;
 use crate::matching::match_without;
-use asm80_program_types::Program80;
+use asm80_types::Program80;
 use asm86_line_types::Line86;
 use flow::Graph;
 use std::alloc::{AllocError, Global};

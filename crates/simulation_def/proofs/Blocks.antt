@@ -1,7 +1,7 @@
 -- The blocks of a program are blocks to run.
 use Rattle.std.proofs.Common.{◌≡◌, ℕ, zero, suc, ◌+◌, length, refl, ap, arith}
 use Rattle.i80.specs.Columns.{length80}
-use Rattle.asm80_program_types.specs.Program.{Program}
+use Rattle.asm80_types.specs.Program.{Program}
 use Rattle.flow.specs.Blocks.{IsStraight, IsBlockOf, BlocksCut}
 use Rattle.sym_block_def.specs.Block80.{MayRun, OnlyLastEnds, instrs_from}
 

@@ -12,9 +12,9 @@ use Rattle.i80.specs.declared.Instr80.{Instr80}
 use Rattle.i80.specs.declared.Instr80.TheVariants.{Lxi}
 use Rattle.i80.specs.declared.Word.TheVariants.{Code, Num}
 use Rattle.i80.specs.Columns.{length80}
-use Rattle.asm80_program_types.specs.declared.program.Placed.{Placed}
-use Rattle.asm80_program_types.specs.Program.{Program, IsProgram, placed_in, instr_at, is_start, starts_of, named_by}
-use Rattle.asm80_program_types.specs.Taken.{takes, taken_places}
+use Rattle.asm80_types.specs.declared.program.Placed.{Placed}
+use Rattle.asm80_types.specs.Program.{Program, IsProgram, placed_in, instr_at, is_start, starts_of, named_by}
+use Rattle.asm80_types.specs.Taken.{takes, taken_places}
 use Rattle.flow.specs.Need.{NeedsAreClosed}
 use Rattle.flow.specs.Blocks.{blocks, block_at, place_after, address_after_instruction, IsStraight, IsLeader, BlocksCut}
 use Rattle.flow.specs.Blocks.{IsBlockOf}

@@ -5,10 +5,10 @@ use Rattle.i80.specs.declared.Instr80.{Instr80}
 use Rattle.i80.specs.declared.Instr80.TheVariants.{Lxi}
 use Rattle.i80.specs.declared.Pair.{Pair}
 use Rattle.i80.specs.declared.Word.TheVariants.{Code}
-use Rattle.asm80_program_types.specs.declared.program.Placed.{Placed}
-use Rattle.asm80_program_types.specs.Program.{Program, NameStarts, placed_in, instr_of_placed, instr_at, is_start, named_by}
-use Rattle.asm80_program_types.specs.Taken.{takes, place_taken_by}
-use Rattle.asm80_program_types.proofs.Standing.{placed_is, takes_by}
+use Rattle.asm80_types.specs.declared.program.Placed.{Placed}
+use Rattle.asm80_types.specs.Program.{Program, NameStarts, placed_in, instr_of_placed, instr_at, is_start, named_by}
+use Rattle.asm80_types.specs.Taken.{takes, place_taken_by}
+use Rattle.asm80_types.proofs.Standing.{placed_is, takes_by}
 
 instr_is : (i j : Instr80) → ◌≡◌ {A = Option Instr80} (Some i) (Some j) → i ≡ j
 instr_is i j h = cc

@@ -1,5 +1,5 @@
 -- Laws of a program's blocks and needs.
-use Rattle.asm80_program_types.specs.Program.{Program, IsProgram}
+use Rattle.asm80_types.specs.Program.{Program, IsProgram}
 use Rattle.flow.specs.Blocks.{blocks}
 use Rattle.flow.specs.Solving.{Needs, AreAllNeeds}
 use Rattle.simulation_def.specs.Cuts.{IsCut, ReturnsKeep}

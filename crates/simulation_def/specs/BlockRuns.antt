@@ -1,6 +1,6 @@
 -- The blocks of a program's graph as blocks to be run.
 use Rattle.std.specs.Prelude.{ℕ}
-use Rattle.asm80_program_types.specs.Program.{Program, IsProgram}
+use Rattle.asm80_types.specs.Program.{Program, IsProgram}
 use Rattle.flow.specs.Blocks.{IsBlockOf}
 use Rattle.sym_block_def.specs.Block80.{MayRun}
 

@@ -4,10 +4,10 @@ use Rattle.cells.specs.declared.Place.TheVariants.{At}
 use Rattle.cells.specs.declared.Part.{Part}
 use Rattle.cells.specs.Parts.{has}
 use Rattle.i80.specs.declared.Instr80.{Instr80}
-use Rattle.asm80_program_types.specs.Program.{Program, instr_at, is_start, named_by}
-use Rattle.asm80_program_types.specs.Taken.{takes}
+use Rattle.asm80_types.specs.Program.{Program, instr_at, is_start, named_by}
+use Rattle.asm80_types.specs.Taken.{takes}
 use Rattle.sym_block_def.specs.Block80.{MayRun, instrs_from, address_after_all}
-use Rattle.block_check_def.specs.BlockMatch.{Keeps}
+use Rattle.sym_block_def.specs.BlockMatch.{Keeps}
 use Rattle.simulation_def.specs.Linked.{HasBlock, IsFirstOf}
 
 -- Control comes to a block at its first instruction alone: there the program begins, there it goes on behind each block, there each

@@ -9,13 +9,13 @@ use Rattle.cells.specs.Parts.{has}
 use Rattle.cells.specs.Conditions.{Knows}
 use Rattle.dialogue.specs.Run.{Run, Going, Waiting, Over}
 use Rattle.asm86_line_types.specs.declared.line.Label.{Label}
-use Rattle.asm80_program_types.specs.Program.{Program}
+use Rattle.asm80_types.specs.Program.{Program}
 use Rattle.cpu80_tagged.specs.State.{State80}
 use Rattle.cpu80_tagged.specs.Memory.{is_closed}
 use Rattle.cpu86.specs.State.{State86}
 use Rattle.cpu86.specs.Call.{Stop}
 use Rattle.sym_block_def.specs.Stands.{label_of, Stands}
-use Rattle.block_check_def.specs.BlockMatch.{Keeps, kept_at}
+use Rattle.sym_block_def.specs.BlockMatch.{Keeps, kept_at}
 use Rattle.simulation_def.specs.States.{IsState80, IsState86}
 
 -- a block of a cut: its first address, and how many instructions it has

@@ -8,11 +8,11 @@ use Rattle.asm86_line_types.specs.declared.line.Stmt86.{Stmt86}
 use Rattle.asm86_line_types.specs.declared.line.Stmt86.TheVariants.{Cseg, Db, Dw, Mark}
 use Rattle.asm86_line_types.specs.declared.line.Line86.{Line86}
 use Rattle.asm86_line_types.specs.Image.{image_of, statements}
-use Rattle.asm80_program_types.specs.Program.{Program, cell_at}
+use Rattle.asm80_types.specs.Program.{Program, cell_at}
 use Rattle.templates.specs.Plain.{prologue}
 use Rattle.sym_block_def.specs.declared.reason.Reason.{Reason}
 use Rattle.sym_block_def.specs.declared.reason.Reason.TheVariants.{Opening, Runtime, DataPart}
-use Rattle.block_check_def.specs.BlockMatch.{Keeps, block_reason}
+use Rattle.sym_block_def.specs.BlockMatch.{Keeps, block_reason}
 use Rattle.sym_block_def.specs.Stands.{Stands}
 use Rattle.simulation_def.specs.Runs86.{offsets_of}
 use Rattle.simulation_def.specs.Runtime.{HasRuntime}

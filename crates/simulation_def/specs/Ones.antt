@@ -1,10 +1,10 @@
 -- The cut into single instructions, with all parts kept.
 use Rattle.std.specs.Prelude.{ℕ, ◌==◌, cond, List, map, length}
 use Rattle.cells.specs.Parts.{nothing, everything}
-use Rattle.asm80_program_types.specs.declared.program.Placed.{Placed}
-use Rattle.asm80_program_types.specs.Program.{Program, is_start}
-use Rattle.asm80_program_types.specs.Taken.{taken_places}
-use Rattle.block_check_def.specs.BlockMatch.{Keeps}
+use Rattle.asm80_types.specs.declared.program.Placed.{Placed}
+use Rattle.asm80_types.specs.Program.{Program, is_start}
+use Rattle.asm80_types.specs.Taken.{taken_places}
+use Rattle.sym_block_def.specs.BlockMatch.{Keeps}
 
 -- each instruction alone
 abbrev pub ones : Program → List (ℕ × ℕ)

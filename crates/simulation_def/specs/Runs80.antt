@@ -12,7 +12,7 @@ use Rattle.dialogue.specs.Tried.{try_then}
 use Rattle.dialogue.specs.declared.request.Event.TheVariants.{In as AskedIn, Out as AskedOut}
 use Rattle.dialogue.specs.Run.{Answer, Ran, Asks, Ends, Stops}
 use Rattle.dialogue.specs.Words.{wrap}
-use Rattle.asm80_program_types.specs.Program.{Program, IsProgram}
+use Rattle.asm80_types.specs.Program.{Program, IsProgram}
 use Rattle.cpu80_tagged.specs.State.{State80, Regs80, reg80}
 use Rattle.cpu80_tagged.specs.Memory.{is_closed, is_write_protected, put, read_word}
 use Rattle.cpu80_tagged.specs.Effect.{push}

@@ -18,7 +18,7 @@ use Rattle.asm86_line_types.specs.declared.line.Label.{Label}
 use Rattle.asm86_line_types.specs.declared.line.Label.TheVariants.{At, Sys as SysLabel, End as EndLabel}
 use Rattle.asm86_line_types.specs.declared.line.Line86.{Line86}
 use Rattle.asm86_line_types.specs.Image.{Assembles, image_of, offset_in, statements}
-use Rattle.asm80_program_types.specs.Program.{Program, is_start}
+use Rattle.asm80_types.specs.Program.{Program, is_start}
 use Rattle.cpu86.specs.State.{State86, Regs86, Flags86, reg8, put_word, push}
 use Rattle.cpu86.specs.Call.{call_system}
 use Rattle.cpu86.specs.Step.{step86, machine86}

@@ -8,7 +8,7 @@ use Rattle.i86.specs.Code.{ReadsCode}
 use Rattle.asm86_line_types.specs.Image.{Image}
 use Rattle.dialogue.specs.Replies.{IsReply}
 use Rattle.dialogue.specs.Same.{SameDialogue}
-use Rattle.asm80_program_types.specs.Program.{Program}
+use Rattle.asm80_types.specs.Program.{Program}
 use Rattle.cpu80_tagged.specs.State.{State80}
 use Rattle.cpu80_tagged.specs.Start.{IsPage, run80}
 use Rattle.cpu86.specs.State.{State86}

@@ -6,8 +6,8 @@ use Rattle.cells.specs.declared.Cell.{Cell}
 use Rattle.cells.specs.declared.Cell.TheVariants.{Num, Lo, Hi, Psw, Junk}
 use Rattle.i80.specs.declared.Reg.{Reg}
 use Rattle.i86.specs.declared.Reg8.{Reg8}
-use Rattle.asm80_program_types.specs.Program.{Program, is_start}
-use Rattle.asm80_program_types.specs.Taken.{takes}
+use Rattle.asm80_types.specs.Program.{Program, is_start}
+use Rattle.asm80_types.specs.Taken.{takes}
 use Rattle.cpu80_tagged.specs.State.{State80, reg80}
 use Rattle.cpu80_tagged.specs.Memory.{is_closed}
 use Rattle.cpu86.specs.State.{State86, reg8}

@@ -13,7 +13,7 @@ use Rattle.sym_terms.specs.Values80.{Env80, Byte, Word, OneBit, Val80}
 use Rattle.sym_terms.specs.Values86.{Env86, Number, Val86}
 use Rattle.sym_terms.specs.Laws.{IsMadeAs, MadeTermsKeepValues, MadeTermsHaveSorts}
 use Rattle.sym_terms.proofs.Equal.{same_term-true}
-use Rattle.block_check_def.specs.Agree.{has_unknown, same_known, agrees}
+use Rattle.sym_block_def.specs.Agree.{has_unknown, same_known, agrees}
 use Rattle.sym_block_def.specs.Stands.{Stands}
 use Rattle.simulation_law.specs.Linked.{WordStands, EnvsStand, AgreeingTermsStand}
 use Rattle.simulation_law.proofs.Same.{IsFor, is_for_stands, may_knows, SameStands, same_stands}

@@ -17,7 +17,7 @@ use Rattle.dialogue.specs.Shape.{Seen, is_within, ranges, shape_of, request_of}
 use Rattle.dialogue.specs.Fits.{answer_fits, kind_by, line_fits, writes_fit, fits, fits_row, answer_in, answer_kind_of}
 use Rattle.dialogue.specs.ByteMemory.{seen_by as seen_by86}
 use Rattle.dialogue.specs.Run.{Answer, Asks, Ends, Stops}
-use Rattle.asm80_program_types.specs.Program.{Program}
+use Rattle.asm80_types.specs.Program.{Program}
 use Rattle.cpu80_tagged.specs.State.{State80, num_of}
 use Rattle.cpu80_tagged.specs.Memory.{is_closed}
 use Rattle.cpu80_tagged.specs.Call.{Return, is_just_below, byte_seen, may_be_written, seen_by_tagged, ask, ask_after, call_by, call_system}

@@ -14,13 +14,13 @@ use Rattle.base.specs.Arithmetic.{as_bit}
 use Rattle.base.proofs.Bytes.{bit_small, flag_bits}
 use Rattle.dialogue.specs.Run.{Run}
 use Rattle.asm86_line_types.specs.declared.line.Label.{Label}
-use Rattle.asm80_program_types.specs.Program.{Program}
+use Rattle.asm80_types.specs.Program.{Program}
 use Rattle.cpu80_tagged.specs.State.{State80}
 use Rattle.cpu86.specs.State.{State86}
 use Rattle.cpu86.specs.Call.{Stop}
 use Rattle.sym_terms.specs.Values86.{Env86, start86}
 use Rattle.sym_block_def.specs.Stands.{IsHalf, Stands}
-use Rattle.block_check_def.specs.BlockMatch.{Keeps, kept_at}
+use Rattle.sym_block_def.specs.BlockMatch.{Keeps, kept_at}
 use Rattle.simulation_def.specs.States.{IsCell}
 use Rattle.simulation_def.specs.Runs80.{env80}
 use Rattle.simulation_def.specs.Runs86.{part86}

@@ -9,8 +9,8 @@ use Rattle.dialogue.specs.declared.request.Reply.{Reply}
 use Rattle.dialogue.specs.declared.request.Event.TheVariants.{Call as Calls, End}
 use Rattle.dialogue.specs.Table.{row_of}
 use Rattle.dialogue.specs.Run.{Going, Over}
-use Rattle.asm80_program_types.specs.declared.program.Placed.{Placed}
-use Rattle.asm80_program_types.specs.Program.{Program, program_of}
+use Rattle.asm80_types.specs.declared.program.Placed.{Placed}
+use Rattle.asm80_types.specs.Program.{Program, program_of}
 use Rattle.cpu80_tagged.specs.Start.{run80}
 use Rattle.dialogue.specs.declared.request.ArgWord.TheVariants.{Byte}
 use Rattle.dialogue.specs.declared.request.Request.{Request}

@@ -7,7 +7,7 @@ use Rattle.i80.specs.declared.Goal.TheVariants.{At as ToInstr, Boot as ToBoot, B
 use Rattle.i80.specs.declared.Instr80.{Instr80}
 use Rattle.i80.specs.declared.Instr80.TheVariants.{Pchl, Jmp, Jif, Call as CallTo, Cif, Ret, Rif, Rst0, In as InFrom, Out as OutTo}
 use Rattle.i80.specs.Columns.{length80}
-use Rattle.asm80_program_types.specs.Program.{Program, instr_at, is_start, if_instr, named_by}
+use Rattle.asm80_types.specs.Program.{Program, instr_at, is_start, if_instr, named_by}
 use Rattle.sym_terms.specs.Term.{same_bool}
 use Rattle.sym_terms.specs.Values80.{Env80}
 use Rattle.sym_block_def.specs.Outcome.{Way, Goto, ByTerms, Call, Sys, SysReturn, Boot, Leave, In, Out, Exit, One, Two}

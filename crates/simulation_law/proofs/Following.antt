@@ -27,9 +27,9 @@ use Rattle.asm86_line_types.specs.declared.line.Label.TheVariants.{End}
 use Rattle.asm86_line_types.specs.declared.line.Line86.{Line86}
 use Rattle.asm86_line_types.specs.Layout.{offset_of, place_of}
 use Rattle.asm86_line_types.specs.Image.{image_of, statements}
-use Rattle.asm80_program_types.proofs.Standing.{held_taken, datum_found}
-use Rattle.asm80_program_types.specs.Program.{Program, IsProgram, is_start, is_top, cell_at, IsDatum}
-use Rattle.asm80_program_types.specs.Taken.{takes, place_placed, place_in_cell}
+use Rattle.asm80_types.proofs.Standing.{held_taken, datum_found}
+use Rattle.asm80_types.specs.Program.{Program, IsProgram, is_start, is_top, cell_at, IsDatum}
+use Rattle.asm80_types.specs.Taken.{takes, place_placed, place_in_cell}
 use Rattle.cells.specs.declared.Cell.{Cell}
 use Rattle.cells.specs.declared.Cell.TheVariants.{Num, Lo, Hi, Psw, Junk}
 use Rattle.cpu80_tagged.specs.State.{State80}
@@ -40,7 +40,7 @@ use Rattle.cpu86.specs.Call.{Stop}
 use Rattle.cpu86.specs.Step.{machine86}
 use Rattle.dialogue.specs.Fill.{IsFill}
 use Rattle.cpu86.specs.Start.{Start, IsStart, start_byte, start86, run86}
-use Rattle.block_check_def.specs.BlockMatch.{Keeps, block_reason}
+use Rattle.sym_block_def.specs.BlockMatch.{Keeps, block_reason}
 use Rattle.simulation_def.specs.States.{IsCell, IsState80}
 use Rattle.simulation_def.specs.Runs86.{offsets_of}
 use Rattle.simulation_def.specs.Linked.{HasBlock, HasBlockAt, StandsIn, places, Linked, Paired, linked, ended, waiting}

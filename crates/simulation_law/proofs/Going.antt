@@ -9,13 +9,13 @@ use Rattle.dialogue.specs.Fits.{fits_event}
 use Rattle.dialogue.specs.Run.{Ran, Asks, Ends, Machine, Run, Going, Waiting, choice_at, take_reply, settle, turns, IsNotStopped}
 use Rattle.dialogue.proofs.Turns.{turns_add}
 use Rattle.asm86_line_types.specs.declared.line.Line86.{Line86}
-use Rattle.asm80_program_types.specs.Program.{Program}
+use Rattle.asm80_types.specs.Program.{Program}
 use Rattle.cpu80_tagged.specs.State.{State80}
 use Rattle.cpu80_tagged.specs.Step.{replied80, machine80}
 use Rattle.cpu86.specs.State.{State86}
 use Rattle.cpu86.specs.Call.{Stop, replied86}
 use Rattle.cpu86.specs.Step.{step86, machine86}
-use Rattle.block_check_def.specs.BlockMatch.{Keeps}
+use Rattle.sym_block_def.specs.BlockMatch.{Keeps}
 use Rattle.simulation_def.specs.Steps.{RunsOn}
 use Rattle.simulation_def.specs.Runs86.{offsets_of}
 use Rattle.simulation_def.specs.Runtime.{EndsAfter}

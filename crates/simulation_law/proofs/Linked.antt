@@ -20,7 +20,7 @@ use Rattle.asm86_line_types.specs.declared.line.Stmt86.TheVariants.{Mark, Run as
 use Rattle.asm86_line_types.specs.declared.line.Line86.{Line86}
 use Rattle.asm86_line_types.specs.Layout.{offset_of, place_of}
 use Rattle.asm86_line_types.specs.Image.{image_of, statements, UsesDefined}
-use Rattle.asm80_program_types.specs.Program.{Program}
+use Rattle.asm80_types.specs.Program.{Program}
 use Rattle.cpu80_tagged.specs.State.{State80}
 use Rattle.cpu80_tagged.specs.Call.{popped_return}
 use Rattle.cpu80_tagged.specs.Step.{step80, step_at, machine80}
@@ -34,8 +34,8 @@ use Rattle.sym_block_def.specs.Outcome.{Way, Goto, ByTerms, Call, Sys, SysReturn
 use Rattle.sym_block_def.specs.Block80.{block80, instrs_from}
 use Rattle.sym_block_def.specs.Walk86.{after_label, walk86, walk_behind, surroundings}
 use Rattle.sym_block_def.specs.Symbolic86.{start86}
-use Rattle.block_check_def.specs.Agree.{agrees, way_agrees, exit_agrees}
-use Rattle.block_check_def.specs.BlockMatch.{Keeps, kept_after_way, lost_by, is_last}
+use Rattle.sym_block_def.specs.Agree.{agrees, way_agrees, exit_agrees}
+use Rattle.sym_block_def.specs.BlockMatch.{Keeps, kept_after_way, lost_by, is_last}
 use Rattle.sym_block_def.specs.Sorts.{WayIsSorted}
 use Rattle.sym_block_def.specs.Stands.{label_of}
 use Rattle.simulation_def.specs.Steps.{RunsOn}

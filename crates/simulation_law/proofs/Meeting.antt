@@ -10,7 +10,7 @@ use Rattle.i86.specs.declared.Reg8.TheVariants.{Al, Cl, Ch, Dl, Dh, Bl, Bh}
 use Rattle.i86.specs.declared.Instr86.{Instr86}
 use Rattle.asm86_line_types.specs.declared.line.Line86.{Line86}
 use Rattle.asm86_line_types.specs.Image.{statements}
-use Rattle.asm80_program_types.specs.Program.{Program}
+use Rattle.asm80_types.specs.Program.{Program}
 use Rattle.cpu80_tagged.specs.State.{State80}
 use Rattle.cpu86.specs.State.{State86}
 use Rattle.sym_terms.specs.Values80.{Env80}
@@ -18,8 +18,8 @@ use Rattle.sym_terms.specs.Values86.{Env86}
 use Rattle.sym_block_def.specs.Outcome.{Outcome, term_in}
 use Rattle.sym_block_def.specs.Block80.{block80}
 use Rattle.sym_block_def.specs.Walk86.{walk86}
-use Rattle.block_check_def.specs.Agree.{agrees}
-use Rattle.block_check_def.specs.BlockMatch.{Keeps, kept_at, kept_after_way, is_last, is_boot_alone}
+use Rattle.sym_block_def.specs.Agree.{agrees}
+use Rattle.sym_block_def.specs.BlockMatch.{Keeps, kept_at, kept_after_way, is_last, is_boot_alone}
 use Rattle.sym_block_def.specs.Sorts.{OutcomeIsSorted, StepsKeepSorts}
 use Rattle.simulation_def.specs.Runs80.{env80, BlockRuns80, BlockLeaves80, BlocksRun80}
 use Rattle.simulation_def.specs.Runs86.{with_loads, offsets_of, WalkRuns86, WalksRun86}

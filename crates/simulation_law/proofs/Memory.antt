@@ -20,7 +20,7 @@ use Rattle.asm86_line_types.specs.declared.line.Stmt86.TheVariants.{Cseg, Dseg, 
 use Rattle.asm86_line_types.specs.Order.{Reading, at_start, in_data, is_free_cell, reading_after, in_order}
 use Rattle.asm86_line_types.specs.Image.{word_cells, cells_from, put_cell, by_address}
 use Rattle.asm86_line_types.proofs.Sorting.{rest_stands}
-use Rattle.asm80_program_types.specs.Program.{Program, cell_at}
+use Rattle.asm80_types.specs.Program.{Program, cell_at}
 use Rattle.cpu80_tagged.specs.Start.{cell_or_junk, start_cell80}
 use Rattle.dialogue.specs.ByteMemory.{put, put_cells}
 use Rattle.dialogue.specs.Words.{wrap}

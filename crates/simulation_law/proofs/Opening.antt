@@ -16,7 +16,7 @@ use Rattle.asm86_line_types.specs.declared.line.Stmt86.TheVariants.{Cseg, Mark, 
 use Rattle.asm86_line_types.specs.declared.line.Line86.{Line86}
 use Rattle.asm86_line_types.specs.Layout.{size_of, place_of, code_of, instr_of, enc_of}
 use Rattle.asm86_line_types.specs.Image.{Assembles, image_of, statements}
-use Rattle.asm80_program_types.specs.Program.{Program}
+use Rattle.asm80_types.specs.Program.{Program}
 use Rattle.cpu86.specs.State.{State86}
 use Rattle.cpu86.specs.Call.{StackSegment}
 use Rattle.cpu86.specs.Effect.{effect}

@@ -11,8 +11,8 @@ use Rattle.cells.proofs.Unions.{has_union}
 use Rattle.sym_block_def.specs.declared.reason.Reason.{Reason}
 use Rattle.sym_block_def.specs.declared.reason.Reason.TheVariants.{Actions, Exits, KeptSp}
 use Rattle.sym_block_def.specs.Outcome.{Outcome, term_in}
-use Rattle.block_check_def.specs.Agree.{agrees, actions_agree, exit_agrees}
-use Rattle.block_check_def.specs.BlockMatch.{Keeps, kept_by_exit, lost_by, is_bad, first_bad, sp_agrees, kept_reason, outcome_reason, walked_reason}
+use Rattle.sym_block_def.specs.Agree.{agrees, actions_agree, exit_agrees}
+use Rattle.sym_block_def.specs.BlockMatch.{Keeps, kept_by_exit, lost_by, is_bad, first_bad, sp_agrees, kept_reason, outcome_reason, walked_reason}
 
 -- a test that has no reason against it passes
 passes : {X : Type 0} (b : Bool) (o : Option X) (r : X) → cond b o (Some r) ≡ None → (b ≡ true) × (o ≡ None)

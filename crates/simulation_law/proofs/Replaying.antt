@@ -5,7 +5,7 @@ use Rattle.std.proofs.lemmas.List.{append-nil}
 use Rattle.cells.specs.declared.Place.{Place}
 use Rattle.cells.specs.declared.Cell.{Cell}
 use Rattle.cells.specs.declared.Cell.TheVariants.{Num as NumCell}
-use Rattle.asm80_program_types.specs.Program.{Program}
+use Rattle.asm80_types.specs.Program.{Program}
 use Rattle.cpu80_tagged.specs.Memory.{put as put80}
 use Rattle.dialogue.specs.ByteMemory.{put, word_at}
 use Rattle.dialogue.specs.Words.{word, wrap}
@@ -16,7 +16,7 @@ use Rattle.sym_terms.specs.Values86.{Env86, Load86, LoadedByte as LoadedByte86, 
 use Rattle.sym_terms.specs.Laws.{IsMadeAs}
 use Rattle.sym_block_def.specs.Outcome.{Action, Load8, Load16, Store8, Store16}
 use Rattle.sym_block_def.specs.Sorts.{ActionsAreSorted}
-use Rattle.block_check_def.specs.Agree.{agrees, action_agrees, actions_agree}
+use Rattle.sym_block_def.specs.Agree.{agrees, action_agrees, actions_agree}
 use Rattle.sym_block_def.specs.Stands.{Stands}
 use Rattle.simulation_def.specs.Runs80.{with_load80, Replays80}
 use Rattle.simulation_def.specs.Runs86.{with_load86, Replays86}

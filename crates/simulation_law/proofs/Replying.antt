@@ -19,7 +19,7 @@ use Rattle.dialogue.specs.Fits.{answer_fits, answer_kind_of}
 use Rattle.dialogue.specs.ByteMemory.{put_blocks}
 use Rattle.dialogue.specs.Words.{word}
 use Rattle.dialogue.specs.Choice.{byte_of}
-use Rattle.asm80_program_types.specs.Program.{Program}
+use Rattle.asm80_types.specs.Program.{Program}
 use Rattle.cpu80_tagged.specs.State.{State80, Regs80, reg80}
 use Rattle.cpu80_tagged.specs.Memory.{is_closed}
 use Rattle.cpu80_tagged.specs.Call.{is_just_below, put_blocks as put_blocks80, answered as answered80, cells_after, after_reply as after_reply80}

@@ -4,7 +4,7 @@ use Rattle.std.proofs.lemmas.Bool.{cases_lt}
 use Rattle.cells.specs.declared.Rule.{Rule}
 use Rattle.dialogue.specs.Run.{Machine, Run, Going, Stopped, choice_at, settle, turn_by, turn, turns, IsNotStopped}
 use Rattle.dialogue.proofs.Turns.{turns_add, still_turns, not_stopped_below}
-use Rattle.asm80_program_types.specs.Program.{Program}
+use Rattle.asm80_types.specs.Program.{Program}
 use Rattle.cpu80_tagged.specs.State.{State80}
 use Rattle.cpu80_tagged.specs.Step.{machine80}
 use Rattle.simulation_def.specs.Steps.{RunsOn}

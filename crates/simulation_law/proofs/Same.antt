@@ -16,7 +16,7 @@ use Rattle.base.proofs.Bytes.{bit_small}
 use Rattle.sym_terms.specs.Term.{Term, Num, Start, StartSp, Loaded8, Loaded16, Alu, Flag, Sum16, High, Low, Join, FlagByte, Bit, Turn, Turned, Adjust, Code, Unknown}
 use Rattle.sym_terms.specs.Values80.{Env80, Load80, LoadedByte, LoadedWord, Byte, Word, OneBit, Result, Val80, flag_in, turn_result, turn_flags}
 use Rattle.sym_terms.specs.Values86.{Env86, Load86, LoadedByte as LoadedByte86, LoadedWord as LoadedWord86, Number, Result as Result86, MayBe, Adjusts, Val86}
-use Rattle.block_check_def.specs.Agree.{has_unknown}
+use Rattle.sym_block_def.specs.Agree.{has_unknown}
 use Rattle.sym_block_def.specs.Stands.{IsHalf, Stands}
 use Rattle.simulation_law.specs.Linked.{WordStands, LoadsStand, EnvsStand}
 

@@ -10,7 +10,7 @@ use Rattle.cells.specs.declared.Part.TheVariants.{A, B, C, D, E, H, L, S, Z, Ac,
 use Rattle.cells.specs.Parts.{has}
 use Rattle.dialogue.specs.Run.{Run, Going}
 use Rattle.asm86_line_types.specs.declared.line.Label.{Label}
-use Rattle.asm80_program_types.specs.Program.{Program}
+use Rattle.asm80_types.specs.Program.{Program}
 use Rattle.cpu80_tagged.specs.State.{State80}
 use Rattle.cpu86.specs.State.{State86}
 use Rattle.cpu86.specs.Call.{Stop}
@@ -18,8 +18,8 @@ use Rattle.sym_terms.specs.Term.{Term, High, Loaded16, Join, FlagByte, Unknown, 
 use Rattle.sym_terms.specs.Values80.{Env80, Load80, LoadedByte, LoadedWord, Byte, Val80}
 use Rattle.sym_terms.specs.Values86.{Env86, Load86, LoadedByte as LoadedByte86, LoadedWord as LoadedWord86, Number, Val86}
 use Rattle.sym_terms.proofs.Equal.{same_term-true}
-use Rattle.block_check_def.specs.Agree.{agrees, same_known, has_unknown}
-use Rattle.block_check_def.specs.BlockMatch.{Keeps, kept_at}
+use Rattle.sym_block_def.specs.Agree.{agrees, same_known, has_unknown}
+use Rattle.sym_block_def.specs.BlockMatch.{Keeps, kept_at}
 use Rattle.sym_block_def.specs.Stands.{IsHalf, Stands}
 use Rattle.simulation_def.specs.States.{IsState80, IsState86}
 use Rattle.simulation_def.specs.Linked.{IsFirstOf, StandsIn, places, Linked}

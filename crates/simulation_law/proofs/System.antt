@@ -12,7 +12,7 @@ use Rattle.dialogue.specs.Words.{word, wrap}
 use Rattle.dialogue.specs.Choice.{byte_of}
 use Rattle.asm86_line_types.specs.declared.line.Label.{Label}
 use Rattle.asm86_line_types.specs.declared.line.Label.TheVariants.{Sys as SysLabel}
-use Rattle.asm80_program_types.specs.Program.{Program}
+use Rattle.asm80_types.specs.Program.{Program}
 use Rattle.cpu80_tagged.specs.State.{State80}
 use Rattle.cpu80_tagged.specs.Memory.{is_write_protected, read_word}
 use Rattle.cpu80_tagged.specs.Call.{Return, is_just_below, may_be_written, place_in, place_if, is_place, popped_return}

@@ -36,8 +36,8 @@ use Rattle.sym_terms.specs.Term.{Term}
 use Rattle.sym_terms.specs.Values80.{Env80}
 use Rattle.sym_terms.specs.Values86.{Env86}
 use Rattle.sym_block_def.specs.Outcome.{ByTerms, In, Out}
-use Rattle.block_check_def.specs.Agree.{agrees}
-use Rattle.block_check_def.specs.BlockMatch.{kept_at, kept_after_way}
+use Rattle.sym_block_def.specs.Agree.{agrees}
+use Rattle.sym_block_def.specs.BlockMatch.{kept_at, kept_after_way}
 use Rattle.sym_block_def.specs.Sorts.{WayIsSorted}
 use Rattle.sym_block_def.specs.Stands.{label_of, Stands}
 use Rattle.simulation_def.specs.Steps.{RunsOn}

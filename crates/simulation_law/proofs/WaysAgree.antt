@@ -8,8 +8,8 @@ use Rattle.sym_terms.specs.Term.{Term, same_bool}
 use Rattle.sym_terms.specs.Values80.{Env80}
 use Rattle.sym_terms.specs.Values86.{Env86}
 use Rattle.sym_block_def.specs.Outcome.{Way, Goto, ByTerms, Call, Sys, SysReturn, Boot, Leave, In, Out, Exit, One, Two}
-use Rattle.block_check_def.specs.Agree.{agrees, way_agrees, ways_agree, exit_agrees}
-use Rattle.block_check_def.specs.BlockMatch.{Keeps, kept_after_way, kept_by_exit, is_last, is_boot_alone}
+use Rattle.sym_block_def.specs.Agree.{agrees, way_agrees, ways_agree, exit_agrees}
+use Rattle.sym_block_def.specs.BlockMatch.{Keeps, kept_after_way, kept_by_exit, is_last, is_boot_alone}
 use Rattle.sym_block_def.specs.Sorts.{WayIsSorted, ExitIsSorted}
 use Rattle.simulation_def.specs.Runs80.{Takes80}
 use Rattle.simulation_def.specs.Runs86.{Takes86}

@@ -9,7 +9,7 @@ use Rattle.dialogue.specs.declared.blocks.Block.{Block}
 use Rattle.dialogue.proofs.Within.{AreWithin}
 use Rattle.dialogue.specs.ByteMemory.{put, put_bytes, put_blocks}
 use Rattle.dialogue.specs.Words.{wrap}
-use Rattle.asm80_program_types.specs.Program.{Program}
+use Rattle.asm80_types.specs.Program.{Program}
 use Rattle.cpu80_tagged.specs.Memory.{put as put80}
 use Rattle.cpu80_tagged.specs.Call.{put_bytes as put_bytes80, put_blocks as put_blocks80}
 use Rattle.simulation_def.specs.States.{IsCell}

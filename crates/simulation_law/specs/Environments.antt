@@ -5,12 +5,12 @@ use Rattle.cells.specs.declared.Rule.{Rule}
 use Rattle.cells.specs.Parts.{Parts}
 use Rattle.dialogue.specs.Run.{Run}
 use Rattle.asm86_line_types.specs.declared.line.Label.{Label}
-use Rattle.asm80_program_types.specs.Program.{Program}
+use Rattle.asm80_types.specs.Program.{Program}
 use Rattle.cpu80_tagged.specs.State.{State80}
 use Rattle.cpu86.specs.State.{State86}
 use Rattle.cpu86.specs.Call.{Stop}
 use Rattle.sym_terms.specs.Values86.{Env86}
-use Rattle.block_check_def.specs.BlockMatch.{Keeps, kept_at}
+use Rattle.sym_block_def.specs.BlockMatch.{Keeps, kept_at}
 use Rattle.simulation_def.specs.States.{IsHeldPlace}
 use Rattle.simulation_def.specs.Runs80.{env80}
 use Rattle.simulation_def.specs.Runs86.{IsEnv86}

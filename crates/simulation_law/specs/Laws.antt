@@ -6,11 +6,11 @@ use Rattle.dialogue.specs.declared.request.Reply.{Reply}
 use Rattle.dialogue.specs.Run.{IsNotStopped}
 use Rattle.asm86_line_types.specs.declared.line.Line86.{Line86}
 use Rattle.asm86_line_types.specs.Image.{Assembles, image_of, statements}
-use Rattle.asm80_program_types.specs.Program.{Program, IsProgram}
+use Rattle.asm80_types.specs.Program.{Program, IsProgram}
 use Rattle.cpu80_tagged.specs.Start.{IsPage, run80}
 use Rattle.dialogue.specs.Fill.{IsFill}
 use Rattle.cpu86.specs.Start.{Start, IsStart, AreChoices, run86}
-use Rattle.block_check_def.specs.BlockMatch.{Keeps}
+use Rattle.sym_block_def.specs.BlockMatch.{Keeps}
 use Rattle.sym_block_def.specs.Sorts.{StatementsAreCoded}
 use Rattle.simulation_def.specs.Runs86.{offsets_of}
 use Rattle.simulation_def.specs.Linked.{Paired}

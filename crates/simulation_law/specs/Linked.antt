@@ -10,7 +10,7 @@ use Rattle.sym_terms.specs.Term.{Term, is_byte, is_word}
 use Rattle.sym_terms.specs.Values80.{Env80, Load80, LoadedByte, LoadedWord, Byte, Word, OneBit, Val80}
 use Rattle.sym_terms.specs.Values86.{Env86, Load86, LoadedByte as LoadedByte86, LoadedWord as LoadedWord86, Number, Val86}
 use Rattle.sym_terms.specs.Laws.{IsMadeAs}
-use Rattle.block_check_def.specs.Agree.{agrees}
+use Rattle.sym_block_def.specs.Agree.{agrees}
 use Rattle.sym_block_def.specs.Stands.{Stands}
 
 -- a word's halves stand for a number's

@@ -10,13 +10,13 @@ use Rattle.dialogue.specs.Run.{Run, turns, IsNotStopped}
 use Rattle.asm86_line_types.specs.declared.line.Label.{Label}
 use Rattle.asm86_line_types.specs.declared.line.Line86.{Line86}
 use Rattle.asm86_line_types.specs.Image.{Assembles, image_of, statements}
-use Rattle.asm80_program_types.specs.Program.{Program, IsProgram}
+use Rattle.asm80_types.specs.Program.{Program, IsProgram}
 use Rattle.cpu80_tagged.specs.State.{State80}
 use Rattle.cpu80_tagged.specs.Step.{machine80}
 use Rattle.cpu86.specs.State.{State86}
 use Rattle.cpu86.specs.Call.{Stop}
 use Rattle.cpu86.specs.Step.{machine86}
-use Rattle.block_check_def.specs.BlockMatch.{Keeps, block_reason}
+use Rattle.sym_block_def.specs.BlockMatch.{Keeps, block_reason}
 use Rattle.sym_block_def.specs.Sorts.{StatementsAreCoded}
 use Rattle.simulation_def.specs.Runs86.{offsets_of}
 use Rattle.simulation_def.specs.Runtime.{HasRuntime}

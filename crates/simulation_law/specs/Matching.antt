@@ -9,7 +9,7 @@ use Rattle.i86.specs.Code.{ReadsCode}
 use Rattle.dialogue.specs.Run.{Run}
 use Rattle.asm86_line_types.specs.declared.line.Line86.{Line86}
 use Rattle.asm86_line_types.specs.Image.{Assembles, image_of, statements}
-use Rattle.asm80_program_types.specs.Program.{Program, IsProgram}
+use Rattle.asm80_types.specs.Program.{Program, IsProgram}
 use Rattle.cpu80_tagged.specs.State.{State80}
 use Rattle.cpu86.specs.State.{State86}
 use Rattle.cpu86.specs.Call.{Stop}
@@ -17,8 +17,8 @@ use Rattle.sym_terms.specs.Values86.{Env86}
 use Rattle.sym_block_def.specs.Outcome.{Outcome}
 use Rattle.sym_block_def.specs.Block80.{MayRun, block80}
 use Rattle.sym_block_def.specs.Walk86.{walk86}
-use Rattle.block_check_def.specs.Agree.{way_agrees, exit_agrees}
-use Rattle.block_check_def.specs.BlockMatch.{Keeps, kept_after_way, lost_by, is_last, block_reason}
+use Rattle.sym_block_def.specs.Agree.{way_agrees, exit_agrees}
+use Rattle.sym_block_def.specs.BlockMatch.{Keeps, kept_after_way, lost_by, is_last, block_reason}
 use Rattle.sym_block_def.specs.Sorts.{WayIsSorted, StatementsAreCoded}
 use Rattle.simulation_def.specs.Runs80.{env80, BlockRuns80, BlockLeaves80}
 use Rattle.simulation_def.specs.Runs86.{with_loads, offsets_of, WalkRuns86}

@@ -2,13 +2,13 @@
 use Rattle.std.specs.Prelude.{◌≡◌, ◌<◌, ℕ, true, false, List, ◌++◌, Option}
 use Rattle.cells.specs.declared.Place.{Place}
 use Rattle.cells.specs.declared.Cell.{Cell}
-use Rattle.asm80_program_types.specs.Program.{Program}
+use Rattle.asm80_types.specs.Program.{Program}
 use Rattle.cpu80_tagged.specs.Memory.{is_closed}
 use Rattle.sym_terms.specs.Values80.{Env80, Load80}
 use Rattle.sym_terms.specs.Values86.{Env86, Load86}
 use Rattle.sym_block_def.specs.Outcome.{Action}
 use Rattle.sym_block_def.specs.Sorts.{ActionsAreSorted}
-use Rattle.block_check_def.specs.Agree.{actions_agree}
+use Rattle.sym_block_def.specs.Agree.{actions_agree}
 use Rattle.sym_block_def.specs.Stands.{Stands}
 use Rattle.simulation_def.specs.Runs80.{Replays80}
 use Rattle.simulation_def.specs.Runs86.{Replays86}

@@ -2,7 +2,7 @@
 use Rattle.std.proofs.Common.{◌≡◌, ℕ, suc, ◌+◌, List, ◌∷◌, length, Option, Some, None, IsSome, refl, ap, arith}
 use Rattle.i80.specs.declared.Instr80.{Instr80}
 use Rattle.i80.specs.Columns.{length80}
-use Rattle.asm80_program_types.specs.Program.{Program, instr_at}
+use Rattle.asm80_types.specs.Program.{Program, instr_at}
 use Rattle.sym_block_def.specs.Block80.{before_more, instrs_from}
 
 pub some_there : (o : Option Instr80) (more : Instr80 → List Instr80) (n : ℕ) → length (before_more o (λ i. i ∷ more i)) ≡ suc n → IsSome o

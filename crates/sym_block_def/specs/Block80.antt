@@ -23,7 +23,7 @@ use Rattle.i80.specs.declared.Goal.TheVariants.{At as ToInstr, Boot as ToBoot, B
 use Rattle.i80.specs.declared.Instr80.{Instr80}
 use Rattle.i80.specs.declared.Instr80.TheVariants.{Nop, Mov, Mvi, Lxi, Lda, Sta, Lhld, Shld, Ldax, Stax, Xchg, Xthl, Sphl, Pchl, Alu as AluWith, AluI, Inr, Dcr, Inx, Dcx, Dad, Daa, Cma, Stc, Cmc, Rlc, Rrc, Ral, Rar, Push, Pop, Jmp, Jif, Call as CallTo, Cif, Ret, Rif, Rst0, In as InFrom, Out as OutTo}
 use Rattle.i80.specs.Columns.{length80, ends80, gives_zero}
-use Rattle.asm80_program_types.specs.Program.{Program, instr_at, is_start}
+use Rattle.asm80_types.specs.Program.{Program, instr_at, is_start}
 use Rattle.sym_terms.specs.Term.{Term, Num, StartSp, Loaded8, Loaded16, FlagByte, Code, Unknown}
 use Rattle.sym_terms.specs.Making.{alu, flag, sum16, high, low, join, turn, adjust, carry_of}
 use Rattle.sym_block_def.specs.Outcome.{Load8, Load16, Store8, Store16, Way, Goto, ByTerms, Call, Sys, SysReturn, Boot, Leave, In, Out, Exit, One, Two, Held, Outcome, held_at_start, with_flags_of, with_count_flags_of, with_flags_in, Trace, no_actions, loading, storing}

@@ -1,3 +1,5 @@
+pub mod Agree
+pub mod BlockMatch
 pub mod Outcome
 pub mod Block80
 pub mod Symbolic86

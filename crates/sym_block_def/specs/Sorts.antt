@@ -7,7 +7,7 @@ use Rattle.i86.specs.declared.Reg16.{Reg16}
 use Rattle.i86.specs.declared.Operand16.TheVariants.{Direct}
 use Rattle.i86.specs.declared.Instr86.{Instr86}
 use Rattle.i86.specs.declared.Instr86.TheVariants.{MovAlDirect, MovDirectAl, MovNum8, MovNum16, MovMemNum, MovReg16, MovDirect16, AluNum, InAl, OutAl}
-use Rattle.asm80_program_types.specs.Program.{Program, IsCoded, AreCoded}
+use Rattle.asm80_types.specs.Program.{Program, IsCoded, AreCoded}
 use Rattle.asm86_line_types.specs.declared.line.Label.{Label}
 use Rattle.asm86_line_types.specs.declared.line.Stmt86.{Stmt86}
 use Rattle.asm86_line_types.specs.declared.line.Stmt86.TheVariants.{Run}

@@ -20,7 +20,7 @@ use Rattle.asm86_line_types.specs.declared.line.Stmt86.{Stmt86}
 use Rattle.asm86_line_types.specs.declared.line.Stmt86.TheVariants.{Cseg, Dseg, Org, Rb, Db, Dw, Mark, Run, MovOffset, Jmp, Jmps, Jcc as JccTo, Call as CallTo, EndText}
 use Rattle.asm86_line_types.specs.Layout.{same_label, marks}
 use Rattle.i80.specs.declared.Instr80.{Instr80}
-use Rattle.asm80_program_types.specs.Program.{Program, is_start}
+use Rattle.asm80_types.specs.Program.{Program, is_start}
 use Rattle.sym_terms.specs.Term.{Term, Num}
 use Rattle.sym_terms.specs.Making.{high, low}
 use Rattle.sym_block_def.specs.declared.reason.Reason.{Reason}

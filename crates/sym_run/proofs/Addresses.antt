@@ -5,7 +5,7 @@ use Rattle.std.proofs.lemmas.Grind.{take-set_at}
 use Rattle.std.proofs.lemmas.List.{drop-take}
 use Rattle.i80.specs.declared.Instr80.{Instr80}
 use Rattle.i80.specs.Columns.{length80}
-use Rattle.asm80_program_types.specs.Program.{Program, instr_at}
+use Rattle.asm80_types.specs.Program.{Program, instr_at}
 use Rattle.sym_block_def.specs.Block80.{instrs_from, addresses_from, address_after_all}
 use Rattle.sym_block_def.proofs.Instructions.{some_there, first_is, shorter}
 

@@ -10,7 +10,7 @@ use Rattle.sym_terms.specs.Laws.{MadeTermsHaveSorts}
 use Rattle.sym_terms.specs.Trees.{tree_in, IsGiven, AreTerms}
 use Rattle.sym_terms.proofs.Equal.{same_term-true, same_term_refl}
 use Rattle.sym_terms.proofs.Making.{same_ids}
-use Rattle.block_check_def.specs.Agree.{has_unknown, agrees}
+use Rattle.sym_block_def.specs.Agree.{has_unknown, agrees}
 use Rattle.sym_run.specs.Five.{is_byte_of_flags, is_put_together}
 
 -- where nothing is open, nothing is unknown

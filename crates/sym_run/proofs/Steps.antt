@@ -6,8 +6,8 @@ use Rattle.asm86_line_types.specs.declared.line.Label.{Label}
 use Rattle.asm86_line_types.specs.declared.line.Label.TheVariants.{At}
 use Rattle.cells.specs.Parts.{Parts}
 use Rattle.i80.specs.declared.Instr80.{Instr80}
-use Rattle.asm80_program_types.specs.Program.{Program, instr_at, is_start, placed_in, instr_of_placed}
-use Rattle.asm80_program_types.specs.declared.program.Placed.{Placed}
+use Rattle.asm80_types.specs.Program.{Program, instr_at, is_start, placed_in, instr_of_placed}
+use Rattle.asm80_types.specs.declared.program.Placed.{Placed}
 use Rattle.i86.specs.declared.Jump.{Jump}
 use Rattle.xlt_pool.specs.Contents.{Contents}
 use Rattle.sym_terms.specs.Trees.{PoolGrows}

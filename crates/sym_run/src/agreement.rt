@@ -5,7 +5,7 @@ ghost use Rattle.cells.specs.declared.Part.TheVariants.{S, Z, Ac, P, Cy};
 ghost use Rattle.sym_terms.specs.Term.{Bit, Unknown, same_term, is_bit, is_byte, is_flag};
 ghost use Rattle.sym_terms.specs.Making.{bit};
 ghost use Rattle.sym_terms.specs.Trees.{tree_in, IsGiven, IsA};
-ghost use Rattle.block_check_def.specs.Agree.{agrees};
+ghost use Rattle.sym_block_def.specs.Agree.{agrees};
 ghost use Rattle.sym_run.specs.Seen.{tree_of_seen, SeenIsGiven};
 ghost use Rattle.sym_run.specs.Five.{is_byte_of_flags, is_put_together, id_of_five, FiveAre, IsJoin};
 

@@ -3,7 +3,7 @@
 ghost use Rattle.std.specs.Prelude.{◌≡◌, take, drop, ◌-◌};
 ghost use Rattle.sym_block_def.specs.Block80.{MayRun, instrs_from, address_after_all, addresses_from};
 
-use asm80_program_types::Program80;
+use asm80_types::Program80;
 use i80::length;
 
 /// The addresses of the instructions of a block, of which there are so many, in front of others; and the address after the block.

@@ -4,7 +4,7 @@
 ghost use Rattle.std.specs.Prelude.{◌≡◌, not, false, MatchOption};
 ghost use Rattle.sym_terms.specs.Term.{is_bit, is_byte};
 ghost use Rattle.sym_terms.specs.Trees.{tree_in, IsGiven, IsA};
-ghost use Rattle.block_check_def.specs.Agree.{has_unknown};
+ghost use Rattle.sym_block_def.specs.Agree.{has_unknown};
 ghost use Rattle.sym_run.specs.Five.{is_byte_of_flags, FiveAre};
 
 use crate::seen::is_unknown;

@@ -9,7 +9,7 @@ ghost use Rattle.sym_run.specs.Stop.{pass, stop, goes_to, is_last, next_after, e
 use crate::around::{Around, is_passed, way_to};
 use crate::block::addresses;
 use crate::index::Index86;
-use asm80_program_types::Program80;
+use asm80_types::Program80;
 use asm86_line_types::{Label, Stmt86};
 use i86::Instr86;
 

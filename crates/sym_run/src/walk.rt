@@ -17,7 +17,7 @@ use crate::block::addresses;
 use crate::ends::{End, Next, by_exit, call, direct_call, end_at, jump, port};
 use crate::index::Index86;
 use crate::lasts::{Last, both_from, two_exit, way_of};
-use asm80_program_types::Program80;
+use asm80_types::Program80;
 use asm86_line_types::{Jump, Label, Stmt86};
 use cells::{Keep, Place};
 use i86::Instr86;

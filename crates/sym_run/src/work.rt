@@ -7,13 +7,13 @@ ghost use Rattle.sym_terms.specs.Trees.{tree_in, IsGiven, PoolGrows};
 ghost use Rattle.sym_block_def.specs.Outcome.{Outcome as OutcomeTree};
 ghost use Rattle.sym_block_def.specs.Block80.{MayRun, block80};
 ghost use Rattle.sym_block_def.specs.Walk86.{walk86};
-ghost use Rattle.block_check_def.specs.Agree.{agrees};
+ghost use Rattle.sym_block_def.specs.Agree.{agrees};
 ghost use Rattle.sym_micro.specs.Stands.{id_of_part};
 ghost use Rattle.sym_run.specs.Outcomes.{OutcomeStands, WalkComesTo};
 
 use crate::agreement::agree;
 use crate::{Index86, run_text};
-use asm80_program_types::Program80;
+use asm80_types::Program80;
 use cells::{Keep, Part};
 use std::alloc::{AllocError, Global};
 use std::marker::Model;

@@ -15,14 +15,14 @@ use Rattle.i80.specs.declared.Goal.TheVariants.{At as ToInstr, Boot as ToBoot, B
 use Rattle.i80.specs.declared.Instr80.TheVariants.{Mov, Mvi, Lxi, Stax, Dad, Push, Pop, Jmp, Cif}
 use Rattle.i80.specs.declared.Src.TheVariants.{Mem}
 use Rattle.i80.specs.declared.Reg.TheVariants.{A as RegA}
-use Rattle.asm80_program_types.specs.Program.{Program, program_of}
+use Rattle.asm80_types.specs.Program.{Program, program_of}
 use Rattle.cpu80_tagged.specs.State.{State80, junk_regs}
 use Rattle.cpu80_tagged.specs.Step.{machine80}
 use Rattle.templates.specs.Plain.{plain_statements}
 use Rattle.sym_terms.specs.Term.{Num, StartSp}
 use Rattle.sym_block_def.specs.Outcome.{Goto, One, held_at_start}
 use Rattle.sym_block_def.specs.Block80.{block80}
-use Rattle.block_check_def.specs.BlockMatch.{Keeps, block_reason}
+use Rattle.sym_block_def.specs.BlockMatch.{Keeps, block_reason}
 use Rattle.simulation_def.specs.Steps.{RunsOn}
 
 -- LXI H,6CH / LXI D,1ABH / MVI B,12 / MOVE: MOV A,M / STAX D / JMP MOVE, the copier's first lines

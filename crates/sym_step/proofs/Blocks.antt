@@ -2,7 +2,7 @@
 use Rattle.std.proofs.Common.{◌≡◌, ◌∙◌, ℕ, zero, suc, ◌+◌, ◌-◌, ◌≤◌, false, List, [], ◌∷◌, length, Option, Some, IsSome, refl, sym, ap, subst, arith}
 use Rattle.i80.specs.declared.Instr80.{Instr80}
 use Rattle.i80.specs.Columns.{length80}
-use Rattle.asm80_program_types.specs.Program.{Program, instr_at}
+use Rattle.asm80_types.specs.Program.{Program, instr_at}
 use Rattle.xlt_pool.specs.Contents.{Contents}
 use Rattle.sym_block_def.specs.Block80.{Symbolic80, start80, effect80, exit80, outcome80, outcome_from, instrs_from, MayRun, block80}
 use Rattle.sym_micro.specs.declared.run.Run.{Run}

@@ -5,7 +5,7 @@ use Rattle.cells.specs.declared.Cond.TheVariants.{Nz, Z, Nc, C as Carry, Po, Pe,
 use Rattle.i80.specs.declared.Goal.{Goal}
 use Rattle.i80.specs.declared.Instr80.{Instr80}
 use Rattle.i80.specs.declared.Instr80.TheVariants.{Pchl, Jmp, Jif, Call, Cif, Ret, Rif, Rst0, In, Out}
-use Rattle.asm80_program_types.specs.Program.{Program}
+use Rattle.asm80_types.specs.Program.{Program}
 use Rattle.xlt_pool.specs.Contents.{Contents}
 use Rattle.sym_terms.specs.declared.head.Term.{Term as TermId}
 use Rattle.sym_terms.specs.Trees.{StandsFor, PoolGrows, AreTerms}

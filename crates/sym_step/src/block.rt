@@ -3,13 +3,13 @@
 ghost use Rattle.std.specs.Prelude.{◌≡◌, ◌+◌, ◌*◌, ◌<◌, ◌≤◌, false, Some, IsSome, IsTrue};
 ghost use Rattle.std.specs.Vec.{vec_capacity};
 ghost use Rattle.i80.specs.Columns.{is_well_formed, length80};
-ghost use Rattle.asm80_program_types.specs.Program.{instr_at};
+ghost use Rattle.asm80_types.specs.Program.{instr_at};
 ghost use Rattle.sym_block_def.specs.Block80.{MayRun, block80};
 ghost use Rattle.sym_micro.specs.Exits.{RunsTo};
 
 use crate::exits::exit;
 use crate::steps80::step80;
-use asm80_program_types::Program80;
+use asm80_types::Program80;
 use cells::Keep;
 use i80::{Instr80, length};
 use sym_micro::{Exit, Run, begin};

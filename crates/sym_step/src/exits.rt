@@ -3,7 +3,7 @@
 ghost use Rattle.std.specs.Prelude.{◌≡◌};
 ghost use Rattle.cells.specs.declared.Place.{Place};
 ghost use Rattle.xlt_pool.specs.Contents.{Contents};
-ghost use Rattle.asm80_program_types.specs.Program.{is_start};
+ghost use Rattle.asm80_types.specs.Program.{is_start};
 ghost use Rattle.sym_block_def.specs.Outcome.{In, Out};
 ghost use Rattle.sym_block_def.specs.Block80.{goto, jump, call, asking, wanted, exit80};
 ghost use Rattle.sym_micro.specs.Machine.{as80};
@@ -11,7 +11,7 @@ ghost use Rattle.sym_micro.specs.Stands.{machine_of, IsReady};
 ghost use Rattle.sym_micro.specs.Exits.{WayIs, FindsExit};
 ghost use Rattle.sym_step.specs.Ways.{flag_id};
 
-use asm80_program_types::Program80;
+use asm80_types::Program80;
 use cells::{Cond, Place};
 use i80::{Goal, Instr80};
 use sym_micro::{Exit, Held, Run, Way, return_way};

@@ -4,7 +4,7 @@ use Rattle.asm86_line_types.specs.declared.line.Stmt86.{Stmt86}
 use Rattle.asm86_line_types.specs.declared.line.Stmt86.TheVariants.{Dseg, Mark}
 use Rattle.std.proofs.lemmas.List.{drop_all, drop_more, length_push}
 use Rattle.asm86_line_types.specs.declared.line.Label.TheVariants.{At}
-use Rattle.asm80_program_types.specs.declared.program.Placed.{Placed}
+use Rattle.asm80_types.specs.declared.program.Placed.{Placed}
 use Rattle.cells.specs.declared.Cell.{Cell}
 use Rattle.templates.specs.Plain.{body, org_at, cell_statement, data_from}
 use Rattle.templates.specs.Template.{template}

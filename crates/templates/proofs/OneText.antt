@@ -1,6 +1,6 @@
 -- A program has one lean text.
 use Rattle.std.proofs.Common.{◌≡◌, List, sym, ap, ◌∙◌}
-use Rattle.asm80_program_types.specs.Program.{Program}
+use Rattle.asm80_types.specs.Program.{Program}
 use Rattle.asm86_line_types.specs.declared.line.Line86.{Line86}
 use Rattle.flow.proofs.OneNeeds.{all_needs_once}
 use Rattle.templates.specs.Lean.{lean, IsLean}

@@ -1,6 +1,6 @@
 -- A pair of instructions of which the one's SAHF and the next one's LAHF are left out: they are there to be left out.
 use Rattle.std.proofs.Common.{◌≡◌, Bool, true, false, ◌&&◌, List, [], ◌∷◌, refl}
-use Rattle.asm80_program_types.specs.declared.program.Placed.{Placed}
+use Rattle.asm80_types.specs.declared.program.Placed.{Placed}
 use Rattle.templates.specs.Style.{Style, ends_by_sahf, begins_by_lahf, is_pair}
 
 pair_parts : (a b c : Bool) → (a && (b && c)) ≡ true → (b ≡ true) × (c ≡ true)

@@ -9,8 +9,8 @@ use Rattle.asm86_line_types.specs.declared.line.Stmt86.{Stmt86}
 use Rattle.asm86_line_types.specs.declared.line.Line86.{Line86}
 use Rattle.asm86_line_types.specs.Layout.{place_of}
 use Rattle.asm86_line_types.specs.Image.{statements}
-use Rattle.asm80_program_types.specs.declared.program.Placed.{Placed}
-use Rattle.asm80_program_types.specs.Program.{Program}
+use Rattle.asm80_types.specs.declared.program.Placed.{Placed}
+use Rattle.asm80_types.specs.Program.{Program}
 use Rattle.flow.specs.Solving.{Needs}
 use Rattle.templates.specs.Template.{label_of_goal}
 use Rattle.templates.proofs.NumberedLines.{statements-numbered}

@@ -1,7 +1,7 @@
 -- The style of a text by what is needed and by which conditional jumps are short: with no jump short it is the long style, and by the
 -- places of that text it is the lean one.
 use Rattle.std.specs.Prelude.{Bool, false}
-use Rattle.asm80_program_types.specs.declared.program.Placed.{Placed}
+use Rattle.asm80_types.specs.declared.program.Placed.{Placed}
 use Rattle.flow.specs.Solving.{Needs}
 use Rattle.templates.specs.Style.{Style}
 use Rattle.templates.specs.Lean.{long_style}

@@ -8,8 +8,8 @@ use Rattle.asm86_line_types.specs.declared.line.Label.TheVariants.{Skip}
 use Rattle.asm86_line_types.specs.declared.line.Stmt86.{Stmt86}
 use Rattle.asm86_line_types.specs.declared.line.Line86.{Line86}
 use Rattle.asm86_line_types.specs.Layout.{place_of}
-use Rattle.asm80_program_types.specs.declared.program.Placed.{Placed}
-use Rattle.asm80_program_types.specs.Program.{Program}
+use Rattle.asm80_types.specs.declared.program.Placed.{Placed}
+use Rattle.asm80_types.specs.Program.{Program}
 use Rattle.flow.specs.Blocks.{end_of}
 use Rattle.flow.specs.Solving.{Needs, AreAllNeeds}
 use Rattle.templates.specs.Template.{label_of_goal}

@@ -3,7 +3,7 @@ use Rattle.std.specs.Prelude.{◌≡◌, ◌<◌, ◌≤◌, ℕ, List}
 use Rattle.asm86_line_types.specs.declared.line.Line86.{Line86}
 use Rattle.asm86_line_types.specs.Layout.{sizes_of}
 use Rattle.asm86_line_types.specs.Image.{statements}
-use Rattle.asm80_program_types.specs.Program.{Program}
+use Rattle.asm80_types.specs.Program.{Program}
 use Rattle.templates.specs.Plain.{plain}
 use Rattle.templates.specs.Lean.{IsLean}
 use Rattle.templates.specs.declared.translation.CoreFault.{CoreFault}

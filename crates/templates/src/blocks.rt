@@ -10,7 +10,7 @@ use crate::Text;
 use crate::places::Jumps;
 use crate::rules::{is_pair, knows_function};
 use crate::written::{Context, put_written};
-use asm80_program_types::{Placed, Program80};
+use asm80_types::{Placed, Program80};
 use asm86_line_types::{Label, Stmt86};
 use flow::{Graph, blocks_cut_the_program};
 use std::alloc::AllocError;

@@ -1,7 +1,7 @@
 // A law of lean texts.
 ghost use Rattle.std.specs.Prelude.{◌≡◌, List};
 ghost use Rattle.asm86_line_types.specs.declared.line.Line86.{Line86};
-ghost use Rattle.asm80_program_types.specs.Program.{Program};
+ghost use Rattle.asm80_types.specs.Program.{Program};
 ghost use Rattle.templates.specs.Lean.{IsLean};
 
 /// A law: a program has one lean text, since what is needed at a place is one set.

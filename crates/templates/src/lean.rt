@@ -8,7 +8,7 @@ ghost use Rattle.templates.specs.Jumps.{style_by};
 use crate::blocks::put_blocks;
 use crate::places::{Jumps, Places};
 use crate::plain::{begun, put_end};
-use asm80_program_types::Program80;
+use asm80_types::Program80;
 use asm86_line_types::Line86;
 use flow::Graph;
 use std::alloc::{AllocError, Global};

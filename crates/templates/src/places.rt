@@ -5,7 +5,7 @@ ghost use Rattle.asm86_line_types.specs.Layout.{size_of};
 ghost use Rattle.asm86_line_types.specs.Image.{statements};
 ghost use Rattle.templates.specs.Lean.{may_be_short};
 
-use asm80_program_types::Placed;
+use asm80_types::Placed;
 use asm86_line_types::{Label, Line86, Stmt86, code_size, statement_size};
 use i80::{Goal, Instr80};
 use std::alloc::{AllocError, Global};

@@ -6,7 +6,7 @@ ghost use Rattle.templates.specs.Plain.{prologue, body, org_at, cell_statement, 
 use crate::frame::{ending, prologue, runtime};
 use crate::rows::template;
 use crate::text::Text;
-use asm80_program_types::Program80;
+use asm80_types::Program80;
 use asm86_line_types::{Label, Line86, Stmt86, Value16};
 use cells::{Cell, Place};
 use std::alloc::{AllocError, Global};

@@ -7,7 +7,7 @@ ghost use Rattle.flow.specs.Solving.{Needs, AreAllNeeds};
 ghost use Rattle.templates.specs.Style.{ends_by_sahf, begins_by_lahf, is_pair, knows_function};
 ghost use Rattle.templates.specs.Lean.{has_saved_flag, saves_by_need, loses_nothing, long_style};
 
-use asm80_program_types::Placed;
+use asm80_types::Placed;
 use cells::{Keep, Part};
 use flow::{Graph, is_word_sum, needs_are_closed};
 use i80::{Instr80, Pair, Reg, Src, StackPair, Word};

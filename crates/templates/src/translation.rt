@@ -4,7 +4,7 @@ ghost use Rattle.templates.specs.Translation.{IsText, CodeFits, HasNoText};
 
 use crate::lean::lean_text;
 use crate::plain::plain_text;
-use asm80_program_types::Program80;
+use asm80_types::Program80;
 use asm86_line_types::{Line86, code_size};
 use flow::Graph;
 use std::alloc::{AllocError, Global};

@@ -8,7 +8,7 @@ ghost use Rattle.templates.specs.Jumps.{style_by};
 use crate::places::Jumps;
 use crate::rules::{loses_nothing, saves};
 use crate::{Text, label_of, template};
-use asm80_program_types::Placed;
+use asm80_types::Placed;
 use asm86_line_types::{Jump, Stmt86};
 use cells::Cond;
 use flow::{Graph, is_word_sum};

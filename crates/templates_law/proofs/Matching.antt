@@ -10,14 +10,14 @@ use Rattle.cells.specs.Parts.{has, nothing, everything}
 use Rattle.asm86_line_types.specs.declared.line.Stmt86.{Stmt86}
 use Rattle.asm86_line_types.specs.declared.line.Line86.{Line86}
 use Rattle.asm86_line_types.specs.Image.{Assembles, image_of, statements}
-use Rattle.asm80_program_types.specs.declared.program.Placed.{Placed}
-use Rattle.asm80_program_types.specs.Program.{Program, IsProgram, placed_in, is_start}
-use Rattle.asm80_program_types.specs.Taken.{taken_places}
+use Rattle.asm80_types.specs.declared.program.Placed.{Placed}
+use Rattle.asm80_types.specs.Program.{Program, IsProgram, placed_in, is_start}
+use Rattle.asm80_types.specs.Taken.{taken_places}
 use Rattle.flow.specs.Blocks.{blocks as flow_blocks}
 use Rattle.flow.specs.Solving.{Needs, AreAllNeeds}
 use Rattle.templates.specs.Plain.{plain, plain_statements}
 use Rattle.sym_block_def.specs.Block80.{MayRun}
-use Rattle.block_check_def.specs.BlockMatch.{Keeps, block_reason}
+use Rattle.sym_block_def.specs.BlockMatch.{Keeps, block_reason}
 use Rattle.sym_block_def.specs.Sorts.{StatementsAreCoded}
 use Rattle.simulation_def.specs.Linked.{HasBlock, IsFirstOf}
 use Rattle.simulation_def.specs.Cuts.{IsCut, ReturnsKeep}

@@ -2,7 +2,7 @@
 use Rattle.std.proofs.Common.{◌≡◌, ◌∙◌, ◌<◌, List, None, refl, sym, ap, subst}
 use Rattle.std.specs.Prelude.{Ok}
 use Rattle.i86.specs.Decode.{HasReader}
-use Rattle.asm80_program_types.specs.Program.{Program, IsProgram}
+use Rattle.asm80_types.specs.Program.{Program, IsProgram}
 use Rattle.asm86_line_types.specs.declared.line.Line86.{Line86}
 use Rattle.asm86_line_types.specs.Image.{Assembles, image_of}
 use Rattle.asm86_line_types.specs.Layout.{sizes_of}

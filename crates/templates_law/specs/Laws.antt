@@ -4,7 +4,7 @@ use Rattle.std.specs.Prelude.{ℕ, ◌≤◌, List, All, Option}
 use Rattle.i86.specs.declared.Instr86.{Instr86}
 use Rattle.i86.specs.Code.{ReadsCode}
 use Rattle.dialogue.specs.declared.request.Reply.{Reply}
-use Rattle.asm80_program_types.specs.Program.{Program, IsProgram}
+use Rattle.asm80_types.specs.Program.{Program, IsProgram}
 use Rattle.asm86_line_types.specs.declared.line.Line86.{Line86}
 use Rattle.asm86_line_types.specs.Image.{image_of}
 use Rattle.cpu80_tagged.specs.Start.{IsPage, run80}

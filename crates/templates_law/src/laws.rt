@@ -2,7 +2,7 @@
 
 ghost use Rattle.std.specs.Prelude.{◌≡◌, List, Ok};
 ghost use Rattle.i86.specs.Decode.{HasReader};
-ghost use Rattle.asm80_program_types.specs.Program.{Program, IsProgram};
+ghost use Rattle.asm80_types.specs.Program.{Program, IsProgram};
 ghost use Rattle.asm86_line_types.specs.declared.line.Line86.{Line86};
 ghost use Rattle.asm86_line_types.specs.Image.{Assembles, image_of, statements};
 ghost use Rattle.asm86_line_types.specs.Written.{written_text};

@@ -6,7 +6,7 @@ ghost use Rattle.i86.specs.Decode.{HasReader};
 ghost use Rattle.asm86_line_types.specs.Image.{Assembles, image_of};
 ghost use Rattle.asm86_line_types.specs.Layout.{sizes_of};
 ghost use Rattle.asm86_line_types.specs.Written.{written_text};
-ghost use Rattle.asm80_program_types.specs.Program.{Program, IsProgram};
+ghost use Rattle.asm80_types.specs.Program.{Program, IsProgram};
 ghost use Rattle.flow.specs.Solving.{Needs};
 ghost use Rattle.templates.specs.Plain.{plain_statements, plain};
 ghost use Rattle.templates.specs.Style.{Style, plain_style, styled_statements, styled};

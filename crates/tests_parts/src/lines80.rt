@@ -1,6 +1,6 @@
 // Sources of the most lines, and faults that stay.
-use asm80_statement_types::{LineRule, ReadFault};
 use asm80_text::Lines;
+use asm80_types::{LineRule, ReadFault};
 use std::test::Fail;
 
 // What stands behind 32,768 lines, and the fault that there is.

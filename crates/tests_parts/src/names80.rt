@@ -1,6 +1,6 @@
 // The most names of a source.
-use asm80_statement_types::{ReadFault, Stmt80};
 use asm80_text::Lines;
+use asm80_types::{ReadFault, Stmt80};
 use asm80_values::{AsmFault, AsmRule, assemble};
 use std::alloc::Global;
 use std::test::Fail;

@@ -1,6 +1,6 @@
 // A small program with a data byte, asked by addresses.
-use asm80_program_types::Program80;
 use asm80_text::Lines;
+use asm80_types::Program80;
 use asm80_values::assemble;
 use cells::Cell;
 use i80::{Goal, Instr80, Reg, Src};

@@ -12,8 +12,8 @@ use Rattle.std.proofs.lemmas.Cmp.{ranked}
 use Rattle.std.proofs.lemmas.Map.Keys.{sorted_from_strictly_increasing, below_from_sorted}
 use Rattle.cells.specs.declared.Cell.{Cell}
 use Rattle.asm86_line_types.specs.Image.{Image}
-use Rattle.asm80_program_types.specs.declared.program.Placed.{Placed}
-use Rattle.asm80_program_types.specs.Program.{Program, IsProgram, cell_in, CellsAreLaid}
+use Rattle.asm80_types.specs.declared.program.Placed.{Placed}
+use Rattle.asm80_types.specs.Program.{Program, IsProgram, cell_in, CellsAreLaid}
 use Rattle.simulation_def.specs.Matches.{first_or, byte_at}
 use Rattle.text_check.specs.Parts.{CellStands, DataStandIn}
 

@@ -5,12 +5,12 @@ use Rattle.std.proofs.lemmas.List.{length-map}
 use Rattle.asm86_line_types.specs.declared.line.Line86.{Line86}
 use Rattle.asm86_line_types.specs.declared.line.Stmt86.{Stmt86}
 use Rattle.asm86_line_types.specs.Image.{Image, statements}
-use Rattle.asm80_program_types.specs.declared.program.Placed.{Placed}
-use Rattle.asm80_program_types.specs.Program.{Program}
+use Rattle.asm80_types.specs.declared.program.Placed.{Placed}
+use Rattle.asm80_types.specs.Program.{Program}
 use Rattle.flow.specs.Blocks.{blocks, leaders, cut_from, onto, extent}
 use Rattle.flow.specs.Solving.{Needs, AreAllNeeds, HasNeeds}
 use Rattle.sym_block_def.specs.declared.reason.Reason.{Reason}
-use Rattle.block_check_def.specs.BlockMatch.{Keeps}
+use Rattle.sym_block_def.specs.BlockMatch.{Keeps}
 use Rattle.simulation_def.specs.Runtime.{HasRuntime}
 use Rattle.text_check.specs.Parts.{DataStandIn}
 use Rattle.simulation_def.specs.Matches.{HasOpening, DataStands, Finds, opening as no_opening, runtime as no_runtime, cells as no_cells, blocks as by_blocks, blocks_reason}

@@ -1,9 +1,9 @@
 -- Where nothing is found of lines, they match; where something is, they do not.
 use Rattle.std.proofs.Common.{◌≡◌, ◌∙◌, ℕ, List, Option, Some, None, sym}
 use Rattle.asm86_line_types.specs.declared.line.Line86.{Line86}
-use Rattle.asm80_program_types.specs.Program.{Program}
+use Rattle.asm80_types.specs.Program.{Program}
 use Rattle.sym_block_def.specs.declared.reason.Reason.{Reason}
-use Rattle.block_check_def.specs.BlockMatch.{Keeps}
+use Rattle.sym_block_def.specs.BlockMatch.{Keeps}
 use Rattle.simulation_def.specs.Matches.{Matches, Finds, opening, runtime, cells, blocks as by_blocks}
 
 no_reason : (x : ℕ × Reason) → Some x ≡ None → ⊥

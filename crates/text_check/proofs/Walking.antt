@@ -4,11 +4,11 @@ use Rattle.std.specs.Prelude.{drop}
 use Rattle.std.proofs.lemmas.List.{drop_all}
 use Rattle.std.proofs.lemmas.Option.{same_Some}
 use Rattle.asm86_line_types.specs.declared.line.Stmt86.{Stmt86}
-use Rattle.asm80_program_types.specs.Program.{Program}
+use Rattle.asm80_types.specs.Program.{Program}
 use Rattle.flow.specs.Blocks.{blocks}
 use Rattle.flow.proofs.Indexed.{IsBlockAt}
 use Rattle.sym_block_def.specs.declared.reason.Reason.{Reason}
-use Rattle.block_check_def.specs.BlockMatch.{Keeps, block_reason}
+use Rattle.sym_block_def.specs.BlockMatch.{Keeps, block_reason}
 use Rattle.simulation_def.specs.Matches.{or_next, blocks_reason}
 use Rattle.block_check.specs.declared.block.Verdict.{Verdict}
 use Rattle.block_check.specs.declared.block.Verdict.TheVariants.{Shown, NotShown}

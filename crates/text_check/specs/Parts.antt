@@ -6,7 +6,7 @@ use Rattle.asm86_line_types.specs.declared.line.Stmt86.{Stmt86}
 use Rattle.asm86_line_types.specs.declared.line.Stmt86.TheVariants.{Cseg, Mark}
 use Rattle.asm86_line_types.specs.Image.{Image, offset_in}
 use Rattle.templates.specs.Plain.{prologue}
-use Rattle.asm80_program_types.specs.Program.{Program, cell_at}
+use Rattle.asm80_types.specs.Program.{Program, cell_at}
 use Rattle.sym_block_def.specs.Stands.{Stands}
 use Rattle.simulation_def.specs.Linked.{places}
 use Rattle.simulation_def.specs.Matches.{byte_at}

@@ -9,7 +9,7 @@ ghost use Rattle.simulation_def.specs.Linked.{places};
 ghost use Rattle.simulation_def.specs.Matches.{byte_at};
 ghost use Rattle.text_check.specs.Parts.{CellStands, DataStandIn};
 
-use asm80_program_types::Program80;
+use asm80_types::Program80;
 use asm86::Image86;
 use asm86_line_types::Label;
 use cells::{Cell, Flags, Place};

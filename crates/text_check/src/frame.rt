@@ -6,7 +6,7 @@ ghost use Rattle.simulation_def.specs.Runtime.{HasRuntime};
 ghost use Rattle.simulation_def.specs.Matches.{HasOpening};
 ghost use Rattle.text_check.specs.Parts.{Opens};
 
-use asm80_program_types::Program80;
+use asm80_types::Program80;
 use asm86_line_types::{Label, Stmt86};
 use templates::{prologue, runtime};
 

@@ -13,7 +13,7 @@ ghost use Rattle.text_check.specs.Findings.{reason_in, CountsBlocks, IsFinding, 
 use crate::data::data_stand;
 use crate::finding::Finding;
 use crate::frame::{has_opening, has_runtime};
-use asm80_program_types::Program80;
+use asm80_types::Program80;
 use asm86::Image86;
 use asm86_line_types::{Stmt86, cells_are_sorted};
 use block_check::{Index86, Reason, Verdict, Work, check};

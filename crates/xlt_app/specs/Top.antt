@@ -4,7 +4,7 @@ use Rattle.std.specs.Prelude.{◌≡◌, ℕ, true, List, [], ◌∷◌, Contain
 use Rattle.host.specs.Host.{HostState, IsFile, SameFiles, Rewrites}
 use Rattle.i86.specs.Decode.{HasReader}
 use Rattle.asm86_line_types.specs.Image.{Image}
-use Rattle.asm80_program_types.specs.Program.{Program, is_top}
+use Rattle.asm80_types.specs.Program.{Program, is_top}
 use Rattle.cmd_common.specs.Sources.{reading_of}
 use Rattle.asm80_source_def.specs.Source.{IsSource}
 use Rattle.cmd_arguments.specs.Words.{Translate, Check, Listing, Run80, Run86, Both, Sample, Cmd, CmdShow, Hex80, RunHex, Command, Translates, Checks, ListsFlags, Runs80, Runs86, RunsBoth, MakesSample, MakesCmd, ShowsCmd, WritesHex, RunsHex, IsCommand, IsNoCommand, Shrink, ShrinksText, ListsLeaves, ExplainsText}

@@ -5,10 +5,10 @@ use Rattle.asm86_line_types.specs.declared.line.Stmt86.{Stmt86}
 use Rattle.asm86_line_types.specs.declared.line.Line86.{Line86}
 use Rattle.asm86_line_types.specs.Layout.{place_of, code_of}
 use Rattle.asm86_line_types.specs.Image.{Assembles, Image, image_of, statements, offset_in, by_address, cells_from, labels_from}
-use Rattle.asm80_program_types.specs.Program.{Program, IsProgram, cell_at}
+use Rattle.asm80_types.specs.Program.{Program, IsProgram, cell_at}
 use Rattle.flow.specs.Blocks.{blocks}
 use Rattle.flow.specs.Solving.{Needs, AreAllNeeds}
-use Rattle.block_check_def.specs.BlockMatch.{Keeps}
+use Rattle.sym_block_def.specs.BlockMatch.{Keeps}
 use Rattle.sym_block_def.specs.Sorts.{StatementsAreCoded}
 use Rattle.sym_block_def.specs.Stands.{Stands}
 use Rattle.simulation_def.specs.Runtime.{HasRuntime}

@@ -2,7 +2,7 @@
 use Rattle.std.specs.Prelude.{ℕ, List}
 use Rattle.asm86_line_types.specs.declared.line.Line86.{Line86}
 use Rattle.asm86_line_types.specs.Image.{Assembles, image_of, statements}
-use Rattle.asm80_program_types.specs.Program.{Program, IsProgram}
+use Rattle.asm80_types.specs.Program.{Program, IsProgram}
 use Rattle.sym_block_def.specs.Sorts.{StatementsAreCoded}
 use Rattle.simulation_def.specs.Matches.{DataAreCoded}
 use Rattle.templates_law.specs.Names.{Same}

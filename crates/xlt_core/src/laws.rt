@@ -1,6 +1,6 @@
 // What is found of the texts that a program is translated to.
 ghost use Rattle.std.specs.Prelude.{◌≡◌, List, length};
-ghost use Rattle.asm80_program_types.specs.Program.{Program, IsProgram};
+ghost use Rattle.asm80_types.specs.Program.{Program, IsProgram};
 ghost use Rattle.asm86_line_types.specs.declared.line.Line86.{Line86};
 ghost use Rattle.asm86_line_types.specs.Image.{statements};
 ghost use Rattle.flow.specs.Blocks.{blocks};

@@ -6,7 +6,7 @@ ghost use Rattle.templates_law.specs.Names.{Same};
 ghost use Rattle.text_check.specs.Findings.{AreOfLines, IsFinding, IfShown};
 ghost use Rattle.xlt_core.specs.Validation.{ShownIsSame};
 
-use asm80_program_types::Program80;
+use asm80_types::Program80;
 use asm86::{Image86, image};
 use asm86_line_types::Line86;
 use flow::Graph;

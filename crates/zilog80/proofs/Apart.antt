@@ -2,7 +2,7 @@
 use Rattle.std.proofs.Common.{◌≡◌, ℕ, List, [], ◌∷◌, map, Bool, true, false, not, ◌&&◌, ◌||◌, Some, refl, ap, ◌∙◌, inl, inr}
 use Rattle.std.specs.List.{list_any, list_all}
 use Rattle.std.specs.Str.{bytes_eq}
-use Rattle.asm80_statement_types.specs.Tree.{Tree, Operand}
+use Rattle.asm80_types.specs.Tree.{Tree, Operand}
 use Rattle.zilog80.specs.Operands.{Spelt, Name, AtName, Literal, Value, AtValue, Class, Is, At, Register, Memory, Source, Pair, StackPair, Indirect, Bare, Any, Cell, Zero, Names, registers, memory, pairs, stack_pairs, indirects, renamed, nothing_if, of_name, of_name_at, operands}
 use Rattle.zilog80.specs.Table.{bare_rows, unary_rows, binary_rows}
 use Rattle.zilog80.proofs.Among.{named, itself, passes, both, two_cases, apart}

@@ -3,14 +3,14 @@ use Rattle.std.proofs.Common.{◌≡◌, ℕ, List, [], ◌∷◌, ◌++◌, Boo
 use Rattle.std.specs.List.{AllByRecursion, list_any, list_all, slice_split, onto_first}
 use Rattle.std.specs.Str.{bytes_eq}
 use Rattle.std.proofs.lemmas.List.Elements.{All-from_recursion}
-use Rattle.asm80_statement_types.specs.Tree.{Named, Operand, Whole}
-use Rattle.asm80_statement_types.specs.Words.{operations, registers as statement_registers, is_operation as is_statement_operation, is_register as is_statement_register}
-use Rattle.asm80_statement_types.specs.WellFormed.{IsLawfulOperand}
-use Rattle.asm80_statement_types.specs.Ranges.{IsInRange}
-use Rattle.asm80_tokens.specs.declared.token.Token.{Token}
-use Rattle.asm80_tokens.specs.Small.{IsSmall, AreSmall}
-use Rattle.asm80_tokens.specs.Tokens.{IsLawful}
-use Rattle.asm80_tokens.specs.Coherent.{IsCoherent}
+use Rattle.asm80_types.specs.Tree.{Named, Operand, Whole}
+use Rattle.asm80_types.specs.Words.{operations, registers as statement_registers, is_operation as is_statement_operation, is_register as is_statement_register}
+use Rattle.asm80_types.specs.WellFormed.{IsLawfulOperand}
+use Rattle.asm80_types.specs.Ranges.{IsInRange}
+use Rattle.asm80_text.specs.declared.token.Token.{Token}
+use Rattle.asm80_text.specs.Small.{IsSmall, AreSmall}
+use Rattle.asm80_text.specs.Tokens.{IsLawful}
+use Rattle.asm80_text.specs.Coherent.{IsCoherent}
 use Rattle.asm80_text.proofs.Alone.{one_operand_list}
 use Rattle.asm80_text.proofs.Lawful.{list_lawful}
 use Rattle.asm80_text.proofs.Ranges.{list_range}

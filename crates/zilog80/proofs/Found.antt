@@ -3,9 +3,9 @@ use Rattle.std.proofs.Common.{◌≡◌, ℕ, List, [], ◌∷◌, map, Bool, tr
 use Rattle.std.specs.Prelude.{find, option_map, is_some}
 use Rattle.std.specs.Str.{bytes_eq}
 use Rattle.std.proofs.lemmas.Bool.{ltb-true, leb-true}
-use Rattle.asm80_statement_types.specs.Name.{IsName}
-use Rattle.asm80_statement_types.specs.Tree.{Named, Operand, Whole}
-use Rattle.asm80_tokens.proofs.Names.{letters_are_name}
+use Rattle.asm80_types.specs.Name.{IsName}
+use Rattle.asm80_types.specs.Tree.{Named, Operand, Whole}
+use Rattle.asm80_text.proofs.Names.{letters_are_name}
 use Rattle.zilog80.specs.Operands.{Spelt, Class, Names, renamed, operands}
 use Rattle.zilog80.specs.Read.{class_of, is_word, are_words, BareEntry, UnaryEntry, BinaryEntry, bare_of, unary_of, binary_of, fits_unary, fits_binary, IsBareRow, IsUnaryRow, IsBinaryRow}
 use Rattle.zilog80.proofs.Among.{Among, among, contained, passes, both, same_name, itself, found, not_found}

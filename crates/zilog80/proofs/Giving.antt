@@ -3,7 +3,7 @@ use Rattle.std.proofs.Common.{◌≡◌, ℕ, zero, List, [], ◌∷◌, Bool, t
 use Rattle.std.specs.Prelude.{find, option_map}
 use Rattle.std.specs.List.{AllByRecursion}
 use Rattle.std.specs.Str.{bytes_eq}
-use Rattle.asm80_statement_types.specs.Tree.{Named, Operand, Whole}
+use Rattle.asm80_types.specs.Tree.{Named, Operand, Whole}
 use Rattle.zilog80.specs.Operands.{Spelt, Name, AtName, Literal, Value, AtValue, Class, Is, At, Register, Memory, Source, Pair, StackPair, Indirect, Bare, Any, Cell, Zero, Names, registers, memory, pairs, stack_pairs, indirects, renamed, nothing_if, of_name, of_name_at, operands}
 use Rattle.zilog80.specs.Read.{value_in}
 

@@ -5,15 +5,15 @@ use Rattle.std.specs.List.{slice_split, onto_first}
 use Rattle.std.specs.Global.{Vec}
 use Rattle.std.proofs.lemmas.List.{at_drop_more, at_drop_all, take_all}
 use Rattle.std.proofs.lemmas.List.Sums.{prefix_len-drop_yes, prefix_len-drop_no, prefix_len-drop_all}
-use Rattle.asm80_statement_types.specs.declared.arg.Arg.{Arg}
-use Rattle.asm80_statement_types.specs.declared.expr.Expr.{Expr}
-use Rattle.asm80_statement_types.specs.declared.name.Name80.{Name80}
-use Rattle.asm80_statement_types.specs.Tree.{Operand, tree_of}
-use Rattle.asm80_tokens.specs.declared.token.Token.{Token}
-use Rattle.asm80_tokens.specs.declared.token.Token.TheVariants.{Comma, Register}
-use Rattle.asm80_tokens.specs.declared.fault.ParseFault.{ParseFault}
-use Rattle.asm80_tokens.specs.declared.fault.ParseFault.TheVariants as faults
-use Rattle.asm80_tokens.specs.TokenResults.{GivesOperation}
+use Rattle.asm80_types.specs.declared.arg.Arg.{Arg}
+use Rattle.asm80_types.specs.declared.expr.Expr.{Expr}
+use Rattle.asm80_types.specs.declared.name.Name80.{Name80}
+use Rattle.asm80_types.specs.Tree.{Operand, tree_of}
+use Rattle.asm80_text.specs.declared.token.Token.{Token}
+use Rattle.asm80_text.specs.declared.token.Token.TheVariants.{Comma, Register}
+use Rattle.asm80_text.specs.declared.fault.ParseFault.{ParseFault}
+use Rattle.asm80_text.specs.declared.fault.ParseFault.TheVariants as faults
+use Rattle.asm80_text.specs.TokenResults.{GivesOperation}
 use Rattle.asm80_text.specs.Results.{GivesOperandList}
 use Rattle.zilog80.specs.declared.class.Class.{Class as ReadClass}
 use Rattle.zilog80.specs.Operands.{Spelt, Value, AtValue, Class, has_reserved, is_reserved, atom_of, IsSpelt, atom, value, at_value, operands}

@@ -1,8 +1,8 @@
 -- A word with its operands is one instruction, and which one was found.
 use Rattle.std.proofs.Common.{◌≡◌, ℕ, List, ◌++◌, true, Option, Some, refl, sym, ap, ◌∙◌, inl, inr}
 use Rattle.std.specs.Prelude.{Contains}
-use Rattle.asm80_statement_types.specs.Tree.{Operand}
-use Rattle.asm80_tokens.specs.declared.token.Token.{Token}
+use Rattle.asm80_types.specs.Tree.{Operand}
+use Rattle.asm80_text.specs.declared.token.Token.{Token}
 use Rattle.zilog80.specs.Operands.{Spelt, Class, operands}
 use Rattle.zilog80.specs.Table.{bare_rows, unary_rows, binary_rows}
 use Rattle.zilog80.specs.Zilog.{IsInstruction, bare, unary, binary}

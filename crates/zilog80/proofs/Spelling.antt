@@ -1,11 +1,11 @@
 -- How an operand is spelt: in one way, and with numbers in range.
 use Rattle.std.proofs.Common.{◌≡◌, List, [], ◌∷◌, Option, Some, None, sym, ap, ◌∙◌, subst, arith}
 use Rattle.std.specs.List.{AllByRecursion}
-use Rattle.asm80_statement_types.specs.Tree.{Tree, Whole}
-use Rattle.asm80_statement_types.specs.Ranges.{IsInRange}
-use Rattle.asm80_tokens.specs.declared.token.Token.{Token}
-use Rattle.asm80_tokens.specs.declared.token.Token.TheVariants.{Digits, Num, Register as Reserved, Open, Close}
-use Rattle.asm80_tokens.specs.Small.{AreSmall}
+use Rattle.asm80_types.specs.Tree.{Tree, Whole}
+use Rattle.asm80_types.specs.Ranges.{IsInRange}
+use Rattle.asm80_text.specs.declared.token.Token.{Token}
+use Rattle.asm80_text.specs.declared.token.Token.TheVariants.{Digits, Num, Register as Reserved, Open, Close}
+use Rattle.asm80_text.specs.Small.{AreSmall}
 use Rattle.asm80_text.specs.Grammar.{Spells, alone, tighter, parens}
 use Rattle.asm80_text.specs.Statement.{value as expression, last, full}
 use Rattle.asm80_text.proofs.Unambiguous.{one_expression}

@@ -3,9 +3,9 @@
 use Rattle.std.specs.Prelude.{◌≡◌, ℕ, zero, suc, List, [], ◌∷◌, codes, Bool, true, false, Option, Some, None, option_map, find, if◌then◌else◌}
 use Rattle.std.specs.List.{list_any}
 use Rattle.std.specs.Str.{bytes_eq}
-use Rattle.asm80_statement_types.specs.Tree.{Tree, Number, Named, Operand, Whole}
-use Rattle.asm80_tokens.specs.declared.token.Token.{Token}
-use Rattle.asm80_tokens.specs.declared.token.Token.TheVariants.{Digits, Num, Register as Reserved, Open, Close}
+use Rattle.asm80_types.specs.Tree.{Tree, Number, Named, Operand, Whole}
+use Rattle.asm80_text.specs.declared.token.Token.{Token}
+use Rattle.asm80_text.specs.declared.token.Token.TheVariants.{Digits, Num, Register as Reserved, Open, Close}
 use Rattle.asm80_text.specs.Grammar.{Spells}
 
 -- ---- how an operand is spelt

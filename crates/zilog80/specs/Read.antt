@@ -5,14 +5,14 @@ use Rattle.std.specs.declared.alloc.AllocError.{AllocError}
 use Rattle.std.specs.List.{list_all, prefix_len, slice_split}
 use Rattle.std.specs.Str.{bytes_eq}
 use Rattle.std.specs.Global.{Vec}
-use Rattle.asm80_statement_types.specs.declared.arg.Arg.{Arg}
-use Rattle.asm80_statement_types.specs.declared.expr.Expr.{Expr}
-use Rattle.asm80_statement_types.specs.Tree.{Tree, Number, Named, tree_of, Operand, Whole, operand_of}
-use Rattle.asm80_tokens.specs.declared.token.Token.{Token}
-use Rattle.asm80_tokens.specs.declared.fault.ParseFault.{ParseFault}
-use Rattle.asm80_tokens.specs.declared.fault.ParseFault.TheVariants as parse
+use Rattle.asm80_types.specs.declared.arg.Arg.{Arg}
+use Rattle.asm80_types.specs.declared.expr.Expr.{Expr}
+use Rattle.asm80_types.specs.Tree.{Tree, Number, Named, tree_of, Operand, Whole, operand_of}
+use Rattle.asm80_text.specs.declared.token.Token.{Token}
+use Rattle.asm80_text.specs.declared.fault.ParseFault.{ParseFault}
+use Rattle.asm80_text.specs.declared.fault.ParseFault.TheVariants as parse
 use Rattle.asm80_text.specs.Grammar.{Spells}
-use Rattle.asm80_tokens.specs.Letters.{is_upper}
+use Rattle.asm80_text.specs.Letters.{is_upper}
 use Rattle.zilog80.specs.declared.class.Class.{Class as ReadClass}
 use Rattle.zilog80.specs.declared.class.Class.TheVariants as read
 use Rattle.zilog80.specs.declared.class.Given.{Given}

@@ -3,11 +3,11 @@
 -- spelling.
 use Rattle.std.specs.Prelude.{◌≡◌, ℕ, List, [], ◌∷◌, ◌++◌, Bool, true, false, Some, Contains}
 use Rattle.std.specs.List.{slice_split}
-use Rattle.asm80_statement_types.specs.Tree.{Operand}
-use Rattle.asm80_statement_types.specs.Reading.{Reading}
-use Rattle.asm80_tokens.specs.declared.token.Token.{Token}
-use Rattle.asm80_tokens.specs.declared.token.Token.TheVariants.{Comma}
-use Rattle.asm80_tokens.specs.Spelling.{Spelling}
+use Rattle.asm80_types.specs.Tree.{Operand}
+use Rattle.asm80_types.specs.Reading.{Reading}
+use Rattle.asm80_text.specs.declared.token.Token.{Token}
+use Rattle.asm80_text.specs.declared.token.Token.TheVariants.{Comma}
+use Rattle.asm80_text.specs.Spelling.{Spelling}
 use Rattle.asm80_text.specs.Statement.{HasOperands}
 use Rattle.asm80_text.specs.Stream.{StreamGives}
 use Rattle.zilog80.specs.Operands.{Class, Spelt, IsSpelt, operands}

@@ -1,7 +1,7 @@
 //! Instructions.
 
 ghost use Rattle.std.specs.Prelude.{◌≡◌, ◌++◌, [], ◌∷◌, IfSome, OnOk, map, option_copied};
-ghost use Rattle.asm80_statement_types.specs.Tree.{operand_of};
+ghost use Rattle.asm80_types.specs.Tree.{operand_of};
 ghost use Rattle.zilog80.specs.Operands.{operands};
 ghost use Rattle.zilog80.specs.Read.{GivesInstruction, IsNextOperand, class_of, given_by, operands_of, spelt_of, value_in};
 ghost use Rattle.zilog80.specs.Zilog.{operand_parts};

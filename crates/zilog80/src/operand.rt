@@ -1,7 +1,7 @@
 //! How an operand is spelt.
 
 ghost use Rattle.std.specs.Prelude.{◌≡◌, ◌↔◌, [], ◌∷◌, IsTrue, None, false, option_map};
-ghost use Rattle.asm80_tokens.specs.declared.token.Token.{Token};
+ghost use Rattle.asm80_text.specs.declared.token.Token.{Token};
 ghost use Rattle.zilog80.specs.Operands.{atom_of, has_reserved};
 ghost use Rattle.zilog80.specs.Read.{GivesEnclosed, GivesSpelt, GivesWhole, spelt_of};
 

@@ -9,8 +9,8 @@ ghost use Rattle.zilog80.specs.Read.{BinaryEntry, IsBareRow, IsBinaryRow, IsUnar
 use crate::class::Class::{self, *};
 use crate::class::beside;
 use crate::operand::Spelt;
-use asm80_statement_types::{WordsByLetter, is_listed};
 use asm80_text::Name80;
+use asm80_types::{WordsByLetter, is_listed};
 
 /// Rows by the first letters of their words: those with A, those with B, and so on, each in the order of the definition's rows.
 type ByLetter<'a, Row> = [&'a [Row]; 26];

@@ -5,7 +5,7 @@ use Rattle.cells.specs.declared.Cell.TheVariants.{Num, Lo, Hi, Psw, Junk}
 use Rattle.cells.specs.declared.Rule.{Rule}
 use Rattle.cells.specs.declared.Rule.TheVariants.{P2, P3, P4, P8}
 use Rattle.dialogue.proofs.Tried.{ok_is, err_is_not, then_is}
-use Rattle.asm80_program_types.specs.Program.{Program}
+use Rattle.asm80_types.specs.Program.{Program}
 use Rattle.cpu80_tagged.specs.State.{State80, num_or}
 use Rattle.cpu80_tagged.specs.Memory.{is_closed, is_write_protected, unless_then, put, address, word_fits, read_at, may_write, write_at, Halves, read_word, write_word}
 use Rattle.cpu80_tagged.proofs.Passing.{unless_is, within}

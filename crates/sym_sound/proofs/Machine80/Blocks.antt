@@ -10,7 +10,7 @@ use Rattle.i80.specs.declared.Instr80.{Instr80}
 use Rattle.i80.specs.declared.Instr80.TheVariants.{Pchl, Jmp, Jif, Call, Cif, Ret, Rif, Rst0, In, Out}
 use Rattle.i80.specs.Columns.{length80, ends80}
 use Rattle.dialogue.specs.Run.{Answer, Ran, Stops}
-use Rattle.asm80_program_types.specs.Program.{Program, IsProgram, instr_at, is_start}
+use Rattle.asm80_types.specs.Program.{Program, IsProgram, instr_at, is_start}
 use Rattle.cpu80_tagged.specs.State.{State80, reg80}
 use Rattle.cpu80_tagged.specs.Effect.{effect}
 use Rattle.cpu80_tagged.specs.Call.{popped_return}
@@ -27,8 +27,8 @@ use Rattle.sym_sound.proofs.Machine80.Denoting.{Denotes}
 use Rattle.sym_sound.proofs.Machine80.Moves.{Denoted}
 use Rattle.sym_sound.proofs.Machine80.Rows.{row}
 use Rattle.sym_sound.proofs.Machine80.Leaving.{AnswersBy, AnsweredBy, goto_answered, pair_answered, return_answered, jump_answered, call_answered, in_answered, out_answered, one_answered, two_answered}
-use Rattle.asm80_program_types.proofs.Standing.{IsPlaced, is_placed}
-use Rattle.asm80_program_types.proofs.Lookup.{start_is}
+use Rattle.asm80_types.proofs.Standing.{IsPlaced, is_placed}
+use Rattle.asm80_types.proofs.Lookup.{start_is}
 use Rattle.sym_sound.proofs.Machine80.Standing.{loads_held, call_taken, cif_taken}
 
 -- the step at an instruction

@@ -15,7 +15,7 @@ use Rattle.i80.specs.declared.Op.TheVariants.{Add, Adc, Sub, Sbb, Ana, Xra, Ora,
 use Rattle.base.specs.Arithmetic.{as_bit, daa_result, daa_carry, daa_excepted}
 use Rattle.base.specs.Operations.{flags_by, result_of, flags_of}
 use Rattle.base.proofs.Bytes.{result_small}
-use Rattle.asm80_program_types.specs.Program.{Program}
+use Rattle.asm80_types.specs.Program.{Program}
 use Rattle.cpu80_tagged.specs.State.{State80, reg80, with_a, with_flags, num_or}
 use Rattle.cpu80_tagged.specs.Effect.{known, carry_for, a_after as a_after80, alu_with}
 use Rattle.sym_terms.specs.Term.{Term, Num, Alu, Adjust, is_byte, is_bit, is_flag, leaves_flag, is_open}

@@ -3,7 +3,7 @@ use Rattle.std.proofs.Common.{◌≡◌, ℕ, ◌+◌, ◌<◌, ◌==◌, Bool, 
 use Rattle.std.proofs.lemmas.List.{length-append, append-nil}
 use Rattle.cells.specs.declared.Flags.{Flags}
 use Rattle.cells.specs.declared.Cell.{Cell}
-use Rattle.asm80_program_types.specs.Program.{Program}
+use Rattle.asm80_types.specs.Program.{Program}
 use Rattle.cpu80_tagged.specs.State.{State80, Regs80, reg80}
 use Rattle.cpu80_tagged.specs.Memory.{is_closed, is_write_protected, put}
 use Rattle.sym_terms.specs.Term.{Term, Loaded8, Loaded16}

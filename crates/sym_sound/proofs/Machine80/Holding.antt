@@ -8,7 +8,7 @@ use Rattle.i80.specs.declared.Src.{Src}
 use Rattle.i80.specs.declared.Src.TheVariants.{Reg as InReg, Mem}
 use Rattle.i80.specs.declared.Pair.{Pair}
 use Rattle.i80.specs.declared.Pair.TheVariants.{B as PairB, D as PairD, H as PairH, Sp}
-use Rattle.asm80_program_types.specs.Program.{Program}
+use Rattle.asm80_types.specs.Program.{Program}
 use Rattle.cpu80_tagged.specs.State.{State80, Regs80, reg80, with_reg80, high_of, low_of, with_bc, with_de, with_hl}
 use Rattle.cpu80_tagged.specs.Memory.{address}
 use Rattle.cpu80_tagged.specs.Effect.{source as source80, into as into80}

@@ -18,8 +18,8 @@ use Rattle.dialogue.specs.declared.request.Event.{Event}
 use Rattle.dialogue.specs.declared.request.Event.TheVariants.{In as AskedIn}
 use Rattle.dialogue.specs.Run.{Answer, Ran, Asks, Stops}
 use Rattle.dialogue.specs.Words.{wrap}
-use Rattle.asm80_program_types.specs.Program.{Program, is_start}
-use Rattle.asm80_program_types.specs.Taken.{takes}
+use Rattle.asm80_types.specs.Program.{Program, is_start}
+use Rattle.asm80_types.specs.Taken.{takes}
 use Rattle.cpu80_tagged.specs.State.{State80, num_or}
 use Rattle.cpu80_tagged.specs.Memory.{read_word}
 use Rattle.cpu80_tagged.specs.Effect.{push}

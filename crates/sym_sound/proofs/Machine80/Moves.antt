@@ -14,7 +14,7 @@ use Rattle.i80.specs.declared.StackPair.{StackPair}
 use Rattle.i80.specs.declared.StackPair.TheVariants.{B as StackB, D as StackD, H as StackH, Psw}
 use Rattle.i80.specs.declared.Word.TheVariants.{Code as CodeAt}
 use Rattle.base.specs.Operations.{flags_in}
-use Rattle.asm80_program_types.specs.Program.{Program}
+use Rattle.asm80_types.specs.Program.{Program}
 use Rattle.dialogue.specs.Words.{wrap}
 use Rattle.cpu80_tagged.specs.State.{State80, reg80, with_a as with_a80, with_num}
 use Rattle.cpu80_tagged.specs.Memory.{put, read_at, write_at, Halves, read_word, write_word}

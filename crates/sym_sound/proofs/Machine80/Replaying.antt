@@ -3,7 +3,7 @@ use Rattle.std.proofs.Common.{◌≡◌, ℕ, ◌+◌, List, [], ◌∷◌, ◌+
 use Rattle.std.proofs.lemmas.List.{append-nil}
 use Rattle.std.proofs.Common.{append_assoc}
 use Rattle.cells.specs.declared.Cell.{Cell}
-use Rattle.asm80_program_types.specs.Program.{Program}
+use Rattle.asm80_types.specs.Program.{Program}
 use Rattle.cpu80_tagged.specs.Memory.{put}
 use Rattle.sym_terms.specs.Values80.{Env80, Load80, LoadedByte, LoadedWord}
 use Rattle.sym_block_def.specs.Outcome.{Action, Load8, Load16, Store8, Store16}

@@ -13,7 +13,7 @@ use Rattle.i80.specs.declared.Word.TheVariants.{Num as Number, Code as CodeAt}
 use Rattle.i80.specs.declared.Instr80.{Instr80}
 use Rattle.i80.specs.declared.Instr80.TheVariants.{Nop, Mov, Mvi, Lxi, Lda, Sta, Lhld, Shld, Ldax, Stax, Xchg, Xthl, Sphl, Alu as AluWith, AluI, Inr, Dcr, Inx, Dcx, Dad, Daa, Cma, Stc, Cmc, Rlc, Rrc, Ral, Rar, Push, Pop}
 use Rattle.i80.specs.Columns.{is_well_formed, gives_zero}
-use Rattle.asm80_program_types.specs.Program.{Program, IsCoded}
+use Rattle.asm80_types.specs.Program.{Program, IsCoded}
 use Rattle.cpu80_tagged.specs.State.{State80}
 use Rattle.cpu80_tagged.specs.Memory.{address}
 use Rattle.cpu80_tagged.specs.Effect.{source as source80, into as into80, lda as lda80, sta as sta80, cleared as cleared80, alu as alu80, alu_with, effect}

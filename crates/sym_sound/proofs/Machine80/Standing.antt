@@ -6,9 +6,9 @@ use Rattle.i80.specs.declared.Goal.TheVariants.{At as ToInstr, Boot as ToBoot, B
 use Rattle.i80.specs.declared.Word.TheVariants.{Code as CodeAt}
 use Rattle.i80.specs.declared.Instr80.{Instr80}
 use Rattle.i80.specs.declared.Instr80.TheVariants.{Lxi, Call, Cif}
-use Rattle.asm80_program_types.specs.Program.{Program}
-use Rattle.asm80_program_types.specs.Taken.{takes}
-use Rattle.asm80_program_types.proofs.Standing.{IsPlaced}
+use Rattle.asm80_types.specs.Program.{Program}
+use Rattle.asm80_types.specs.Taken.{takes}
+use Rattle.asm80_types.proofs.Standing.{IsPlaced}
 use Rattle.sym_sound.proofs.Machine80.Rows.{LoadsHeld}
 use Rattle.sym_sound.proofs.Machine80.Leaving.{ReturnIsTaken}
 

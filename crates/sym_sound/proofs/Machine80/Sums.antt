@@ -19,7 +19,7 @@ use Rattle.base.specs.Operations.{flags_by, result_of, flags_of}
 use Rattle.base.proofs.Bytes.{turned_round, carry_is, inverted_is}
 use Rattle.dialogue.specs.Tried.{try_then}
 use Rattle.dialogue.specs.Words.{wrap}
-use Rattle.asm80_program_types.specs.Program.{Program}
+use Rattle.asm80_types.specs.Program.{Program}
 use Rattle.cpu80_tagged.specs.State.{State80, reg80, high_of, low_of, with_a as with_a80, with_num, with_flags, with_cy, num_or}
 use Rattle.cpu80_tagged.specs.Memory.{put, address, read_at, may_write}
 use Rattle.cpu80_tagged.specs.Effect.{source as source80, into as into80, known, counted, inr, dcr, pair_num, add_to_pair as add80, dad as dad80, daa as daa80, cma, cmc, rlc, rrc, ral, rar, cleared as cleared80}

@@ -22,7 +22,7 @@ use Rattle.asm86_line_types.specs.declared.line.Stmt86.TheVariants.{Run, Jmp, Jm
 use Rattle.asm86_line_types.specs.declared.line.Line86.{Line86}
 use Rattle.asm86_line_types.specs.Layout.{offset_of, place_of, distance16, distance8}
 use Rattle.asm86_line_types.specs.Image.{Assembles, image_of, statements, AllDefined, used_in}
-use Rattle.asm80_program_types.specs.Program.{Program, is_start}
+use Rattle.asm80_types.specs.Program.{Program, is_start}
 use Rattle.cpu86.specs.State.{State86, Flags86, push}
 use Rattle.cpu86.specs.Flags.{jumps}
 use Rattle.cpu86.specs.Step.{step86, machine86}

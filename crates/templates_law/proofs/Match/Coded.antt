@@ -6,7 +6,7 @@ use Rattle.i80.specs.declared.Word.TheVariants.{Num, Code}
 use Rattle.i80.specs.declared.Goal.TheVariants.{At, Boot, Bdos}
 use Rattle.i80.specs.declared.Instr80.{Instr80}
 use Rattle.i80.specs.declared.Instr80.TheVariants.{Mov, Mvi, Lxi, Lda, Sta, Lhld, Shld, Ldax, Stax, Xthl, AluI, Inx, Dcx, Dad, Push, Pop, Jif, Call, Cif, Rif, In, Out}
-use Rattle.asm80_program_types.specs.Program.{IsCoded}
+use Rattle.asm80_types.specs.Program.{IsCoded}
 use Rattle.asm86_line_types.specs.declared.line.Stmt86.{Stmt86}
 use Rattle.asm86_line_types.specs.declared.line.Stmt86.TheVariants.{Run, MovOffset}
 use Rattle.templates.specs.Template.{template}

@@ -14,7 +14,7 @@ use Rattle.i80.specs.declared.Instr80.TheVariants.{Pchl, Jmp, Jif, Call as CallT
 use Rattle.i80.specs.Columns.{ends80, uses80, flag_of_condition, asked_of}
 use Rattle.i86.specs.declared.Jump.{Jump}
 use Rattle.i86.specs.declared.Instr86.TheVariants.{Ret as Ret86, Int224}
-use Rattle.asm80_program_types.specs.Program.{Program, is_start}
+use Rattle.asm80_types.specs.Program.{Program, is_start}
 use Rattle.asm86_line_types.specs.declared.line.Label.{Label}
 use Rattle.asm86_line_types.specs.declared.line.Label.TheVariants.{At, Skip, Sys as SysLabel, End}
 use Rattle.asm86_line_types.specs.declared.line.Stmt86.{Stmt86}
@@ -29,7 +29,7 @@ use Rattle.sym_block_def.specs.Block80.{Symbolic80, goto, jump, call, return_by,
 use Rattle.sym_block_def.specs.Symbolic86.{Symbolic86}
 use Rattle.sym_block_def.specs.Walk86.{Surroundings, EndsAt, after_label, way_to, met, met_label, back_from_call, back_from_system, return_way, bx_way, go_behind, walk_jump, jump_to, way_from, flag_of_jump, jumps_at, outcome86, one_way, two_ways, is_call, walk_through}
 use Rattle.sym_block_def.proofs.Exits.{exit_falls}
-use Rattle.block_check_def.specs.Agree.{agrees, way_agrees}
+use Rattle.sym_block_def.specs.Agree.{agrees, way_agrees}
 use Rattle.templates_law.specs.Match.Meeting.{Meets, lost, same, Among, Agree}
 use Rattle.templates_law.proofs.Match.Terms.{meets_agree}
 use Rattle.templates_law.proofs.Match.Row.{in_first}

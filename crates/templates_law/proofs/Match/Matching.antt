@@ -7,9 +7,9 @@ use Rattle.cells.specs.Parts.{nothing}
 use Rattle.asm86_line_types.specs.declared.line.Label.TheVariants.{At, Sys}
 use Rattle.asm86_line_types.specs.declared.line.Stmt86.{Stmt86}
 use Rattle.asm86_line_types.specs.declared.line.Stmt86.TheVariants.{Mark}
-use Rattle.asm80_program_types.specs.declared.program.Placed.{Placed}
-use Rattle.asm80_program_types.specs.Program.{Program, IsProgram, AreLaid, placed_in, is_start}
-use Rattle.asm80_program_types.proofs.Lookup.{length80-positive}
+use Rattle.asm80_types.specs.declared.program.Placed.{Placed}
+use Rattle.asm80_types.specs.Program.{Program, IsProgram, AreLaid, placed_in, is_start}
+use Rattle.asm80_types.proofs.Lookup.{length80-positive}
 use Rattle.flow.specs.Blocks.{block_at, end_of, BlocksCut}
 use Rattle.flow.specs.Need.{NeedsAreClosed}
 use Rattle.flow.specs.Solving.{Needs, AreAllNeeds}
@@ -19,7 +19,7 @@ use Rattle.sym_block_def.specs.Block80.{start80, outcome_from}
 use Rattle.sym_block_def.specs.Symbolic86.{Symbolic86, start86}
 use Rattle.sym_block_def.specs.Walk86.{Surroundings, surroundings, after_label, is_passed, met, walk_through, walk_some, walk_behind}
 use Rattle.sym_block_def.specs.Sorts.{StepsKeepSorts}
-use Rattle.block_check_def.specs.BlockMatch.{walked_reason, block_reason}
+use Rattle.sym_block_def.specs.BlockMatch.{walked_reason, block_reason}
 use Rattle.simulation_def.specs.Needed.{needed_by}
 use Rattle.templates_law.specs.Match.Rows.{RowsAgree, RowsKeepSorts, PairsMayGo}
 use Rattle.templates_law.specs.Match.Exits.{StatementsArePassed, TemplatesAreWalked, EndsBehind, ExitsAgree}

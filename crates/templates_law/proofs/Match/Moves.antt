@@ -16,7 +16,7 @@ use Rattle.sym_block_def.specs.Outcome.{Action, Load8, Load16, Store8, Store16, 
 use Rattle.sym_block_def.specs.Block80.{Symbolic80, reg_term, with_reg, pair_term, with_pair, with_held, load8, load16, store8, store16, next_byte, next_word}
 use Rattle.sym_block_def.specs.Symbolic86.{Symbolic86, reg8_term, with_reg8, reg16_term, with_reg16, losing_flags, with_held as with_held86, load8 as load8_86, load16 as load16_86, store8 as store8_86, store16 as store16_86, next_byte as next_byte86, next_word as next_word86}
 use Rattle.sym_block_def.specs.Sorts.{AreSorted80, AreSorted86}
-use Rattle.block_check_def.specs.Agree.{agrees, action_agrees, actions_agree}
+use Rattle.sym_block_def.specs.Agree.{agrees, action_agrees, actions_agree}
 use Rattle.templates_law.specs.Match.Meeting.{Meets, same, WordsMeet, one_word, Among, Agree}
 use Rattle.templates_law.specs.Match.Rows.{unsaved}
 use Rattle.templates_law.proofs.Match.Terms.{flags_meet}

@@ -13,8 +13,8 @@ use Rattle.i80.specs.declared.Goal.TheVariants.{At as ToInstr, Boot as ToBoot, B
 use Rattle.i80.specs.declared.Instr80.{Instr80}
 use Rattle.i80.specs.declared.Instr80.TheVariants.{Pchl, Jmp, Jif, Call as CallTo, Cif, Ret, Rif, Rst0, In as InFrom, Out as OutTo}
 use Rattle.i80.specs.Columns.{ends80, uses80, defs80, flag_of_condition, asked_of}
-use Rattle.asm80_program_types.specs.declared.program.Placed.{Placed}
-use Rattle.asm80_program_types.specs.Program.{Program, instr_at, instr_of_placed, placed_in, is_start}
+use Rattle.asm80_types.specs.declared.program.Placed.{Placed}
+use Rattle.asm80_types.specs.Program.{Program, instr_at, instr_of_placed, placed_in, is_start}
 use Rattle.flow.specs.declared.node.Node.{Node}
 use Rattle.flow.specs.declared.node.Node.TheVariants.{Start, Return}
 use Rattle.flow.specs.Blocks.{block_at, end_of}
@@ -23,7 +23,7 @@ use Rattle.flow.specs.Need.{Need, NeedsAreClosed, parts_at}
 use Rattle.flow.specs.Solving.{Needs, AreAllNeeds}
 use Rattle.sym_block_def.specs.Outcome.{Way, Goto, Call, Sys, SysReturn, Boot, Leave, In, Out, One}
 use Rattle.sym_block_def.specs.Block80.{Symbolic80, goto, call, return_by, asking, exit80}
-use Rattle.block_check_def.specs.BlockMatch.{without_a, kept_with_a, kept_after_way, kept_by_exit, lost_by}
+use Rattle.sym_block_def.specs.BlockMatch.{without_a, kept_with_a, kept_after_way, kept_by_exit, lost_by}
 use Rattle.simulation_def.specs.Needed.{needed_by}
 use Rattle.templates_law.specs.Match.Meeting.{Among}
 use Rattle.templates_law.proofs.Match.Moves.{has_nothing}

@@ -8,10 +8,10 @@ use Rattle.i80.specs.declared.Op.TheVariants.{Ora}
 use Rattle.i80.specs.declared.Goal.TheVariants.{At as ToInstr, Boot as ToBoot}
 use Rattle.i80.specs.declared.Instr80.{Instr80}
 use Rattle.i80.specs.declared.Instr80.TheVariants.{Mov, Xthl, Sphl, Alu, Daa, Jmp, Call, Jif, Rif, In, Out}
-use Rattle.asm80_program_types.specs.declared.program.Placed.{Placed}
-use Rattle.asm80_program_types.specs.Program.{Program, program_of}
+use Rattle.asm80_types.specs.declared.program.Placed.{Placed}
+use Rattle.asm80_types.specs.Program.{Program, program_of}
 use Rattle.templates.specs.Plain.{plain_statements}
-use Rattle.block_check_def.specs.BlockMatch.{Keeps, block_reason}
+use Rattle.sym_block_def.specs.BlockMatch.{Keeps, block_reason}
 
 abbrev line : ℕ → ℕ → Instr80 → Placed
 line at n i = record { at = at; line = n; instr = i }

@@ -2,8 +2,8 @@
 use Rattle.std.proofs.Common.{◌≡◌, ℕ, ◌+◌, List, [], ◌∷◌, Some, refl, subst, arith, Bool, true, false, cond, ◌==◌}
 use Rattle.std.proofs.lemmas.Bool.Decides.{nat_tests}
 use Rattle.i80.specs.Columns.{length80, is_well_formed}
-use Rattle.asm80_program_types.specs.declared.program.Placed.{Placed}
-use Rattle.asm80_program_types.specs.Program.{placed_in, AreLaid}
+use Rattle.asm80_types.specs.declared.program.Placed.{Placed}
+use Rattle.asm80_types.specs.Program.{placed_in, AreLaid}
 
 -- what is found at an address stands there
 pub found_at : (xs : List Placed) (a : ℕ) (x : Placed) → placed_in xs a ≡ Some x → x.at ≡ a

@@ -9,9 +9,9 @@ use Rattle.asm86_line_types.specs.declared.line.Label.{Label}
 use Rattle.asm86_line_types.specs.declared.line.Label.TheVariants.{At, Skip, User, Sys, End}
 use Rattle.asm86_line_types.specs.declared.line.Stmt86.{Stmt86}
 use Rattle.asm86_line_types.specs.declared.line.Stmt86.TheVariants.{Dseg, Mark}
-use Rattle.asm80_program_types.specs.declared.program.Placed.{Placed}
-use Rattle.asm80_program_types.specs.Program.{Program, IsProgram, placed_in, is_start, instr_of_placed}
-use Rattle.asm80_program_types.proofs.Standing.{start_has}
+use Rattle.asm80_types.specs.declared.program.Placed.{Placed}
+use Rattle.asm80_types.specs.Program.{Program, IsProgram, placed_in, is_start, instr_of_placed}
+use Rattle.asm80_types.proofs.Standing.{start_has}
 use Rattle.templates.specs.Template.{template}
 use Rattle.templates.specs.Plain.{call_code, end_code, data_from, ending, body, plain_statements}
 use Rattle.sym_block_def.specs.Outcome.{Way, Outcome}
@@ -19,7 +19,7 @@ use Rattle.sym_block_def.specs.Block80.{Symbolic80, start80, effect80, exit80, o
 use Rattle.sym_block_def.specs.Symbolic86.{Symbolic86, start86}
 use Rattle.sym_block_def.specs.Walk86.{Surroundings, surroundings, after_label, way_to, is_passed, met, walk_through, walk_behind}
 use Rattle.sym_block_def.specs.Sorts.{StepsKeepSorts}
-use Rattle.block_check_def.specs.BlockMatch.{Keeps, walked_reason, block_reason}
+use Rattle.sym_block_def.specs.BlockMatch.{Keeps, walked_reason, block_reason}
 use Rattle.templates_law.specs.Match.Meeting.{Among, Agree}
 use Rattle.templates_law.specs.Match.Rows.{all_passed, loses, RowsAgree}
 use Rattle.templates_law.proofs.Match.Moves.{has_nothing, agree_on}

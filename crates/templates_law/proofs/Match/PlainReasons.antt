@@ -11,8 +11,8 @@ use Rattle.sym_block_def.specs.Outcome.{Exit, Outcome, term_in}
 use Rattle.sym_block_def.specs.Block80.{Symbolic80, start80, outcome80}
 use Rattle.sym_block_def.specs.Symbolic86.{Symbolic86, start86}
 use Rattle.sym_block_def.specs.Walk86.{outcome86}
-use Rattle.block_check_def.specs.Agree.{agrees, exit_agrees}
-use Rattle.block_check_def.specs.BlockMatch.{Keeps, kept_by_exit, lost_by, is_bad, is_boot_alone, kept_reason, outcome_reason}
+use Rattle.sym_block_def.specs.Agree.{agrees, exit_agrees}
+use Rattle.sym_block_def.specs.BlockMatch.{Keeps, kept_by_exit, lost_by, is_bad, is_boot_alone, kept_reason, outcome_reason}
 use Rattle.templates_law.specs.Match.Meeting.{Meets, same, one_word, Among, Agree}
 use Rattle.templates_law.proofs.Match.Terms.{meets_agree}
 use Rattle.templates_law.proofs.Match.Words.{words_agree}

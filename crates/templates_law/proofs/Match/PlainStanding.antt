@@ -17,10 +17,10 @@ use Rattle.asm86_line_types.specs.declared.line.Label.TheVariants.{At as Line, S
 use Rattle.asm86_line_types.specs.declared.line.Stmt86.{Stmt86}
 use Rattle.asm86_line_types.specs.declared.line.Stmt86.TheVariants.{Mark}
 use Rattle.asm86_line_types.specs.Layout.{same_label, marks}
-use Rattle.asm80_program_types.specs.declared.program.Placed.{Placed}
-use Rattle.asm80_program_types.specs.Program.{placed_in, AreLaid}
-use Rattle.asm80_program_types.proofs.Standing.{start_has}
-use Rattle.asm80_program_types.proofs.Lookup.{length80-positive, placed_above}
+use Rattle.asm80_types.specs.declared.program.Placed.{Placed}
+use Rattle.asm80_types.specs.Program.{placed_in, AreLaid}
+use Rattle.asm80_types.proofs.Standing.{start_has}
+use Rattle.asm80_types.proofs.Lookup.{length80-positive, placed_above}
 use Rattle.templates.specs.Template.{template}
 use Rattle.templates.specs.Plain.{body}
 use Rattle.sym_block_def.specs.Outcome.{Way, Goto, SysReturn}

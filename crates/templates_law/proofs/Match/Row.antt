@@ -15,7 +15,7 @@ use Rattle.templates.specs.Template.{template}
 use Rattle.sym_block_def.specs.Block80.{Symbolic80, pair_term, effect80}
 use Rattle.sym_block_def.specs.Symbolic86.{Symbolic86, reg16_term}
 use Rattle.sym_block_def.specs.Sorts.{AreSorted80, AreSorted86}
-use Rattle.block_check_def.specs.Agree.{agrees}
+use Rattle.sym_block_def.specs.Agree.{agrees}
 use Rattle.templates_law.specs.Match.Meeting.{Among, Agree}
 use Rattle.templates_law.specs.Match.Rows.{all_passed}
 use Rattle.templates_law.proofs.Match.Terms.{or_first}

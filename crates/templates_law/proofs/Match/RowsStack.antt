@@ -14,7 +14,7 @@ use Rattle.sym_terms.specs.Making.{sum16, join, bit}
 use Rattle.sym_block_def.specs.Outcome.{Held, with_flags_in}
 use Rattle.sym_block_def.specs.Block80.{flag_byte}
 use Rattle.sym_block_def.specs.Symbolic86.{next_word as next_word86}
-use Rattle.block_check_def.specs.Agree.{agrees, same_known}
+use Rattle.sym_block_def.specs.Agree.{agrees, same_known}
 use Rattle.templates_law.specs.Match.Meeting.{Meets, same, WordsMeet}
 use Rattle.templates_law.proofs.Match.Terms.{meets_agree}
 use Rattle.templates_law.proofs.Match.Words.{words_agree, sums_meet, number_words_meet}

@@ -7,9 +7,9 @@ use Rattle.std.proofs.lemmas.Bool.{or_right, or_from}
 use Rattle.i80.specs.declared.Instr80.{Instr80}
 use Rattle.i80.specs.Columns.{length80, ends80, is_well_formed}
 use Rattle.asm86_line_types.specs.declared.line.Label.TheVariants.{At}
-use Rattle.asm80_program_types.specs.declared.program.Placed.{Placed}
-use Rattle.asm80_program_types.specs.Program.{Program, IsProgram, IsCoded, AreCoded, AreLaid, placed_in, instr_at, instr_of_placed}
-use Rattle.asm80_program_types.proofs.Lookup.{length80-positive}
+use Rattle.asm80_types.specs.declared.program.Placed.{Placed}
+use Rattle.asm80_types.specs.Program.{Program, IsProgram, IsCoded, AreCoded, AreLaid, placed_in, instr_at, instr_of_placed}
+use Rattle.asm80_types.proofs.Lookup.{length80-positive}
 use Rattle.flow.specs.Blocks.{cut_from, leader_of, end_of, IsBlockOf}
 use Rattle.flow.proofs.Cuts.{flat, flat-cut, block, Joined, joined_block, sized_block}
 use Rattle.flow.proofs.Straight.{uncut}

@@ -11,9 +11,9 @@ use Rattle.asm86_line_types.specs.declared.line.Label.TheVariants.{At, Skip, Sys
 use Rattle.asm86_line_types.specs.declared.line.Stmt86.{Stmt86}
 use Rattle.asm86_line_types.specs.declared.line.Stmt86.TheVariants.{Mark, Jcc}
 use Rattle.asm86_line_types.specs.Layout.{marks}
-use Rattle.asm80_program_types.specs.declared.program.Placed.{Placed}
-use Rattle.asm80_program_types.specs.Program.{AreLaid}
-use Rattle.asm80_program_types.proofs.Lookup.{length80-positive}
+use Rattle.asm80_types.specs.declared.program.Placed.{Placed}
+use Rattle.asm80_types.specs.Program.{AreLaid}
+use Rattle.asm80_types.proofs.Lookup.{length80-positive}
 use Rattle.templates.specs.Template.{template, label_of_goal}
 use Rattle.flow.specs.Blocks.{end_of}
 use Rattle.flow.proofs.Cuts.{flat}

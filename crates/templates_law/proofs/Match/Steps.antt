@@ -10,8 +10,8 @@ use Rattle.i80.specs.declared.Instr80.TheVariants.{Inx, Dcx, Dad}
 use Rattle.i80.specs.Columns.{ends80, defs80}
 use Rattle.i86.specs.declared.Instr86.TheVariants.{Sahf}
 use Rattle.asm86_line_types.specs.declared.line.Stmt86.{Stmt86}
-use Rattle.asm80_program_types.specs.declared.program.Placed.{Placed}
-use Rattle.asm80_program_types.specs.Program.{Program}
+use Rattle.asm80_types.specs.declared.program.Placed.{Placed}
+use Rattle.asm80_types.specs.Program.{Program}
 use Rattle.templates.specs.Template.{template}
 use Rattle.flow.specs.Blocks.{end_of}
 use Rattle.flow.specs.Need.{NeedsAreClosed}

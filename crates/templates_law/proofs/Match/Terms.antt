@@ -8,7 +8,7 @@ use Rattle.i80.specs.declared.Op.{Op}
 use Rattle.sym_terms.specs.Term.{Term, Num, Alu, Flag, Join, FlagByte, Turn, Adjust, Unknown, is_open, same_term}
 use Rattle.sym_terms.specs.Making.{alu, flag, flag_term_of, carry_flag, half_carry_flag, is_logic, is_addition, turn, adjust}
 use Rattle.sym_terms.proofs.Equal.{same_term_refl}
-use Rattle.block_check_def.specs.Agree.{has_unknown, same_known, agrees}
+use Rattle.sym_block_def.specs.Agree.{has_unknown, same_known, agrees}
 use Rattle.templates_law.specs.Match.Meeting.{Meets, lost, same}
 
 -- tests

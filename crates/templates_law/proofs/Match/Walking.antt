@@ -16,8 +16,8 @@ use Rattle.i86.specs.declared.Instr86.TheVariants.{Int224}
 use Rattle.asm86_line_types.specs.declared.line.Label.TheVariants.{At}
 use Rattle.asm86_line_types.specs.declared.line.Stmt86.{Stmt86}
 use Rattle.asm86_line_types.specs.declared.line.Stmt86.TheVariants.{Mark, Run, Jcc}
-use Rattle.asm80_program_types.specs.declared.program.Placed.{Placed}
-use Rattle.asm80_program_types.specs.Program.{Program, is_start}
+use Rattle.asm80_types.specs.declared.program.Placed.{Placed}
+use Rattle.asm80_types.specs.Program.{Program, is_start}
 use Rattle.templates.specs.Template.{template, label_of_goal}
 use Rattle.flow.specs.Blocks.{end_of}
 use Rattle.flow.specs.Need.{NeedsAreClosed}
@@ -30,7 +30,7 @@ use Rattle.sym_block_def.specs.Symbolic86.{Symbolic86}
 use Rattle.sym_block_def.specs.Walk86.{Surroundings, after_label, met, met_label, is_call, outcome86, walk_through}
 use Rattle.sym_block_def.specs.Sorts.{AreSorted80, AreSorted86, StepsKeepSorts}
 use Rattle.sym_block_def.proofs.Exits.{exit_falls}
-use Rattle.block_check_def.specs.BlockMatch.{kept_by_exit, lost_by, walked_reason}
+use Rattle.sym_block_def.specs.BlockMatch.{kept_by_exit, lost_by, walked_reason}
 use Rattle.simulation_def.specs.Needed.{needed_by}
 use Rattle.templates_law.specs.Match.Meeting.{Among, Agree}
 use Rattle.templates_law.specs.Match.Rows.{all_passed, RowsAgree, RowsKeepSorts, PairsMayGo}

@@ -13,7 +13,7 @@ use Rattle.i80.specs.declared.Goal.{Goal}
 use Rattle.i80.specs.declared.Goal.TheVariants.{At as ToInstr, Boot as ToBoot, Bdos as ToBdos}
 use Rattle.i80.specs.Columns.{flag_of_condition}
 use Rattle.i86.specs.declared.Jump.{Jump}
-use Rattle.asm80_program_types.specs.Program.{Program, is_start}
+use Rattle.asm80_types.specs.Program.{Program, is_start}
 use Rattle.asm86_line_types.specs.declared.line.Label.TheVariants.{At}
 use Rattle.asm86_line_types.specs.declared.line.Stmt86.{Stmt86}
 use Rattle.asm86_line_types.specs.Layout.{same_label}
@@ -25,7 +25,7 @@ use Rattle.sym_block_def.specs.Outcome.{Way, Goto, Call, Sys, SysReturn, Boot, L
 use Rattle.sym_block_def.specs.Block80.{Symbolic80, goto, jump, call, return_by, asking, flag_term, wanted, where_holds, next_word}
 use Rattle.sym_block_def.specs.Symbolic86.{Symbolic86, next_word as next_word86}
 use Rattle.sym_block_def.specs.Walk86.{Surroundings, way_to, follows, comes_next, back_from_call, back_from_system, return_way, flag_of_jump, jumps_at}
-use Rattle.block_check_def.specs.Agree.{agrees, way_agrees, ways_agree, exit_agrees}
+use Rattle.sym_block_def.specs.Agree.{agrees, way_agrees, ways_agree, exit_agrees}
 use Rattle.templates_law.specs.Match.Meeting.{Meets, Among, Agree}
 use Rattle.templates_law.proofs.Match.Terms.{or_first, meets_agree}
 use Rattle.templates_law.proofs.Match.Words.{highs_meet, lows_meet}

@@ -2,10 +2,10 @@
 use Rattle.std.proofs.Common.{◌≡◌, ℕ, suc, List, [], ◌∷◌, None, refl, ap, ◌∙◌, arith}
 use Rattle.std.specs.List.{Contains}
 use Rattle.asm86_line_types.specs.declared.line.Stmt86.{Stmt86}
-use Rattle.asm80_program_types.specs.Program.{Program}
+use Rattle.asm80_types.specs.Program.{Program}
 use Rattle.flow.specs.Blocks.{blocks}
 use Rattle.templates.specs.Style.{styled_statements}
-use Rattle.block_check_def.specs.BlockMatch.{Keeps, block_reason}
+use Rattle.sym_block_def.specs.BlockMatch.{Keeps, block_reason}
 use Rattle.simulation_def.specs.Matches.{or_next, blocks_reason}
 use Rattle.simulation_def.specs.Needed.{needed_by}
 use Rattle.templates_law.specs.Match.Own.{OwnBlocksMatch, OwnTextsMatch}

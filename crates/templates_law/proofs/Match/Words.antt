@@ -8,7 +8,7 @@ use Rattle.sym_terms.specs.Term.{Term, Num, Sum16, High, Low, Join, Turned, Unkn
 use Rattle.sym_terms.specs.Making.{sum16, sum_of, regrouped, plus, high, low, join, carry_of}
 use Rattle.sym_terms.specs.Laws.{IsMadeAs}
 use Rattle.sym_terms.proofs.Equal.{same_term-true}
-use Rattle.block_check_def.specs.Agree.{has_unknown, agrees}
+use Rattle.sym_block_def.specs.Agree.{has_unknown, agrees}
 use Rattle.templates_law.specs.Match.Meeting.{Meets, lost, same, WordsMeet, no_word, one_word, halves}
 use Rattle.templates_law.proofs.Match.Terms.{or_first, agrees_self, meets_agree, meets_at, unknown_if, flags_meet, alus_meet, number_meets}
 

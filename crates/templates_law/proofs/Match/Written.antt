@@ -10,7 +10,7 @@ use Rattle.i80.specs.Columns.{ends80, is_well_formed}
 use Rattle.i86.specs.declared.Instr86.TheVariants.{Sahf, Int224}
 use Rattle.asm86_line_types.specs.declared.line.Stmt86.{Stmt86}
 use Rattle.asm86_line_types.specs.declared.line.Stmt86.TheVariants.{Run, Jcc}
-use Rattle.asm80_program_types.specs.declared.program.Placed.{Placed}
+use Rattle.asm80_types.specs.declared.program.Placed.{Placed}
 use Rattle.templates.specs.Template.{template, label_of_goal}
 use Rattle.flow.specs.Saves.{is_word_sum}
 use Rattle.templates.specs.Style.{Style, ends_by_sahf, begins_by_lahf, jump_if, without_last, without_first_if, without_last_if, written_as}

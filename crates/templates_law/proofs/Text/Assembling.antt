@@ -17,9 +17,9 @@ use Rattle.asm86_line_types.specs.Order.{Reading, CodeGroup, in_order}
 use Rattle.asm86_line_types.specs.Image.{cells_from, used_in, AllDefined, UsesDefined, jump_reaches, short_reaches, AllReach}
 use Rattle.asm86_line_types.proofs.Statements.{Each, offset_past}
 use Rattle.asm86_line_reader.specs.ReadBack.{label_fits, has_line}
-use Rattle.asm80_program_types.specs.declared.program.Placed.{Placed}
-use Rattle.asm80_program_types.specs.Program.{AreLaid}
-use Rattle.asm80_program_types.proofs.Lookup.{length80-positive}
+use Rattle.asm80_types.specs.declared.program.Placed.{Placed}
+use Rattle.asm80_types.specs.Program.{AreLaid}
+use Rattle.asm80_types.proofs.Lookup.{length80-positive}
 use Rattle.templates.specs.Template.{label_of_goal}
 use Rattle.templates_law.specs.Text.Reach.{ShortenedReach}
 use Rattle.templates_law.proofs.Text.Statements.{each-append, each-map, HaveLines, stands_behind}

@@ -4,8 +4,8 @@ use Rattle.asm86_line_types.specs.declared.line.Label.TheVariants.{At as Line}
 use Rattle.asm86_line_types.specs.declared.line.Stmt86.{Stmt86}
 use Rattle.asm86_line_types.specs.declared.line.Stmt86.TheVariants.{Mark}
 use Rattle.i80.specs.declared.Goal.{Goal}
-use Rattle.asm80_program_types.specs.declared.program.Placed.{Placed}
-use Rattle.asm80_program_types.specs.Program.{IsCoded}
+use Rattle.asm80_types.specs.declared.program.Placed.{Placed}
+use Rattle.asm80_types.specs.Program.{IsCoded}
 use Rattle.flow.proofs.Cuts.{flat}
 use Rattle.templates.proofs.Pairs.{BeginsByLahf, pair_last, pair_next}
 use Rattle.templates.specs.Style.{Style, is_pair, knows_function, written_in_style, label_within, block_from, block_in_style, blocks_of}

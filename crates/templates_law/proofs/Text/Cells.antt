@@ -18,9 +18,9 @@ use Rattle.asm86_line_types.specs.declared.line.Label.TheVariants.{At as Line}
 use Rattle.asm86_line_types.specs.Layout.{offset_of, place_of}
 use Rattle.asm86_line_types.specs.Image.{statements, image_of, cells_from, by_address}
 use Rattle.asm86_line_types.specs.Cells.{AscendingStay}
-use Rattle.asm80_program_types.specs.declared.program.Placed.{Placed}
-use Rattle.asm80_program_types.specs.Program.{Program, cell_in, cell_at, CellsAreLaid, IsDatum, IsProgram}
-use Rattle.asm80_program_types.proofs.Standing.{datum_found}
+use Rattle.asm80_types.specs.declared.program.Placed.{Placed}
+use Rattle.asm80_types.specs.Program.{Program, cell_in, cell_at, CellsAreLaid, IsDatum, IsProgram}
+use Rattle.asm80_types.proofs.Standing.{datum_found}
 use Rattle.flow.specs.Blocks.{BlocksCut}
 use Rattle.templates.specs.Style.{Style, styled_statements, styled}
 use Rattle.asm86.proofs.Texts.{offset_is}

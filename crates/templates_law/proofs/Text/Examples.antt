@@ -18,8 +18,8 @@ use Rattle.i86.specs.declared.Jump.TheVariants.{Jnz}
 use Rattle.i86.specs.declared.Instr86.TheVariants.{MovNum8, Add16, Count8, Count16, Rotate16, Sahf, Lahf, Int224}
 use Rattle.asm86_line_types.specs.declared.line.Label.TheVariants.{At, Sys, End}
 use Rattle.asm86_line_types.specs.declared.line.Stmt86.TheVariants.{Mark, Run, Jcc, Jmp as JmpTo, Call as CallTo}
-use Rattle.asm80_program_types.specs.declared.program.Placed.{Placed}
-use Rattle.asm80_program_types.specs.Program.{Program, program_of}
+use Rattle.asm80_types.specs.declared.program.Placed.{Placed}
+use Rattle.asm80_types.specs.Program.{Program, program_of}
 use Rattle.flow.specs.Blocks.{cut_from}
 use Rattle.flow.specs.Solving.{Needs}
 use Rattle.templates.specs.Style.{blocks_of}

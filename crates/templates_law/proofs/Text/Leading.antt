@@ -12,11 +12,11 @@ use Rattle.i80.specs.declared.Goal.TheVariants.{At, Boot, Bdos}
 use Rattle.i80.specs.declared.Instr80.{Instr80}
 use Rattle.i80.specs.declared.Instr80.TheVariants.{Lxi, Jmp, Jif, Call, Cif}
 use Rattle.i80.specs.Columns.{length80}
-use Rattle.asm80_program_types.proofs.Standing.{held_taken}
-use Rattle.asm80_program_types.specs.declared.program.Placed.{Placed}
-use Rattle.asm80_program_types.specs.Program.{Program, placed_in, instr_of_placed, instr_at, is_start, starts_of, cell_at, AreLaid, named_by, NameStarts, AreCoded, IsProgram}
-use Rattle.asm80_program_types.specs.Taken.{place_taken_by, place_placed, place_in_cell, takes, taken_places}
-use Rattle.asm80_program_types.proofs.Lookup.{length80-positive}
+use Rattle.asm80_types.proofs.Standing.{held_taken}
+use Rattle.asm80_types.specs.declared.program.Placed.{Placed}
+use Rattle.asm80_types.specs.Program.{Program, placed_in, instr_of_placed, instr_at, is_start, starts_of, cell_at, AreLaid, named_by, NameStarts, AreCoded, IsProgram}
+use Rattle.asm80_types.specs.Taken.{place_taken_by, place_placed, place_in_cell, takes, taken_places}
+use Rattle.asm80_types.proofs.Lookup.{length80-positive}
 use Rattle.flow.specs.Blocks.{target_of, IsLeader, BlocksCut}
 use Rattle.flow.proofs.Entries.{among_cons, among_some, contained}
 use Rattle.templates_law.proofs.Text.Shapes.{Names}

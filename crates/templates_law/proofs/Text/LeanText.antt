@@ -13,8 +13,8 @@ use Rattle.asm86_line_types.specs.declared.line.Stmt86.{Stmt86}
 use Rattle.asm86_line_types.specs.declared.line.Stmt86.TheVariants.{Cseg, Mark, Run, Jmp, Jcc, Call as CallTo}
 use Rattle.asm86_line_types.specs.Layout.{offset_of}
 use Rattle.asm86_line_types.proofs.Statements.{Each}
-use Rattle.asm80_program_types.specs.declared.program.Placed.{Placed}
-use Rattle.asm80_program_types.specs.Program.{Program, IsProgram}
+use Rattle.asm80_types.specs.declared.program.Placed.{Placed}
+use Rattle.asm80_types.specs.Program.{Program, IsProgram}
 use Rattle.flow.specs.Blocks.{cut_from, BlocksCut}
 use Rattle.flow.specs.Solving.{Needs}
 use Rattle.flow.proofs.Cuts.{flat, flat-cut}

@@ -12,7 +12,7 @@ use Rattle.asm86_line_types.specs.declared.line.Stmt86.TheVariants.{Db, Dw, Run}
 use Rattle.asm86_line_types.specs.Order.{ends_text}
 use Rattle.asm86_line_types.specs.Image.{statements, image_of, Assembles}
 use Rattle.asm86_line_reader.specs.ReadBack.{instr_fits, has_line}
-use Rattle.asm80_program_types.specs.Program.{Program, IsProgram}
+use Rattle.asm80_types.specs.Program.{Program, IsProgram}
 use Rattle.flow.specs.Blocks.{BlocksCut}
 use Rattle.templates.specs.Plain.{data_from, ending, numbered_from}
 use Rattle.templates.specs.Style.{Style, styled_statements, styled}

@@ -13,9 +13,9 @@ use Rattle.asm86_line_types.specs.Layout.{offset_from, marks, same_label}
 use Rattle.asm86_line_types.specs.Image.{count_marks}
 use Rattle.asm86_line_types.proofs.Sizes.{count_marks-append}
 use Rattle.asm86_line_types.proofs.Statements.{MarksNot}
-use Rattle.asm80_program_types.specs.declared.program.Placed.{Placed}
-use Rattle.asm80_program_types.specs.Program.{placed_in, AreLaid}
-use Rattle.asm80_program_types.proofs.Lookup.{above-laid, length80-positive}
+use Rattle.asm80_types.specs.declared.program.Placed.{Placed}
+use Rattle.asm80_types.specs.Program.{placed_in, AreLaid}
+use Rattle.asm80_types.proofs.Lookup.{above-laid, length80-positive}
 use Rattle.flow.specs.Blocks.{extent}
 use Rattle.flow.proofs.Cuts.{flat}
 use Rattle.flow.proofs.Laid.{found_start}

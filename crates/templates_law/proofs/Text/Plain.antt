@@ -7,8 +7,8 @@ use Rattle.asm86_line_types.specs.declared.line.Label.TheVariants.{At as Line}
 use Rattle.asm86_line_types.specs.declared.line.Stmt86.TheVariants.{Cseg, Dseg, Mark}
 use Rattle.asm86_line_types.specs.Layout.{place_of}
 use Rattle.asm86_line_types.proofs.Statements.{Each}
-use Rattle.asm80_program_types.specs.declared.program.Placed.{Placed}
-use Rattle.asm80_program_types.specs.Program.{Program}
+use Rattle.asm80_types.specs.declared.program.Placed.{Placed}
+use Rattle.asm80_types.specs.Program.{Program}
 use Rattle.flow.specs.Blocks.{cut_from}
 use Rattle.flow.proofs.Cuts.{flat, flat-cut}
 use Rattle.templates.specs.Template.{template}

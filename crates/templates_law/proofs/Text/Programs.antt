@@ -6,8 +6,8 @@ use Rattle.cells.specs.declared.Place.TheVariants.{At as AtPlace, Exit}
 use Rattle.cells.specs.declared.Cell.{Cell}
 use Rattle.cells.specs.declared.Cell.TheVariants.{Num, Lo, Hi, Psw, Junk}
 use Rattle.i80.specs.declared.Goal.TheVariants.{At as AtInstr}
-use Rattle.asm80_program_types.specs.declared.program.Placed.{Placed}
-use Rattle.asm80_program_types.specs.Program.{Program, cell_in, cell_at, is_top, CellsAreLaid, IsDatum, AreData, IsProgram}
+use Rattle.asm80_types.specs.declared.program.Placed.{Placed}
+use Rattle.asm80_types.specs.Program.{Program, cell_in, cell_at, is_top, CellsAreLaid, IsDatum, AreData, IsProgram}
 use Rattle.flow.specs.Blocks.{BlocksCut}
 use Rattle.templates_law.proofs.Text.Leading.{Leads, held_leads}
 use Rattle.templates_law.proofs.Text.Data.{HasData, none, byte, word}

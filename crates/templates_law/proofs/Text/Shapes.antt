@@ -21,8 +21,8 @@ use Rattle.asm86_line_types.specs.declared.line.Stmt86.TheVariants.{Mark, Run, M
 use Rattle.asm86_line_types.specs.Layout.{size_of, marks, same_label}
 use Rattle.asm86_line_types.proofs.Statements.{Each, MarksNot}
 use Rattle.asm86_line_reader.specs.ReadBack.{instr_fits}
-use Rattle.asm80_program_types.specs.declared.program.Placed.{Placed}
-use Rattle.asm80_program_types.specs.Program.{IsCoded}
+use Rattle.asm80_types.specs.declared.program.Placed.{Placed}
+use Rattle.asm80_types.specs.Program.{IsCoded}
 use Rattle.templates.specs.Template.{label_of_goal, unless, template}
 use Rattle.templates.specs.Style.{Style, jump_if, ends_by_sahf, begins_by_lahf, without_first_if, without_last_if, written_as}
 use Rattle.templates_law.proofs.Text.Statements.{each-first, each-last, each-map}

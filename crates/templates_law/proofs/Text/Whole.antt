@@ -16,9 +16,9 @@ use Rattle.asm86_line_types.specs.Image.{statements, used_in, count_marks, IsDef
 use Rattle.asm86_line_types.proofs.Sizes.{count_marks-append}
 use Rattle.asm86_line_types.proofs.Statements.{Each, MarksNot, offset_past}
 use Rattle.asm86_line_reader.specs.ReadBack.{label_fits, has_line}
-use Rattle.asm80_program_types.specs.declared.program.Placed.{Placed}
-use Rattle.asm80_program_types.specs.Program.{Program, placed_in, AreLaid, IsProgram}
-use Rattle.asm80_program_types.proofs.Lookup.{length80-positive}
+use Rattle.asm80_types.specs.declared.program.Placed.{Placed}
+use Rattle.asm80_types.specs.Program.{Program, placed_in, AreLaid, IsProgram}
+use Rattle.asm80_types.proofs.Lookup.{length80-positive}
 use Rattle.flow.specs.Blocks.{cut_from, IsLeader, BlocksCut}
 use Rattle.flow.proofs.Cuts.{flat-cut}
 use Rattle.templates.specs.Template.{label_of_goal}

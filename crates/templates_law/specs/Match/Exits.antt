@@ -12,7 +12,7 @@ use Rattle.i80.specs.Columns.{ends80, uses80, is_well_formed, flag_of_condition}
 use Rattle.i86.specs.declared.Jump.{Jump}
 use Rattle.i86.specs.declared.Instr86.{Instr86}
 use Rattle.i86.specs.declared.Instr86.TheVariants.{MovSsAx, Jcc, JmpNear, JmpShort, JmpBx, CallNear, Ret, Int224, InAl, OutAl}
-use Rattle.asm80_program_types.specs.Program.{Program, is_start}
+use Rattle.asm80_types.specs.Program.{Program, is_start}
 use Rattle.asm86_line_types.specs.declared.line.Label.{Label}
 use Rattle.asm86_line_types.specs.declared.line.Label.TheVariants.{At, Skip}
 use Rattle.asm86_line_types.specs.declared.line.Stmt86.{Stmt86}
@@ -23,7 +23,7 @@ use Rattle.sym_block_def.specs.Outcome.{Way, Exit, Held, Outcome}
 use Rattle.sym_block_def.specs.Block80.{Symbolic80, flag_term, wanted, exit80}
 use Rattle.sym_block_def.specs.Symbolic86.{Symbolic86}
 use Rattle.sym_block_def.specs.Walk86.{Surroundings, after_label, way_to, is_passed, met, outcome86, flag_of_jump, jumps_at, is_call, walk_through, walk_some}
-use Rattle.block_check_def.specs.Agree.{exit_agrees}
+use Rattle.sym_block_def.specs.Agree.{exit_agrees}
 use Rattle.templates_law.specs.Match.Meeting.{Among, Agree}
 use Rattle.templates_law.specs.Match.Rows.{all_passed}
 

@@ -9,7 +9,7 @@ use Rattle.sym_terms.specs.Making.{high, low}
 use Rattle.sym_block_def.specs.Outcome.{term_in}
 use Rattle.sym_block_def.specs.Block80.{Symbolic80}
 use Rattle.sym_block_def.specs.Symbolic86.{Symbolic86}
-use Rattle.block_check_def.specs.Agree.{has_unknown, actions_agree}
+use Rattle.sym_block_def.specs.Agree.{has_unknown, actions_agree}
 
 -- bytes and flags: the 8080 knows nothing, or both are one term in which nothing is unknown
 pub data Meets (s t : Term) : Type 0 where

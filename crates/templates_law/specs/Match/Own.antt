@@ -1,14 +1,14 @@
 -- The law of the texts that are written for a program: whatever their style leaves out of the templates, at the label of each block
 -- they do what the block does, as far as what is needed behind it can tell.
 use Rattle.std.specs.Prelude.{◌≡◌, ℕ, true, Some, None}
-use Rattle.asm80_program_types.specs.declared.program.Placed.{Placed}
-use Rattle.asm80_program_types.specs.Program.{Program, placed_in, IsProgram}
+use Rattle.asm80_types.specs.declared.program.Placed.{Placed}
+use Rattle.asm80_types.specs.Program.{Program, placed_in, IsProgram}
 use Rattle.flow.specs.Blocks.{end_of, blocks, IsBlockOf}
 use Rattle.flow.specs.Saves.{is_word_sum}
 use Rattle.flow.specs.Solving.{Needs, AreAllNeeds}
 use Rattle.templates.specs.Style.{Style, plain_style, styled_statements}
 use Rattle.templates.specs.Lean.{has_saved_flag, loses_nothing, lean_style}
-use Rattle.block_check_def.specs.BlockMatch.{block_reason}
+use Rattle.sym_block_def.specs.BlockMatch.{block_reason}
 use Rattle.simulation_def.specs.Matches.{blocks_reason}
 use Rattle.simulation_def.specs.Needed.{needed_by}
 pub use Rattle.templates_law.specs.Match.Plain.{OnesAreBlocks, PlainBlocksMatch}

@@ -2,10 +2,10 @@
 use Rattle.std.specs.Prelude.{◌≡◌, ℕ, true, None}
 use Rattle.cells.specs.declared.Part.{Part}
 use Rattle.cells.specs.Parts.{has}
-use Rattle.asm80_program_types.specs.Program.{Program, is_start, IsProgram}
+use Rattle.asm80_types.specs.Program.{Program, is_start, IsProgram}
 use Rattle.templates.specs.Plain.{plain_statements}
 use Rattle.sym_block_def.specs.Block80.{MayRun}
-use Rattle.block_check_def.specs.BlockMatch.{Keeps, block_reason}
+use Rattle.sym_block_def.specs.BlockMatch.{Keeps, block_reason}
 
 -- each instruction alone is a block
 abbrev pub OnesAreBlocks : Type 0

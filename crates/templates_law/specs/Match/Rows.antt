@@ -8,7 +8,7 @@ use Rattle.i80.specs.declared.Instr80.{Instr80}
 use Rattle.i80.specs.declared.Instr80.TheVariants.{Inx, Dcx, Dad}
 use Rattle.i80.specs.Columns.{is_well_formed, ends80, uses80, defs80}
 use Rattle.i86.specs.declared.Instr86.TheVariants.{Sahf}
-use Rattle.asm80_program_types.specs.Program.{IsCoded}
+use Rattle.asm80_types.specs.Program.{IsCoded}
 use Rattle.asm86_line_types.specs.declared.line.Stmt86.{Stmt86}
 use Rattle.asm86_line_types.specs.declared.line.Stmt86.TheVariants.{Run, MovOffset}
 use Rattle.templates.specs.Template.{template}

@@ -1,7 +1,7 @@
 -- The texts whose code is one segment.
 use Rattle.std.specs.Prelude.{◌<◌}
 use Rattle.asm86_line_types.specs.Layout.{sizes_of}
-use Rattle.asm80_program_types.specs.Program.{Program}
+use Rattle.asm80_types.specs.Program.{Program}
 use Rattle.templates.specs.Style.{Style, styled_statements}
 
 -- the code of a program's text in a style has at most 65,535 bytes

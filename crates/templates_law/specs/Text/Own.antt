@@ -3,7 +3,7 @@ use Rattle.std.specs.Prelude.{List, Ok}
 use Rattle.asm86_line_types.specs.declared.line.Line86.{Line86}
 use Rattle.asm86_line_types.specs.Image.{statements}
 use Rattle.asm86_line_types.specs.Written.{written_text}
-use Rattle.asm80_program_types.specs.Program.{Program}
+use Rattle.asm80_types.specs.Program.{Program}
 use Rattle.asm86.specs.Stream.{TextGives}
 use Rattle.sym_block_def.specs.Sorts.{StatementsAreCoded}
 use Rattle.simulation_def.specs.Runtime.{HasRuntime}

@@ -6,7 +6,7 @@ use Rattle.asm86_line_types.specs.declared.line.Stmt86.{Stmt86}
 use Rattle.asm86_line_types.specs.declared.line.Stmt86.TheVariants.{Jcc}
 use Rattle.asm86_line_types.specs.Layout.{size_of, sizes_of, place_of}
 use Rattle.asm86_line_types.specs.Image.{short_reaches}
-use Rattle.asm80_program_types.specs.Program.{Program}
+use Rattle.asm80_types.specs.Program.{Program}
 use Rattle.flow.specs.Blocks.{cut_from}
 use Rattle.templates.specs.Plain.{prologue}
 use Rattle.templates.specs.Style.{Style, blocks_of, styled_statements}

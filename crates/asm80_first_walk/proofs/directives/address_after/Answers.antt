@@ -1,5 +1,5 @@
 use Rattle.std.proofs.Common.{◌≡◌, ◌∙◌, ◌+◌, ◌%◌, refl, Option, Some, None, arith}
-use Rattle.asm80_statement_types.specs.Tree.{Statement}
+use Rattle.asm80_types.specs.Tree.{Statement}
 use Rattle.asm80_source_def.specs.declared.operation.Operation.{Operation}
 use Rattle.asm80_source_def.specs.declared.operation.Operation.TheVariants.{Org, Ds}
 use Rattle.asm80_source_def.specs.Walk.{Walk, address_by, size_by}

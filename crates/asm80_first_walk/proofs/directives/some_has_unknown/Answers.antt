@@ -1,6 +1,6 @@
 use Rattle.std.proofs.Common.{sym, ap, ◌∙◌}
-use Rattle.asm80_statement_types.specs.declared.arg.Arg.{Arg}
-use Rattle.asm80_statement_types.specs.Tree.{operand_of}
+use Rattle.asm80_types.specs.declared.arg.Arg.{Arg}
+use Rattle.asm80_types.specs.Tree.{operand_of}
 use Rattle.asm80_first_walk.specs.Scopes.{scope_of}
 use Rattle.asm80_source_def.specs.Values.{operand_has_unknown}
 use Rattle.asm80_first_walk.proofs.Lists.{any_here, any_later, any_nowhere}

@@ -2,7 +2,7 @@ use Rattle.std.proofs.Common.{◌≡◌, ℕ, List, [], ◌∷◌, map, refl, ap
 use Rattle.std.specs.Prelude.{find, option_map, is_some}
 use Rattle.std.specs.List.{list_any}
 use Rattle.std.specs.Str.{bytes_eq}
-use Rattle.asm80_statement_types.specs.Words.{operations as words}
+use Rattle.asm80_types.specs.Words.{operations as words}
 use Rattle.asm80_source_def.specs.declared.operation.Operation.{Operation}
 use Rattle.asm80_source_def.specs.Operations.{operation_table}
 use Rattle.asm80_first_walk.proofs.operations.operations_are_words.Goals as goal

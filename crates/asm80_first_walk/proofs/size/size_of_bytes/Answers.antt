@@ -1,7 +1,7 @@
 use Rattle.std.proofs.Common.{◌∙◌, sym, ap, map, arith}
 use Rattle.std.proofs.lemmas.List.{get_or-map, length-map, take_all}
 use Rattle.std.proofs.lemmas.List.Sums.{sum_by_more}
-use Rattle.asm80_statement_types.specs.Tree.{operand_of}
+use Rattle.asm80_types.specs.Tree.{operand_of}
 use Rattle.asm80_source_def.specs.Walk.{bytes_of_item}
 use Rattle.asm80_first_walk.proofs.size.size_of_bytes.Goals as goal
 

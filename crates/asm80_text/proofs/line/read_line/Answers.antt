@@ -5,9 +5,9 @@ use Rattle.std.specs.Prelude.{OnOk}
 use Rattle.std.specs.List.{list_any}
 use Rattle.std.proofs.lemmas.List.{append-nil}
 use Rattle.std.proofs.lemmas.List.Elements.{All-nil, All-push}
-use Rattle.asm80_statement_types.specs.declared.fault.ReadFault.{ReadFault}
-use Rattle.asm80_tokens.specs.declared.token.Token.{Token}
-use Rattle.asm80_tokens.specs.Tokens.{IsLawful}
+use Rattle.asm80_types.specs.declared.fault.ReadFault.{ReadFault}
+use Rattle.asm80_text.specs.declared.token.Token.{Token}
+use Rattle.asm80_text.specs.Tokens.{IsLawful}
 use Rattle.asm80_text.specs.Line.{is_bang, parts_of, late, long, remark}
 use Rattle.asm80_text.proofs.Once.{line_from_text}
 use Rattle.asm80_text.proofs.Several.{one_part, targets}

@@ -1,5 +1,5 @@
 use Rattle.std.proofs.Common.{◌≡◌, ◌++◌, List, map, length}
-use Rattle.asm80_statement_types.specs.Tree.{Operand, operand_of}
+use Rattle.asm80_types.specs.Tree.{Operand, operand_of}
 use Rattle.asm80_text.specs.Statement.{AreOperands}
 use Rattle.asm80_text.proofs.parse.operands.Given as goal
 

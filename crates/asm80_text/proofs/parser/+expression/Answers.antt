@@ -3,12 +3,12 @@ use Rattle.std.proofs.lemmas.Result.{err_from_is_err_and}
 use Rattle.asm80_text.proofs.Chain.{spells_shorter, begins_shorter}
 use Rattle.asm80_text.proofs.Cases.{term_read, parens_read, nothing_never, stray_never, parens_never, unclosed_never, signed_never, added, taken_off, tighter_read, tighter_never, unsigned_read, unsigned_never, chain_starts, chain_never, chain_goes_on, chain_breaks, chain_ends, gives_on, fails_on}
 use Rattle.asm80_text.proofs.Unambiguous.{term_sure}
-use Rattle.asm80_statement_types.specs.Tree.{tree_of}
-use Rattle.asm80_tokens.specs.declared.token.Token.{Token}
+use Rattle.asm80_types.specs.Tree.{tree_of}
+use Rattle.asm80_text.specs.declared.token.Token.{Token}
 use Rattle.asm80_text.specs.Grammar.{Begins, EndsInside}
 use Rattle.asm80_text.specs.TreeResults.{Gives}
 use Rattle.asm80_text.proofs.Inverted.{row_read, row_fails}
-use Rattle.asm80_statement_types.specs.contracts.expr.Two.{the_type}
+use Rattle.asm80_types.specs.contracts.expr.Two.{the_type}
 use denote.Enum.Bare.{same_true}
 use Rattle.asm80_text.proofs.parser.+expression.Goals as goal
 

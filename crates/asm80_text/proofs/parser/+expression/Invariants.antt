@@ -1,5 +1,5 @@
 use Rattle.std.proofs.Common.{◌≤◌, length, ◌+◌, ◌*◌}
-use Rattle.asm80_statement_types.specs.Tree.{tree_of}
+use Rattle.asm80_types.specs.Tree.{tree_of}
 use Rattle.asm80_text.proofs.Chain.{Chained}
 use Rattle.asm80_text.proofs.parser.+expression.Given as goal
 

@@ -1,5 +1,5 @@
 use Rattle.std.proofs.Common.{◌≡◌}
-use Rattle.asm80_statement_types.specs.Tree.{tree_of}
+use Rattle.asm80_types.specs.Tree.{tree_of}
 use Rattle.asm80_text.specs.TreeResults.{inverted}
 use Rattle.asm80_text.proofs.parser.inverted.Given as goal
 

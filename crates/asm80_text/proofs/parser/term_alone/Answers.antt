@@ -1,7 +1,7 @@
 use Rattle.std.proofs.Common.{◌≡◌, ◌-◌, ◌≤◌, ◌∙◌, List, [], ◌∷◌, length, take, drop, get_or, sym, ap, arith}
 use Rattle.std.proofs.lemmas.List.{take_all}
-use Rattle.asm80_statement_types.specs.Tree.{tree_of}
-use Rattle.asm80_tokens.specs.declared.token.Token.{Token}
+use Rattle.asm80_types.specs.Tree.{tree_of}
+use Rattle.asm80_text.specs.declared.token.Token.{Token}
 use Rattle.asm80_text.proofs.Cases.{term_first}
 use Rattle.asm80_text.proofs.parser.term_alone.Goals as goal
 

@@ -1,6 +1,6 @@
 use Rattle.std.proofs.Common.{◌≡◌, List, Bor, drop}
 use Rattle.std.specs.List.{list_any}
-use Rattle.asm80_tokens.specs.declared.token.Token.{Token}
+use Rattle.asm80_text.specs.declared.token.Token.{Token}
 use Rattle.asm80_text.specs.Line.{has_reserved_label}
 use Rattle.asm80_text.proofs.parts.some_has_reserved_label.Given as goal
 

@@ -1,11 +1,11 @@
 use Rattle.std.proofs.Common.{List, All, map, sym, subst, ◌∙◌, Bor}
 use Rattle.std.proofs.lemmas.List.{take_all}
 use Rattle.std.proofs.lemmas.List.Elements.{All-take}
-use Rattle.asm80_statement_types.specs.declared.stmt.Stmt80.{Stmt80}
-use Rattle.asm80_statement_types.specs.Tree.{statement_of}
-use Rattle.asm80_statement_types.specs.WellFormed.{IsWellFormed, AreWellFormed}
-use Rattle.asm80_tokens.specs.declared.token.Token.{Token}
-use Rattle.asm80_tokens.specs.Tokens.{IsLawful}
+use Rattle.asm80_types.specs.declared.stmt.Stmt80.{Stmt80}
+use Rattle.asm80_types.specs.Tree.{statement_of}
+use Rattle.asm80_types.specs.WellFormed.{IsWellFormed, AreWellFormed}
+use Rattle.asm80_text.specs.declared.token.Token.{Token}
+use Rattle.asm80_text.specs.Tokens.{IsLawful}
 use Rattle.asm80_text.specs.Statement.{AreStatements}
 use Rattle.asm80_text.proofs.Several.{adds_on, fails_at, nothing_added, targets}
 use Rattle.asm80_text.proofs.parts.statements.Goals as goal

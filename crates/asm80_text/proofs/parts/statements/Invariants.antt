@@ -1,5 +1,5 @@
 use Rattle.std.proofs.Common.{take}
-use Rattle.asm80_statement_types.specs.WellFormed.{AreWellFormed}
+use Rattle.asm80_types.specs.WellFormed.{AreWellFormed}
 use Rattle.asm80_text.proofs.Several.{HaveAdded, targets}
 use Rattle.asm80_text.proofs.parts.statements.Given as goal
 

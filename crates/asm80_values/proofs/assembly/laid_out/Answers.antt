@@ -1,6 +1,6 @@
 use Rattle.std.proofs.Common.{◌≡◌, ℕ, map, List, Option, Some, None, Result, Err, refl, sym, ◌∙◌}
-use Rattle.asm80_statement_types.specs.Tree.{Statement, statement_of}
-use Rattle.asm80_program_types.specs.declared.program.Program80.{Program80}
+use Rattle.asm80_types.specs.Tree.{Statement, statement_of}
+use Rattle.asm80_types.specs.declared.program.Program80.{Program80}
 use Rattle.asm80_first_walk.specs.declared.walked.AsmFault.{AsmFault}
 use Rattle.asm80_first_walk.specs.declared.walked.AsmFault.TheVariants.{Refused}
 use Rattle.asm80_source_def.specs.declared.rule.AsmRule.{AsmRule}

@@ -2,8 +2,8 @@ use Rattle.std.proofs.Common.{List, All, map, sym, ap, subst, ◌∙◌}
 use Rattle.std.specs.List.{flat_map}
 use Rattle.std.proofs.lemmas.List.{take_all}
 use Rattle.std.proofs.lemmas.List.Elements.{All-append}
-use Rattle.asm80_statement_types.specs.declared.arg.Arg.{Arg}
-use Rattle.asm80_statement_types.specs.Tree.{operand_of}
+use Rattle.asm80_types.specs.declared.arg.Arg.{Arg}
+use Rattle.asm80_types.specs.Tree.{operand_of}
 use Rattle.asm80_source_def.specs.Items.{cells_of_byte}
 use Rattle.asm80_values.specs.Forms.{HoldsByte}
 use Rattle.asm80_values.specs.Settings.{setting_of}

@@ -1,6 +1,6 @@
 use Rattle.std.proofs.Common.{◌≡◌, All, map, take}
 use Rattle.std.specs.List.{flat_map}
-use Rattle.asm80_statement_types.specs.Tree.{operand_of}
+use Rattle.asm80_types.specs.Tree.{operand_of}
 use Rattle.asm80_source_def.specs.Items.{cells_of_byte}
 use Rattle.asm80_values.specs.Forms.{HoldsByte}
 use Rattle.asm80_values.specs.Settings.{setting_of}

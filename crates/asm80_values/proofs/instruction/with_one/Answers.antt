@@ -1,7 +1,7 @@
 use Rattle.std.proofs.Common.{◌≡◌, ◌≢◌, ◌==◌, ℕ, [], ◌∷◌, cond, Some, None, refl, sym, ap, ◌∙◌, rules}
 use Rattle.i80.specs.declared.Instr80.TheVariants as i80
 use Rattle.i80.specs.declared.Op.{Op}
-use Rattle.asm80_statement_types.specs.Tree.{Operand, operand_of}
+use Rattle.asm80_types.specs.Tree.{Operand, operand_of}
 use Rattle.asm80_source_def.specs.declared.operation.Operation.{Operation}
 use Rattle.asm80_source_def.specs.declared.operation.Operation.TheVariants as op
 use Rattle.asm80_source_def.specs.Items.{Setting, instruction}

@@ -2,8 +2,8 @@ use Rattle.std.proofs.Common.{◌≡◌, Option, Some, None, sym, ap, subst, ◌
 use Rattle.std.specs.Prelude.{IfSome, IsSomeAnd, MatchOption, option_map}
 use Rattle.i80.specs.declared.Instr80.{Instr80}
 use Rattle.i80.specs.declared.Instr80.TheVariants as i80
-use Rattle.asm80_statement_types.specs.Tree.{Operand, operand_of}
-use Rattle.asm80_program_types.specs.Program.{IsCoded}
+use Rattle.asm80_types.specs.Tree.{Operand, operand_of}
+use Rattle.asm80_types.specs.Program.{IsCoded}
 use Rattle.asm80_source_def.specs.declared.operation.Operation.{Operation}
 use Rattle.asm80_values.specs.Instructions.{register_instruction}
 use Rattle.asm80_values.proofs.instruction.with_register.Goals as goal

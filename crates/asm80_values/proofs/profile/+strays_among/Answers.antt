@@ -1,5 +1,5 @@
 use Rattle.std.proofs.Common.{◌≡◌, ◌||◌, Bool, sym, ap, ◌∙◌}
-use Rattle.asm80_statement_types.specs.Tree.{operand_of}
+use Rattle.asm80_types.specs.Tree.{operand_of}
 use Rattle.asm80_source_def.specs.Layout.{misses, computes, loads_code}
 use Rattle.asm80_values.specs.Settings.{setting_of}
 use Rattle.asm80_values.proofs.ByKind.{any_more, any_same, any_of_none, no_stray}

@@ -1,6 +1,6 @@
 use Rattle.std.proofs.Common.{◌==◌, not, ℕ, List, Some, map, sym, ap, ◌∙◌}
-use Rattle.asm80_statement_types.specs.declared.arg.Arg.{Arg}
-use Rattle.asm80_statement_types.specs.Tree.{operand_of}
+use Rattle.asm80_types.specs.declared.arg.Arg.{Arg}
+use Rattle.asm80_types.specs.Tree.{operand_of}
 use Rattle.asm80_source_def.specs.declared.operation.Operation.{Operation}
 use Rattle.asm80_source_def.specs.Layout.{is_nonzero_restart, is_foreign_by}
 use Rattle.asm80_values.specs.Settings.{setting_of}

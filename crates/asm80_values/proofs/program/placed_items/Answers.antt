@@ -2,7 +2,7 @@ use Rattle.std.proofs.Common.{◌≡◌, ◌++◌, Option, sym, ap, ◌∙◌, a
 use Rattle.std.specs.List.{filter_map}
 use Rattle.std.specs.Option.{option_to_list}
 use Rattle.std.proofs.lemmas.List.{take_all}
-use Rattle.asm80_program_types.specs.declared.program.Placed.{Placed}
+use Rattle.asm80_types.specs.declared.program.Placed.{Placed}
 use Rattle.asm80_values.specs.Programs.{placed_item}
 use Rattle.asm80_values.proofs.program.placed_items.Goals.{in-Some+in_ok-push, in_default}
 use Rattle.asm80_values.proofs.program.placed_items.Goals as goal

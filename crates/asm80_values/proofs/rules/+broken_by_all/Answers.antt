@@ -1,6 +1,6 @@
 use Rattle.asm80_first_walk.specs.Scopes.{scope_of}
 use Rattle.std.proofs.Common.{◌&&◌, sym, ◌∙◌}
-use Rattle.asm80_statement_types.specs.Tree.{Operand, operand_of}
+use Rattle.asm80_types.specs.Tree.{Operand, operand_of}
 use Rattle.asm80_source_def.specs.declared.operation.Kind.{Kind}
 use Rattle.asm80_source_def.specs.Operands.{is_value_kind, is_unfit}
 use Rattle.asm80_source_def.specs.Values.{operand_has_unknown, operand_divides_by_zero}

@@ -1,5 +1,5 @@
 use Rattle.std.proofs.Common.{◌≡◌, map, Some, Ok, ap, sym, ◌∙◌}
-use Rattle.asm80_statement_types.specs.Tree.{Statement, operand_of}
+use Rattle.asm80_types.specs.Tree.{Statement, operand_of}
 use Rattle.asm80_source_def.specs.Walk.{row_operation, meaning_in}
 use Rattle.asm80_source_def.specs.Items.{Setting}
 use Rattle.base.specs.Addresses.{has_address}

@@ -1,7 +1,7 @@
 use Rattle.std.proofs.Common.{◌≡◌, List, ℕ, length, take, map, ap, ◌∙◌, arith}
 use Rattle.std.specs.List.{filter_map}
 use Rattle.std.proofs.Math.Seq.{take-length}
-use Rattle.asm80_statement_types.specs.Tree.{statement_of}
+use Rattle.asm80_types.specs.Tree.{statement_of}
 use Rattle.base.specs.Addresses.{is_among}
 use Rattle.asm80_first_walk.specs.declared.walked.Taken.{Taken}
 use Rattle.asm80_source_def.specs.Walk.{rows}

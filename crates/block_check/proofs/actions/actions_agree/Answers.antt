@@ -1,6 +1,6 @@
 use Rattle.std.proofs.Common.{rules, ◌≡◌, ◌∙◌, ◌==◌, Bool, false, List, [], ◌∷◌, length}
 use Rattle.xlt_pool.specs.Contents.{Contents}
-use Rattle.block_check_def.specs.Agree.{actions_agree}
+use Rattle.sym_block_def.specs.Agree.{actions_agree}
 use Rattle.sym_micro.specs.declared.outcome.Action.{Action}
 use Rattle.sym_micro.specs.Stands.{trees_of_actions}
 use Rattle.block_check.proofs.actions.actions_agree.Goals as goal

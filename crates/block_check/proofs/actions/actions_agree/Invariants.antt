@@ -1,5 +1,5 @@
 use Rattle.std.proofs.Common.{◌≡◌, length}
-use Rattle.block_check_def.specs.Agree.{actions_agree}
+use Rattle.sym_block_def.specs.Agree.{actions_agree}
 use Rattle.sym_micro.specs.Stands.{trees_of_actions, ActionsAreGiven}
 use Rattle.block_check.proofs.actions.actions_agree.Given as goal
 

@@ -1,11 +1,11 @@
 use Rattle.std.proofs.Common.{◌≡◌, ℕ, Some, Ok, ap, sym, subst, ◌∙◌}
 use Rattle.std.proofs.lemmas.Option.{same_Some}
-use Rattle.asm80_program_types.specs.Program.{Program}
+use Rattle.asm80_types.specs.Program.{Program}
 use Rattle.flow.specs.Blocks.{block_at}
 use Rattle.flow.specs.Solving.{Needs, AreAllNeeds}
 use Rattle.sym_block_def.specs.Block80.{MayRun, block80}
 use Rattle.sym_block_def.specs.Walk86.{walk86}
-use Rattle.block_check_def.specs.BlockMatch.{block_reason}
+use Rattle.sym_block_def.specs.BlockMatch.{block_reason}
 use Rattle.simulation_def.specs.Needed.{needed_by}
 use Rattle.block_check.specs.Kept.{KeepsNeeds}
 use Rattle.block_check.specs.Comparing.{HoldsOutcomes, AreCompared, AfterShown, verdict_of}

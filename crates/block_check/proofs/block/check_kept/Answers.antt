@@ -4,7 +4,7 @@ use Rattle.sym_block_def.specs.declared.reason.Reason.{Reason}
 use Rattle.sym_block_def.specs.Outcome.{Outcome}
 use Rattle.sym_block_def.specs.Block80.{block80}
 use Rattle.sym_block_def.specs.Walk86.{walk86}
-use Rattle.block_check_def.specs.BlockMatch.{Keeps, kept_by_exit}
+use Rattle.sym_block_def.specs.BlockMatch.{Keeps, kept_by_exit}
 use Rattle.sym_micro.specs.Exits.{tree_of_exit}
 use Rattle.sym_run.specs.Outcomes.{OutcomeStands, WalkComesTo}
 use Rattle.block_check.specs.Kept.{KeepsAre, wanted_parts, lost_of, kept_behind}

@@ -1,7 +1,7 @@
 use Rattle.std.proofs.Common.{◌∙◌, sym}
 use Rattle.std.specs.String.{string_bytes}
 use Rattle.sym_block_def.specs.Block80.{block80}
-use Rattle.block_check_def.specs.BlockMatch.{block_reason}
+use Rattle.sym_block_def.specs.BlockMatch.{block_reason}
 use Rattle.simulation_def.specs.Needed.{needed_by}
 use Rattle.block_check.proofs.Verdicts.{none_found, some_found}
 use Rattle.block_explain.proofs.Blocks.{lines_are}

@@ -1,7 +1,7 @@
 use Rattle.std.proofs.Common.{◌∙◌, Some, List, sym, ap, subst}
 use Rattle.asm86_line_types.specs.declared.line.Stmt86.{Stmt86}
 use Rattle.flow.specs.Blocks.{block_at}
-use Rattle.block_check_def.specs.BlockMatch.{block_reason}
+use Rattle.sym_block_def.specs.BlockMatch.{block_reason}
 use Rattle.simulation_def.specs.Needed.{needed_by}
 use Rattle.simulation_def.proofs.Blocks.{may_run}
 use Rattle.block_explain.specs.Explained.{IsSaid}

@@ -1,7 +1,7 @@
 use Rattle.std.proofs.Common.{◌∙◌, [], ◌∷◌, List, length, map, ap, subst, ◌++◌}
 use Rattle.std.specs.String.{string_bytes}
 use Rattle.std.proofs.lemmas.List.{map-append}
-use Rattle.asm80_program_types.specs.declared.program.Placed.{Placed}
+use Rattle.asm80_types.specs.declared.program.Placed.{Placed}
 use Rattle.leaving.specs.declared.departure.Departure.{Departure}
 use Rattle.leaving.specs.Leaving.{leaving}
 use Rattle.cmd_common.specs.Lines.{leaves_line}

@@ -2,7 +2,7 @@ use Rattle.std.proofs.Common.{◌≡◌, get_or, refl, sym, subst, ◌∙◌, ar
 use Rattle.std.specs.Prelude.{filter}
 use Rattle.std.proofs.lemmas.List.{take_all}
 use Rattle.i80.specs.declared.Instr80.TheVariants.{Nop}
-use Rattle.asm80_program_types.specs.declared.program.Placed.{Placed}
+use Rattle.asm80_types.specs.declared.program.Placed.{Placed}
 use Rattle.flow.specs.Saves.{is_word_sum, is_sum_at}
 use Rattle.cmd_lists.specs.Saves.{AreSavings}
 use Rattle.cmd_lists.proofs.Gathering.{sum_of_placed, kept, passed}

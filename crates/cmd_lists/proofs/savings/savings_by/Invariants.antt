@@ -1,6 +1,6 @@
 use Rattle.std.proofs.Common.{take}
 use Rattle.std.specs.Prelude.{filter}
-use Rattle.asm80_program_types.specs.declared.program.Placed.{Placed}
+use Rattle.asm80_types.specs.declared.program.Placed.{Placed}
 use Rattle.flow.specs.Saves.{is_sum_at}
 use Rattle.cmd_lists.specs.Saves.{AreSavings}
 use Rattle.cmd_lists.proofs.savings.savings_by.Given as goal

@@ -2,7 +2,7 @@ use Rattle.std.proofs.Common.{◌≡◌, refl, subst}
 use Rattle.std.specs.Prelude.{Result, Ok}
 use Rattle.host.specs.Host.{HostState}
 use Rattle.hex_file.specs.Written.{IsWritten}
-use Rattle.asm80_program_types.specs.Program.{Program}
+use Rattle.asm80_types.specs.Program.{Program}
 use Rattle.i80_bytes.specs.Cells.{program_cells}
 use Rattle.cmd_arguments.specs.Words.{Hex80}
 use Rattle.cmd_arguments.specs.ReadCommands.{hex80_read}

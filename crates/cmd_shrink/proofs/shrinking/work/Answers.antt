@@ -1,7 +1,7 @@
 use Rattle.std.proofs.Common.{◌≡◌, true, sym, subst}
 use Rattle.std.specs.String.{string_bytes}
 use Rattle.std.proofs.lemmas.Result.{IfOk-weaker, IfErr-weaker}
-use Rattle.asm80_program_types.specs.Program.{is_top}
+use Rattle.asm80_types.specs.Program.{is_top}
 use Rattle.cmd_arguments.specs.Words.{Check}
 use Rattle.cmd_arguments.specs.ReadCommands.{shrink_read}
 use Rattle.cmd_common.proofs.Told.{handed_on}

@@ -3,7 +3,7 @@ use Rattle.std.proofs.lemmas.List.{map_more, take_all}
 use Rattle.cells.specs.Parts.{Parts, nothing}
 use Rattle.i80.specs.Columns.{defs80}
 use Rattle.i80.specs.declared.Instr80.TheVariants.{Nop}
-use Rattle.asm80_program_types.specs.declared.program.Placed.{Placed}
+use Rattle.asm80_types.specs.declared.program.Placed.{Placed}
 use Rattle.flow.specs.declared.search.Vertex.{Vertex}
 use Rattle.flow.specs.Begin.{vertex_placed, vertex_return}
 use Rattle.flow.proofs.begin.vertices_of.Goals as goal

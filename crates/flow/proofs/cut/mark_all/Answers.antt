@@ -1,5 +1,5 @@
 use Rattle.std.proofs.Common.{◌∙◌}
-use Rattle.asm80_program_types.proofs.Marks.{found_one}
+use Rattle.asm80_types.proofs.Marks.{found_one}
 use Rattle.flow.proofs.Marks.{found_address}
 use Rattle.flow.proofs.cut.mark_all.Goals as goal
 

@@ -1,6 +1,6 @@
 use Rattle.std.proofs.Common.{◌∙◌, rules}
 use Rattle.flow.specs.Blocks.{target_placed}
-use Rattle.asm80_program_types.proofs.Marks.{found_one, found_more}
+use Rattle.asm80_types.proofs.Marks.{found_one, found_more}
 use Rattle.flow.proofs.cut.mark_targets.Goals as goal
 use Rattle.flow.proofs.cut.mark_targets.Goals.{in-Some, in_default}
 

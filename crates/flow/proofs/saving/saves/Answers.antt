@@ -1,6 +1,6 @@
 use Rattle.std.proofs.Common.{◌≡◌, ◌+◌, false, sym}
 use Rattle.i80.specs.Columns.{length80}
-use Rattle.asm80_program_types.specs.Program.{is_start}
+use Rattle.asm80_types.specs.Program.{is_start}
 use Rattle.flow.proofs.Saved.{saves_some, saves_none}
 use Rattle.flow.proofs.saving.saves.Goals as goal
 

@@ -1,7 +1,7 @@
 use Rattle.std.proofs.Common.{◌<◌, get_or, length, ap, subst, sym, ◌∙◌}
 use Rattle.std.proofs.lemmas.Bool.{ltb-true}
 use Rattle.std.proofs.lemmas.List.{get_or_default}
-use Rattle.asm80_program_types.specs.Program.{starts}
+use Rattle.asm80_types.specs.Program.{starts}
 use Rattle.flow.proofs.Numbers.{number_of_start}
 use Rattle.flow.proofs.wiring.number_near.Goals as goal
 

@@ -1,7 +1,7 @@
 use Rattle.std.proofs.Common.{arith}
 use Rattle.i80.specs.declared.Instr80.TheVariants.{Nop}
-use Rattle.asm80_program_types.specs.declared.program.Placed.{Placed}
-use Rattle.asm80_program_types.proofs.Lookup.{length-starts}
+use Rattle.asm80_types.specs.declared.program.Placed.{Placed}
+use Rattle.asm80_types.proofs.Lookup.{length-starts}
 use Rattle.flow.proofs.Numbers.{length-nodes}
 use Rattle.flow.proofs.Wires.{placed_at, start_at, wire_next}
 use Rattle.flow.proofs.wiring.wire_instructions.Goals as goal

@@ -1,7 +1,7 @@
 use Rattle.std.proofs.Common.{◌<◌, ◌≤◌, [], length, arith, sym, ap, subst, take, List}
 use Rattle.std.proofs.lemmas.List.{take_all}
-use Rattle.asm80_program_types.specs.Program.{starts}
-use Rattle.asm80_program_types.specs.Taken.{taken_places}
+use Rattle.asm80_types.specs.Program.{starts}
+use Rattle.asm80_types.specs.Taken.{taken_places}
 use Rattle.flow.specs.declared.node.Node.{Node}
 use Rattle.flow.specs.declared.node.Node.TheVariants.{Return}
 use Rattle.flow.specs.Graph.{nodes}

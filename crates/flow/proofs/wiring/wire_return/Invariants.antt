@@ -1,6 +1,6 @@
 use Rattle.std.proofs.Common.{length, take}
-use Rattle.asm80_program_types.specs.Program.{starts}
-use Rattle.asm80_program_types.specs.Taken.{taken_places}
+use Rattle.asm80_types.specs.Program.{starts}
+use Rattle.asm80_types.specs.Taken.{taken_places}
 use Rattle.flow.specs.Wiring.{IsWiredTo}
 use Rattle.flow.proofs.Numbers.{start_nodes}
 use Rattle.flow.proofs.wiring.wire_return.Given as goal

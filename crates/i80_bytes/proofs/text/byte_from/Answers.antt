@@ -4,8 +4,8 @@ use Rattle.std.proofs.lemmas.Bool.Decides.{nat_tests}
 use Rattle.i80.specs.declared.Instr80.{Instr80}
 use Rattle.i80.specs.Columns.{length80}
 use Rattle.i80_bytes.specs.Enc80.{enc80}
-use Rattle.asm80_program_types.specs.declared.program.Placed.{Placed}
-use Rattle.asm80_program_types.specs.Program.{Program, placed_in, instr_of_placed, instr_at}
+use Rattle.asm80_types.specs.declared.program.Placed.{Placed}
+use Rattle.asm80_types.specs.Program.{Program, placed_in, instr_of_placed, instr_at}
 use Rattle.i80_bytes.specs.Cells.{code_byte}
 use Rattle.i80_bytes.specs.Text.{NoneFrom}
 use Rattle.i80_bytes.proofs.Texts.{byte_is}

@@ -1,5 +1,5 @@
 use Rattle.std.proofs.Common.{◌∙◌, ◌-◌, ap, arith}
-use Rattle.asm80_program_types.specs.Program.{instr_at}
+use Rattle.asm80_types.specs.Program.{instr_at}
 use Rattle.flow.specs.Blocks.{place_after}
 use Rattle.leaving.specs.Leaving.{leaving_where}
 use Rattle.leaving.proofs.Fronts.{front_may_run}

@@ -1,11 +1,11 @@
 use Rattle.std.proofs.Common.{◌≡◌, ◌∙◌, ◌+◌, ◌-◌, length, take, drop, Some, false, refl, sym, ap, subst}
-use Rattle.asm80_program_types.specs.Program.{Program}
+use Rattle.asm80_types.specs.Program.{Program}
 use Rattle.flow.specs.Blocks.{block_at}
 use Rattle.shrink.specs.Apart.{LabelStands, IsApart}
 use Rattle.asm86_line_types.specs.Image.{statements}
 use Rattle.block_check.specs.Comparing.{verdict_of}
 use Rattle.simulation_def.specs.Needed.{needed_by}
-use Rattle.block_check_def.specs.BlockMatch.{block_reason}
+use Rattle.sym_block_def.specs.BlockMatch.{block_reason}
 use Rattle.shrink.proofs.Steps.{not_true}
 use Rattle.shrink.proofs.Matched.{is_leader, reason_is, not_block}
 use Rattle.shrink.proofs.Alone.{shown_none, to_end, framed_if}

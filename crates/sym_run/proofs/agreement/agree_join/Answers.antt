@@ -3,7 +3,7 @@ use Rattle.std.proofs.lemmas.Bool.{or_left}
 use Rattle.sym_terms.specs.Term.{Term, Join, same_term}
 use Rattle.sym_terms.specs.Making.{high, low}
 use Rattle.sym_terms.specs.Trees.{tree_in}
-use Rattle.block_check_def.specs.Agree.{has_unknown, same_known, agrees}
+use Rattle.sym_block_def.specs.Agree.{has_unknown, same_known, agrees}
 use Rattle.sym_run.proofs.agreement.agree_join.Goals as goal
 use Rattle.sym_run.proofs.agreement.agree_join.Goals.{then-knows_byte, else-knows_byte, then-same, else-same}
 

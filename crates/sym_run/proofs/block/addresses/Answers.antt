@@ -1,7 +1,7 @@
 use Rattle.std.proofs.Common.{◌≡◌, ◌∙◌, ℕ, ◌+◌, ◌-◌, ◌≤◌, length, take, subst, sym, ap, arith}
 use Rattle.std.specs.Prelude.{option_map}
 use Rattle.i80.specs.declared.Instr80.{Instr80}
-use Rattle.asm80_program_types.specs.Program.{instr_at}
+use Rattle.asm80_types.specs.Program.{instr_at}
 use Rattle.std.proofs.lemmas.List.{length-set}
 use Rattle.sym_run.proofs.Addresses.{Filled, not_none, is_there, fills, all_later, all_after}
 use Rattle.sym_run.proofs.block.addresses.Goals as goal

@@ -2,7 +2,7 @@ use Rattle.std.proofs.Common.{◌≡◌, ℕ, ◌+◌, ◌*◌, ◌<◌, ◌≤�
 use Rattle.std.proofs.lemmas.List.{length_push}
 use Rattle.std.proofs.lemmas.Result.{on_ok_weaker, IfOk-from_err}
 use Rattle.asm86_line_types.specs.declared.line.Stmt86.{Stmt86}
-use Rattle.asm80_program_types.specs.declared.program.Placed.{Placed}
+use Rattle.asm80_types.specs.declared.program.Placed.{Placed}
 use Rattle.templates.specs.Jumps.{style_by}
 use Rattle.templates.proofs.Joined.{put_label}
 use Rattle.templates.proofs.blocks.put_block.Goals as goal

@@ -5,8 +5,8 @@ use Rattle.std.proofs.lemmas.Result.{err_from_is_err_and}
 use Rattle.std.specs.Prelude.{◌==◌, ◌^◌, ◌%◌, nat_le, ◌&&◌}
 use Rattle.std.proofs.lemmas.List.Elements.{All-drop, All-take}
 use Rattle.asm86_line_types.specs.declared.line.Stmt86.{Stmt86}
-use Rattle.asm80_program_types.specs.declared.program.Placed.{Placed}
-use Rattle.asm80_program_types.specs.Program.{Program}
+use Rattle.asm80_types.specs.declared.program.Placed.{Placed}
+use Rattle.asm80_types.specs.Program.{Program}
 use Rattle.flow.specs.Blocks.{cut_from, extent, blocks, leaders}
 use Rattle.flow.specs.Cut.{EndsInMemory}
 use Rattle.flow.specs.Solving.{AreAllNeeds}

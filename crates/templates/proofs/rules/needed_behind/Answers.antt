@@ -1,7 +1,7 @@
 use Rattle.std.proofs.Common.{◌≡◌, false, sym, ◌∙◌}
 use Rattle.flow.specs.declared.node.Node.TheVariants.{Start}
 use Rattle.flow.specs.Blocks.{end_of}
-use Rattle.asm80_program_types.specs.Program.{is_start}
+use Rattle.asm80_types.specs.Program.{is_start}
 use Rattle.flow.proofs.AllNeeds.{none_needed}
 use Rattle.flow.proofs.OneNeeds.{needs_once}
 use Rattle.templates.proofs.rules.needed_behind.Goals as goal

@@ -10,7 +10,7 @@ use Rattle.asm86_line_types.specs.declared.line.Label.{Label}
 use Rattle.asm86_line_types.specs.declared.line.Stmt86.{Stmt86}
 use Rattle.asm86_line_types.specs.declared.line.Stmt86.TheVariants.{Jcc, Run}
 use Rattle.i86.specs.declared.Instr86.TheVariants.{Int224}
-use Rattle.asm80_program_types.specs.declared.program.Placed.{Placed}
+use Rattle.asm80_types.specs.declared.program.Placed.{Placed}
 use Rattle.flow.specs.Saves.{is_word_sum}
 use Rattle.templates.specs.Template.{template, label_of_goal}
 use Rattle.templates.specs.Lean.{saves_by_need}

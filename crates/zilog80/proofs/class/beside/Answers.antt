@@ -1,7 +1,7 @@
 use Rattle.std.proofs.Common.{List, ℕ, Some, sym, ap, ◌∙◌, subst}
 use Rattle.std.specs.Prelude.{option_map}
 use Rattle.std.specs.Str.{bytes_eq}
-use Rattle.asm80_statement_types.specs.Name.{IsName}
+use Rattle.asm80_types.specs.Name.{IsName}
 use Rattle.zilog80.specs.Read.{BareEntry}
 use Rattle.zilog80.proofs.Among.{found_here, found_later, found_nowhere}
 use Rattle.zilog80.proofs.Found.{is_beside, beside_name}

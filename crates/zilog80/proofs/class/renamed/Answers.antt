@@ -1,6 +1,6 @@
 use Rattle.std.proofs.Common.{ap, ◌∙◌, [], ◌∷◌, List, ℕ}
 use Rattle.std.specs.Prelude.{option_map}
-use Rattle.asm80_statement_types.specs.Tree.{Named, Whole}
+use Rattle.asm80_types.specs.Tree.{Named, Whole}
 use Rattle.zilog80.proofs.Found.{beside_renamed}
 use Rattle.zilog80.proofs.class.renamed.Goals as goal
 

@@ -1,6 +1,6 @@
 use Rattle.std.proofs.Common.{◌++◌, List, map, ap, ◌∙◌}
 use Rattle.std.proofs.lemmas.List.{map-append}
-use Rattle.asm80_statement_types.specs.Tree.{Operand, operand_of}
+use Rattle.asm80_types.specs.Tree.{Operand, operand_of}
 use Rattle.zilog80.specs.Operands.{operands}
 use Rattle.zilog80.specs.Read.{class_of, given_by, spelt_of}
 use Rattle.zilog80.proofs.Reading.{given_pushed}

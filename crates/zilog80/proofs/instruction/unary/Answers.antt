@@ -1,6 +1,6 @@
 use Rattle.std.proofs.Common.{ap, map}
 use Rattle.std.proofs.lemmas.Result.{err_from_is_err_and}
-use Rattle.asm80_statement_types.specs.Tree.{operand_of}
+use Rattle.asm80_types.specs.Tree.{operand_of}
 use Rattle.zilog80.specs.Read.{spelt_of}
 use Rattle.zilog80.proofs.Reading.{unary_fails, no_unary, unary_read}
 use Rattle.zilog80.proofs.instruction.unary.Goals as goal

@@ -1,6 +1,6 @@
 use Rattle.std.proofs.Common.{List, ℕ, sym, ap, ◌∙◌, subst}
 use Rattle.std.specs.Str.{bytes_eq}
-use Rattle.asm80_statement_types.specs.Name.{IsName}
+use Rattle.asm80_types.specs.Name.{IsName}
 use Rattle.zilog80.specs.Read.{fits_unary, spelt_of}
 use Rattle.zilog80.proofs.Among.{every, fails_left, fails_right, found_here, found_later, found_nowhere}
 use Rattle.zilog80.proofs.Found.{unary_found, unary_none, unary_name}

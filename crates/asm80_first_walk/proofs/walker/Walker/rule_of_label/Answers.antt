@@ -1,5 +1,5 @@
 use Rattle.std.proofs.Common.{◌∙◌, ap}
-use Rattle.asm80_statement_types.specs.Tree.{statement_of}
+use Rattle.asm80_types.specs.Tree.{statement_of}
 use Rattle.asm80_source_def.specs.Walk.{kind_of_label}
 use Rattle.asm80_first_walk.specs.State.{State, walk_of}
 use Rattle.asm80_first_walk.proofs.Stepping.{rule_of_label}

@@ -1,5 +1,5 @@
 use Rattle.std.proofs.Common.{map, drop}
-use Rattle.asm80_statement_types.specs.Tree.{statement_of}
+use Rattle.asm80_types.specs.Tree.{statement_of}
 use Rattle.asm80_first_walk.proofs.Reaching.{Reaches}
 use Rattle.asm80_first_walk.proofs.walker.Walker.run.Given as goal
 

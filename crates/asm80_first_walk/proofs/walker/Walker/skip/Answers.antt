@@ -1,5 +1,5 @@
 use Rattle.std.proofs.Common.{sym}
-use Rattle.asm80_statement_types.specs.Tree.{statement_of}
+use Rattle.asm80_types.specs.Tree.{statement_of}
 use Rattle.asm80_first_walk.proofs.Stepping.{skips_through}
 use Rattle.asm80_first_walk.proofs.walker.Walker.skip.Goals as goal
 

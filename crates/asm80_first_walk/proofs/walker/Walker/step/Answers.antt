@@ -1,5 +1,5 @@
 use Rattle.std.proofs.Common.{◌∙◌, sym, refl, ap}
-use Rattle.asm80_statement_types.specs.Tree.{statement_of}
+use Rattle.asm80_types.specs.Tree.{statement_of}
 use Rattle.asm80_source_def.specs.Walk.{is_end_directive}
 use Rattle.asm80_first_walk.proofs.walker.Walker.step.Goals as goal
 

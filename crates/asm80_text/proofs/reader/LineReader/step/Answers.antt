@@ -1,6 +1,6 @@
 use Rattle.std.proofs.Common.{◌≡◌, ℕ, List, false, Option, Some, None, refl, ◌∙◌, ap, sym}
 use Rattle.std.specs.Option.{is_some}
-use Rattle.asm80_statement_types.specs.declared.fault.ReadFault.{ReadFault}
+use Rattle.asm80_types.specs.declared.fault.ReadFault.{ReadFault}
 use Rattle.base.specs.Held.{held_with_byte}
 use Rattle.asm80_text.specs.Reader.{Reader}
 use Rattle.asm80_text.proofs.Steps.{after_failed, after_ignored, after_byte, after_line, after_end, is_some_none}

@@ -1,7 +1,7 @@
 use Rattle.std.proofs.Common.{ℕ, List, map, sym, subst, Err, None}
 use Rattle.std.proofs.lemmas.Result.{IfOk-weaker}
-use Rattle.asm80_statement_types.specs.Tree.{statement_of}
-use Rattle.asm80_statement_types.specs.Reading.{Finishes}
+use Rattle.asm80_types.specs.Tree.{statement_of}
+use Rattle.asm80_types.specs.Reading.{Finishes}
 use Rattle.asm80_source_def.specs.Source.{faulty}
 use Rattle.cmd_common.specs.Sources.{of_line, SourceGives, StatementsGive}
 use Rattle.cmd_common.proofs.Giving.{source_gives}

@@ -2,7 +2,7 @@ use Rattle.std.proofs.Common.{◌≡◌, ℕ, ◌<◌, ◌∙◌, List, length, 
 use Rattle.std.specs.Prelude.{All}
 use Rattle.std.specs.String.{string_bytes}
 use Rattle.std.proofs.lemmas.Result.{IfOk-weaker}
-use Rattle.asm80_program_types.specs.Program.{is_start}
+use Rattle.asm80_types.specs.Program.{is_start}
 use Rattle.leaving.specs.declared.departure.Departure.{Departure}
 use Rattle.leaving.specs.Leaving.{leaving}
 use Rattle.cmd_lists.specs.Departures.{AreDepartureLines}

@@ -10,7 +10,7 @@ use Rattle.cells.specs.declared.Rule.TheVariants.{P9, P12}
 use Rattle.dialogue.specs.Table.{row_of, laid_out}
 use Rattle.dialogue.specs.Shape.{shape_of}
 use Rattle.dialogue.specs.Run.{Ends, Stops}
-use Rattle.asm80_program_types.specs.Program.{Program}
+use Rattle.asm80_types.specs.Program.{Program}
 use Rattle.cpu80_tagged.specs.State.{State80, num_of}
 use Rattle.cpu80_tagged.specs.Call.{Return, is_just_below, seen_by_tagged, ask, ask_after, call_by, call_system}
 use Rattle.cpu80_tagged.specs.Draft.{state_of_draft}

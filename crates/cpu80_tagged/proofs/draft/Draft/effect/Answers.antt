@@ -4,7 +4,7 @@ use Rattle.cells.specs.declared.Rule.{Rule}
 use Rattle.i80.specs.declared.Goal.{Goal}
 use Rattle.i80.specs.declared.Instr80.{Instr80}
 use Rattle.i80.specs.declared.Instr80.TheVariants.{Nop, Lxi, Xchg, Pchl, Jmp, Jif, Call}
-use Rattle.asm80_program_types.specs.Program.{Program}
+use Rattle.asm80_types.specs.Program.{Program}
 use Rattle.cpu80_tagged.specs.State.{State80}
 use Rattle.cpu80_tagged.specs.Effect.{effect}
 use Rattle.cpu80_tagged.specs.Draft.{state_of_draft}

@@ -4,7 +4,7 @@ use Rattle.cells.specs.declared.Cell.{Cell}
 use Rattle.cells.specs.declared.Flags.{Flags}
 use Rattle.cells.specs.declared.Place.TheVariants.{At}
 use Rattle.cells.specs.Conditions.{unknown_flags}
-use Rattle.asm80_program_types.specs.Program.{Program}
+use Rattle.asm80_types.specs.Program.{Program}
 use Rattle.cpu80_tagged.specs.State.{State80, Regs80, junk_regs}
 use Rattle.cpu80_tagged.specs.Start.{start_cell80, start80}
 use Rattle.cpu80_tagged.proofs.processor.Cpu80.new.Goals as goal

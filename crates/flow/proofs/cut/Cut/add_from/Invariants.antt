@@ -1,5 +1,5 @@
 use Rattle.std.proofs.Common.{◌≡◌, ◌≤◌, ℕ, ◌++◌, map, drop}
-use Rattle.asm80_program_types.specs.Program.{Program}
+use Rattle.asm80_types.specs.Program.{Program}
 use Rattle.flow.specs.Cut.{Marks, blocks_from, EndsInMemory}
 use Rattle.flow.proofs.cut.Cut.add_from.Given as goal
 

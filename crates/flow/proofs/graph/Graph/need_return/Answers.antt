@@ -1,5 +1,5 @@
 use Rattle.flow.specs.declared.node.Node.TheVariants.{Return}
-use Rattle.asm80_program_types.specs.Program.{starts}
+use Rattle.asm80_types.specs.Program.{starts}
 use Rattle.std.proofs.Common.{length}
 use Rattle.flow.proofs.Complete.{read_needs}
 use Rattle.flow.proofs.Numbers.{number_of_return}

@@ -1,4 +1,0 @@
-pub mod Lookup
-pub mod CellSearch
-pub mod Marks
-pub mod Standing

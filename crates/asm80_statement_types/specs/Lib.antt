@@ -1,7 +1,0 @@
-pub mod Name
-pub mod Padded
-pub mod Tree
-pub mod Words
-pub mod WellFormed
-pub mod Ranges
-pub mod Reading

@@ -1,9 +1,0 @@
-pub mod Letters
-pub mod Spelling
-pub mod Words
-pub mod Numbers
-pub mod Strings
-pub mod Tokens
-pub mod TokenResults
-pub mod Small
-pub mod Coherent

@@ -1,0 +1,9 @@
+pub mod Program
+pub mod Taken
+pub mod Name
+pub mod Padded
+pub mod Tree
+pub mod Words
+pub mod WellFormed
+pub mod Ranges
+pub mod Reading
