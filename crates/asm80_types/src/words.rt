@@ -106,10 +106,5 @@ pub fn is_listed(lists: &WordsByLetter<'_>, name: &[u8]) -> bool
 fn is_among(words: &[&str], name: &[u8]) -> bool
     ensures { result ≡ list_any (λ word. bytes_eq word.now name.now) words.now }
 {
-    for word in words {
-        if word.as_bytes() == name {
-            return true;
-        }
-    }
-    false
+    words.iter().any(|word| word.as_bytes() == name)
 }
