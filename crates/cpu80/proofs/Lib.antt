@@ -1,3 +1,5 @@
+mod Asking
+mod Starts
 mod Stands
 mod Moves
 mod Sums

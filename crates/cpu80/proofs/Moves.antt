@@ -24,9 +24,9 @@ use Rattle.cpu80_tagged.specs.State.{State80, high_of, low_of, with_bc as with_b
 use Rattle.cpu80_tagged.specs.Memory.{is_closed, is_write_protected, unless_then, put as put80, address, word_fits, read_at, may_write, write_at, Halves, read_word, write_word}
 use Rattle.cpu80_tagged.specs.Effect.{source as source80, into as into80, lda as lda80, sta as sta80, lhld as lhld80, xchg as xchg80, xthl as xthl80, sphl as sphl80, push as push80, push_pair as push_pair80, popped as popped80, pop_pair as pop_pair80}
 use Rattle.cpu80_tagged.proofs.Passing.{unless_is, within}
-use Rattle.cpu80_untagged.specs.State.{UntaggedState, pair_word, with_bc, with_de, with_hl, with_word, with_a, next, put_word}
-use Rattle.cpu80_untagged.specs.Flags.{flag_byte, flags_in_byte}
-use Rattle.cpu80_untagged.specs.Effect.{source, into, store, lda, lhld, shld, xchg, xthl, push, push_pair, popped, pop_pair}
+use Rattle.cpu80.specs.State.{UntaggedState, pair_word, with_bc, with_de, with_hl, with_word, with_a, next, put_word}
+use Rattle.cpu80.specs.Flags.{flag_byte, flags_in_byte}
+use Rattle.cpu80.specs.Effect.{source, into, store, lda, lhld, shld, xchg, xthl, push, push_pair, popped, pop_pair}
 use Rattle.dialogue.proofs.Tried.{ok_is, then_is}
 use Rattle.cpu80.proofs.Stands.{Stands, FlagsStand, StatesStand, reg_stands, set_stands, put_stands, sets_regs, sets_flags, sets_cells, sets_sp, number, word_is, word_small}
 
