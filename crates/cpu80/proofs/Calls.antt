@@ -41,7 +41,7 @@ use Rattle.dialogue.specs.Words.{word, wrap}
 use Rattle.dialogue.specs.Choice.{byte_of}
 use Rattle.dialogue.proofs.Tried.{ok_is, err_is_not, then_is}
 use Rattle.cpu80.proofs.Stands.{Stands, RegsStand, CellsStand, StatesStand, put_stands, number}
-use Rattle.cpu80.proofs.Moves.{high_small, low_small, unprotected_free, reads_word}
+use Rattle.cpu80.proofs.MovesStand.{high_small, low_small, unprotected_free, reads_word}
 use Rattle.asm80_types.proofs.Standing.{start_range}
 use Rattle.dialogue.proofs.Within.{AreWithin, call_writes, fit_within}
 

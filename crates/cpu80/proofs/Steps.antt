@@ -35,7 +35,7 @@ use Rattle.dialogue.specs.Words.{wrap}
 use Rattle.dialogue.specs.ByteMemory.{word_at}
 use Rattle.dialogue.proofs.Tried.{ok_is, err_is_not, then_is}
 use Rattle.cpu80.proofs.Stands.{FlagsStand, StatesStand, sets_sp, sets_place, number, number_is}
-use Rattle.cpu80.proofs.Moves.{sets_a, high_of_place, low_of_place, push_stands}
+use Rattle.cpu80.proofs.MovesStand.{sets_a, high_of_place, low_of_place, push_stands}
 use Rattle.asm80_types.proofs.Standing.{IsPlaced, is_placed, start_range}
 use Rattle.cpu80.proofs.Rows.{effects_stand}
 use Rattle.cpu80.proofs.Calls.{IsAnswered, StepFollows, not_zero, Names, place_names, ReturnStands, pops, popped_stands, system_follows}

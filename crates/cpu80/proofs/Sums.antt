@@ -30,7 +30,7 @@ use Rattle.cpu80.specs.Flags.{settled, chosen_flags}
 use Rattle.cpu80.specs.Effect.{source, into, carry_for, a_after, computed, alu, counted_up, counted_down, inr, dcr, add_to_pair, added, dad, adjusted, daa, turned}
 use Rattle.dialogue.proofs.Tried.{ok_is, then_is, err_is_not}
 use Rattle.cpu80.proofs.Stands.{Stands, FlagsStand, StatesStand, reg_stands, sets_flags, number, number_is}
-use Rattle.cpu80.proofs.Moves.{reads, address_is, pair_is, sets_a, sets_word, source_stands, into_stands}
+use Rattle.cpu80.proofs.MovesStand.{reads, address_is, pair_is, sets_a, sets_word, source_stands, into_stands}
 
 -- flags
 
