@@ -1,5 +1,7 @@
+mod Asking
+mod Starts
 mod Stands
-mod Moves
+mod MovesStand
 mod Sums
 mod Rows
 mod Calls
