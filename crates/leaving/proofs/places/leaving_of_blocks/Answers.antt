@@ -4,20 +4,10 @@ use Rattle.leaving.proofs.Walking.{next_block, found_more, none_found}
 use Rattle.leaving.proofs.places.leaving_of_blocks.Goals as goal
 use Rattle.leaving.proofs.places.leaving_of_blocks.Goals.{in-Some+in_ok-push, in_default}
 
-pub place_of-requires-clause-straight : goal.place_of-requires-clause-straight
-place_of-requires-clause-straight c =
+pub place_of-requires : goal.place_of-requires
+place_of-requires c =
     let n = next_block c.args.program.now c.args.graph.now.program (c.blocks_cut_the_program.ensures c.args.program.now c.top-top.ensures.program) c.leaders-leader-items.result.now c.loop-leader.leader-index c.block.result c.unwrap_or-count.result c.requires c.leaders-leader-items.ensures c.loop-leader-test.true c.block.ensures c.unwrap_or-count.ensures in
-    n.straight
-
-pub place_of-requires-clause-some : goal.place_of-requires-clause-some
-place_of-requires-clause-some c =
-    let n = next_block c.args.program.now c.args.graph.now.program (c.blocks_cut_the_program.ensures c.args.program.now c.top-top.ensures.program) c.leaders-leader-items.result.now c.loop-leader.leader-index c.block.result c.unwrap_or-count.result c.requires c.leaders-leader-items.ensures c.loop-leader-test.true c.block.ensures c.unwrap_or-count.ensures in
-    n.some
-
-pub place_of-requires-clause-few : goal.place_of-requires-clause-few
-place_of-requires-clause-few c =
-    let n = next_block c.args.program.now c.args.graph.now.program (c.blocks_cut_the_program.ensures c.args.program.now c.top-top.ensures.program) c.leaders-leader-items.result.now c.loop-leader.leader-index c.block.result c.unwrap_or-count.result c.requires c.leaders-leader-items.ensures c.loop-leader-test.true c.block.ensures c.unwrap_or-count.ensures in
-    n.few
+    record { straight = n.straight; some = n.some; few = n.few }
 
 pub loop-leader-preserved : goal.loop-leader-preserved
 loop-leader-preserved c =
