@@ -1,7 +1,7 @@
 use Rattle.std.proofs.Common.{◌≡◌, ◌∙◌, ap, subst, sym, Option, Some, None, le_refl, lit≤}
 use Rattle.i80.specs.declared.Op.TheVariants.{Xra}
 use Rattle.sym_terms.specs.declared.head.Term.{Term as TermId}
-use Rattle.sym_terms.specs.Term.{Num, is_byte}
+use Rattle.sym_terms.specs.Term.{Num, is_bit, is_byte}
 use Rattle.sym_terms.specs.Making.{alu}
 use Rattle.sym_terms.specs.Trees.{tree_in, Makes}
 use Rattle.sym_terms.proofs.Interning.{then_grows}
@@ -37,6 +37,14 @@ alu-requires-clause-a c =
       given = kept.0;
       of_sort = ap is_byte kept.1 ∙ (c.made_terms_have_sorts.ensures.bits_are_bytes (tree_in old cy) c.requires.sorted.held.cy).1;
     }
+
+pub alu-requires-clause-b : goal.alu-requires-clause-b
+alu-requires-clause-b c = record { given = c.in_ok-one.ensures.gives.0; of_sort = ap is_byte c.in_ok-one.ensures.gives.1 }
+
+pub alu-requires-clause-carry : goal.alu-requires-clause-carry
+alu-requires-clause-carry c =
+    let kept = c.in_ok-one.ensures.grows.kept c.in_ok-zero.zero c.in_ok-zero.ensures.gives.0 in
+    record { given = kept.0; of_sort = ap is_bit (kept.1 ∙ c.in_ok-zero.ensures.gives.1) }
 
 pub returns-in_err-zero : goal.returns-in_err-zero
 returns-in_err-zero c =
