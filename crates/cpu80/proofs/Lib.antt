@@ -1,5 +1,6 @@
 mod Asking
 mod Starts
+mod Replying
 mod Stands
 mod MovesStand
 mod Sums

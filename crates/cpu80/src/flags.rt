@@ -1,6 +1,5 @@
 // The flags (Intel 8080 Assembly Language Programming Manual, "Condition bits").
 ghost use Rattle.std.specs.Prelude.{◌≡◌, ◌+◌, ◌<◌};
-ghost use Rattle.cells.specs.Bits.{has_bit};
 ghost use Rattle.cpu80.specs.Flags.{settled, chosen_flags, flag_byte, flags_in_byte, holds};
 ghost use Rattle.cpu80.specs.ProcessorState.{untagged_flags};
 
@@ -50,13 +49,8 @@ impl FlagBits {
     pub fn of_byte(byte: u8) -> FlagBits
         ensures { untagged_flags result ≡ flags_in_byte byte }
     {
-        FlagBits {
-            s: is_set(byte, 7),
-            z: is_set(byte, 6),
-            ac: is_set(byte, 4),
-            p: is_set(byte, 2),
-            cy: is_set(byte, 0),
-        }
+        // all of them are known, so that nothing is chosen
+        FlagBits::settled(Flags::of_byte(byte), 0)
     }
 
     /// The byte that PUSH PSW stores: its bits 1, 3 and 5 are bits 0, 1 and 2 of the choice.
@@ -88,11 +82,4 @@ impl FlagBits {
             Cond::M => self.s,
         }
     }
-}
-
-fn is_set(byte: u8, place: u8) -> bool
-    requires { place < 8 }
-    ensures { result ≡ has_bit byte place }
-{
-    (byte >> place) & 1 == 1
 }

@@ -75,7 +75,7 @@ pub fn start_memory(
     let top = program.top();
     let mut bytes = Vec::with_capacity(alloc, MEMORY as usize)?;
     for at in 0..MEMORY {
-        bytes.push(start_byte(program, top, page, fill, at as u16))?;
+        bytes.push_reserved(start_byte(program, top, page, fill, at as u16));
     }
     Ok(Memory { bytes })
 }
