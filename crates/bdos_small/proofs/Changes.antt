@@ -6,9 +6,9 @@ use Rattle.std.specs.Option.{option_copied}
 use Rattle.std.specs.Prelude.{Option, None, is_none, is_some, IfSome}
 use Rattle.dialogue.specs.declared.request.Request.{Request}
 use Rattle.dialogue.specs.declared.request.Reply.{Reply}
-use Rattle.bdos_disk.specs.Stored.{Stored}
-use Rattle.bdos_disk.specs.Names.{is_file_name, name_in_block}
-use Rattle.bdos_disk.specs.Disks.{file_named, with_file, without_file, with_records, written_at, growth, records_in}
+use Rattle.bdos_small.specs.Stored.{Stored}
+use Rattle.bdos_small.specs.Names.{is_file_name, name_in_block}
+use Rattle.bdos_small.specs.Disks.{file_named, with_file, without_file, with_records, written_at, growth, records_in}
 use Rattle.bdos_small.specs.Fcb.{drive_in, extent_in, fields_at, opened_fcb}
 use Rattle.bdos_small.specs.Calls.{block_read, fcb_of, telling, reply_writing, done, not_found}
 use Rattle.bdos_small.specs.Files.{Changed, is_free, make_file, renamed, rename_file, file_written, write_at}

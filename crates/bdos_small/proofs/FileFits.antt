@@ -8,10 +8,10 @@ use Rattle.dialogue.specs.declared.request.Request.{Request}
 use Rattle.dialogue.specs.Table.{row_of}
 use Rattle.dialogue.specs.Fits.{fits}
 use Rattle.dialogue.specs.Lawful.{IsLawfulRequest}
-use Rattle.bdos_disk.specs.Names.{is_after, low_seven, name_in_block}
-use Rattle.bdos_disk.specs.Stored.{Stored}
-use Rattle.bdos_disk.specs.Disks.{IsDisk, records_in, has_match, file_named, has_name, first_matching, next_matching, any_matching, growth, written_at, with_file, without_file, with_records, without_matching}
-use Rattle.bdos_disk.proofs.Files.{IsKept, found_on_disk}
+use Rattle.bdos_small.specs.Names.{is_after, low_seven, name_in_block}
+use Rattle.bdos_small.specs.Stored.{Stored}
+use Rattle.bdos_small.specs.Disks.{IsDisk, records_in, has_match, file_named, has_name, first_matching, next_matching, any_matching, growth, written_at, with_file, without_file, with_records, without_matching}
+use Rattle.bdos_small.proofs.Files.{IsKept, found_on_disk}
 use Rattle.bdos_small.specs.declared.directory.Search.{Search}
 use Rattle.bdos_small.specs.Fcb.{records_from, position_of, drive_in, extent_in, position_in, random_position, fields_at, opened_fcb, directory_entry, random_bytes}
 use Rattle.bdos_small.specs.Calls.{block_read, fcb_of, telling, reply_writing, writing_both, done, not_found}

@@ -8,7 +8,7 @@ use Rattle.bdos_small.specs.Calls.{takes_fcb}
 use Rattle.bdos_small.specs.declared.console.Answer.{Answer}
 use Rattle.bdos_small.specs.declared.console.Answer.TheVariants.{Reply, InputEnded, NoDrive}
 use Rattle.bdos_small.specs.declared.directory.Search.{Search}
-use Rattle.bdos_disk.specs.Stored.{Stored}
+use Rattle.bdos_small.specs.Stored.{Stored}
 use Rattle.bdos_small.specs.Console.{console_answer, TakesInputByReply}
 use Rattle.bdos_small.specs.Small.{Small, small_of, replying, with_search, with_input, file_answer, fcb_answer, small_answer, ChangesByReply}
 use Rattle.bdos_small.specs.Files.{search_next, set_random_record}

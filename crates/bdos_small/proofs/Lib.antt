@@ -1,3 +1,12 @@
+pub mod Order
+pub mod Going
+pub mod Highest
+pub mod Files
+pub mod Parts
+pub mod Languages
+pub mod Steps
+pub mod Whole
+pub mod Pieces
 pub mod Lines
 pub mod ConsoleReplies
 pub mod Lawful

@@ -4,9 +4,9 @@
 use Rattle.std.specs.Prelude.{ℕ, ◌+◌, ◌*◌, ◌==◌, ◌&&◌, ◌||◌, nat_le, nat_lt, Bool, cond, List, [], length, Option, Some, None, is_none, slice_get, slice_index}
 use Rattle.dialogue.specs.declared.request.Request.{Request}
 use Rattle.dialogue.specs.declared.request.Reply.{Reply}
-use Rattle.bdos_disk.specs.Names.{is_file_name, name_in_block}
-use Rattle.bdos_disk.specs.Stored.{Stored}
-use Rattle.bdos_disk.specs.Disks.{records_in, file_named, first_matching, next_matching, any_matching, without_matching, with_file, without_file, with_records, growth, written_at}
+use Rattle.bdos_small.specs.Names.{is_file_name, name_in_block}
+use Rattle.bdos_small.specs.Stored.{Stored}
+use Rattle.bdos_small.specs.Disks.{records_in, file_named, first_matching, next_matching, any_matching, without_matching, with_file, without_file, with_records, growth, written_at}
 use Rattle.bdos_small.specs.declared.directory.Search.{Search}
 use Rattle.bdos_small.specs.Fcb.{drive_in, extent_in, position_of, position_in, random_position, fields_at, opened_fcb, directory_entry, random_bytes}
 use Rattle.bdos_small.specs.Calls.{block_read, fcb_of, telling, reply_writing, writing_both, done, not_found}

@@ -1,3 +1,9 @@
+pub mod Names
+pub mod Spelled
+pub mod Stored
+pub mod Disks
+pub mod DiskFile
+pub mod Reading
 pub mod Console
 pub mod Fcb
 pub mod Calls

@@ -6,7 +6,7 @@ use Rattle.dialogue.specs.declared.request.Reply.{Reply as ReplyTo}
 use Rattle.bdos_small.specs.declared.console.Answer.{Answer}
 use Rattle.bdos_small.specs.declared.console.Answer.TheVariants.{Reply, InputEnded, NoDrive}
 use Rattle.bdos_small.specs.Console.{ConsoleAnswered as ByConsole, console_answer}
-use Rattle.bdos_disk.specs.Stored.{Stored}
+use Rattle.bdos_small.specs.Stored.{Stored}
 use Rattle.bdos_small.specs.Fcb.{drive_in}
 use Rattle.bdos_small.specs.Calls.{fcb_of, takes_fcb}
 use Rattle.bdos_small.specs.declared.directory.Search.{Search}

@@ -1,6 +1,6 @@
 -- What a system has left to answer with.
 use Rattle.std.specs.Prelude.{ℕ, List, None}
-use Rattle.bdos_disk.specs.Stored.{Stored}
+use Rattle.bdos_small.specs.Stored.{Stored}
 use Rattle.bdos_small.specs.Small.{Small, small_of}
 
 -- a small BDOS with its disk and the input of its console, and the bytes that its ports give

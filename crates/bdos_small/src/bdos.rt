@@ -9,12 +9,12 @@ use crate::console::{Answer, Console};
 use crate::directory::{
     Search, close_file, delete_file, make_file, open_file, rename_file, search_first, search_next,
 };
+use crate::disk::Disk;
 use crate::fcb::byte_at;
 use crate::records::{
     file_size, read_random, read_sequential, set_random_record, write_random, write_sequential,
 };
 use crate::replies::block_at;
-use bdos_disk::Disk;
 use dialogue::{Reply, Request};
 use std::alloc::{AllocError, Global};
 use std::marker::Model;

@@ -10,8 +10,8 @@ ghost use Rattle.bdos_small.specs.Events.{of_system, port_reply, FitsEvent, Take
 
 use crate::bdos::Bdos;
 use crate::console::Answer;
+use crate::disk::Disk;
 use crate::input::Input;
-use bdos_disk::Disk;
 use dialogue::{Blocks, Event, Reply, Request};
 use std::alloc::{AllocError, Global};
 use std::marker::Model;

@@ -1,13 +1,15 @@
 // The functions of the directory (CP/M 2.2 Operating System Manual, section 5.3, "BDOS Functions").
 ghost use Rattle.std.specs.Prelude.{◌≡◌, ◌≤◌, length, IfOk, OnErr, OnSome};
-ghost use Rattle.bdos_disk.specs.Disks.{IsDisk};
+ghost use Rattle.bdos_small.specs.Disks.{IsDisk};
 ghost use Rattle.bdos_small.specs.Calls.{fcb_of, block_read};
 ghost use Rattle.std.specs.Option.{option_copied};
-ghost use Rattle.bdos_small.specs.Files.{Searched, Changed, has_extent, opened, open_file, close_file, gives, search_first, search_next, delete_file, is_free, make_file, rename_file};
+ghost use Rattle.bdos_small.specs.Files.{Searched, Changed, opened, open_file, close_file, gives, search_first, search_next, delete_file, is_free, make_file, rename_file};
 
+use crate::disk::{Disk, MOST_FILES};
 use crate::fcb::{byte_at, directory_entry, opened_fcb};
+use crate::file::File;
+use crate::name::Name;
 use crate::replies::{block_at, telling, writing};
-use bdos_disk::{Disk, File, MOST_FILES, Name};
 use dialogue::{Reply, Request};
 use std::alloc::{AllocError, Global};
 
@@ -42,18 +44,11 @@ fn opened(alloc: Global, request: &Request, file: Option<&File>) -> Result<Reply
     };
     let fcb = block_at(request, 0);
     let ex = byte_at(fcb, 12);
-    if !has_extent(file, ex) {
+    if ex > 0 && file.records().len() <= 128 * usize::from(ex) {
         return Ok(telling(alloc, NOT_FOUND));
     }
     let opened = opened_fcb(byte_at(fcb, 0), file.name(), ex, file.records().len());
     writing(alloc, request, &opened)
-}
-
-// Whether a file has a record in an extent, or the extent is 0.
-fn has_extent(file: &File, ex: u8) -> bool
-    ensures { result ≡ has_extent ex file.now }
-{
-    ex == 0 || 128 * usize::from(ex) < file.records().len()
 }
 
 /// Function 16, close file.

@@ -2,7 +2,7 @@
 ghost use Rattle.std.specs.Prelude.{◌≡◌, ◌<◌, slice_index};
 ghost use Rattle.bdos_small.specs.Fcb.{position_of, position_in, random_position, records_from, fields_at, opened_fcb, directory_entry, random_bytes};
 
-use bdos_disk::Name;
+use crate::name::Name;
 
 /// The records of an extent.
 const EXTENT: usize = 128;

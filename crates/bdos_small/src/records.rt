@@ -1,12 +1,13 @@
 // The functions that read and write records (CP/M 2.2 Operating System Manual, section 5.3, "BDOS Functions").
 ghost use Rattle.std.specs.Prelude.{◌≡◌, ◌+◌, ◌≤◌, ◌<◌, length, slice_index, IfOk, OnErr};
-ghost use Rattle.bdos_disk.specs.Disks.{IsDisk};
+ghost use Rattle.bdos_small.specs.Disks.{IsDisk};
 ghost use Rattle.bdos_small.specs.Calls.{fcb_of, block_read};
 ghost use Rattle.bdos_small.specs.Files.{Changed, read_at, read_sequential, read_random, write_at, write_sequential, write_random, file_size, set_random_record};
 
+use crate::disk::{Disk, MOST_RECORDS};
 use crate::fcb::{byte_at, fields_at, position_in, position_of, random_bytes, random_position};
+use crate::name::Name;
 use crate::replies::{block_at, telling, writing, writing_both};
-use bdos_disk::{Disk, MOST_RECORDS, Name};
 use dialogue::{Reply, Request};
 use std::alloc::{AllocError, Global};
 

@@ -1,6 +1,5 @@
 // Answers as text.
-use bdos_disk::File;
-use bdos_small::{Answer, Disk};
+use bdos_small::{Answer, Disk, File};
 use dialogue::{Block, Reply};
 use std::alloc::{AllocError, Global};
 

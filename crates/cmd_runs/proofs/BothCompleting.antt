@@ -7,10 +7,10 @@ use Rattle.asm86_line_types.specs.declared.line.Line86.{Line86}
 use Rattle.host.specs.declared.HostFault.TheVariants.{Failed as CallFailed}
 use Rattle.host.proofs.HostLemmas.{SameFaults-trans}
 use Rattle.host.specs.Host.{HostState, SameFaults}
-use Rattle.bdos_disk.specs.declared.fault.DiskFault.{DiskFault}
-use Rattle.bdos_disk.specs.declared.fault.DiskFault.TheVariants.{Bad, Memory}
-use Rattle.bdos_disk.specs.DiskFile.{IsBadAt}
-use Rattle.bdos_disk.specs.Reading.{IsDiskFaultOf}
+use Rattle.bdos_small.specs.declared.fault.DiskFault.{DiskFault}
+use Rattle.bdos_small.specs.declared.fault.DiskFault.TheVariants.{Bad, Memory}
+use Rattle.bdos_small.specs.DiskFile.{IsBadAt}
+use Rattle.bdos_small.specs.Reading.{IsDiskFaultOf}
 use Rattle.bdos_small.specs.Supply.{Supply}
 use Rattle.emulator_loop.specs.declared.fault.TalkFault.TheVariants.{Unsaid as Untold}
 use Rattle.emulators.specs.Courses.{course80, course86}

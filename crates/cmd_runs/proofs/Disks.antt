@@ -1,8 +1,8 @@
 -- The devices that files make, and why they make none: one thing by the disk's file.
 use Rattle.std.proofs.Common.{◌≡◌, ℕ, List, sym, ap, ◌∙◌, subst}
-use Rattle.bdos_disk.specs.Stored.{Stored}
-use Rattle.bdos_disk.specs.Disks.{IsDisk}
-use Rattle.bdos_disk.specs.DiskFile.{disk_file, IsBadAt}
+use Rattle.bdos_small.specs.Stored.{Stored}
+use Rattle.bdos_small.specs.Disks.{IsDisk}
+use Rattle.bdos_small.specs.DiskFile.{disk_file, IsBadAt}
 use Rattle.bdos_small.specs.Supply.{Supply, first_supply}
 use Rattle.cmd_runs.specs.Supplies.{Given, HasDisk}
 

@@ -3,7 +3,7 @@ use Rattle.std.proofs.Common.{◌≡◌, ℕ, ◌≤◌, inl, inr, ⊎_elim, Lis
 use Rattle.std.specs.Prelude.{Result, Ok, Err}
 use Rattle.host.specs.Host.{HostState, HasRisen, SameFiles, OnlyFileChanged, SameFaults}
 use Rattle.host.proofs.HostLemmas.{SameFaults-refl}
-use Rattle.bdos_disk.specs.Stored.{Stored}
+use Rattle.bdos_small.specs.Stored.{Stored}
 use Rattle.cmd_common.specs.Names.{FileNames}
 use Rattle.cmd_common.specs.declared.stop.Stop.{Stop}
 use Rattle.cmd_common.specs.declared.stop.Stop.TheVariants.{OutOfMemory}

@@ -2,7 +2,7 @@
 use Rattle.std.proofs.Common.{◌≡◌, ℕ, List, [], Option, None, refl, subst, ◌∙◌}
 use Rattle.std.specs.Prelude.{Result, IfOk, IfErr, IsErrAnd}
 use Rattle.host.specs.Host.{HostState}
-use Rattle.bdos_disk.specs.Stored.{Stored}
+use Rattle.bdos_small.specs.Stored.{Stored}
 use Rattle.bdos_small.specs.Supply.{Supply}
 use Rattle.emulator_loop.specs.declared.fault.TalkFault.{TalkFault}
 use Rattle.emulator_loop.specs.declared.running.Conversation.{Conversation}

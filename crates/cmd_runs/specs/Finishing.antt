@@ -1,7 +1,7 @@
 -- What is left to do of a command's work once its runs are made, and how it closes.
 use Rattle.std.specs.Prelude.{◌≡◌, ℕ, List, Option, Result, Ok, Err}
 use Rattle.host.specs.Host.{HostState}
-use Rattle.bdos_disk.specs.Stored.{Stored}
+use Rattle.bdos_small.specs.Stored.{Stored}
 use Rattle.cmd_common.specs.Names.{FileNames}
 use Rattle.cmd_common.specs.declared.stop.Stop.{Stop}
 use Rattle.cmd_common.specs.declared.stop.Stop.TheVariants.{OutOfMemory}

@@ -5,8 +5,8 @@ use Rattle.host.specs.Host.{HostState, SameFiles, OnlyFileChanged, OnlyWrites, R
 use Rattle.host.specs.Host.{WriteFault}
 use Rattle.host.specs.declared.HostFault.{HostFault}
 use Rattle.host.specs.declared.HostFault.TheVariants.{Failed, Memory}
-use Rattle.bdos_disk.specs.Stored.{Stored}
-use Rattle.bdos_disk.specs.DiskFile.{disk_file}
+use Rattle.bdos_small.specs.Stored.{Stored}
+use Rattle.bdos_small.specs.DiskFile.{disk_file}
 use Rattle.emulator_loop.specs.declared.emulator.Why.{Why}
 use Rattle.emulator_loop.specs.declared.emulator.Why.TheVariants.{Left, NoInstruction, StackSegment, OddCall}
 use Rattle.emulator_loop.specs.declared.running.RunEnd.{RunEnd}

@@ -2,7 +2,7 @@
 use Rattle.std.specs.Prelude.{◌≡◌, ℕ, List, Result, Err}
 use Rattle.dialogue.specs.declared.request.Reply.{Reply}
 use Rattle.host.specs.Host.{HostState}
-use Rattle.bdos_disk.specs.DiskFile.{IsBadAt}
+use Rattle.bdos_small.specs.DiskFile.{IsBadAt}
 use Rattle.bdos_small.specs.Supply.{Supply}
 use Rattle.emulator_loop.specs.declared.running.Conversation.{Conversation}
 use Rattle.emulator_loop.specs.Talk.{SeenRun, IsOutcome}

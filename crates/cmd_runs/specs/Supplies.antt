@@ -2,12 +2,12 @@
 -- devices that these make.
 use Rattle.std.specs.Prelude.{◌≡◌, ℕ, ◌%◌, List, [], length, replicate, Option, Some, None}
 use Rattle.host.specs.Host.{HostState}
-use Rattle.bdos_disk.specs.declared.fault.DiskFault.{DiskFault}
-use Rattle.bdos_disk.specs.declared.fault.DiskFault.TheVariants.{Bad, Memory}
-use Rattle.bdos_disk.specs.Stored.{Stored}
-use Rattle.bdos_disk.specs.Disks.{IsDisk}
-use Rattle.bdos_disk.specs.DiskFile.{disk_file}
-use Rattle.bdos_disk.specs.Reading.{IsDiskFaultOf}
+use Rattle.bdos_small.specs.declared.fault.DiskFault.{DiskFault}
+use Rattle.bdos_small.specs.declared.fault.DiskFault.TheVariants.{Bad, Memory}
+use Rattle.bdos_small.specs.Stored.{Stored}
+use Rattle.bdos_small.specs.Disks.{IsDisk}
+use Rattle.bdos_small.specs.DiskFile.{disk_file}
+use Rattle.bdos_small.specs.Reading.{IsDiskFaultOf}
 use Rattle.bdos_small.specs.Supply.{Supply, first_supply}
 use Rattle.cmd_arguments.specs.Words.{RunOptions}
 use Rattle.cmd_common.specs.declared.names.InputFile.TheVariants.{Console, Disk, Ports}

@@ -31,17 +31,17 @@ use Rattle.cells.proofs.SamePlace.{same_place_is}
 use Rattle.cpu80_tagged.specs.Call.{Return as Return80, is_just_below, may_be_written, seen_by_tagged as seen_by80, ask as ask80, ask_after, call_by, call_system as call_system80, is_place, place_in, popped_return as popped_return80, put_bytes as put_bytes80, put_blocks as put_blocks80, answered as answered80, cells_after, after_reply as after_reply80}
 use Rattle.cpu80_tagged.specs.Step.{return_at as return_at80, replied_to as replied_to80, replied80}
 use Rattle.cpu80_tagged.proofs.Passing.{place_if_is}
-use Rattle.cpu80_untagged.specs.State.{UntaggedState, next}
-use Rattle.cpu80_untagged.specs.Call.{Stop, ask, call_system, Return, place_of_return, popped_return, chosen_regs, answered, after_reply}
-use Rattle.cpu80_untagged.specs.Step.{Fetch, return_at, replied_to, replied_untagged}
-use Rattle.cpu80_untagged.specs.Start.{address_of}
-use Rattle.cpu80_untagged.specs.Follows.{WritesBytes}
+use Rattle.cpu80.specs.State.{UntaggedState, next}
+use Rattle.cpu80.specs.Call.{Stop, ask, call_system, Return, place_of_return, popped_return, chosen_regs, answered, after_reply}
+use Rattle.cpu80.specs.Step.{Fetch, return_at, replied_to, replied_untagged}
+use Rattle.cpu80.specs.Start.{address_of}
+use Rattle.cpu80.specs.Follows.{WritesBytes}
 use Rattle.dialogue.specs.Sight.{SeesMore, KnowsMore, WhoSeesMoreAsksTheSame}
 use Rattle.dialogue.specs.Words.{word, wrap}
 use Rattle.dialogue.specs.Choice.{byte_of}
 use Rattle.dialogue.proofs.Tried.{ok_is, err_is_not, then_is}
 use Rattle.cpu80.proofs.Stands.{Stands, RegsStand, CellsStand, StatesStand, put_stands, number}
-use Rattle.cpu80.proofs.Moves.{high_small, low_small, unprotected_free, reads_word}
+use Rattle.cpu80.proofs.MovesStand.{high_small, low_small, unprotected_free, reads_word}
 use Rattle.asm80_types.proofs.Standing.{start_range}
 use Rattle.dialogue.proofs.Within.{AreWithin, call_writes, fit_within}
 

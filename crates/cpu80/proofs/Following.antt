@@ -7,10 +7,10 @@ use Rattle.dialogue.specs.Sight.{WhoSeesMoreAsksTheSame}
 use Rattle.asm80_types.specs.Program.{Program, IsProgram}
 use Rattle.cpu80_tagged.specs.Start.{IsPage, start80, run80}
 use Rattle.dialogue.specs.Fill.{IsFill}
-use Rattle.cpu80_untagged.specs.State.{UntaggedState}
-use Rattle.cpu80_untagged.specs.Step.{Fetch, program_fetch, act_at, return_of, untagged_machine}
-use Rattle.cpu80_untagged.specs.Start.{system_byte, data_over, start_over, start_byte}
-use Rattle.cpu80_untagged.specs.Follows.{WritesBytes, HasFollowed, PlainFollows, TakesProgram, HasData, FetchFollows}
+use Rattle.cpu80.specs.State.{UntaggedState}
+use Rattle.cpu80.specs.Step.{Fetch, program_fetch, act_at, return_of, untagged_machine}
+use Rattle.cpu80.specs.Start.{system_byte, data_over, start_over, start_byte}
+use Rattle.cpu80.specs.Follows.{WritesBytes, HasFollowed, PlainFollows, TakesProgram, HasData, FetchFollows}
 use Rattle.cpu80.proofs.Running.{AreTogether, turns_together, together_said}
 use Rattle.cpu80.proofs.Starting.{starts_stand, has_data}
 

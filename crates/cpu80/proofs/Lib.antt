@@ -1,5 +1,8 @@
+mod Asking
+mod Starts
+mod Replying
 mod Stands
-mod Moves
+mod MovesStand
 mod Sums
 mod Rows
 mod Calls

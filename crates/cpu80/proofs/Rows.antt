@@ -14,11 +14,11 @@ use Rattle.asm80_types.specs.Program.{Program, IsProgram}
 use Rattle.asm80_types.proofs.Standing.{IsPlaced, start_range}
 use Rattle.cpu80_tagged.specs.State.{State80}
 use Rattle.cpu80_tagged.specs.Effect.{effect as effect80, lxi as lxi80}
-use Rattle.cpu80_untagged.specs.State.{UntaggedState, with_word}
-use Rattle.cpu80_untagged.specs.Effect.{effect, word_of}
+use Rattle.cpu80.specs.State.{UntaggedState, with_word}
+use Rattle.cpu80.specs.Effect.{effect, word_of}
 use Rattle.dialogue.proofs.Tried.{ok_is}
 use Rattle.cpu80.proofs.Stands.{StatesStand, number}
-use Rattle.cpu80.proofs.Moves.{sets_bc, sets_de, sets_hl, sets_word, into_stands, mov, high_of_place, low_of_place, lda_stands, ldax_stands, sta_stands, stax_stands, lhld_stands, shld_stands, xchg_stands, xthl_stands, sphl_stands, push_pair_stands, pop_pair_stands}
+use Rattle.cpu80.proofs.MovesStand.{sets_bc, sets_de, sets_hl, sets_word, into_stands, mov, high_of_place, low_of_place, lda_stands, ldax_stands, sta_stands, stax_stands, lhld_stands, shld_stands, xchg_stands, xthl_stands, sphl_stands, push_pair_stands, pop_pair_stands}
 use Rattle.cpu80.proofs.Sums.{sets_cy, alu_with_stands, alu_stands, inr_stands, dcr_stands, add_to_pair_stands, dad_stands, daa_stands, cma_stands, cmc_stands, rlc_stands, rrc_stands, ral_stands, rar_stands}
 
 module _ {held : ℕ → ℕ} where

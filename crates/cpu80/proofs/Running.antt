@@ -11,10 +11,10 @@ use Rattle.dialogue.specs.Run.{Answer, Ran, Asks, Ends, Stops, Machine, Status, 
 use Rattle.asm80_types.specs.Program.{Program, IsProgram}
 use Rattle.cpu80_tagged.specs.State.{State80}
 use Rattle.cpu80_tagged.specs.Step.{step80, machine80}
-use Rattle.cpu80_untagged.specs.State.{UntaggedState}
-use Rattle.cpu80_untagged.specs.Call.{Stop}
-use Rattle.cpu80_untagged.specs.Step.{Fetch, step_untagged, untagged_machine}
-use Rattle.cpu80_untagged.specs.Follows.{WritesBytes, TakesProgram}
+use Rattle.cpu80.specs.State.{UntaggedState}
+use Rattle.cpu80.specs.Call.{Stop}
+use Rattle.cpu80.specs.Step.{Fetch, step_untagged, untagged_machine}
+use Rattle.cpu80.specs.Follows.{WritesBytes, TakesProgram}
 use Rattle.dialogue.specs.Sight.{WhoSeesMoreAsksTheSame}
 use Rattle.cpu80.proofs.Stands.{StatesStand}
 use Rattle.cpu80.proofs.Calls.{IsAnswered, StepFollows}

@@ -16,8 +16,8 @@ use Rattle.std.proofs.lemmas.Bool.{eqb-true}
 use Rattle.asm80_types.specs.Program.{Program, is_code}
 use Rattle.cpu80_tagged.specs.State.{Regs80, State80, reg80, with_reg80, num_or}
 use Rattle.cpu80_tagged.specs.Memory.{put as put80}
-use Rattle.cpu80_untagged.specs.State.{UntaggedFlags, UntaggedRegs, UntaggedState, reg, with_reg}
-use Rattle.cpu80_untagged.specs.Start.{address_of}
+use Rattle.cpu80.specs.State.{UntaggedFlags, UntaggedRegs, UntaggedState, reg, with_reg}
+use Rattle.cpu80.specs.Start.{address_of}
 
 abbrev pub Means : Cell → ℕ → Type 0
 Means (Num n) b = b ≡ n

@@ -9,10 +9,10 @@ use Rattle.cells.specs.declared.Cell.TheVariants.{Num, Lo, Hi, Psw, Junk}
 use Rattle.asm80_types.specs.Program.{Program, IsProgram, cell_in, cell_at, is_top, IsDatum, AreData}
 use Rattle.cpu80_tagged.specs.Start.{IsPage, start_cell80, cell_or_junk, start80}
 use Rattle.dialogue.specs.Fill.{IsFill}
-use Rattle.cpu80_untagged.specs.Start.{byte_of_cell, datum_or, system_byte, data_over, start_over}
-use Rattle.cpu80_untagged.specs.Follows.{HasData}
+use Rattle.cpu80.specs.Start.{byte_of_cell, datum_or, system_byte, data_over, start_over}
+use Rattle.cpu80.specs.Follows.{HasData}
 use Rattle.cpu80.proofs.Stands.{Stands, StatesStand, number}
-use Rattle.cpu80.proofs.Moves.{high_small, low_small, high_of_place, low_of_place}
+use Rattle.cpu80.proofs.MovesStand.{high_small, low_small, high_of_place, low_of_place}
 use Rattle.asm80_types.proofs.Standing.{start_range}
 
 -- bytes of a list of bytes; past its end there are zeros

@@ -24,18 +24,18 @@ use Rattle.cpu80_tagged.specs.Effect.{effect as effect80, push as push80}
 use Rattle.cpu80_tagged.specs.Call.{Return as Return80, call_system as call_system80, place_if, place_in, popped_return as popped_return80, return_after as return_after80}
 use Rattle.cells.specs.Conditions.{Knows, is_clear, holds as holds80}
 use Rattle.cpu80_tagged.specs.Step.{go_to as go_to80, go_on, leave_to as leave_to80, go_by, go_back, jump as jump80, enter, call as call80, where_holds, ask_event, ask_port, sent, act as act80, act_at as act_at80, step_at as step_at80, step80, return_of as return_of80, return_at as return_at80, replied_to as replied_to80}
-use Rattle.cpu80_untagged.specs.State.{UntaggedFlags, UntaggedState, pair_word, with_a}
-use Rattle.cpu80_untagged.specs.Flags.{holds}
-use Rattle.cpu80_untagged.specs.Effect.{effect, push}
-use Rattle.cpu80_untagged.specs.Call.{Stop, call_system, popped_return}
-use Rattle.cpu80_untagged.specs.Step.{Fetch, go_to, leave_to, ret, jump, call, act, next_address, act_at, step_at, step_untagged, return_of, return_at, replied_to, replied_untagged}
-use Rattle.cpu80_untagged.specs.Follows.{TakesAs, TakesProgram}
+use Rattle.cpu80.specs.State.{UntaggedFlags, UntaggedState, pair_word, with_a}
+use Rattle.cpu80.specs.Flags.{holds}
+use Rattle.cpu80.specs.Effect.{effect, push}
+use Rattle.cpu80.specs.Call.{Stop, call_system, popped_return}
+use Rattle.cpu80.specs.Step.{Fetch, go_to, leave_to, ret, jump, call, act, next_address, act_at, step_at, step_untagged, return_of, return_at, replied_to, replied_untagged}
+use Rattle.cpu80.specs.Follows.{TakesAs, TakesProgram}
 use Rattle.dialogue.specs.Sight.{WhoSeesMoreAsksTheSame}
 use Rattle.dialogue.specs.Words.{wrap}
 use Rattle.dialogue.specs.ByteMemory.{word_at}
 use Rattle.dialogue.proofs.Tried.{ok_is, err_is_not, then_is}
 use Rattle.cpu80.proofs.Stands.{FlagsStand, StatesStand, sets_sp, sets_place, number, number_is}
-use Rattle.cpu80.proofs.Moves.{sets_a, high_of_place, low_of_place, push_stands}
+use Rattle.cpu80.proofs.MovesStand.{sets_a, high_of_place, low_of_place, push_stands}
 use Rattle.asm80_types.proofs.Standing.{IsPlaced, is_placed, start_range}
 use Rattle.cpu80.proofs.Rows.{effects_stand}
 use Rattle.cpu80.proofs.Calls.{IsAnswered, StepFollows, not_zero, Names, place_names, ReturnStands, pops, popped_stands, system_follows}

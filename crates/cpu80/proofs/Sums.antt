@@ -25,12 +25,12 @@ use Rattle.asm80_types.specs.Program.{Program}
 use Rattle.cpu80_tagged.specs.State.{State80, reg80, with_num, with_a as with_a80, with_flags as with_flags80, with_cy as with_cy80, num_or}
 use Rattle.cpu80_tagged.specs.Memory.{address, read_at, may_write}
 use Rattle.cpu80_tagged.specs.Effect.{source as source80, into as into80, known, carry_for as carry_for80, a_after as a_after80, alu_with, cleared, alu as alu80, counted, counted_up as counted_up80, counted_down as counted_down80, inr as inr80, dcr as dcr80, pair_num, add_to_pair as add_to_pair80, dad as dad80, daa_of, daa as daa80, cma as cma80, cmc as cmc80, rlc, rrc, ral, rar}
-use Rattle.cpu80_untagged.specs.State.{UntaggedState, reg, pair_word, with_word, with_a, with_flags, with_cy}
-use Rattle.cpu80_untagged.specs.Flags.{settled, chosen_flags}
-use Rattle.cpu80_untagged.specs.Effect.{source, into, carry_for, a_after, computed, alu, counted_up, counted_down, inr, dcr, add_to_pair, added, dad, adjusted, daa, turned}
+use Rattle.cpu80.specs.State.{UntaggedState, reg, pair_word, with_word, with_a, with_flags, with_cy}
+use Rattle.cpu80.specs.Flags.{settled, chosen_flags}
+use Rattle.cpu80.specs.Effect.{source, into, carry_for, a_after, computed, alu, counted_up, counted_down, inr, dcr, add_to_pair, added, dad, adjusted, daa, turned}
 use Rattle.dialogue.proofs.Tried.{ok_is, then_is, err_is_not}
 use Rattle.cpu80.proofs.Stands.{Stands, FlagsStand, StatesStand, reg_stands, sets_flags, number, number_is}
-use Rattle.cpu80.proofs.Moves.{reads, address_is, pair_is, sets_a, sets_word, source_stands, into_stands}
+use Rattle.cpu80.proofs.MovesStand.{reads, address_is, pair_is, sets_a, sets_word, source_stands, into_stands}
 
 -- flags
 

@@ -17,7 +17,7 @@ use Rattle.dialogue.specs.Shape.{Seen, argument_of, argument_address, is_readabl
 use Rattle.dialogue.specs.Places.{room_at}
 use Rattle.dialogue.specs.Lawful.{IsShapeOver, is_argument, IsRangeOf, AreRangesOf, first_byte, range_of_block, IsLawfulRequest}
 use Rattle.dialogue.proofs.Rows.{rows_have_places, entry_at-passes, fits_in_places, has_room-padded}
-use Rattle.dialogue.proofs.Tried.{ok_is, then_is, cond_ok}
+use Rattle.dialogue.proofs.Tried.{ok_is, then_is, cond_ok, err_is_not}
 
 -- a range ends within memory
 abbrev pub Ends : Range → Type 0
@@ -139,7 +139,7 @@ argument_of-ok DirectInE d None arg h = cc
 argument_of-ok DirectInE d (Some e) arg h = by_test (e == 0xFE) refl h
   where
     by_test : (b : Bool) → (e == 0xFE) ≡ b → cond b (Err P10) (Ok (Byte e)) ≡ Ok arg → IsTrue (is_argument DirectInE arg)
-    by_test true t h = absurd (cc)
+    by_test true t h = absurd (err_is_not _ _ h)
     by_test false t h = subst (λ (w : ArgWord). IsTrue (is_argument DirectInE w)) (ok_is _ _ h) (ap not t)
 argument_of-ok InDE None e arg h = cc
 argument_of-ok InDE (Some d) None arg h = cc

@@ -1,6 +1,6 @@
 -- The shape and the request of a call, by two sights of memory.
 use Rattle.std.proofs.Common.{◌≡◌, refl, sym, ◌∙◌, ap, subst, ℕ, zero, suc, ◌+◌, ◌-◌, ◌≤◌, ◌<◌, Bool, true, false, cond, List, [], ◌∷◌, drop, arith}
-use Rattle.std.proofs.lemmas.Bool.{leb-true, and_from, and_parts}
+use Rattle.std.proofs.lemmas.Bool.{false≢true, leb-true, and_from, and_parts}
 use Rattle.std.specs.Prelude.{Option, Some, None, Result, Ok, Err, map, unwrap_or, is_some, ◌==◌, ◌&&◌, nat_le, not}
 use Rattle.cells.specs.declared.Rule.{Rule}
 use Rattle.cells.specs.declared.Rule.TheVariants.{P10, P11}
@@ -16,7 +16,7 @@ use Rattle.dialogue.specs.declared.table.Extent.TheVariants.{F, Dma, Text, Line}
 use Rattle.dialogue.specs.Table.{Row, call_table, row_of, padded_to}
 use Rattle.dialogue.specs.Shape.{Seen, argument_of, argument_address, is_readable, line_room, text_length, text_length_by, text_range, range_of, all_cells, is_within, range_within, ranges_within, has_room, ranges, bytes_seen, block_seen, request_of, shape_by, shape_by_row}
 use Rattle.dialogue.proofs.Rows.{entry_at-passes}
-use Rattle.dialogue.proofs.Tried.{ok_is, then_is, cond_ok}
+use Rattle.dialogue.proofs.Tried.{ok_is, err_is_not, then_is, cond_ok}
 use Rattle.dialogue.specs.Sight.{SeesMore, KnowsMore, WhoSeesMoreAsksTheSame}
 
 then_from : {X Y R : Type 0} (r : Result X R) (f : X → Result Y R) (x : X) (y : Y) → r ≡ Ok x → f x ≡ Ok y → try_then r f ≡ Ok y
@@ -38,34 +38,34 @@ unfolding row_of
 rows_have_it function row found = entry_at-passes line_is_first call_table function row refl found
 
 not_true : (b : Bool) → not b ≡ true → b ≡ true → ⊥
-not_true true e h = absurd (cc)
-not_true false e h = absurd (cc)
+not_true true e h = absurd (false≢true e)
+not_true false e h = absurd (false≢true h)
 
 -- the argument
 
 arg_same : (k : Argument) (d e d' e' : Option ℕ) (arg : ArgWord) → KnowsMore d d' → KnowsMore e e' → argument_of k d e ≡ Ok arg → argument_of k d' e' ≡ Ok arg
 arg_same NoArgument d e d' e' arg kd ke h = h
-arg_same InE d None d' e' arg kd ke h = absurd (cc)
+arg_same InE d None d' e' arg kd ke h = absurd (err_is_not _ _ h)
 arg_same InE d (Some n) d' e' arg kd ke h = subst (λ o. argument_of InE d' o ≡ Ok arg) (sym (ke n refl).1) h
-arg_same DirectInE d None d' e' arg kd ke h = absurd (cc)
+arg_same DirectInE d None d' e' arg kd ke h = absurd (err_is_not _ _ h)
 arg_same DirectInE d (Some n) d' e' arg kd ke h = subst (λ o. argument_of DirectInE d' o ≡ Ok arg) (sym (ke n refl).1) h
-arg_same InDE None e d' e' arg kd ke h = absurd (cc)
-arg_same InDE (Some m) None d' e' arg kd ke h = absurd (cc)
+arg_same InDE None e d' e' arg kd ke h = absurd (err_is_not _ _ h)
+arg_same InDE (Some m) None d' e' arg kd ke h = absurd (err_is_not _ _ h)
 arg_same InDE (Some m) (Some n) d' e' arg kd ke h =
     subst (λ o. argument_of InDE o e' ≡ Ok arg) (sym (kd m refl).1) (subst (λ o. argument_of InDE (Some m) o ≡ Ok arg) (sym (ke n refl).1) h)
 
 arg_small : (k : Argument) (d e d' e' : Option ℕ) (arg : ArgWord) → KnowsMore d d' → KnowsMore e e' → argument_of k d e ≡ Ok arg → argument_address arg < 0x10000
 arg_small NoArgument d e d' e' arg kd ke h = subst (λ w. argument_address w < 0x10000) (ok_is _ arg h) (omega arith)
-arg_small InE d None d' e' arg kd ke h = absurd (cc)
+arg_small InE d None d' e' arg kd ke h = absurd (err_is_not _ _ h)
 arg_small InE d (Some n) d' e' arg kd ke h = subst (λ w. argument_address w < 0x10000) (ok_is _ arg h) (omega arith)
-arg_small DirectInE d None d' e' arg kd ke h = absurd (cc)
+arg_small DirectInE d None d' e' arg kd ke h = absurd (err_is_not _ _ h)
 arg_small DirectInE d (Some n) d' e' arg kd ke h = by_byte (n == 0xFE) h
   where
     by_byte : (b : Bool) → cond b (Err P10) (Ok (Byte n)) ≡ Ok arg → argument_address arg < 0x10000
-    by_byte true h = absurd (cc)
+    by_byte true h = absurd (err_is_not _ _ h)
     by_byte false h = subst (λ w. argument_address w < 0x10000) (ok_is _ arg h) (omega arith)
-arg_small InDE None e d' e' arg kd ke h = absurd (cc)
-arg_small InDE (Some m) None d' e' arg kd ke h = absurd (cc)
+arg_small InDE None e d' e' arg kd ke h = absurd (err_is_not _ _ h)
+arg_small InDE (Some m) None d' e' arg kd ke h = absurd (err_is_not _ _ h)
 arg_small InDE (Some m) (Some n) d' e' arg kd ke h =
     let hm = (kd m refl).0 in
     let hn = (ke n refl).0 in
@@ -84,7 +84,7 @@ module _ (s t : Seen) (more : SeesMore s t) where
   readable_same a lt h = by_byte (s.byte a) refl h
     where
       by_byte : (o : Option ℕ) → s.byte a ≡ o → is_some o ≡ true → is_readable t a ≡ true
-      by_byte None e h = absurd (cc)
+      by_byte None e h = absurd (false≢true h)
       by_byte (Some n) e h = ap is_some (more.byte a n lt e)
 
   within_end : (P : ℕ → Bool) (r : Range) → is_within P r ≡ true → r.at + r.len ≤ 0x10000
@@ -103,7 +103,7 @@ module _ (s t : Seen) (more : SeesMore s t) where
       by_byte (bytes_same k (at + 1) (omega (arith, le)) p.1) (s.byte at) refl p.0
     where
       by_byte : bytes_seen t k (at + 1) ≡ bytes_seen s k (at + 1) → (o : Option ℕ) → s.byte at ≡ o → is_some o ≡ true → unwrap_or (t.byte at) 0 ∷ bytes_seen t k (at + 1) ≡ unwrap_or (s.byte at) 0 ∷ bytes_seen s k (at + 1)
-      by_byte rest None e h = absurd (cc)
+      by_byte rest None e h = absurd (false≢true h)
       by_byte rest (Some n) e h =
           ap (λ o. unwrap_or o 0 ∷ bytes_seen t k (at + 1)) (more.byte at n (omega (arith, le)) e ∙ sym e)
           ∙ ap (λ bs. unwrap_or (s.byte at) 0 ∷ bs) rest
@@ -118,11 +118,11 @@ module _ (s t : Seen) (more : SeesMore s t) where
   later_text b None q n e more h = absurd (is_none (ap (λ z. cond z (Some 0) None) (sym e) ∙ h))
     where
       is_none : ◌≡◌ {A = Option ℕ} None (Some n) → ⊥
-      is_none e = absurd (cc)
+      is_none e = false≢true (ap is_some e)
   later_text b (Some m) q n e more h = subst (λ q. text_length_by (Some b) q ≡ Some n) (sym (more m refl)) h
 
   text_same : (k at n : ℕ) → at + k ≤ 0x10000 → text_length s k at ≡ Some n → text_length t k at ≡ Some n
-  text_same zero at n le h = absurd (cc)
+  text_same zero at n le h = absurd (false≢true (ap is_some h))
   text_same (suc k) at n le h = by_byte (λ m g. text_same k (at + 1) m (omega (arith, le)) g) (s.byte at) refl h
     where
       by_dollar : ((m : ℕ) → text_length s k (at + 1) ≡ Some m → text_length t k (at + 1) ≡ Some m) → (b : ℕ) (z : Bool) → (b == 0x24) ≡ z → text_length_by (Some b) (text_length s k (at + 1)) ≡ Some n → text_length_by (Some b) (text_length t k (at + 1)) ≡ Some n
@@ -130,7 +130,7 @@ module _ (s t : Seen) (more : SeesMore s t) where
       by_dollar rest b false e h = later_text b (text_length s k (at + 1)) (text_length t k (at + 1)) n e rest h
 
       by_byte : ((m : ℕ) → text_length s k (at + 1) ≡ Some m → text_length t k (at + 1) ≡ Some m) → (o : Option ℕ) → s.byte at ≡ o → text_length_by o (text_length s k (at + 1)) ≡ Some n → text_length_by (t.byte at) (text_length t k (at + 1)) ≡ Some n
-      by_byte rest None e h = absurd (cc)
+      by_byte rest None e h = absurd (false≢true (ap is_some h))
       by_byte rest (Some b) e h =
           subst (λ o. text_length_by o (text_length t k (at + 1)) ≡ Some n) (sym (more.byte at b (omega (arith, le)) e)) (by_dollar rest b (b == 0x24) refl h)
 
@@ -147,14 +147,14 @@ module _ (s t : Seen) (more : SeesMore s t) where
     range_same Text r room h = by_length (text_length s (0x10000 - de) de) refl h
       where
         by_length : (o : Option ℕ) → text_length s (0x10000 - de) de ≡ o → text_range de o ≡ Some r → text_range de (text_length t (0x10000 - de) de) ≡ Some r
-        by_length None e h = absurd (cc)
+        by_length None e h = absurd (false≢true (ap is_some h))
         by_length (Some n) e h = ap (text_range de) (text_same (0x10000 - de) de n (omega (arith, small)) e) ∙ h
 
     within_range : (P Q : ℕ → Bool) (rule : Rule) → ((a : ℕ) → a < 0x10000 → P a ≡ true → Q a ≡ true) → (x : Extent) (r : Range) → (has_line (x ∷ []) ≡ true → Room) → range_within P rule (range_of s de dma x) ≡ Ok r → (range_within Q rule (range_of t de dma x) ≡ Ok r) × (is_within P r ≡ true)
     within_range P Q rule each x r room h = by_range (range_of s de dma x) refl h
       where
         by_range : (o : Option Range) → range_of s de dma x ≡ o → range_within P rule o ≡ Ok r → (range_within Q rule (range_of t de dma x) ≡ Ok r) × (is_within P r ≡ true)
-        by_range None e h = absurd (cc)
+        by_range None e h = absurd (err_is_not _ _ h)
         by_range (Some q) e h =
             let c = cond_ok (is_within P q) q r rule h in (
               ap (range_within Q rule) (range_same x q room e) ∙ ap (λ b. cond b (Ok q) (Err rule)) (within_same P Q each q c.0) ∙ ap Ok c.1,
@@ -167,9 +167,9 @@ module _ (s t : Seen) (more : SeesMore s t) where
     AllWithin P (r ∷ rs) = (is_within P r ≡ true) × AllWithin P rs
 
     head_line : (x : Extent) (xs : List Extent) → has_line (x ∷ []) ≡ true → has_line (x ∷ xs) ≡ true
-    head_line (F i k) xs h = absurd (cc)
-    head_line Dma xs h = absurd (cc)
-    head_line Text xs h = absurd (cc)
+    head_line (F i k) xs h = absurd (false≢true h)
+    head_line Dma xs h = absurd (false≢true h)
+    head_line Text xs h = absurd (false≢true h)
     head_line Line xs h = refl
 
     tail_line : (x : Extent) (xs : List Extent) → has_line xs ≡ true → has_line (x ∷ xs) ≡ true
@@ -208,7 +208,7 @@ module _ (s t : Seen) (more : SeesMore s t) where
     room_same (Line ∷ xs) ys h first = by_byte (s.byte de) refl h
       where
         by_byte : (o : Option ℕ) → s.byte de ≡ o → cond (unwrap_or o 0 == 0) (Err P10) (Ok (Line ∷ xs)) ≡ Ok ys → (has_room t de (Line ∷ xs) ≡ Ok ys) × (has_line ys ≡ true → Room)
-        by_byte None e h = absurd (cc)
+        by_byte None e h = absurd (err_is_not _ _ h)
         by_byte (Some n) e h =
             let g = more.byte de n small e in
             (ap (λ o. cond (unwrap_or o 0 == 0) (Err P10) (Ok (Line ∷ xs))) g ∙ h, λ _. ap (λ o. unwrap_or o 0) (g ∙ sym e))
@@ -237,7 +237,7 @@ pub asks_same : WhoSeesMoreAsksTheSame
 asks_same function dma d e d' e' s t shape more kd ke h = by_row (row_of function) refl h
   where
     by_row : (o : Option Row) → row_of function ≡ o → shape_by_row function o d e dma s ≡ Ok shape → (shape_by_row function (row_of function) d' e' dma t ≡ Ok shape) × (request_of shape t ≡ request_of shape s)
-    by_row None g h = absurd (cc)
+    by_row None g h = absurd (err_is_not _ _ h)
     by_row (Some row) g h =
         let r = shape_same function dma row d e d' e' s t shape (rows_have_it function row g) more kd ke h in
         (ap (λ o. shape_by_row function o d' e' dma t) g ∙ r.0, r.1)

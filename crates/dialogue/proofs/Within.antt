@@ -1,7 +1,7 @@
 -- What a reply that fits writes is within memory, at cells that the call may write.
 use Rattle.std.proofs.Common.{◌≡◌, ℕ, zero, suc, ◌+◌, ◌≤◌, ◌<◌, ◌==◌, Bool, true, false, cond, List, [], ◌∷◌, length, Option, Some, None, Ok, refl, ap, subst, ◌∙◌, arith}
 use Rattle.std.specs.Prelude.{All, nat_le}
-use Rattle.std.proofs.lemmas.Bool.{and_parts, leb-true, eqb-true}
+use Rattle.std.proofs.lemmas.Bool.{and_parts, leb-true, eqb-true, false≢true}
 use Rattle.std.proofs.lemmas.List.Elements.{All-nil, All-cons, All-head, All-tail}
 use Rattle.cells.specs.declared.Rule.{Rule}
 use Rattle.cells.specs.declared.Rule.TheVariants.{P9, P10, P11}
@@ -86,7 +86,7 @@ in_range passes r b bs h at len rest =
 
 writes_are : (passes : ℕ → Bool) (rs : List Range) (bs : List Block) → All (Passes passes) rs → writes_fit rs bs ≡ true → AreWithin passes bs
 writes_are passes rs [] all h = tt
-writes_are passes [] (b ∷ bs) all h = absurd (cc)
+writes_are passes [] (b ∷ bs) all h = absurd (false≢true h)
 writes_are passes (r ∷ rs) (b ∷ bs) all h =
     let rest = All-tail (Passes passes) r rs all in
     by_fill (fills_range r b) refl h (writes_are passes rs bs rest) (writes_are passes rs (b ∷ bs) rest)
@@ -99,19 +99,19 @@ writes_are passes (r ∷ rs) (b ∷ bs) all h =
     by_fill false e g next again = again g
 
 line_is : (passes : ℕ → Bool) (rs : List Range) (bs : List Block) → All (Passes passes) rs → line_fits rs bs ≡ true → AreWithin passes bs
-line_is passes [] bs all h = absurd (cc)
+line_is passes [] bs all h = absurd (false≢true h)
 line_is passes (r ∷ rs) [] all h = tt
 line_is passes (r ∷ rs) (b ∷ []) all h =
     let p = and_parts (b.at == r.at) (line_bytes_fit r.len b.bytes) h in
     in_range passes r b [] (All-head (Passes passes) r rs all) (eqb-true b.at r.at p.0) (line_short r.len b.bytes p.1) tt
-line_is passes (r ∷ rs) (b ∷ (c ∷ bs)) all h = absurd (cc)
+line_is passes (r ∷ rs) (b ∷ (c ∷ bs)) all h = absurd (false≢true h)
 
 by_kind : (passes : ℕ → Bool) (is_line : Bool) (rs : List Range) (bs : List Block) → All (Passes passes) rs → cond is_line (line_fits rs bs) (writes_fit rs bs) ≡ true → AreWithin passes bs
 by_kind passes true rs bs all h = line_is passes rs bs all h
 by_kind passes false rs bs all h = writes_are passes rs bs all h
 
 by_row : (passes : ℕ → Bool) (o : Option Row) (q : Request) (y : Reply) → All (Passes passes) (ranges q.shape.writes) → fits_row o q y ≡ true → AreWithin passes y.writes
-by_row passes None q y all h = absurd (cc)
+by_row passes None q y all h = absurd (false≢true h)
 by_row passes (Some row) q y all h = by_kind passes (q.shape.function == 10) (ranges q.shape.writes) y.writes all (and_parts _ _ h).1
 
 pub fit_within : (passes : ℕ → Bool) (q : Request) (y : Reply) → All (λ r. is_within passes r ≡ true) (ranges q.shape.writes) → fits q y ≡ true → AreWithin passes y.writes

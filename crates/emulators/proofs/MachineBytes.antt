@@ -3,9 +3,9 @@ use Rattle.std.proofs.Common.{◌≡◌, ℕ, suc, [], ◌∷◌, ap, ◌∙◌}
 use Rattle.dialogue.specs.declared.request.Reply.{Reply}
 use Rattle.dialogue.specs.declared.request.Event.{Event}
 use Rattle.dialogue.specs.Run.{Answer, Ran, Asks, Ends, Stops, choice_at}
-use Rattle.cpu80_untagged.specs.State.{UntaggedState}
-use Rattle.cpu80_untagged.specs.Call.{Stop}
-use Rattle.cpu80_untagged.specs.Step.{step_untagged, replied_untagged, untagged_machine}
+use Rattle.cpu80.specs.State.{UntaggedState}
+use Rattle.cpu80.specs.Call.{Stop}
+use Rattle.cpu80.specs.Step.{step_untagged, replied_untagged, untagged_machine}
 use Rattle.i80_bytes.specs.Fetch.{fetch_of_bytes}
 use Rattle.emulator_loop.specs.declared.emulator.Turn.TheVariants.{Ran as HasRun, Asks as HasAsked, Ended, Stopped as HasStopped}
 use Rattle.emulator_loop.specs.Turns.{Course, with_reply_taken, after_asked, IsTurn}

@@ -2,10 +2,10 @@
 use Rattle.std.specs.Prelude.{◌≡◌, ℕ, List, [], ◌∷◌, Some, None}
 use Rattle.dialogue.specs.declared.request.Reply.{Reply}
 use Rattle.dialogue.specs.declared.request.Event.{Event}
-use Rattle.cpu80_untagged.specs.State.{UntaggedState}
-use Rattle.cpu80_untagged.specs.Call.{Stop, NoInstruction, OddCall}
-use Rattle.cpu80_untagged.specs.Start.{address_of}
-use Rattle.cpu80_untagged.specs.Step.{Fetch, untagged_machine}
+use Rattle.cpu80.specs.State.{UntaggedState}
+use Rattle.cpu80.specs.Call.{Stop, NoInstruction, OddCall}
+use Rattle.cpu80.specs.Start.{address_of}
+use Rattle.cpu80.specs.Step.{Fetch, untagged_machine}
 use Rattle.i80_bytes.specs.Start.{run_bytes}
 use Rattle.i80_bytes.specs.declared.machine.Byte80.{Byte80}
 use Rattle.i80_bytes.specs.Fetch.{fetch_of_bytes}

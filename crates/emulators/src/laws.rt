@@ -7,7 +7,7 @@ ghost use Rattle.asm80_types.specs.Program.{Program};
 ghost use Rattle.asm86_line_types.specs.Image.{Image};
 ghost use Rattle.cpu86.specs.Start.{Start};
 ghost use Rattle.emulator_loop.specs.Talk.{HasOneRun};
-ghost use Rattle.cpu80_untagged.specs.Step.{Fetch};
+ghost use Rattle.cpu80.specs.Step.{Fetch};
 ghost use Rattle.emulators.specs.Courses.{course80, course86};
 ghost use Rattle.emulators.specs.ByteCourses.{course_bytes};
 

@@ -42,7 +42,7 @@ impl RunningBytes {
 
 impl Emulator for RunningBytes {
     ghost use Rattle.std.specs.Prelude.{refl, ◌∷◌, []};
-    ghost use Rattle.cpu80_untagged.specs.Step.{replied_untagged, untagged_machine};
+    ghost use Rattle.cpu80.specs.Step.{replied_untagged, untagged_machine};
     ghost use Rattle.i80_bytes.specs.Fetch.{fetch_of_bytes};
     ghost use Rattle.i80_bytes.specs.Standing.{byte_standing};
     ghost use Rattle.emulators.specs.ByteCourses.{why_bytes, course_bytes_from, RunsBytes, WaitsBytes};

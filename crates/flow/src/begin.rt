@@ -13,19 +13,20 @@ use std::alloc::{AllocError, Global};
 pub fn vertices_of(alloc: Global, program: &Program80) -> Result<Vec<Vertex>, AllocError>
     ensures { IfOk result (λ v. v.items ≡ first_vertices program.now) }
 {
-    let mut vertices = Vec::new(alloc);
-    for placed in program.instrs() {
-        vertices.push(Vertex {
+    let instrs = program.instrs();
+    let mut vertices = Vec::with_capacity(alloc, instrs.len() + 1)?;
+    for placed in instrs {
+        vertices.push_reserved(Vertex {
             defines: i80::defs(placed.instr),
             need: i80::uses(placed.instr),
             waits: true,
-        })?;
+        });
     }
-    vertices.push(Vertex {
+    vertices.push_reserved(Vertex {
         defines: Keep::none(),
         need: Keep::none(),
         waits: true,
-    })?;
+    });
     Ok(vertices)
 }
 

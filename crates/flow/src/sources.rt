@@ -24,7 +24,7 @@ impl Row {
             Row::None => Ok(Row::One([from])),
             Row::One(number) => {
                 let [first] = number;
-                two(alloc, first, from)
+                Ok(Row::More(Vec::from_slice(alloc, &[first, from])?))
             }
             Row::More(numbers) => one_more(numbers, from),
         }
@@ -39,15 +39,6 @@ impl Row {
             Row::More(numbers) => numbers,
         }
     }
-}
-
-// Two numbers.
-fn two(alloc: Global, first: usize, second: usize) -> Result<Row, AllocError>
-    ensures { IfOk result (λ row. items_of row ≡ first ∷ (second ∷ [])) }
-{
-    let mut numbers = Vec::with_capacity(alloc, 2)?;
-    numbers.push(first)?;
-    one_more(numbers, second)
 }
 
 // Some numbers, and one as the last.
@@ -82,7 +73,7 @@ impl Sources {
     {
         let mut rows = Vec::with_capacity(alloc, count)?;
         for _ in 0..count {
-            rows.push(Row::None)?;
+            rows.push_reserved(Row::None);
         }
         Ok(Sources { alloc, rows })
     }

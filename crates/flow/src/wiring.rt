@@ -124,18 +124,6 @@ fn wire(
     keep_if(sources, program, from, ways.next.then_some(next))
 }
 
-// Keeps the edges of all instructions.
-fn wire_instructions(sources: &mut Sources, program: &Program80) -> Result<(), AllocError>
-    requires program { IsProgram program.now }
-    requires wired { IsWiredTo program.now sources.old 0 [] }
-    ensures { OnOk result (IsWiredTo program.now sources.new (length (starts program.now)) []) }
-{
-    for (from, placed) in program.instrs().iter().enumerate() {
-        wire(sources, program, from, placed)?;
-    }
-    Ok(())
-}
-
 // Keeps the edges of Return.
 fn wire_return(sources: &mut Sources, program: &Program80) -> Result<(), AllocError>
     requires program { IsProgram program.now }
@@ -149,13 +137,24 @@ fn wire_return(sources: &mut Sources, program: &Program80) -> Result<(), AllocEr
     Ok(())
 }
 
+// Keeps the edges of all nodes.
+fn wire_all(sources: &mut Sources, program: &Program80) -> Result<(), AllocError>
+    requires program { IsProgram program.now }
+    requires wired { IsWiredTo program.now sources.old 0 [] }
+    ensures { OnOk result (IsWired program.now sources.new) }
+{
+    for (from, placed) in program.instrs().iter().enumerate() {
+        wire(sources, program, from, placed)?;
+    }
+    wire_return(sources, program)
+}
+
 /// The edges of a program.
 pub fn sources_of(alloc: Global, program: &Program80) -> Result<Sources, AllocError>
     requires { IsProgram program.now }
     ensures { IfOk result (λ sources. IsWired program.now sources) }
 {
     let mut sources = Sources::new(alloc, program.starts().len() + 1)?;
-    wire_instructions(&mut sources, program)?;
-    wire_return(&mut sources, program)?;
+    wire_all(&mut sources, program)?;
     Ok(sources)
 }

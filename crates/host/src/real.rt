@@ -44,27 +44,15 @@ fn counted<T>(done: io::Result<T>, failures: &mut u64, wants: &mut u64) -> Resul
 {
     match done {
         Ok(answer) => Ok(answer),
-        Err(error) => match fault_of(&error) {
-            HostFault::Failed => {
+        Err(error) => {
+            if error.kind() == ErrorKind::OutOfMemory {
+                *wants = wants.saturating_add(1);
+                Err(HostFault::Memory)
+            } else {
                 *failures = failures.saturating_add(1);
                 Err(HostFault::Failed)
             }
-            HostFault::Memory => {
-                *wants = wants.saturating_add(1);
-                Err(HostFault::Memory)
-            }
-        },
-    }
-}
-
-/// What a fault of the system is to the caller.
-fn fault_of(error: &io::Error) -> HostFault
-    ensures memory { (result ≡ HostFault.Memory) ↔ (error_kind error.now ≡ ErrorKind.OutOfMemory) }
-{
-    if error.kind() == ErrorKind::OutOfMemory {
-        HostFault::Memory
-    } else {
-        HostFault::Failed
+        }
     }
 }
 

@@ -5,7 +5,7 @@ use Rattle.i80_bytes.specs.Decoded.{IsDecoded}
 use Rattle.i80_bytes.specs.Decoder.{decoded80}
 use Rattle.i80_bytes.specs.Enc80.{enc80}
 use Rattle.i80_bytes.proofs.Readers.{complete, sound, is_the_one, none_stands}
-use Rattle.cpu80_untagged.specs.State.{next}
+use Rattle.cpu80.specs.State.{next}
 use Rattle.i80_bytes.specs.InMemory.{bytes_from, StandsAsTold, IsFetchOfBytes}
 use Rattle.i80_bytes.specs.Fetch.{fetch_of_bytes}
 

@@ -17,10 +17,10 @@ use Rattle.dialogue.specs.Fill.{IsFill}
 use Rattle.asm80_types.specs.declared.program.Placed.{Placed}
 use Rattle.asm80_types.specs.Program.{Program, IsProgram, is_top, placed_in, instr_at, is_start, cell_at, if_instr}
 use Rattle.asm80_types.proofs.Standing.{IsPlaced, is_placed, placed_is, start_range}
-use Rattle.cpu80_untagged.specs.State.{UntaggedState, next}
-use Rattle.cpu80_untagged.specs.Step.{Fetch, act_at, return_of}
-use Rattle.cpu80_untagged.specs.Start.{byte_of_cell, system_byte}
-use Rattle.cpu80_untagged.specs.Follows.{HoldsCode, TakesAs, TakesProgram, HasData, FetchFollows}
+use Rattle.cpu80.specs.State.{UntaggedState, next}
+use Rattle.cpu80.specs.Step.{Fetch, act_at, return_of}
+use Rattle.cpu80.specs.Start.{byte_of_cell, system_byte}
+use Rattle.cpu80.specs.Follows.{HoldsCode, TakesAs, TakesProgram, HasData, FetchFollows}
 use Rattle.cpu80.proofs.Starting.{byte_in as byte_in_list, datum_small}
 use Rattle.i80_bytes.specs.InMemory.{bytes_from, StandsAsTold, IsFetchOfBytes}
 use Rattle.i80_bytes.specs.Start.{cells_over}

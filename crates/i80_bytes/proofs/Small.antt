@@ -3,7 +3,7 @@ use Rattle.std.proofs.Common.{◌≡◌, ℕ, ◌-◌, ◌<◌, Option, Some, No
 use Rattle.cells.specs.declared.Cell.{Cell}
 use Rattle.asm80_types.specs.Program.{Program, IsProgram, instr_of_placed, cell_at}
 use Rattle.asm80_types.proofs.Standing.{is_placed}
-use Rattle.cpu80_untagged.specs.Start.{byte_of_cell}
+use Rattle.cpu80.specs.Start.{byte_of_cell}
 use Rattle.cpu80.proofs.Starting.{datum_small}
 use Rattle.i80_bytes.specs.Cells.{code_byte, data_byte, or_else, program_byte}
 use Rattle.i80_bytes.proofs.Encodings.{encoding_small}

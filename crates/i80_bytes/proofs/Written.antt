@@ -6,8 +6,8 @@ use Rattle.std.proofs.lemmas.Bool.{and_left, and_right, and_from}
 use Rattle.std.proofs.lemmas.Bool.Decides.{nat_tests}
 use Rattle.dialogue.specs.ByteMemory.{put, put_bytes}
 use Rattle.asm80_types.specs.Program.{is_top}
-use Rattle.cpu80_untagged.specs.State.{next, put_word}
-use Rattle.cpu80_untagged.specs.Start.{system_byte}
+use Rattle.cpu80.specs.State.{next, put_word}
+use Rattle.cpu80.specs.Start.{system_byte}
 
 -- bytes from an address up
 

@@ -5,7 +5,7 @@ use Rattle.cells.specs.declared.Cell.{Cell}
 use Rattle.i80_bytes.specs.Enc80.{enc80}
 use Rattle.asm80_types.specs.declared.program.Placed.{Placed}
 use Rattle.asm80_types.specs.Program.{Program, covers, cell_at}
-use Rattle.cpu80_untagged.specs.Start.{byte_of_cell}
+use Rattle.cpu80.specs.Start.{byte_of_cell}
 
 -- the byte of an instruction's cell
 abbrev pub code_byte : List Placed → ℕ → Option ℕ

@@ -5,8 +5,8 @@ use Rattle.dialogue.specs.Run.{IsNotStopped}
 use Rattle.dialogue.specs.Fill.{IsFill}
 use Rattle.asm80_types.specs.Program.{Program, IsProgram}
 use Rattle.cpu80_tagged.specs.Start.{IsPage, run80}
-use Rattle.cpu80_untagged.specs.Step.{Fetch}
-use Rattle.cpu80_untagged.specs.Follows.{WritesBytes, HasFollowed}
+use Rattle.cpu80.specs.Step.{Fetch}
+use Rattle.cpu80.specs.Follows.{WritesBytes, HasFollowed}
 use Rattle.i80_bytes.specs.InMemory.{IsFetchOfBytes}
 use Rattle.i80_bytes.specs.Start.{run_bytes}
 use Rattle.i80_bytes.specs.Cells.{program_cells}

@@ -3,8 +3,8 @@
 use Rattle.std.specs.Prelude.{◌≡◌, ℕ, ◌<◌, List, [], ◌∷◌, Option, Some, None}
 use Rattle.i80.specs.declared.Instr80.{Instr80}
 use Rattle.i80_bytes.specs.Decoded.{as_told, StandsFirst}
-use Rattle.cpu80_untagged.specs.State.{UntaggedState, next}
-use Rattle.cpu80_untagged.specs.Step.{Fetch}
+use Rattle.cpu80.specs.State.{UntaggedState, next}
+use Rattle.cpu80.specs.Step.{Fetch}
 
 -- the bytes from an address on, as many as an instruction has at most; after 0FFFFH comes 0
 abbrev pub bytes_from : (ℕ → ℕ) → ℕ → List ℕ

@@ -1,7 +1,7 @@
 -- How the machine stands between its calls.
 use Rattle.dialogue.specs.Calls.{Standing}
-use Rattle.cpu80_untagged.specs.State.{UntaggedState}
-use Rattle.cpu80_untagged.specs.Standing.{standing, IsMachineOf}
+use Rattle.cpu80.specs.State.{UntaggedState}
+use Rattle.cpu80.specs.Standing.{standing, IsMachineOf}
 use Rattle.i80_bytes.specs.declared.machine.Byte80.{Byte80}
 use Rattle.i80_bytes.specs.Fetch.{fetch_of_bytes}
 

@@ -3,10 +3,10 @@ use Rattle.std.specs.Prelude.{ℕ, List, slice_index}
 use Rattle.dialogue.specs.declared.request.Reply.{Reply}
 use Rattle.dialogue.specs.Run.{Run, turns, start_run}
 use Rattle.dialogue.specs.ByteMemory.{put_cells}
-use Rattle.cpu80_untagged.specs.State.{UntaggedState}
-use Rattle.cpu80_untagged.specs.Call.{Stop}
-use Rattle.cpu80_untagged.specs.Step.{Fetch, untagged_machine}
-use Rattle.cpu80_untagged.specs.Start.{system_byte, start_over}
+use Rattle.cpu80.specs.State.{UntaggedState}
+use Rattle.cpu80.specs.Call.{Stop}
+use Rattle.cpu80.specs.Step.{Fetch, untagged_machine}
+use Rattle.cpu80.specs.Start.{system_byte, start_over}
 
 -- cells over a fill
 abbrev pub cells_over : List (ℕ × ℕ) → List ℕ → ℕ → ℕ

@@ -3,7 +3,7 @@ ghost use Rattle.i80_bytes.specs.Fetch.{fetch_of_bytes};
 ghost use Rattle.i80_bytes.specs.InMemory.{IsFetchOfBytes};
 
 use crate::decoding::decode80;
-use cpu80_untagged::{Fetch80, Processor};
+use cpu80::{Fetch80, Processor};
 use i80::Instr80;
 
 /// The bytes of memory, whatever put them there.

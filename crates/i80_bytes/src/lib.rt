@@ -25,7 +25,7 @@ mod machine;
 mod start;
 mod text;
 
-pub use cpu80_untagged::UntaggedStep as StepBytes;
+pub use cpu80::UntaggedStep as StepBytes;
 pub use decoding::decode80;
 pub use encoding::{Code80, encode80, encodings_are_prefix_free};
 pub use fetch::memory_is_fetched;

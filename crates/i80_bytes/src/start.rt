@@ -1,11 +1,11 @@
 // The start: what memory holds.
 ghost use Rattle.std.specs.Prelude.{◌≡◌, true, length, slice_index, IfOk};
 ghost use Rattle.asm80_types.specs.Program.{is_top};
-ghost use Rattle.cpu80_untagged.specs.ProcessorState.{untagged_memory};
+ghost use Rattle.cpu80.specs.ProcessorState.{untagged_memory};
 ghost use Rattle.i80_bytes.specs.Start.{start_bytes};
 ghost use Rattle.dialogue.specs.ByteMemory.{put_cells};
 
-use cpu80_untagged::Memory;
+use cpu80::Memory;
 use std::alloc::{AllocError, Global};
 
 /// The cell with the low byte of the top of the area.

@@ -8,7 +8,7 @@ ghost use Rattle.i80_bytes.specs.Text.{NoneFrom};
 use crate::encoding::encode80;
 use asm80_types::Program80;
 use cells::Cell;
-use cpu80_untagged::datum_or;
+use cpu80::datum_or;
 use hex_file::write_cells;
 use std::alloc::{AllocError, Global};
 

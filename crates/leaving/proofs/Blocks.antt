@@ -1,5 +1,7 @@
 -- Where a run stands after the front of a block.
 use Rattle.std.proofs.Common.{◌≡◌, ◌∙◌, ℕ, zero, suc, ◌+◌, ◌-◌, ◌<◌, ◌≤◌, cond, List, [], Option, Some, refl, sym, ap, subst, arith, ◌⊎◌, inl, inr}
+use Rattle.std.specs.Prelude.{is_some}
+use Rattle.std.proofs.lemmas.Bool.{false≢true}
 use Rattle.cells.specs.declared.Place.TheVariants.{At}
 use Rattle.cells.specs.declared.Cell.TheVariants.{Num}
 use Rattle.cells.specs.declared.Rule.{Rule}
@@ -47,7 +49,7 @@ left_is (Stopped why) h = (why, refl)
 -- what C holds where its term is a number
 number_is : (n : ℕ) (t : Term) (s u : State80) (loads : List Load80) → number_in t ≡ Some n → Val80 (env80 s loads) t (Byte u.regs.c) → u.regs.c ≡ Num n
 number_is n (Number m) s u loads e v = cc
-number_is n t s u loads e v = absurd (cc)
+number_is n t s u loads e v = absurd (false≢true (ap is_some e))
 
 -- after the front of a block the run has left the profile; or it stands after it, and C is what it is known to be
 pub record Arrives (p : Program) (at : ℕ) (function : Option ℕ) (r : Run State80 Rule) : Type 0 where
@@ -78,5 +80,5 @@ module _ (sound : BlocksRun80) (p : Program) (is : IsProgram p) (a n : ℕ) (str
       }))
 
   pub arrives : (k : ℕ) → k < n → HasLeft (after p k r) ⊎ Arrives p (place_after p a k) (known_function p a k) (after p k r)
-  arrives zero lt = inr (record { stands = here; known = λ m e. absurd (cc) })
+  arrives zero lt = inr (record { stands = here; known = λ m e. absurd (false≢true (ap is_some e)) })
   arrives (suc k) lt = by_block (suc k) (omega arith) lt (sound p a (suc k) r.state is (front_may_run p a n (suc k) straight few (omega arith) (omega (arith, lt))) here.is_state here.place)

@@ -1,6 +1,8 @@
 -- The places of a program ascend: each is that of an instruction of its block, and the blocks, one after the other, are the instructions.
 use Rattle.std.proofs.Common.{◌≡◌, ◌∙◌, ℕ, suc, ◌+◌, ◌-◌, ◌<◌, ◌≤◌, List, [], ◌∷◌, ◌++◌, length, get_or, map, Option, Some, None, refl, sym, ap, subst, arith, zero-add}
+use Rattle.std.specs.Prelude.{is_some}
 use Rattle.std.specs.List.{flat_map, cons_option}
+use Rattle.std.proofs.lemmas.Bool.{false≢true}
 use Rattle.i80.specs.declared.Instr80.{Instr80}
 use Rattle.asm80_types.specs.declared.program.Placed.{Placed}
 use Rattle.asm80_types.specs.Program.{Program, IsProgram, AreLaid, instr_at}
@@ -21,7 +23,7 @@ lower low high (x ∷ xs) le h = (omega (arith, le, h.0), h.1)
 
 -- the place that is listed of an instruction of a block is that of the instruction
 where_at : (p : Program) (at : ℕ) (function : Option ℕ) (o : Option Instr80) (x : Departure) → leaving_where p at function o ≡ Some x → at ≡ x.at
-where_at p at function None x e = absurd (cc)
+where_at p at function None x e = absurd (false≢true (ap is_some e))
 where_at p at function (Some i) x e = listed_at p at function i x e
 
 one_more : (low past : ℕ) (o : Option Departure) (xs : List Departure) → ((x : Departure) → o ≡ Some x → (low ≤ x.at) × (suc x.at ≤ past)) → low ≤ past → RisesFrom past xs → RisesFrom low (cons_option o xs)

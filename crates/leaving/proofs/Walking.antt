@@ -1,9 +1,10 @@
 -- From block to block, and what is listed of one.
 use Rattle.std.proofs.Common.{◌≡◌, ◌∙◌, ℕ, zero, suc, ◌+◌, ◌-◌, ◌<◌, ◌≤◌, Bool, true, false, cond, List, [], ◌∷◌, ◌++◌, length, get_or, Option, Some, None, refl, sym, ap, subst, arith, ◌↔◌}
-use Rattle.std.specs.Prelude.{drop}
+use Rattle.std.specs.Prelude.{drop, is_some}
 use Rattle.std.specs.Option.{unwrap_or}
 use Rattle.std.specs.List.{flat_map, cons_option}
 use Rattle.std.proofs.lemmas.List.{drop_all, append-nil, append_assoc}
+use Rattle.std.proofs.lemmas.Bool.{true≢false, false≢true}
 use Rattle.cells.specs.declared.Rule.TheVariants.{P1, P9}
 use Rattle.i80.specs.declared.Instr80.{Instr80}
 use Rattle.i80.specs.declared.Instr80.TheVariants.{Jmp, Jif, Call, Cif}
@@ -21,7 +22,7 @@ use Rattle.leaving.specs.Leaving.{number_in, known_function, is_unlisted, asking
 pub number_found : (t : Term) (result : Option ℕ) → ((n : ℕ) → (result ≡ Some n) ↔ (t ≡ Num n)) → result ≡ number_in t
 number_found (Num n) result h = (h n).1 refl
 number_found t None h = refl
-number_found t (Some m) h = let e = (h m).0 refl in absurd (cc)
+number_found t (Some m) h = absurd (false≢true (ap (λ x. is_some (number_in x)) ((h m).0 refl)))
 
 pub some_before : (n : ℕ) → (n ≡ 0 → ⊥) → 0 < n
 some_before zero h = absurd (h refl)
@@ -30,10 +31,10 @@ some_before (suc n) h = omega arith
 -- ---- a block
 
 asks_none : (i : Instr80) → ends80 i ≡ false → asking i ≡ None
-asks_none (Jmp g) e = absurd (cc)
-asks_none (Jif c g) e = absurd (cc)
-asks_none (Call g) e = absurd (cc)
-asks_none (Cif c g) e = absurd (cc)
+asks_none (Jmp g) e = absurd (true≢false e)
+asks_none (Jif c g) e = absurd (true≢false e)
+asks_none (Call g) e = absurd (true≢false e)
+asks_none (Cif c g) e = absurd (true≢false e)
 asks_none i e = refl
 
 -- an instruction that goes on to the next one is no place

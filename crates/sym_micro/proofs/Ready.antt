@@ -299,15 +299,6 @@ then_gives old mid new j k tree made g m = record {
   terms = m.terms;
 }
 
--- where the first of them fails
-pub gives_none : (old new : Contents) (j k : ℕ) (tree tree' : Term) → j ≤ k → Gives old new j tree None → Gives old new k tree' None
-gives_none old new j k tree tree' le m = record {
-  grows = more old new j k le m.grows;
-  gives = m.gives;
-  enough = λ h. m.enough (omega arith);
-  terms = m.terms;
-}
-
 -- runs one after another
 
 pub failed : (old new : Contents) (r : Run) (n k a : ℕ) (tree : Term) (Here : Machine → Type 0) → n ≤ k → IsReady old r → Gives old new n tree None → GoesOn old new r r k a Here None

@@ -173,6 +173,12 @@ loads_at m action = record m { trace = loading action m.trace }
 abbrev pub stores_at : Machine → Action → Machine
 stores_at m action = record m { trace = storing action m.trace }
 
+abbrev pub acts_at : Machine → Action → Machine
+acts_at m (Load8 a) = loads_at m (Load8 a)
+acts_at m (Load16 a) = loads_at m (Load16 a)
+acts_at m (Store8 a v) = stores_at m (Store8 a v)
+acts_at m (Store16 a v) = stores_at m (Store16 a v)
+
 -- the table
 abbrev pub micro : Machine → Micro → Machine
 micro m (Byte r value) = with_byte m r (byte_value m value)

@@ -12,7 +12,6 @@ mod micro;
 mod moves;
 mod outcome;
 mod performing;
-mod results;
 mod run;
 mod starting;
 mod values;

@@ -1,16 +1,17 @@
 // Micro-operations performed.
 
 ghost use Rattle.std.specs.Prelude.{◌≡◌, ◌+◌, ◌≤◌, ◌<◌, length};
-ghost use Rattle.sym_micro.specs.Machine.{as80, as86, micro, micros, weight, weights, moves, all_moves, with_byte, with_word, with_halves, with_wide, byte_value, word_value, given_flag, given_flags, word_in, loads_at, stores_at};
+ghost use Rattle.sym_micro.specs.Machine.{as80, as86, micro, micros, weight, weights, moves, all_moves, with_byte, with_word, with_halves, with_wide, byte_value, word_value, given_flag, given_flags, word_in, acts_at};
 ghost use Rattle.sym_micro.specs.Stands.{tree_of_action, ActionIsGiven, machine_of, IsReady, GoesOn};
 
 use crate::micro::{
     ByteSlot, ByteValue, FlagSet, FlagSlot, FlagValue, Micro, Wide, WordSlot, WordValue,
 };
 use crate::outcome::Action;
-use crate::results::{complement_term, operated_term, turned_term};
 use crate::run::Run;
-use crate::values::{byte_term, flag_term, word_term};
+use crate::values::{
+    byte_term, carry_term, flag_term, kind_number, operation, turn_carry_term, word_term,
+};
 use i80::{Op, Pair, Reg};
 use i86::{Reg8, Reg16, Rotate};
 use sym_terms::{Terms, made_terms_have_sorts};
@@ -98,7 +99,23 @@ fn put(terms: &mut Terms, run: &mut Run, wide: Wide, from: WordSlot) -> Option<(
 {
     match wide {
         Wide::Of80(pair) => put_pair(terms, run, pair, from),
-        Wide::Of86(reg) => put_word(terms, run, reg, from),
+        Wide::Of86(reg) => match reg {
+            Reg16::Ax => put_halves(
+                terms,
+                run,
+                ByteSlot::Of86(Reg8::Ah),
+                ByteSlot::Of86(Reg8::Al),
+                from,
+            ),
+            Reg16::Cx => put_pair(terms, run, Pair::B, from),
+            Reg16::Dx => put_pair(terms, run, Pair::D, from),
+            Reg16::Bx => put_pair(terms, run, Pair::H, from),
+            Reg16::Sp => put_pair(terms, run, Pair::Sp, from),
+            Reg16::Si => {
+                run.si = run.word(from);
+                Some(())
+            }
+        },
     }
 }
 
@@ -135,29 +152,6 @@ fn put_pair(terms: &mut Terms, run: &mut Run, pair: Pair, from: WordSlot) -> Opt
     }
 }
 
-fn put_word(terms: &mut Terms, run: &mut Run, reg: Reg16, from: WordSlot) -> Option<()>
-    requires { IsReady terms.old run.old }
-    ensures { GoesOn terms.old terms.new run.old run.new 2 0 (λ m. m ≡ with_wide (machine_of terms.old run.old) (Wide.Of86 reg) (word_in (machine_of terms.old run.old) from)) result }
-{
-    match reg {
-        Reg16::Ax => put_halves(
-            terms,
-            run,
-            ByteSlot::Of86(Reg8::Ah),
-            ByteSlot::Of86(Reg8::Al),
-            from,
-        ),
-        Reg16::Cx => put_pair(terms, run, Pair::B, from),
-        Reg16::Dx => put_pair(terms, run, Pair::D, from),
-        Reg16::Bx => put_pair(terms, run, Pair::H, from),
-        Reg16::Sp => put_pair(terms, run, Pair::Sp, from),
-        Reg16::Si => {
-            run.si = run.word(from);
-            Some(())
-        }
-    }
-}
-
 fn give_sum(
     terms: &mut Terms,
     run: &mut Run,
@@ -185,22 +179,27 @@ fn give_flag_byte(terms: &mut Terms, run: &mut Run, slot: ByteSlot) -> Option<()
     Some(())
 }
 
+// CY is given the other value.
 fn complement(terms: &mut Terms, run: &mut Run) -> Option<()>
     requires { IsReady terms.old run.old }
     ensures { GoesOn terms.old terms.new run.old run.new 3 0 (λ m. m ≡ micro (machine_of terms.old run.old) Micro.Complement) result }
 {
     made_terms_have_sorts();
-    let term = complement_term(terms, run)?;
+    let zero = terms.number(0)?;
+    let one = terms.number(1)?;
+    let term = terms.alu(Op::Xra, run.held.cy, one, zero)?;
     run.set_flag(FlagSlot::Cy, term);
     Some(())
 }
 
+// An operation on two bytes: ADC and SBB take CY, and CMP subtracts.
 fn operate(terms: &mut Terms, run: &mut Run, op: Op, a: ByteSlot, b: ByteSlot) -> Option<()>
     requires { IsReady terms.old run.old }
     ensures { GoesOn terms.old terms.new run.old run.new 2 0 (λ m. m ≡ micro (machine_of terms.old run.old) (Micro.Operate op a b)) result }
 {
     made_terms_have_sorts();
-    let term = operated_term(terms, run, op, a, b)?;
+    let carry = carry_term(terms, run, op)?;
+    let term = terms.alu(operation(op), run.byte(a), run.byte(b), carry)?;
     run.result = term;
     Some(())
 }
@@ -215,35 +214,30 @@ fn adjust(terms: &mut Terms, run: &mut Run) -> Option<()>
     Some(())
 }
 
+// A byte rotated by 1.
 fn turn(terms: &mut Terms, run: &mut Run, kind: Rotate, slot: ByteSlot) -> Option<()>
     requires { IsReady terms.old run.old }
     ensures { GoesOn terms.old terms.new run.old run.new 2 0 (λ m. m ≡ micro (machine_of terms.old run.old) (Micro.Turn kind slot)) result }
 {
     made_terms_have_sorts();
-    let term = turned_term(terms, run, kind, slot)?;
+    let carry = turn_carry_term(terms, run, kind)?;
+    let term = terms.turn(kind_number(kind), run.byte(slot), carry)?;
     run.turned = term;
     Some(())
 }
 
 // A load or a store joins the others.
-fn load(terms: &Terms, run: &mut Run, action: Action) -> Option<()>
+fn act(terms: &Terms, run: &mut Run, action: Action) -> Option<()>
     requires ready { IsReady terms.now run.old }
     requires given { ActionIsGiven terms.now action }
     requires room { length run.old.actions.items < 512 }
-    ensures { GoesOn terms.now terms.now run.old run.new 0 1 (λ m. m ≡ loads_at (machine_of terms.now run.old) (tree_of_action terms.now action)) result }
+    ensures { GoesOn terms.now terms.now run.old run.new 0 1 (λ m. m ≡ acts_at (machine_of terms.now run.old) (tree_of_action terms.now action)) result }
 {
     run.actions.push_reserved(action);
-    run.loads += 1;
-    Some(())
-}
-
-fn store(terms: &Terms, run: &mut Run, action: Action) -> Option<()>
-    requires ready { IsReady terms.now run.old }
-    requires given { ActionIsGiven terms.now action }
-    requires room { length run.old.actions.items < 512 }
-    ensures { GoesOn terms.now terms.now run.old run.new 0 1 (λ m. m ≡ stores_at (machine_of terms.now run.old) (tree_of_action terms.now action)) result }
-{
-    run.actions.push_reserved(action);
+    match action {
+        Action::Load8(_) | Action::Load16(_) => run.loads += 1,
+        Action::Store8(_, _) | Action::Store16(_, _) => {}
+    }
     Some(())
 }
 
@@ -270,19 +264,19 @@ fn perform_one(terms: &mut Terms, run: &mut Run, step: Micro) -> Option<()>
         Micro::Turn(kind, slot) => turn(terms, run, kind, slot),
         Micro::Load8(address) => {
             let action = Action::Load8(run.word(address));
-            load(terms, run, action)
+            act(terms, run, action)
         }
         Micro::Load16(address) => {
             let action = Action::Load16(run.word(address));
-            load(terms, run, action)
+            act(terms, run, action)
         }
         Micro::Store8(address, byte) => {
             let action = Action::Store8(run.word(address), run.byte(byte));
-            store(terms, run, action)
+            act(terms, run, action)
         }
         Micro::Store16(address, word) => {
             let action = Action::Store16(run.word(address), run.word(word));
-            store(terms, run, action)
+            act(terms, run, action)
         }
     }
 }

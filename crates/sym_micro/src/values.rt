@@ -1,11 +1,11 @@
 // The terms of values.
 
-ghost use Rattle.std.specs.Prelude.{◌≡◌, cond, true};
+ghost use Rattle.std.specs.Prelude.{◌≡◌, ◌<◌, cond, true};
 ghost use Rattle.cells.specs.declared.Part.TheVariants.{Cy};
 ghost use Rattle.sym_terms.specs.Term.{Start, Unknown, is_flag};
-ghost use Rattle.sym_terms.specs.Trees.{tree_in, IsGiven, Makes};
-ghost use Rattle.sym_block_def.specs.Symbolic86.{turn_carry, brought_back};
-ghost use Rattle.sym_block_def.specs.Block80.{carry_in};
+ghost use Rattle.sym_terms.specs.Trees.{tree_in, Makes};
+ghost use Rattle.sym_block_def.specs.Symbolic86.{turn_kind, turn_carry};
+ghost use Rattle.sym_block_def.specs.Block80.{operation, carry_in};
 ghost use Rattle.sym_micro.specs.Machine.{byte_value, word_value, flag_value, wide_in, part_of_flag, ByteIsCoded, WordIsCoded};
 ghost use Rattle.sym_micro.specs.Stands.{id_after, machine_of, IsReady};
 
@@ -109,7 +109,10 @@ pub fn flag_term(terms: &mut Terms, run: &Run, slot: FlagSlot, value: FlagValue)
         FlagValue::OfResult => terms.flag(part, run.result),
         FlagValue::OfTurned => terms.flag(Part::Cy, run.turned),
         FlagValue::InByte(byte) => terms.bit(run.byte(byte), part),
-        FlagValue::BroughtBack(word) => brought_back(terms, run.word(word)),
+        FlagValue::BroughtBack(word) => match terms.head(run.word(word)) {
+            Head::Turned(carry) => Some(carry),
+            _ => terms.unknown(),
+        },
         FlagValue::Unknown => terms.unknown(),
     }
 }
@@ -139,17 +142,6 @@ fn start_term(terms: &mut Terms, known: bool, part: Part) -> Option<Term>
     }
 }
 
-// The carry of a rotated word.
-fn brought_back(terms: &mut Terms, word: Term) -> Option<Term>
-    requires { IsGiven terms.old word }
-    ensures { Makes terms.old terms.new 1 (brought_back (tree_in terms.old word)) result }
-{
-    match terms.head(word) {
-        Head::Turned(carry) => Some(carry),
-        _ => terms.unknown(),
-    }
-}
-
 /// The carry that an operation takes.
 pub fn carry_term(terms: &mut Terms, run: &Run, op: Op) -> Option<Term>
     requires { IsReady terms.old run.now }
@@ -169,5 +161,28 @@ pub fn turn_carry_term(terms: &mut Terms, run: &Run, kind: Rotate) -> Option<Ter
     match kind {
         Rotate::Rcl | Rotate::Rcr => Some(run.held.cy),
         _ => terms.number(0),
+    }
+}
+
+/// The operation whose result an operation has: CMP subtracts.
+pub fn operation(op: Op) -> Op
+    ensures { result ≡ operation op }
+{
+    match op {
+        Op::Cmp => Op::Sub,
+        _ => op,
+    }
+}
+
+/// The number of a rotation.
+pub fn kind_number(kind: Rotate) -> u8
+    ensures number { result ≡ turn_kind kind }
+    ensures small { result < 4 }
+{
+    match kind {
+        Rotate::Rol => 0,
+        Rotate::Ror => 1,
+        Rotate::Rcl => 2,
+        Rotate::Rcr => 3,
     }
 }

@@ -6,6 +6,7 @@ use Rattle.sym_block_def.specs.Symbolic86.{Symbolic86, losing_flags, effect86}
 use Rattle.sym_micro.specs.declared.run.Run.{Run}
 use Rattle.sym_micro.specs.Machine.{as86}
 use Rattle.sym_micro.specs.Stands.{machine_of, GoesOn}
+use Rattle.sym_step.specs.Arithmetic.{past_moves86, arithmetic86}
 use Rattle.sym_micro.proofs.Ready.{then_goes_on, fails_first}
 
 pub of_instr : {old new : Contents} {r s : Run} {made : Option (Unit {0})} {i j : Instr86} → i ≡ j → GoesOn old new r s 24 2 (λ m. as86 m ≡ effect86 (as86 (machine_of old r)) j) made → GoesOn old new r s 24 2 (λ m. as86 m ≡ effect86 (as86 (machine_of old r)) i) made
@@ -23,3 +24,11 @@ of_state {old} {new} {r} {s} {made} e g = subst (λ z. GoesOn old new r s 24 2 (
 -- where the sum is missing, so is all
 pub never_lost : {old new : Contents} {r s : Run} {x y : Symbolic86} → GoesOn old new r s 20 2 (λ m. as86 m ≡ x) None → GoesOn old new r s 24 2 (λ m. as86 m ≡ y) None
 never_lost {old} {new} {r} {s} {x} {y} g = fails_first old new r s 20 24 2 2 (λ m. as86 m ≡ x) (λ m. as86 m ≡ y) (lit≤ tt) (lit≤ tt) g
+
+-- and the arithmetic of an equal instruction
+pub of_arithmetic : {old new : Contents} {r s : Run} {made : Option (Unit {0})} {i j : Instr86} → i ≡ j → GoesOn old new r s 24 2 (λ m. as86 m ≡ arithmetic86 (as86 (machine_of old r)) j) made → GoesOn old new r s 24 2 (λ m. as86 m ≡ arithmetic86 (as86 (machine_of old r)) i) made
+of_arithmetic {old} {new} {r} {s} {made} e g = subst (λ i. GoesOn old new r s 24 2 (λ m. as86 m ≡ arithmetic86 (as86 (machine_of old r)) i) made) (sym e) g
+
+-- and what is done past the moves
+pub of_past_moves : {old new : Contents} {r s : Run} {made : Option (Unit {0})} {i j : Instr86} → i ≡ j → GoesOn old new r s 24 2 (λ m. as86 m ≡ past_moves86 (as86 (machine_of old r)) j) made → GoesOn old new r s 24 2 (λ m. as86 m ≡ past_moves86 (as86 (machine_of old r)) i) made
+of_past_moves {old} {new} {r} {s} {made} e g = subst (λ i. GoesOn old new r s 24 2 (λ m. as86 m ≡ past_moves86 (as86 (machine_of old r)) i) made) (sym e) g

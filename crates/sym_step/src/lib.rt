@@ -9,10 +9,9 @@ mod arithmetic80;
 mod arithmetic86;
 mod block;
 mod exits;
-mod moves80;
-mod moves86;
 mod registers;
-mod stack;
+mod stack80;
+mod stack86;
 mod steps80;
 mod steps86;
 

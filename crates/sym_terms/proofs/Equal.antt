@@ -18,7 +18,7 @@ same_op q q' h = sym (op_of-op_number q) ∙ ap op_numbered (eqb-true (op_number
 same_bool-true : (b b' : Bool) → same_bool b b' ≡ true → b ≡ b'
 same_bool-true true true h = refl
 same_bool-true false false h = refl
-same_bool-true b b' h = absurd (cc)
+same_bool-true b b' h = absurd (false≢true h)
 
 pub same_term-true : (s t : Term) → same_term s t ≡ true → s ≡ t
 same_term-true (Num n) (Num n') h = ap Num (eqb-true n n' h)

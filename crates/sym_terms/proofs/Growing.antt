@@ -1,9 +1,10 @@
 -- The terms of a pool that one node joins, or that is cut.
 use Rattle.std.proofs.Common.{◌≡◌, ℕ, ◌<◌, ◌≤◌, List, [], ◌∷◌, ◌++◌, length, take, Some, refl, sym, ap, subst, ◌∙◌, arith, get_or, inl, inr, ⊎_elim}
 use Rattle.std.specs.List.{slice_get}
+use Rattle.std.proofs.lemmas.Bool.{true≢false, false≢true}
 use Rattle.std.proofs.lemmas.List.{take-append-le}
 use Rattle.std.proofs.Math.Seq.{take-append_seam}
-use Rattle.std.proofs.lemmas.Option.{slice_get_within, slice_get-get_or}
+use Rattle.std.proofs.lemmas.Option.{same_Some, slice_get_within, slice_get-get_or}
 use Rattle.xlt_pool.specs.declared.node.Node.{Node}
 use Rattle.xlt_pool.specs.Contents.{Contents, NodeStandsAt, IsAbsent}
 use Rattle.xlt_pool.proofs.Places.{get_push}
@@ -12,11 +13,11 @@ use Rattle.sym_terms.specs.declared.head.Head.TheVariants.{FlagByte as FlagByteH
 use Rattle.sym_terms.specs.Term.{Term, is_adjusted}
 use Rattle.sym_terms.specs.Making.{IsTermMade}
 use Rattle.sym_terms.specs.Heads.{operands, node_of, marked_node, rest_node, number_of_id, term_of}
-use Rattle.sym_terms.specs.Trees.{Entry, Tree, Rest, tree_at, tree_of_head, entry_of, entries_of, AreTrees, tree_in, AreTerms}
+use Rattle.sym_terms.specs.Trees.{Entry, Tree, Rest, term_of_entry, tree_at, tree_of_head, entry_of, entries_of, AreTrees, tree_in, AreTerms}
 use Rattle.sym_terms.specs.Forms.{HasRest, IsHeadNode, IsRestNode, IsFormed, IsTermList}
 use Rattle.sym_terms.proofs.Places.{get_from_cut, below_cut, cut_of_cut}
 use Rattle.sym_terms.proofs.Entries.{entries_push, length-entries_of, entries_cut, entry_at}
-use Rattle.sym_terms.proofs.Heads.{AreApart, entry_back, same_id, same_heads, lift_tree_at, lift_trees, lift_head}
+use Rattle.sym_terms.proofs.Heads.{AreApart, entry_back, same_id, same_heads, ac_in, p_in, cy_in, is_tree, lift_tree_at, lift_trees, lift_head}
 use Rattle.sym_terms.proofs.Marks.{entry_marked}
 
 same_further : (es : List Entry) → AreApart es → (h : Head) (r r' : ℕ) → HasRest es h r → HasRest es h r' → node_of h r ≡ node_of h r'
@@ -35,22 +36,22 @@ rest_entry es n p = ap (entry_of es) p.is
 pub same_nodes : (es : List Entry) → AreApart es → (n m : Node) → IsFormed es n → IsFormed es m → entry_of es n ≡ entry_of es m → n ≡ m
 same_nodes es d n m (inl p) (inl q) e =
     let trees : Tree (tree_of_head es p.head) ≡ Tree (tree_of_head es q.head) = sym (head_entry es n p) ∙ e ∙ head_entry es m q in
-    let heads : p.head ≡ q.head = same_heads es d p.head q.head p.given q.given (cc) in
+    let heads : p.head ≡ q.head = same_heads es d p.head q.head p.given q.given (ap term_of_entry trees) in
     p.is
     ∙ ap (marked_node (is_adjusted (tree_of_head es p.head))) (same_further es d p.head p.further q.further p.rest (subst (λ h. HasRest es h q.further) (sym heads) q.rest))
     ∙ ap (λ h. marked_node (is_adjusted (tree_of_head es h)) (node_of h q.further)) heads
     ∙ sym q.is
 same_nodes es d n m (inl p) (inr q) e =
     let both : Tree (tree_of_head es p.head) ≡ Rest (tree_at es (number_of_id q.ac)) (tree_at es (number_of_id q.p)) (tree_at es (number_of_id q.cy)) = sym (head_entry es n p) ∙ e ∙ rest_entry es m q in
-    absurd (cc)
+    absurd (true≢false (ap is_tree both))
 same_nodes es d n m (inr p) (inl q) e =
     let both : Rest (tree_at es (number_of_id p.ac)) (tree_at es (number_of_id p.p)) (tree_at es (number_of_id p.cy)) ≡ Tree (tree_of_head es q.head) = sym (rest_entry es n p) ∙ e ∙ head_entry es m q in
-    absurd (cc)
+    absurd (false≢true (ap is_tree both))
 same_nodes es d n m (inr p) (inr q) e =
     let both : Rest (tree_at es (number_of_id p.ac)) (tree_at es (number_of_id p.p)) (tree_at es (number_of_id p.cy)) ≡ Rest (tree_at es (number_of_id q.ac)) (tree_at es (number_of_id q.p)) (tree_at es (number_of_id q.cy)) = sym (rest_entry es n p) ∙ e ∙ rest_entry es m q in
-    let ac : p.ac ≡ q.ac = same_id es d p.ac q.ac p.given.0 q.given.0 (cc) in
-    let parity : p.p ≡ q.p = same_id es d p.p q.p p.given.1.0 q.given.1.0 (cc) in
-    let cy : p.cy ≡ q.cy = same_id es d p.cy q.cy p.given.1.1.0 q.given.1.1.0 (cc) in
+    let ac : p.ac ≡ q.ac = same_id es d p.ac q.ac p.given.0 q.given.0 (ap ac_in both) in
+    let parity : p.p ≡ q.p = same_id es d p.p q.p p.given.1.0 q.given.1.0 (ap p_in both) in
+    let cy : p.cy ≡ q.cy = same_id es d p.cy q.cy p.given.1.1.0 q.given.1.1.0 (ap cy_in both) in
     p.is ∙ ap (λ x. rest_node x p.p p.cy) ac ∙ ap (λ x. rest_node q.ac x p.cy) parity ∙ ap (λ x. rest_node q.ac q.p x) cy ∙ sym q.is
 
 -- forms in the first entries are forms in all
@@ -112,24 +113,21 @@ pub record IsRead (nodes : List Node) (n : Node) (tree : Term) : Type 0 where
 pub read : (nodes : List Node) → IsTermList nodes → (k : ℕ) (n : Node) (tree : Term) → NodeStandsAt nodes k n → slice_get (entries_of nodes) k ≡ Some (Tree tree) → IsRead nodes n tree
 read nodes list k n tree stands given = by_form (node_formed nodes list k n stands)
   where
-    entry : Some (entry_of (entries_of nodes) n) ≡ Some (Tree tree)
-    entry = sym (node_entry nodes list k n stands) ∙ given
+    entry : entry_of (entries_of nodes) n ≡ Tree tree
+    entry = same_Some _ _ (sym (node_entry nodes list k n stands) ∙ given)
 
     by_form : IsFormed (entries_of nodes) n → IsRead nodes n tree
-    by_form (inl p) =
-        let same : Some (Tree (tree_of_head (entries_of nodes) p.head)) ≡ Some (Tree tree) = sym (ap Some (head_entry (entries_of nodes) n p)) ∙ entry in
-        let trees : tree ≡ tree_of_head (entries_of nodes) p.head = cc in
-        record { node = p; is = trees }
+    by_form (inl p) = record { node = p; is = ap term_of_entry (sym entry ∙ head_entry (entries_of nodes) n p) }
     by_form (inr p) =
-        let differ : Some (Rest (tree_at (entries_of nodes) (number_of_id p.ac)) (tree_at (entries_of nodes) (number_of_id p.p)) (tree_at (entries_of nodes) (number_of_id p.cy))) ≡ Some (Tree tree) = sym (ap Some (rest_entry (entries_of nodes) n p)) ∙ entry in
-        absurd (cc)
+        let differ : Rest (tree_at (entries_of nodes) (number_of_id p.ac)) (tree_at (entries_of nodes) (number_of_id p.p)) (tree_at (entries_of nodes) (number_of_id p.cy)) ≡ Tree tree = sym (rest_entry (entries_of nodes) n p) ∙ entry in
+        absurd (false≢true (ap is_tree differ))
 
 -- a node that is new stands for what no other does
 pub new_entry : (nodes : List Node) → IsTermList nodes → (n : Node) → IsFormed (entries_of nodes) n → IsAbsent nodes n → (i : ℕ) → slice_get (entries_of nodes) i ≡ Some (entry_of (entries_of nodes) n) → ⊥
 new_entry nodes list n formed absent i h =
     let other = has_node nodes i (entry_of (entries_of nodes) n) h in
-    let entries : Some (entry_of (entries_of nodes) other.0) ≡ Some (entry_of (entries_of nodes) n) = sym (node_entry nodes list i other.0 other.1) ∙ h in
-    let same : other.0 ≡ n = same_nodes (entries_of nodes) list.distinct other.0 n (node_formed nodes list i other.0 other.1) formed (cc) in
+    let entries : entry_of (entries_of nodes) other.0 ≡ entry_of (entries_of nodes) n = same_Some _ _ (sym (node_entry nodes list i other.0 other.1) ∙ h) in
+    let same : other.0 ≡ n = same_nodes (entries_of nodes) list.distinct other.0 n (node_formed nodes list i other.0 other.1) formed entries in
     absent i (subst (λ m. NodeStandsAt nodes i m) same other.1)
 
 pub list_with : (nodes : List Node) → IsTermList nodes → (n : Node) → IsFormed (entries_of nodes) n → IsAbsent nodes n → ((t : Term) → entry_of (entries_of nodes) n ≡ Tree t → IsTermMade t) → IsTermList (nodes ++ n ∷ [])

@@ -1,14 +1,19 @@
 -- Heads and their nodes: each gives the other back, and equal terms have equal heads.
-use Rattle.std.proofs.Common.{◌≡◌, ℕ, true, false, List, [], ◌∷◌, take, Some, refl, sym, ap, subst, ◌∙◌}
+use Rattle.std.proofs.Common.{◌≡◌, ℕ, Bool, true, false, List, [], ◌∷◌, take, Some, refl, sym, ap, subst, ◌∙◌}
 use Rattle.std.specs.List.{slice_get}
-use Rattle.std.proofs.lemmas.Bool.{false≢true}
+use Rattle.std.proofs.lemmas.Bool.{true≢false, false≢true}
 use Rattle.std.proofs.lemmas.Option.{get_or_from_slice_get}
+use Rattle.cells.specs.declared.Place.{Place}
 use Rattle.cells.specs.declared.Place.TheVariants.{At, Exit}
+use Rattle.cells.specs.declared.Part.{Part}
+use Rattle.cells.specs.declared.Part.TheVariants.{A}
+use Rattle.i80.specs.declared.Op.{Op}
+use Rattle.i80.specs.declared.Op.TheVariants.{Add}
 use Rattle.sym_terms.specs.declared.head.Term.{Term as TermId}
 use Rattle.sym_terms.specs.declared.head.Head.{Head}
 use Rattle.sym_terms.specs.declared.head.Head.TheVariants.{Num as NumHead, Start as StartHead, StartSp as StartSpHead, Loaded8 as Loaded8Head, Loaded16 as Loaded16Head, Alu as AluHead, Flag as FlagHead, Sum16 as Sum16Head, High as HighHead, Low as LowHead, Join as JoinHead, FlagByte as FlagByteHead, Bit as BitHead, Turn as TurnHead, Turned as TurnedHead, Adjust as AdjustHead, Code as CodeHead, Unknown as UnknownHead}
 use Rattle.sym_terms.specs.Numbers.{kind_of}
-use Rattle.sym_terms.specs.Term.{Start, Alu, Flag, Sum16, High, Low, Join, FlagByte, Bit, Turn, Turned, Adjust, Unknown, same_term}
+use Rattle.sym_terms.specs.Term.{Term, Num, Start, Loaded8, Loaded16, Alu, Flag, Sum16, High, Low, Join, FlagByte, Bit, Turn, Turned, Adjust, Code, Unknown, same_term}
 use Rattle.sym_terms.specs.Heads.{operands, is_flag_byte_head, node_of, head_by, number_of_id, term_of}
 use Rattle.sym_terms.specs.Trees.{Entry, Tree, Rest, term_of_entry, tree_at, tree_of_head, flags_with, entry_of, IsTree, AreTrees}
 use Rattle.sym_terms.specs.Forms.{HasRest}
@@ -53,7 +58,7 @@ head_back (Sum16Head a b) rest f = refl
 head_back (HighHead w) rest f = refl
 head_back (LowHead w) rest f = refl
 head_back (JoinHead h l) rest f = refl
-head_back (FlagByteHead s z ac p cy) rest f = absurd (cc)
+head_back (FlagByteHead s z ac p cy) rest f = absurd (true≢false f)
 head_back (BitHead b part) rest f = ap (λ q. BitHead b q) (part_of-part_number part)
 head_back (TurnHead kind a c) rest f = refl
 head_back (TurnedHead c) rest f = refl
@@ -73,71 +78,151 @@ same_id es d s t p q e =
     let same : number_of_id s ≡ number_of_id t = d (number_of_id s) (number_of_id t) (Tree (tree_at es (number_of_id t))) (p ∙ ap (λ x. Some (Tree x)) e) q in
     ap term_of same
 
+-- what stands in a term: its operands by place, its operation, part, number, and place with its half
+abbrev pub first_in : Term → Term
+first_in (Alu op a b c) = a
+first_in (Flag part r) = r
+first_in (Sum16 a b) = a
+first_in (High w) = w
+first_in (Low w) = w
+first_in (Join h l) = h
+first_in (FlagByte s z ac p cy) = s
+first_in (Bit b part) = b
+first_in (Turn kind a c) = a
+first_in (Turned c) = c
+first_in (Adjust a ac cy) = a
+first_in t = t
+
+abbrev pub second_in : Term → Term
+second_in (Alu op a b c) = b
+second_in (Sum16 a b) = b
+second_in (Join h l) = l
+second_in (FlagByte s z ac p cy) = z
+second_in (Turn kind a c) = c
+second_in (Adjust a ac cy) = ac
+second_in t = t
+
+abbrev pub third_in : Term → Term
+third_in (Alu op a b c) = c
+third_in (FlagByte s z ac p cy) = ac
+third_in (Adjust a ac cy) = cy
+third_in t = t
+
+abbrev pub fourth_in : Term → Term
+fourth_in (FlagByte s z ac p cy) = p
+fourth_in t = t
+
+abbrev pub fifth_in : Term → Term
+fifth_in (FlagByte s z ac p cy) = cy
+fifth_in t = t
+
+abbrev op_in : Term → Op
+op_in (Alu op a b c) = op
+op_in t = Add
+
+abbrev part_in : Term → Part
+part_in (Start part) = part
+part_in (Flag part r) = part
+part_in (Bit b part) = part
+part_in t = A
+
+abbrev number_in : Term → ℕ
+number_in (Num n) = n
+number_in (Loaded8 k) = k
+number_in (Loaded16 k) = k
+number_in (Turn kind a c) = kind
+number_in t = 0
+
+abbrev place_in : Term → Place
+place_in (Code q high) = q
+place_in t = Exit
+
+abbrev is_high : Term → Bool
+is_high (Code q high) = high
+is_high t = false
+
+-- the last three flags in the entry of a further node
+abbrev pub ac_in : Entry → Term
+ac_in (Rest ac p cy) = ac
+ac_in (Tree t) = t
+
+abbrev pub p_in : Entry → Term
+p_in (Rest ac p cy) = p
+p_in (Tree t) = t
+
+abbrev pub cy_in : Entry → Term
+cy_in (Rest ac p cy) = cy
+cy_in (Tree t) = t
+
+abbrev pub is_tree : Entry → Bool
+is_tree (Tree t) = true
+is_tree (Rest ac p cy) = false
+
 pub same_heads : (es : List Entry) → AreApart es → (h g : Head) → AreTrees es (operands h) → AreTrees es (operands g) → tree_of_head es h ≡ tree_of_head es g → h ≡ g
 same_heads es d (NumHead n) (NumHead n') g g' e =
-    let is_n : n ≡ n' = cc in
+    let is_n : n ≡ n' = ap number_in e in
     λ i. NumHead (is_n i)
 same_heads es d (StartHead part) (StartHead part') g g' e =
-    let is_part : part ≡ part' = cc in
+    let is_part : part ≡ part' = ap part_in e in
     λ i. StartHead (is_part i)
 same_heads es d StartSpHead StartSpHead g g' e = refl
 same_heads es d (Loaded8Head k) (Loaded8Head k') g g' e =
-    let is_k : k ≡ k' = cc in
+    let is_k : k ≡ k' = ap number_in e in
     λ i. Loaded8Head (is_k i)
 same_heads es d (Loaded16Head k) (Loaded16Head k') g g' e =
-    let is_k : k ≡ k' = cc in
+    let is_k : k ≡ k' = ap number_in e in
     λ i. Loaded16Head (is_k i)
 same_heads es d (AluHead op a b c) (AluHead op' a' b' c') g g' e =
-    let is_a : a ≡ a' = same_id es d a a' g.0 g'.0 (cc) in
-    let is_b : b ≡ b' = same_id es d b b' g.1.0 g'.1.0 (cc) in
-    let is_c : c ≡ c' = same_id es d c c' g.1.1.0 g'.1.1.0 (cc) in
-    let is_op : op ≡ op' = cc in
+    let is_a : a ≡ a' = same_id es d a a' g.0 g'.0 (ap first_in e) in
+    let is_b : b ≡ b' = same_id es d b b' g.1.0 g'.1.0 (ap second_in e) in
+    let is_c : c ≡ c' = same_id es d c c' g.1.1.0 g'.1.1.0 (ap third_in e) in
+    let is_op : op ≡ op' = ap op_in e in
     λ i. AluHead (is_op i) (is_a i) (is_b i) (is_c i)
 same_heads es d (FlagHead part r) (FlagHead part' r') g g' e =
-    let is_r : r ≡ r' = same_id es d r r' g.0 g'.0 (cc) in
-    let is_part : part ≡ part' = cc in
+    let is_r : r ≡ r' = same_id es d r r' g.0 g'.0 (ap first_in e) in
+    let is_part : part ≡ part' = ap part_in e in
     λ i. FlagHead (is_part i) (is_r i)
 same_heads es d (Sum16Head a b) (Sum16Head a' b') g g' e =
-    let is_a : a ≡ a' = same_id es d a a' g.0 g'.0 (cc) in
-    let is_b : b ≡ b' = same_id es d b b' g.1.0 g'.1.0 (cc) in
+    let is_a : a ≡ a' = same_id es d a a' g.0 g'.0 (ap first_in e) in
+    let is_b : b ≡ b' = same_id es d b b' g.1.0 g'.1.0 (ap second_in e) in
     λ i. Sum16Head (is_a i) (is_b i)
 same_heads es d (HighHead w) (HighHead w') g g' e =
-    let is_w : w ≡ w' = same_id es d w w' g.0 g'.0 (cc) in
+    let is_w : w ≡ w' = same_id es d w w' g.0 g'.0 (ap first_in e) in
     λ i. HighHead (is_w i)
 same_heads es d (LowHead w) (LowHead w') g g' e =
-    let is_w : w ≡ w' = same_id es d w w' g.0 g'.0 (cc) in
+    let is_w : w ≡ w' = same_id es d w w' g.0 g'.0 (ap first_in e) in
     λ i. LowHead (is_w i)
 same_heads es d (JoinHead h l) (JoinHead h' l') g g' e =
-    let is_h : h ≡ h' = same_id es d h h' g.0 g'.0 (cc) in
-    let is_l : l ≡ l' = same_id es d l l' g.1.0 g'.1.0 (cc) in
+    let is_h : h ≡ h' = same_id es d h h' g.0 g'.0 (ap first_in e) in
+    let is_l : l ≡ l' = same_id es d l l' g.1.0 g'.1.0 (ap second_in e) in
     λ i. JoinHead (is_h i) (is_l i)
 same_heads es d (FlagByteHead s z ac p cy) (FlagByteHead s' z' ac' p' cy') g g' e =
-    let is_s : s ≡ s' = same_id es d s s' g.0 g'.0 (cc) in
-    let is_z : z ≡ z' = same_id es d z z' g.1.0 g'.1.0 (cc) in
-    let is_ac : ac ≡ ac' = same_id es d ac ac' g.1.1.0 g'.1.1.0 (cc) in
-    let is_p : p ≡ p' = same_id es d p p' g.1.1.1.0 g'.1.1.1.0 (cc) in
-    let is_cy : cy ≡ cy' = same_id es d cy cy' g.1.1.1.1.0 g'.1.1.1.1.0 (cc) in
+    let is_s : s ≡ s' = same_id es d s s' g.0 g'.0 (ap first_in e) in
+    let is_z : z ≡ z' = same_id es d z z' g.1.0 g'.1.0 (ap second_in e) in
+    let is_ac : ac ≡ ac' = same_id es d ac ac' g.1.1.0 g'.1.1.0 (ap third_in e) in
+    let is_p : p ≡ p' = same_id es d p p' g.1.1.1.0 g'.1.1.1.0 (ap fourth_in e) in
+    let is_cy : cy ≡ cy' = same_id es d cy cy' g.1.1.1.1.0 g'.1.1.1.1.0 (ap fifth_in e) in
     λ i. FlagByteHead (is_s i) (is_z i) (is_ac i) (is_p i) (is_cy i)
 same_heads es d (BitHead b part) (BitHead b' part') g g' e =
-    let is_b : b ≡ b' = same_id es d b b' g.0 g'.0 (cc) in
-    let is_part : part ≡ part' = cc in
+    let is_b : b ≡ b' = same_id es d b b' g.0 g'.0 (ap first_in e) in
+    let is_part : part ≡ part' = ap part_in e in
     λ i. BitHead (is_b i) (is_part i)
 same_heads es d (TurnHead kind a c) (TurnHead kind' a' c') g g' e =
-    let is_a : a ≡ a' = same_id es d a a' g.0 g'.0 (cc) in
-    let is_c : c ≡ c' = same_id es d c c' g.1.0 g'.1.0 (cc) in
-    let is_kind : kind ≡ kind' = cc in
+    let is_a : a ≡ a' = same_id es d a a' g.0 g'.0 (ap first_in e) in
+    let is_c : c ≡ c' = same_id es d c c' g.1.0 g'.1.0 (ap second_in e) in
+    let is_kind : kind ≡ kind' = ap number_in e in
     λ i. TurnHead (is_kind i) (is_a i) (is_c i)
 same_heads es d (TurnedHead c) (TurnedHead c') g g' e =
-    let is_c : c ≡ c' = same_id es d c c' g.0 g'.0 (cc) in
+    let is_c : c ≡ c' = same_id es d c c' g.0 g'.0 (ap first_in e) in
     λ i. TurnedHead (is_c i)
 same_heads es d (AdjustHead a ac cy) (AdjustHead a' ac' cy') g g' e =
-    let is_a : a ≡ a' = same_id es d a a' g.0 g'.0 (cc) in
-    let is_ac : ac ≡ ac' = same_id es d ac ac' g.1.0 g'.1.0 (cc) in
-    let is_cy : cy ≡ cy' = same_id es d cy cy' g.1.1.0 g'.1.1.0 (cc) in
+    let is_a : a ≡ a' = same_id es d a a' g.0 g'.0 (ap first_in e) in
+    let is_ac : ac ≡ ac' = same_id es d ac ac' g.1.0 g'.1.0 (ap second_in e) in
+    let is_cy : cy ≡ cy' = same_id es d cy cy' g.1.1.0 g'.1.1.0 (ap third_in e) in
     λ i. AdjustHead (is_a i) (is_ac i) (is_cy i)
 same_heads es d (CodeHead q high) (CodeHead q' high') g g' e =
-    let is_q : q ≡ q' = cc in
-    let is_high : high ≡ high' = cc in
+    let is_q : q ≡ q' = ap place_in e in
+    let is_high : high ≡ high' = ap is_high e in
     λ i. CodeHead (is_q i) (is_high i)
 same_heads es d UnknownHead UnknownHead g g' e = refl
 same_heads es d h g p q e = absurd (false≢true (subst (λ t. same_term (tree_of_head es h) t ≡ true) e (same_term_refl (tree_of_head es h))))

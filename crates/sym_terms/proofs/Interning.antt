@@ -1,6 +1,7 @@
 -- What interning a node does to the terms.
-use Rattle.std.proofs.Common.{◌≡◌, ℕ, ◌+◌, ◌≤◌, Bool, List, [], ◌∷◌, ◌++◌, length, Option, Some, None, IsSome, false, refl, sym, ap, subst, ap₂, ◌∙◌, arith, inl, inr, ◌⊎◌, MatchOption, append-nil, append_assoc, length-append}
+use Rattle.std.proofs.Common.{◌≡◌, ℕ, ◌+◌, ◌≤◌, Bool, List, [], ◌∷◌, ◌++◌, length, Option, Some, None, IsSome, true, false, refl, sym, ap, subst, ap₂, ◌∙◌, arith, inl, inr, ◌⊎◌, MatchOption, append-nil, append_assoc, length-append}
 use Rattle.std.specs.List.{slice_get}
+use Rattle.std.proofs.lemmas.Bool.{true≢false}
 use Rattle.std.proofs.lemmas.Option.{get_or_from_slice_get}
 use Rattle.xlt_pool.specs.declared.node.Node.{Node}
 use Rattle.xlt_pool.specs.declared.node.Id.{Id}
@@ -15,7 +16,7 @@ use Rattle.sym_terms.specs.Trees.{Entry, Tree, Rest, term_of_entry, tree_in, Mak
 use Rattle.sym_terms.specs.Forms.{HasRest, IsFormed, IsTermList}
 use Rattle.sym_terms.proofs.Places.{get_front, get_last}
 use Rattle.sym_terms.proofs.Entries.{entries_push, length-entries_of}
-use Rattle.sym_terms.proofs.Heads.{entry_back}
+use Rattle.sym_terms.proofs.Heads.{entry_back, second_in, third_in, fourth_in, fifth_in}
 use Rattle.sym_terms.proofs.Marks.{entry_marked}
 use Rattle.sym_terms.proofs.Growing.{has_node, read, node_entry, new_entry, list_with, are_terms}
 
@@ -116,7 +117,7 @@ makes old new tree (Some id) made i e =
     })
 
 pub no_rest : (es : List Entry) (h : Head) (r : ℕ) → is_flag_byte_head h ≡ false → HasRest es h r
-no_rest es (FlagByteHead s z ac p cy) r plain = absurd (cc)
+no_rest es (FlagByteHead s z ac p cy) r plain = absurd (true≢false plain)
 no_rest es h r plain = tt
 
 -- the node of a head, marked
@@ -130,7 +131,7 @@ interns_head old new h further m plain n result ep em en list rest given made r 
     ∙ entry_back (entries_of old.nodes) h further rest in
     subst (λ x. Interns old new x result) entry
     (interns old new n result list (inl (record { head = h; further = further; is = e; given = given; rest = rest }))
-    (λ t f. let both : Tree (tree_of_head (entries_of old.nodes) h) ≡ Tree t = sym entry ∙ f in let same : tree_of_head (entries_of old.nodes) h ≡ t = cc in subst IsTermMade same made)
+    (λ t f. subst IsTermMade (ap term_of_entry (sym entry ∙ f)) made)
     r)
 
 -- the further node of a FlagByte
@@ -144,6 +145,14 @@ interns_rest old new ac p cy n result e list given r =
     (λ t f. let both : Rest (tree_at (entries_of old.nodes) (number_of_id ac)) (tree_at (entries_of old.nodes) (number_of_id p)) (tree_at (entries_of old.nodes) (number_of_id cy)) ≡ Tree t = sym entry ∙ f in absurd (cc))
     r)
 
+abbrev is_flag_byte : Term → Bool
+is_flag_byte (FlagByte s z ac p cy) = true
+is_flag_byte t = false
+
+abbrev is_sum : Term → Bool
+is_sum (Sum16 a b) = true
+is_sum t = false
+
 -- a FlagByte has a further node with its last three flags
 flag_byte_has_rest : (held : Contents) → IsTermList held.nodes → (t : TermId) (s z x y w : Term) → StandsFor held t (FlagByte s z x y w) → (r : ℕ) × (slice_get (entries_of held.nodes) r ≡ Some (Rest x y w))
 flag_byte_has_rest held list t s z x y w h =
@@ -154,14 +163,14 @@ flag_byte_has_rest held list t s z x y w h =
   where
     by_head : (g : Head) (k : ℕ) → FlagByte s z x y w ≡ tree_of_head (entries_of held.nodes) g → HasRest (entries_of held.nodes) g k → slice_get (entries_of held.nodes) k ≡ Some (Rest x y w)
     by_head (FlagByteHead s' z' ac p cy) k e q =
-        let is_x : tree_at (entries_of held.nodes) (number_of_id ac) ≡ x = cc in
-        let is_y : tree_at (entries_of held.nodes) (number_of_id p) ≡ y = cc in
-        let is_w : tree_at (entries_of held.nodes) (number_of_id cy) ≡ w = cc in
+        let is_x : tree_at (entries_of held.nodes) (number_of_id ac) ≡ x = sym (ap third_in e) in
+        let is_y : tree_at (entries_of held.nodes) (number_of_id p) ≡ y = sym (ap fourth_in e) in
+        let is_w : tree_at (entries_of held.nodes) (number_of_id cy) ≡ w = sym (ap fifth_in e) in
         q
         ∙ ap (λ v. Some (Rest v (tree_at (entries_of held.nodes) (number_of_id p)) (tree_at (entries_of held.nodes) (number_of_id cy)))) is_x
         ∙ ap (λ v. Some (Rest x v (tree_at (entries_of held.nodes) (number_of_id cy)))) is_y
         ∙ ap (λ v. Some (Rest x y v)) is_w
-    by_head g k e q = absurd (cc)
+    by_head g k e q = absurd (true≢false (ap is_flag_byte e))
 
 pub makes_rest : (old new : Contents) (x y w : Term) (result : Option Id) → Interns old new (Rest x y w) result → MakesRest old new x y w result
 makes_rest old new x y w None i = record {
@@ -220,6 +229,6 @@ no_sum old new a n m = record {
   where
     by_head : (g : Head) → Sum16 a (Num n) ≡ tree_of_head (entries_of new.nodes) g → AreTrees (entries_of new.nodes) (operands g) → ⊥
     by_head (Sum16Head x y) e q =
-        let is : tree_at (entries_of new.nodes) (number_of_id y) ≡ Num n = cc in
+        let is : tree_at (entries_of new.nodes) (number_of_id y) ≡ Num n = sym (ap second_in e) in
         m.gives.absent y (q.1.0, is)
-    by_head g e q = absurd (cc)
+    by_head g e q = absurd (true≢false (ap is_sum e))

@@ -1,8 +1,7 @@
 -- On the 8080's side each value that an operation may have is one that the made term may have.
-use Rattle.std.proofs.lemmas.Bool.{and_parts}
+use Rattle.std.proofs.lemmas.Bool.{and_parts, ltb-true, true≢false, false≢true}
 use Rattle.std.specs.Prelude.{◌&&◌, not}
 use Rattle.std.proofs.Common.{◌≡◌, ℕ, zero, suc, ◌+◌, ◌*◌, ◌/◌, ◌%◌, ◌<◌, ◌||◌, Bool, true, false, cond, Option, Some, None, refl, sym, ap, subst, ◌∙◌, arith}
-use Rattle.std.proofs.lemmas.Bool.{ltb-true}
 use Rattle.cells.specs.declared.Flags.{Flags}
 use Rattle.cells.specs.declared.Cell.{Cell}
 use Rattle.cells.specs.declared.Cell.TheVariants.{Num as NumCell, Psw}
@@ -12,7 +11,7 @@ use Rattle.i80.specs.declared.Op.{Op}
 use Rattle.i80.specs.declared.Op.TheVariants.{Add, Adc, Ana, Xra, Ora}
 use Rattle.base.specs.Arithmetic.{as_bit}
 use Rattle.base.specs.Operations.{flags_of, flags_in}
-use Rattle.sym_terms.specs.Term.{Term, Num, Start, Alu, Flag, Sum16, High, Low, Join, FlagByte, Bit, Turn, Turned, Adjust, Unknown, is_adjusted, is_open, shows_open, is_word, is_byte, is_bit, leaves_flag, is_flag, same_term}
+use Rattle.sym_terms.specs.Term.{Term, Num, Start, Alu, Flag, Sum16, High, Low, Join, FlagByte, Bit, Turn, Turned, Adjust, Unknown, is_adjusted, is_open, is_word, is_byte, is_bit, leaves_flag, is_flag, same_term}
 use Rattle.sym_terms.specs.Making.{IsTermMade, alu, flag, flag_term_of, carry_flag, half_carry_flag, is_logic, is_addition, sum16, sum_of, regrouped, plus, high, low, join, bit, chosen_flag, turn, adjust}
 use Rattle.sym_terms.specs.Values80.{Value80, Byte, Word, OneBit, Result, Env80, Val80, word_by, bit_by, result_by, number80, flag_in, word_of}
 use Rattle.sym_terms.specs.Laws.{IsMadeAs, KeepValues}
@@ -31,28 +30,28 @@ open_byte e (FlagByte s z ac p cy) x m o v = let differ : NumCell x ≡ Psw v.0 
 open_byte e Unknown x m o v = let differ : Some v.0 ≡ None = v.1 in cc
 open_byte e (Turned c) x m o v = v
 open_byte e (Join h l) x m o v = v
-open_byte e t x m o v = let shows : shows_open t ≡ true = sym (open_shows t m.0) ∙ o in cc
+open_byte e t x m o v = false≢true (sym (open_shows t m.0) ∙ o)
 
 open_bit : (e : Env80) (t : Term) (k : Bool) → IsMadeAs is_bit t → is_open t ≡ true → Val80 e t (OneBit (Some k)) → ⊥
 open_bit e (FlagByte s z ac p cy) k m o v = v
 open_bit e Unknown k m o v = let differ : Some k ≡ None = v in cc
 open_bit e (Turned c) k m o v = v
 open_bit e (Join h l) k m o v = v
-open_bit e t k m o v = let shows : shows_open t ≡ true = sym (open_shows t m.0) ∙ o in cc
+open_bit e t k m o v = false≢true (sym (open_shows t m.0) ∙ o)
 
 open_word : (e : Env80) (t : Term) (n : ℕ) → IsMadeAs is_word t → is_open t ≡ true → Val80 e t (word_of n) → ⊥
 open_word e (Join h l) n m o v = or_open (is_open h) (is_open l) o ⊥ (λ q. open_byte e h (n / 256) (m.0.0, m.0.2) q v.0) (λ q. open_byte e l (n % 256) (m.0.1, m.0.3) q v.1)
 open_word e (FlagByte s z ac p cy) n m o v = v
 open_word e Unknown n m o v = v
 open_word e (Turned c) n m o v = v
-open_word e t n m o v = let shows : shows_open t ≡ true = sym (open_shows t m.0) ∙ o in cc
+open_word e t n m o v = false≢true (sym (open_shows t m.0) ∙ o)
 
 open_result : (e : Env80) (part : Part) (t : Term) (n : ℕ) (f : Flags) → IsMadeAs (leaves_flag part) t → is_open t ≡ true → Val80 e t (Result n f) → ⊥
 open_result e part (FlagByte s z ac p cy) n f m o v = v
 open_result e part Unknown n f m o v = v
 open_result e part (Turned c) n f m o v = v
 open_result e part (Join h l) n f m o v = v
-open_result e part t n f m o v = let shows : shows_open t ≡ true = sym (open_shows t m.0) ∙ o in cc
+open_result e part t n f m o v = false≢true (sym (open_shows t m.0) ∙ o)
 
 -- a term that is Unknown where an operand is open, and as it stands elsewhere
 unless_open : (e : Env80) (x : Bool) (t : Term) (v : Value80) → (x ≡ true → ⊥) → Val80 e t v → Val80 e (cond x Unknown t) v
@@ -119,12 +118,12 @@ logic_carry : (op : Op) (x y k : ℕ) (o : Option Bool) → is_logic op ≡ true
 logic_carry Ana x y k o h e = e
 logic_carry Xra x y k o h e = e
 logic_carry Ora x y k o h e = e
-logic_carry op x y k o h e = absurd (cc)
+logic_carry op x y k o h e = absurd (false≢true h)
 
 -- AC of no addition is not known
 other_half : (op : Op) (x y k : ℕ) (o : Option Bool) → is_addition op ≡ false → o ≡ flag_in (flags_of op x y k) Ac → o ≡ None
-other_half Add x y k o h e = absurd (cc)
-other_half Adc x y k o h e = absurd (cc)
+other_half Add x y k o h e = absurd (true≢false h)
+other_half Adc x y k o h e = absurd (true≢false h)
 other_half op x y k o h e = e
 
 bit_is_zero : (v : Value80) (Q : Option Bool → Type 0) → bit_by Q v → ((o : Option Bool) → Q o → o ≡ Some false) → number80 0 v
@@ -155,7 +154,7 @@ half_carry80 e (Alu op a b c) v l p = by_op (is_addition op) refl
     by_op false h = bit_is_unknown v (FlagIs e Ac (Alu op a b c)) p (λ o q. other_half op q.2.0 q.2.1 (as_bit q.2.2) o h (q.3 ∙ ap (λ g. flag_in g Ac) q.2.7))
 half_carry80 e (Adjust a ac cy) v l p = bit_is_unknown v (FlagIs e Ac (Adjust a ac cy)) p (λ o q. q.3 ∙ ap (λ g. flag_in g Ac) q.2.8)
 half_carry80 e Unknown v l p = bit_is_unknown v (FlagIs e Ac Unknown) p (λ o q. absurd q.2)
-half_carry80 e r v l p = absurd (cc)
+half_carry80 e r v l p = absurd (false≢true l)
 
 flag80 : (e : Env80) (part : Part) (r : Term) (v : Value80) → leaves_flag part r ≡ true → Val80 e (Flag part r) v → Val80 e (flag_term_of part r) v
 flag80 e Ac r v l p = half_carry80 e r v l p
@@ -284,7 +283,7 @@ bit_as_byte e (Start Z) b s v = (b, v, refl)
 bit_as_byte e (Start Ac) b s v = (b, v, refl)
 bit_as_byte e (Start P) b s v = (b, v, refl)
 bit_as_byte e (Start Cy) b s v = (b, v, refl)
-bit_as_byte e (Start part) b s v = absurd (cc)
+bit_as_byte e (Start part) b s v = absurd (false≢true s)
 bit_as_byte e (Flag part r) b s v = (b, v, refl)
 bit_as_byte e (Bit t part) b s v = (b, v, refl)
 bit_as_byte e (Alu op x y c) b s v =
@@ -292,7 +291,7 @@ bit_as_byte e (Alu op x y c) b s v =
     let same : b ≡ v.0 = cc in
     (as_bit v.0, v.1, v.2, ap (λ k. NumCell (as_bit k)) same)
 bit_as_byte e Unknown b s v = let differ : Some b ≡ None = v in absurd (cc)
-bit_as_byte e t b s v = absurd (cc)
+bit_as_byte e t b s v = absurd (false≢true s)
 
 -- what stands for a flag of a FlagByte
 flag_term : (e : Env80) (t : Term) (f : Option Bool) (v : Value80) → is_bit t ≡ true → Val80 e t (OneBit f) → bit_by (λ o. o ≡ f) v → Val80 e t v
@@ -317,7 +316,7 @@ one_of80 e s z ac p cy Z v m f q = let r = read_flags e s z ac p cy Z v q in fla
 one_of80 e s z ac p cy Ac v m f q = let r = read_flags e s z ac p cy Ac v q in flag_term e ac r.0.ac v m.7 r.3 r.6
 one_of80 e s z ac p cy P v m f q = let r = read_flags e s z ac p cy P v q in flag_term e p r.0.p v m.8 r.4 r.6
 one_of80 e s z ac p cy Cy v m f q = let r = read_flags e s z ac p cy Cy v q in flag_term e cy r.0.cy v m.9 r.5 r.6
-one_of80 e s z ac p cy part v m f q = absurd (cc)
+one_of80 e s z ac p cy part v m f q = absurd (false≢true f)
 
 bit80 : (e : Env80) (b : Term) (part : Part) (v : Value80) → IsMadeAs is_byte b → is_flag part ≡ true → Val80 e (Bit b part) v → Val80 e (bit b part) v
 bit80 e (FlagByte s z ac p cy) part v m f q = one_of80 e s z ac p cy part v m.0 f q

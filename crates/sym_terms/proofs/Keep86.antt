@@ -1,5 +1,6 @@
 -- On the 8086's side each value that an operation may have is one that the made term may have.
-use Rattle.std.proofs.lemmas.Bool.{and_parts}
+use Rattle.std.proofs.lemmas.Bool.{and_parts, false≢true}
+use Rattle.std.proofs.lemmas.Option.{same_Some}
 use Rattle.std.specs.Prelude.{◌&&◌, not}
 use Rattle.std.proofs.Common.{◌≡◌, ℕ, zero, suc, ◌+◌, ◌*◌, ◌/◌, ◌%◌, ◌<◌, ◌||◌, Bool, true, false, cond, Some, refl, sym, ap, ap₂, subst, ◌∙◌, arith}
 use Rattle.cells.specs.declared.Flags.{Flags}
@@ -29,7 +30,7 @@ logic_carry : (op : Op) (x y k i : ℕ) → is_logic op ≡ true → MayBe (flag
 logic_carry Ana x y k i h m = m
 logic_carry Xra x y k i h m = m
 logic_carry Ora x y k i h m = m
-logic_carry op x y k i h m = absurd (cc)
+logic_carry op x y k i h m = absurd (false≢true h)
 
 may_be_at : (part : Part) (f g : Flags) (i : ℕ) → f ≡ g → MayBe (flag_in f part) i → MayBe (flag_in g part) i
 may_be_at part f g i e m = let Q : Flags → Type 0 = λ h. MayBe (flag_in h part) i in subst Q e m
@@ -113,7 +114,7 @@ low86 e w v p = p
 
 not_true : (b : Bool) → not b ≡ true → b ≡ false
 not_true false h = refl
-not_true true h = absurd (cc)
+not_true true h = absurd (false≢true h)
 
 -- the halves of one word, which has one value
 joined86 : (e : Env86) (x : Bool) (w w' : Term) (v : Value86) → IsMadeAs is_byte (High w) → (same_term w w' && not (is_adjusted w)) ≡ x → Val86 e (Join (High w) (Low w')) v → Val86 e (cond x w (Join (High w) (Low w'))) v
@@ -141,7 +142,7 @@ join86 e h l v m p = p
 
 some_bit : (e : Env86) (t : Term) (b k : Bool) (i : ℕ) → Some b ≡ Some k → i ≡ as_bit k → Val86 e t (Number (as_bit b)) → Val86 e t (Number i)
 some_bit e t b k i s q v =
-    let same : b ≡ k = cc in
+    let same : b ≡ k = same_Some b k s in
     let is : as_bit b ≡ i = ap as_bit same ∙ sym q in
     subst (λ n. Val86 e t (Number n)) is v
 

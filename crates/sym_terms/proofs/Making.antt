@@ -6,7 +6,7 @@ use Rattle.xlt_pool.specs.Contents.{Contents}
 use Rattle.sym_terms.specs.declared.head.Term.{Term as TermId}
 use Rattle.sym_terms.specs.declared.head.Head.{Head}
 use Rattle.sym_terms.specs.declared.head.Head.TheVariants.{Num as NumHead, Alu as AluHead, Flag as FlagHead, Sum16 as Sum16Head, High as HighHead, Low as LowHead, Join as JoinHead, FlagByte as FlagByteHead, Bit as BitHead, Turn as TurnHead, Turned as TurnedHead, Adjust as AdjustHead, Unknown as UnknownHead}
-use Rattle.sym_terms.specs.Term.{Term, Num, Sum16, High, Low, Join, FlagByte, Bit, is_open, is_word, is_adjusted, same_term, Unknown, Turn, Turned}
+use Rattle.sym_terms.specs.Term.{Term, Num, Alu, Flag, Sum16, High, Low, Join, FlagByte, Bit, Turn, Turned, Adjust, Unknown, is_open, is_word, is_adjusted, same_term}
 use Rattle.sym_terms.specs.Making.{IsTermMade, regrouped, plus, sum_of, high, low, join, bit, turn, turn_or_turned}
 use Rattle.sym_terms.specs.Heads.{operands, number_of_id, term_of}
 use Rattle.sym_terms.specs.Trees.{tree_of_head, entries_of, tree_in, StandsFor, IsGiven, AreGiven, PoolGrows, Makes, MakesRest, AreTerms}
@@ -28,46 +28,46 @@ same_head old new count grows (AluHead op a b c) given =
     let is_a : tree_in old a ≡ tree_in new a = same_tree old new count grows a given.0 in
     let is_b : tree_in old b ≡ tree_in new b = same_tree old new count grows b given.1.0 in
     let is_c : tree_in old c ≡ tree_in new c = same_tree old new count grows c given.1.1.0 in
-    cc
+    λ i. Alu op (is_a i) (is_b i) (is_c i)
 same_head old new count grows (FlagHead part r) given =
     let is_r : tree_in old r ≡ tree_in new r = same_tree old new count grows r given.0 in
-    cc
+    λ i. Flag part (is_r i)
 same_head old new count grows (Sum16Head a b) given =
     let is_a : tree_in old a ≡ tree_in new a = same_tree old new count grows a given.0 in
     let is_b : tree_in old b ≡ tree_in new b = same_tree old new count grows b given.1.0 in
-    cc
+    λ i. Sum16 (is_a i) (is_b i)
 same_head old new count grows (HighHead w) given =
     let is_w : tree_in old w ≡ tree_in new w = same_tree old new count grows w given.0 in
-    cc
+    λ i. High (is_w i)
 same_head old new count grows (LowHead w) given =
     let is_w : tree_in old w ≡ tree_in new w = same_tree old new count grows w given.0 in
-    cc
+    λ i. Low (is_w i)
 same_head old new count grows (JoinHead h l) given =
     let is_h : tree_in old h ≡ tree_in new h = same_tree old new count grows h given.0 in
     let is_l : tree_in old l ≡ tree_in new l = same_tree old new count grows l given.1.0 in
-    cc
+    λ i. Join (is_h i) (is_l i)
 same_head old new count grows (FlagByteHead s z ac p cy) given =
     let is_s : tree_in old s ≡ tree_in new s = same_tree old new count grows s given.0 in
     let is_z : tree_in old z ≡ tree_in new z = same_tree old new count grows z given.1.0 in
     let is_ac : tree_in old ac ≡ tree_in new ac = same_tree old new count grows ac given.1.1.0 in
     let is_p : tree_in old p ≡ tree_in new p = same_tree old new count grows p given.1.1.1.0 in
     let is_cy : tree_in old cy ≡ tree_in new cy = same_tree old new count grows cy given.1.1.1.1.0 in
-    cc
+    λ i. FlagByte (is_s i) (is_z i) (is_ac i) (is_p i) (is_cy i)
 same_head old new count grows (BitHead b part) given =
     let is_b : tree_in old b ≡ tree_in new b = same_tree old new count grows b given.0 in
-    cc
+    λ i. Bit (is_b i) part
 same_head old new count grows (TurnHead kind a c) given =
     let is_a : tree_in old a ≡ tree_in new a = same_tree old new count grows a given.0 in
     let is_c : tree_in old c ≡ tree_in new c = same_tree old new count grows c given.1.0 in
-    cc
+    λ i. Turn kind (is_a i) (is_c i)
 same_head old new count grows (TurnedHead c) given =
     let is_c : tree_in old c ≡ tree_in new c = same_tree old new count grows c given.0 in
-    cc
+    λ i. Turned (is_c i)
 same_head old new count grows (AdjustHead a ac cy) given =
     let is_a : tree_in old a ≡ tree_in new a = same_tree old new count grows a given.0 in
     let is_ac : tree_in old ac ≡ tree_in new ac = same_tree old new count grows ac given.1.0 in
     let is_cy : tree_in old cy ≡ tree_in new cy = same_tree old new count grows cy given.1.1.0 in
-    cc
+    λ i. Adjust (is_a i) (is_ac i) (is_cy i)
 same_head old new count grows h given = refl
 
 -- where there is no room for the further node of a FlagByte, there is none for the FlagByte

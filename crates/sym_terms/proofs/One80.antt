@@ -92,14 +92,21 @@ word_number m n e f =
     omega arith
 
 pub alu_same : (op : Op) (x y x' y' : ℕ) (k k' : Bool) (n n' : ℕ) (f f' : Flags) → x ≡ x' → y ≡ y' → k ≡ k' → n ≡ result_of op x y (as_bit k) → n' ≡ result_of op x' y' (as_bit k') → f ≡ flags_of op x y (as_bit k) → f' ≡ flags_of op x' y' (as_bit k') → (n ≡ n') × (f ≡ f')
-alu_same op x y x' y' k k' n n' f f' ex ey ek en en' ef ef' = (cc, cc)
+alu_same op x y x' y' k k' n n' f f' ex ey ek en en' ef ef' =
+    let results : result_of op x y (as_bit k) ≡ result_of op x' y' (as_bit k') = λ i. result_of op (ex i) (ey i) (as_bit (ek i)) in
+    let flags : flags_of op x y (as_bit k) ≡ flags_of op x' y' (as_bit k') = λ i. flags_of op (ex i) (ey i) (as_bit (ek i)) in
+    (en ∙ results ∙ sym en', ef ∙ flags ∙ sym ef')
 
 pub turn_same : (kind x x' : ℕ) (k k' : Bool) (n n' : ℕ) (f f' : Flags) → x ≡ x' → k ≡ k' → n ≡ turn_result kind x k → n' ≡ turn_result kind x' k' → f ≡ turn_flags kind x → f' ≡ turn_flags kind x' → (n ≡ n') × (f ≡ f')
 turn_same kind x x' k k' n n' f f' ex ek en en' ef ef' =
     (en ∙ ap₂ (turn_result kind) ex ek ∙ sym en', ef ∙ ap (turn_flags kind) ex ∙ sym ef')
 
 adjust_same : (x x' : ℕ) (h h' k k' : Bool) (n n' : ℕ) (f f' : Flags) → x ≡ x' → h ≡ h' → k ≡ k' → n ≡ daa_result x h k → n' ≡ daa_result x' h' k' → f ≡ flags_by (daa_result x h k) None (Some (daa_carry x h k)) → f' ≡ flags_by (daa_result x' h' k') None (Some (daa_carry x' h' k')) → (n ≡ n') × (f ≡ f')
-adjust_same x x' h h' k k' n n' f f' ex eh ek en en' ef ef' = (cc, cc)
+adjust_same x x' h h' k k' n n' f f' ex eh ek en en' ef ef' =
+    let results : daa_result x h k ≡ daa_result x' h' k' = λ i. daa_result (ex i) (eh i) (ek i) in
+    let carries : daa_carry x h k ≡ daa_carry x' h' k' = λ i. daa_carry (ex i) (eh i) (ek i) in
+    let flags : flags_by (daa_result x h k) None (Some (daa_carry x h k)) ≡ flags_by (daa_result x' h' k') None (Some (daa_carry x' h' k')) = λ i. flags_by (results i) None (Some (carries i)) in
+    (en ∙ results ∙ sym en', ef ∙ flags ∙ sym ef')
 
 abbrev flags_are : Option Bool → Option Bool → Option Bool → Option Bool → Option Bool → Flags
 flags_are s z ac p cy = record { s = s; z = z; ac = ac; p = p; cy = cy }

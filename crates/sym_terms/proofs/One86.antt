@@ -1,6 +1,7 @@
 -- On the 8086's side a made term in which nothing open and no Adjust stands has at most one value of each kind.
 use Rattle.std.proofs.Common.{◌≡◌, ℕ, ◌+◌, ◌*◌, ◌/◌, ◌%◌, ◌||◌, Bool, true, false, cond, Option, Some, refl, sym, ap, ap₂, subst, ◌∙◌, arith}
-use Rattle.std.proofs.lemmas.Bool.{or_parts}
+use Rattle.std.proofs.lemmas.Bool.{or_parts, true≢false, false≢true}
+use Rattle.std.proofs.lemmas.Option.{same_Some}
 use Rattle.cells.specs.declared.Flags.{Flags}
 use Rattle.cells.specs.declared.Part.{Part}
 use Rattle.cells.specs.declared.Part.TheVariants.{S, Z, Ac, P, Cy}
@@ -50,12 +51,16 @@ by_parts_known Z v ac cy f h a e = (_, ap (λ g. flag_in g Z) e)
 by_parts_known Ac v ac cy f h a e = absurd (a refl)
 by_parts_known P v ac cy f h a e = (_, ap (λ g. flag_in g P) e)
 by_parts_known Cy v ac cy f h a e = (_, ap (λ g. flag_in g Cy) e)
-by_parts_known part v ac cy f h a e = absurd (cc)
+by_parts_known part v ac cy f h a e = absurd (false≢true h)
 
 addition_known : (op : Op) (x y k : ℕ) → is_addition op ≡ true → known_at (flags_of op x y k) Ac
 addition_known Add x y k h = (_, refl)
 addition_known Adc x y k h = (_, refl)
-addition_known op x y k h = absurd (cc)
+addition_known op x y k h = absurd (false≢true h)
+
+abbrev is_half_carry : Part → Bool
+is_half_carry Ac = true
+is_half_carry part = false
 
 -- AC is asked for after an addition alone
 asks_addition : (x y : Bool) (r : Term) → cond x Unknown (cond y (Flag Ac r) Unknown) ≡ Flag Ac r → y ≡ true
@@ -73,15 +78,15 @@ flag_known e part (Alu op a b c) n f h m v u = by_part part h m
     by_part Ac h m =
         let k = addition_known op v.0 v.1 (as_bit v.2) (asks_addition (is_open a || (is_open b || is_open c)) (is_addition op) (Alu op a b c) m) in
         (k.0, ap (λ g. flag_in g Ac) v.7 ∙ k.1)
-    by_part part h m = other part h (λ q. cc)
+    by_part part h m = other part h (λ q. false≢true (ap is_half_carry q))
 flag_known e part (Turn kind a c) n f h m v u = by_part part h
   where
     by_part : (part : Part) → leaves_flag part (Turn kind a c) ≡ true → known_at f part
     by_part Cy h = (turn_carry kind v.0, ap (λ g. flag_in g Cy) v.5)
-    by_part part h = absurd (cc)
-flag_known e part (Adjust a ac cy) n f h m v d = absurd (cc)
+    by_part part h = absurd (false≢true h)
+flag_known e part (Adjust a ac cy) n f h m v d = absurd (true≢false d)
 flag_known e part Unknown n f h m v d = absurd (cc)
-flag_known e part r n f h m v d = absurd (cc)
+flag_known e part r n f h m v d = absurd (false≢true h)
 
 known_bit : (o : Option Bool) (b : Bool) (i : ℕ) → o ≡ Some b → MayBe o i → i ≡ as_bit b
 known_bit o b i e m = let Q : Option Bool → Type 0 = λ w. MayBe w i in subst Q e m
@@ -127,13 +132,13 @@ one86 e (Join h l) m o u =
     let first : p.0 ≡ q.0 = (one86 e h m.0 (or_parts (is_open h) (is_open l) o).0 (or_parts (is_adjusted h) (is_adjusted l) u).0).number p.0 q.0 p.4 q.4 in
     let second : p.1 ≡ q.1 = (one86 e l m.1 (or_parts (is_open h) (is_open l) o).1 (or_parts (is_adjusted h) (is_adjusted l) u).1).number p.1 q.1 p.5 q.5 in
     p.6 ∙ ap₂ (λ x y. 256 * x + y) first second ∙ sym q.6)
-one86 e (FlagByte s z ac p cy) m o u = absurd (cc)
+one86 e (FlagByte s z ac p cy) m o u = absurd (true≢false o)
 one86 e (Bit b part) m o u =
     one_number _
     (λ i j p q.
     let same : p.0 ≡ q.0 = (one86 e b m.0 o u).number p.0 q.0 p.2 q.2 in
     let known : Some p.1 ≡ Some q.1 = sym p.3 ∙ ap (λ n. flag_in (flags_of_byte n) part) same ∙ q.3 in
-    let bits : p.1 ≡ q.1 = cc in
+    let bits : p.1 ≡ q.1 = same_Some p.1 q.1 known in
     p.4 ∙ ap as_bit bits ∙ sym q.4)
 one86 e (Turn kind a c) m o u =
     one_result
@@ -143,12 +148,12 @@ one86 e (Turn kind a c) m o u =
     ((one86 e a m.0 (or_parts (is_open a) (is_open c) o).0 (or_parts (is_adjusted a) (is_adjusted c) u).0).number p.0 q.0 p.2 q.2)
     (bit_same p.1 q.1 ((one86 e c m.1 (or_parts (is_open a) (is_open c) o).1 (or_parts (is_adjusted a) (is_adjusted c) u).1).number (as_bit p.1) (as_bit q.1) p.3 q.3))
     p.4 q.4 p.5 q.5)
-one86 e (Turned c) m o u = absurd (cc)
-one86 e (Adjust a ac cy) m o u = absurd (cc)
+one86 e (Turned c) m o u = absurd (true≢false o)
+one86 e (Adjust a ac cy) m o u = absurd (true≢false u)
 one86 e (Code q high) m o u =
     one_number _
     (λ i j p p'.
     let both : Some p.0 ≡ Some p'.0 = sym p.1 ∙ p'.1 in
-    let same : p.0 ≡ p'.0 = cc in
+    let same : p.0 ≡ p'.0 = same_Some p.0 p'.0 both in
     p.2 ∙ ap (λ n. cond high (n / 256) (n % 256)) same ∙ sym p'.2)
-one86 e Unknown m o u = absurd (cc)
+one86 e Unknown m o u = absurd (true≢false o)

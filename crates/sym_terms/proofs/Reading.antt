@@ -1,13 +1,15 @@
 -- What a node of the list says of its term.
-use Rattle.std.proofs.Common.{◌≡◌, ℕ, ◌<◌, Bool, false, List, [], ◌∷◌, length, Some, refl, sym, ap, subst, ◌∙◌, arith, inl, inr}
+use Rattle.std.proofs.Common.{◌≡◌, ℕ, ◌<◌, Bool, true, false, List, [], ◌∷◌, length, Some, refl, sym, ap, subst, ◌∙◌, arith, inl, inr}
 use Rattle.std.specs.List.{slice_get}
-use Rattle.std.proofs.lemmas.Option.{slice_get_within}
+use Rattle.std.proofs.lemmas.Bool.{true≢false, false≢true}
+use Rattle.std.proofs.lemmas.Option.{same_Some, slice_get_within}
 use Rattle.cells.specs.declared.Place.TheVariants.{At, Exit}
 use Rattle.xlt_pool.specs.declared.node.Node.{Node}
 use Rattle.xlt_pool.specs.Contents.{NodeStandsAt}
 use Rattle.sym_terms.specs.declared.head.Term.{Term as TermId}
 use Rattle.sym_terms.specs.declared.head.Head.{Head}
 use Rattle.sym_terms.specs.declared.head.Head.TheVariants.{FlagByte as FlagByteHead, Code as CodeHead}
+use Rattle.sym_terms.specs.declared.numbers.Kind.{Kind}
 use Rattle.sym_terms.specs.declared.numbers.Kind.TheVariants.{FlagByte as FlagByteKind}
 use Rattle.sym_terms.specs.Numbers.{kind_of}
 use Rattle.sym_terms.specs.Term.{Term, is_adjusted}
@@ -15,7 +17,7 @@ use Rattle.sym_terms.specs.Heads.{operands, is_flag_byte_head, node_of, marked_n
 use Rattle.sym_terms.specs.Trees.{Entry, Tree, Rest, tree_at, tree_of_head, AreTrees, entry_of, entries_of}
 use Rattle.sym_terms.specs.Forms.{HasRest, IsFormed, IsHeadNode, IsTermList}
 use Rattle.sym_terms.proofs.Entries.{length-entries_of}
-use Rattle.sym_terms.proofs.Heads.{head_back, same_id}
+use Rattle.sym_terms.proofs.Heads.{head_back, same_id, ac_in, p_in, cy_in, is_tree}
 use Rattle.sym_terms.proofs.Marks.{a_marked, b_marked, c_marked, kind_marked, head_marked}
 use Rattle.sym_terms.proofs.Growing.{node_formed, node_entry, head_entry, rest_entry, IsRead}
 
@@ -50,19 +52,24 @@ rest_is nodes list rest r ac p cy stands given trees = by_form (node_formed node
     es : List Entry
     es = entries_of nodes
 
-    entry : Some (entry_of es r) ≡ Some (Rest (tree_at es (number_of_id ac)) (tree_at es (number_of_id p)) (tree_at es (number_of_id cy)))
-    entry = sym (node_entry nodes list rest r stands) ∙ given
+    entry : entry_of es r ≡ Rest (tree_at es (number_of_id ac)) (tree_at es (number_of_id p)) (tree_at es (number_of_id cy))
+    entry = same_Some _ _ (sym (node_entry nodes list rest r stands) ∙ given)
 
     by_form : IsFormed es r → (term_of r.a ≡ ac) × (term_of r.b ≡ p) × (term_of r.c ≡ cy)
     by_form (inl q) =
-        let differ : Some (Tree (tree_of_head es q.head)) ≡ Some (Rest (tree_at es (number_of_id ac)) (tree_at es (number_of_id p)) (tree_at es (number_of_id cy))) = sym (ap Some (head_entry es r q)) ∙ entry in
-        absurd (cc)
+        let differ : Tree (tree_of_head es q.head) ≡ Rest (tree_at es (number_of_id ac)) (tree_at es (number_of_id p)) (tree_at es (number_of_id cy)) = sym (head_entry es r q) ∙ entry in
+        absurd (true≢false (ap is_tree differ))
     by_form (inr q) =
-        let same : Some (Rest (tree_at es (number_of_id q.ac)) (tree_at es (number_of_id q.p)) (tree_at es (number_of_id q.cy))) ≡ Some (Rest (tree_at es (number_of_id ac)) (tree_at es (number_of_id p)) (tree_at es (number_of_id cy))) = sym (ap Some (rest_entry es r q)) ∙ entry in (
-          ap (λ m. term_of m.a) q.is ∙ same_id es list.distinct q.ac ac q.given.0 trees.0 (cc),
-          ap (λ m. term_of m.b) q.is ∙ same_id es list.distinct q.p p q.given.1.0 trees.1.0 (cc),
-          ap (λ m. term_of m.c) q.is ∙ same_id es list.distinct q.cy cy q.given.1.1.0 trees.1.1.0 (cc),
+        let same : Rest (tree_at es (number_of_id q.ac)) (tree_at es (number_of_id q.p)) (tree_at es (number_of_id q.cy)) ≡ Rest (tree_at es (number_of_id ac)) (tree_at es (number_of_id p)) (tree_at es (number_of_id cy)) = sym (rest_entry es r q) ∙ entry in (
+          ap (λ m. term_of m.a) q.is ∙ same_id es list.distinct q.ac ac q.given.0 trees.0 (ap ac_in same),
+          ap (λ m. term_of m.b) q.is ∙ same_id es list.distinct q.p p q.given.1.0 trees.1.0 (ap p_in same),
+          ap (λ m. term_of m.c) q.is ∙ same_id es list.distinct q.cy cy q.given.1.1.0 trees.1.1.0 (ap cy_in same),
         )
+
+-- whether a kind is FlagByte
+abbrev says_flags : Kind → Bool
+says_flags FlagByteKind = true
+says_flags kind = false
 
 -- a node of the kind FlagByte, and its further node
 pub rest_within : (nodes : List Node) (n : Node) (p : IsHeadNode (entries_of nodes) n) → kind_of n.op ≡ FlagByteKind → n.c < length nodes
@@ -70,9 +77,9 @@ rest_within nodes n p f = by_head p.head p.further (mark (entries_of nodes) n p)
   where
     by_head : (h : Head) (r : ℕ) (m : Bool) → n ≡ marked_node m (node_of h r) → kind_of (node_of h r).op ≡ FlagByteKind → HasRest (entries_of nodes) h r → n.c < length nodes
     by_head (FlagByteHead s z ac p cy) r m e f q = subst (λ k. k < length nodes) (sym (ap (λ x. x.c) e ∙ c_marked m (node_of (FlagByteHead s z ac p cy) r))) (entry_within nodes r (Rest (tree_at (entries_of nodes) (number_of_id ac)) (tree_at (entries_of nodes) (number_of_id p)) (tree_at (entries_of nodes) (number_of_id cy))) q)
-    by_head (CodeHead (At a) high) r m e f q = absurd (cc)
-    by_head (CodeHead Exit high) r m e f q = absurd (cc)
-    by_head h r m e f q = absurd (cc)
+    by_head (CodeHead (At a) high) r m e f q = absurd (false≢true (ap says_flags f))
+    by_head (CodeHead Exit high) r m e f q = absurd (false≢true (ap says_flags f))
+    by_head h r m e f q = absurd (false≢true (ap says_flags f))
 
 pub read_flags : (nodes : List Node) → IsTermList nodes → (n r : Node) (p : IsHeadNode (entries_of nodes) n) → kind_of n.op ≡ FlagByteKind → NodeStandsAt nodes n.c r → FlagByteHead (term_of n.a) (term_of n.b) (term_of r.a) (term_of r.b) (term_of r.c) ≡ p.head
 read_flags nodes list n r p f stands = by_head p.head p.further (mark (entries_of nodes) n p) p.is (sym (kind_said (entries_of nodes) n p) ∙ f) p.given p.rest
@@ -89,9 +96,9 @@ read_flags nodes list n r p f stands = by_head p.head p.further (mark (entries_o
         ∙ ap (λ x. FlagByteHead s z x (term_of r.b) (term_of r.c)) last.0
         ∙ ap (λ x. FlagByteHead s z ac x (term_of r.c)) last.1
         ∙ ap (λ x. FlagByteHead s z ac p x) last.2
-    by_head (CodeHead (At a) high) k m e f g q = absurd (cc)
-    by_head (CodeHead Exit high) k m e f g q = absurd (cc)
-    by_head h k m e f g q = absurd (cc)
+    by_head (CodeHead (At a) high) k m e f g q = absurd (false≢true (ap says_flags f))
+    by_head (CodeHead Exit high) k m e f g q = absurd (false≢true (ap says_flags f))
+    by_head h k m e f g q = absurd (false≢true (ap says_flags f))
 
 -- what is read of a term, by its head
 pub tells : (nodes : List Node) (n : Node) (tree : Term) (h : Head) (r : IsRead nodes n tree) → h ≡ r.node.head → (tree ≡ tree_of_head (entries_of nodes) h) × AreTrees (entries_of nodes) (operands h)

@@ -1,7 +1,7 @@
 -- What the makers make is made, and of its sort; and what is open in a made term shows.
 use Rattle.std.specs.Prelude.{◌&&◌, not}
 use Rattle.std.proofs.Common.{◌≡◌, ℕ, zero, suc, ◌+◌, ◌*◌, ◌/◌, ◌%◌, ◌<◌, ◌||◌, Bool, true, false, cond, refl, ap, ap₂, ◌∙◌, arith, lit<}
-use Rattle.std.proofs.lemmas.Bool.{ltb-true, lt-ltb}
+use Rattle.std.proofs.lemmas.Bool.{ltb-true, lt-ltb, false≢true}
 use Rattle.cells.specs.declared.Part.{Part}
 use Rattle.cells.specs.declared.Part.TheVariants.{S, Z, Ac, P, Cy}
 use Rattle.sym_terms.specs.Term.{Term, Num, Start, StartSp, Loaded16, Alu, Flag, Sum16, High, Low, Join, FlagByte, Bit, Turn, Turned, Adjust, Unknown, is_adjusted, is_flag, is_bit, is_byte, is_word, leaves_flag, is_open, is_open_itself, shows_open, same_term}
@@ -28,7 +28,7 @@ high_closed (Sum16 a b) m s e = closed _ _ (Sum16 a b) m.4 (λ q. cc)
 high_closed (Join h l) m s e = absurd (high_is_larger h l e)
 high_closed (Turned c) m s e = absurd (cc)
 high_closed Unknown m s e = absurd (cc)
-high_closed w m s e = absurd (cc)
+high_closed w m s e = absurd (false≢true s)
 
 pub low_closed : (w : Term) → IsTermMade w → is_word w ≡ true → low w ≡ Low w → is_open w ≡ false
 low_closed (Num n) m s e = refl
@@ -38,15 +38,15 @@ low_closed (Sum16 a b) m s e = closed _ _ (Sum16 a b) m.4 (λ q. cc)
 low_closed (Join h l) m s e = absurd (low_is_larger h l e)
 low_closed (Turned c) m s e = absurd (cc)
 low_closed Unknown m s e = absurd (cc)
-low_closed w m s e = absurd (cc)
+low_closed w m s e = absurd (false≢true s)
 
 byte_shows : (t : Term) → is_byte t ≡ true → shows_open t ≡ is_open_itself t
-byte_shows (Join h l) s = absurd (cc)
+byte_shows (Join h l) s = absurd (false≢true s)
 byte_shows t s = refl
 
 bit_closed : (b : Term) (part : Part) → is_byte b ≡ true → bit b part ≡ Bit b part → is_open b ≡ is_open_itself b → is_open b ≡ false
 bit_closed (FlagByte s z ac p cy) part h e o = absurd (bit_is_larger s z ac p cy part e)
-bit_closed (Turned c) part h e o = absurd (cc)
+bit_closed (Turned c) part h e o = absurd (false≢true h)
 bit_closed Unknown part h e o = absurd (cc)
 bit_closed b part h e o = o
 
@@ -82,15 +82,15 @@ bit_is_byte (Flag part r) h = refl
 bit_is_byte (Bit b part) h = refl
 bit_is_byte (Alu op a b c) h = refl
 bit_is_byte Unknown h = refl
-bit_is_byte t h = absurd (cc)
+bit_is_byte t h = absurd (false≢true h)
 
 pub leaves_is_flag : (part : Part) (r : Term) → leaves_flag part r ≡ true → is_flag part ≡ true
 leaves_is_flag part (Alu op a b c) h = h
 leaves_is_flag part (Adjust a ac cy) h = h
 leaves_is_flag part Unknown h = h
 leaves_is_flag Cy (Turn kind a c) h = refl
-leaves_is_flag part (Turn kind a c) h = absurd (cc)
-leaves_is_flag part r h = absurd (cc)
+leaves_is_flag part (Turn kind a c) h = absurd (false≢true h)
+leaves_is_flag part r h = absurd (false≢true h)
 
 carry_made : (r : Term) → IsTermMade r → leaves_flag Cy r ≡ true → flag Cy r ≡ carry_flag r → IsMadeAs is_bit (carry_flag r)
 carry_made (Alu op a b c) m h e = by_op (is_logic op) refl
@@ -101,7 +101,7 @@ carry_made (Alu op a b c) m h e = by_op (is_logic op) refl
 carry_made (Turn kind a c) m h e = ((m, refl, e), refl)
 carry_made (Adjust a ac cy) m h e = ((m, refl, e), refl)
 carry_made Unknown m h e = absurd (cc)
-carry_made r m h e = absurd (cc)
+carry_made r m h e = absurd (false≢true h)
 
 half_carry_made : (r : Term) → IsTermMade r → leaves_flag Ac r ≡ true → flag Ac r ≡ half_carry_flag r → IsMadeAs is_bit (half_carry_flag r)
 half_carry_made (Alu op a b c) m h e = by_op (is_addition op) refl
@@ -117,7 +117,7 @@ flag_made Z r m h f e = ((m, h, e), refl)
 flag_made Ac r m h f e = half_carry_made r m h e
 flag_made P r m h f e = ((m, h, e), refl)
 flag_made Cy r m h f e = carry_made r m h e
-flag_made part r m h f e = absurd (cc)
+flag_made part r m h f e = absurd (false≢true f)
 
 plus_made : (a : Term) (n : ℕ) → n < 0x10000 → IsMadeAs is_word a → (0 < n → sum16 a (Num n) ≡ Sum16 a (Num n)) → IsMadeAs is_word (plus a n)
 plus_made a zero h m e = m
@@ -160,7 +160,7 @@ high_made (Sum16 a b) h = ((h.0, refl, refl), refl)
 high_made (Join g l) h = (h.0.0, h.0.2)
 high_made (Turned c) h = (tt, refl)
 high_made Unknown h = (tt, refl)
-high_made w h = absurd (let s : false ≡ true = h.1 in cc)
+high_made w h = absurd (false≢true h.1)
 
 low_made : (w : Term) → IsMadeAs is_word w → IsMadeAs is_byte (low w)
 low_made (Num n) h =
@@ -172,7 +172,7 @@ low_made (Sum16 a b) h = ((h.0, refl, refl), refl)
 low_made (Join g l) h = (h.0.1, h.0.3)
 low_made (Turned c) h = (tt, refl)
 low_made Unknown h = (tt, refl)
-low_made w h = absurd (let s : false ≡ true = h.1 in cc)
+low_made w h = absurd (false≢true h.1)
 
 joined : (x : Bool) (w w' : Term) → IsMadeAs is_byte (High w) → IsMadeAs is_byte (Low w') → (same_term w w' && not (is_adjusted w)) ≡ x → IsMadeAs is_word (cond x w (Join (High w) (Low w')))
 joined true w w' h l e = (h.0.0, h.0.1)

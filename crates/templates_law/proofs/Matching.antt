@@ -2,7 +2,7 @@
 use Rattle.std.proofs.Common.{◌≡◌, ℕ, ◌==◌, Bool, true, false, cond, List, [], ◌∷◌, length, Some, None, refl, sym, ap, subst, ◌∙◌, inl, inr, arith}
 use Rattle.std.specs.Prelude.{is_some, map}
 use Rattle.std.specs.List.{Contains}
-use Rattle.std.proofs.lemmas.Bool.{eqb-true}
+use Rattle.std.proofs.lemmas.Bool.{eqb-true, eq-eqb}
 use Rattle.cells.specs.declared.Place.TheVariants.{At}
 use Rattle.cells.specs.declared.Part.{Part}
 use Rattle.cells.specs.declared.Part.TheVariants.{A, B, C, D, E, H, L, S, Z, Ac, P, Cy}
@@ -39,10 +39,7 @@ abbrev ones_of : List Placed → List (ℕ × ℕ)
 ones_of xs = map (λ (x : Placed). (x.at, 1)) xs
 
 same_at : (a b : ℕ) → a ≡ b → (a == b) ≡ true
-same_at a b e = subst (λ n. (a == n) ≡ true) e (reflexive a)
-  where
-    reflexive : (n : ℕ) → (n == n) ≡ true
-    reflexive n = grind (Rattle.std.proofs.Common.arith, Rattle.std.proofs.lemmas.Bool.Decides.nat_tests)
+same_at a b e = eq-eqb a b e
 
 first_in : (xs : List Placed) (a : ℕ) → is_some (placed_in xs a) ≡ true → HasBlock (ones_of xs) a 1
 first_in [] a h = absurd (cc)
@@ -98,7 +95,7 @@ returns_all p a q start taken kept = by_places (taken_places p) (taken_has p a s
     by_places : (xs : List ℕ) → Contains xs a → has (cond (length xs == 0) nothing everything) q ≡ true
     by_places [] h = absurd (omega (arith, h.1))
     by_places (x ∷ xs) h =
-        let some : (length (x ∷ xs) == 0) ≡ false = grind (arith, Rattle.std.proofs.lemmas.Bool.Decides.nat_tests) in
+        let some : (length (x ∷ xs) == 0) ≡ false = grind (Rattle.std.proofs.Common.arith, Rattle.std.proofs.lemmas.Bool.Decides.nat_tests) in
         ap (λ t. has (cond t nothing everything) q) some ∙ has_everything q
 
 -- no block has a reason

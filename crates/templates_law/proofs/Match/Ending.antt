@@ -1,7 +1,7 @@
 -- The ends of blocks: the walk through the template of what ends a block, or at the label behind it.
 use Rattle.std.proofs.Common.{◌≡◌, ℕ, suc, ◌==◌, Bool, true, false, cond, List, ◌∷◌, ◌++◌, Some, refl, sym, ap, ◌∙◌, subst}
 use Rattle.std.specs.Prelude.{Result, Ok, Err}
-use Rattle.std.proofs.lemmas.Bool.{and_from}
+use Rattle.std.proofs.lemmas.Bool.{and_from, false≢true}
 use Rattle.cells.specs.declared.Part.{Part}
 use Rattle.cells.specs.declared.Part.TheVariants.{C, H, L}
 use Rattle.cells.specs.declared.Cond.{Cond}
@@ -121,7 +121,7 @@ module _ (p : Program) (w : Surroundings) (before : Parts) (at room : ℕ) (save
     is = ap (λ z. cond z (one_way t (Out n (AtPlace w.after))) (Err Form)) (may_follow p w rest g b);
     agrees = one_agrees (asking p w.after (Out n)) (Out n (AtPlace w.after)) (asking_agrees p w rest g b (Out n) (and_from (n == n) (w.after == w.after) (same_here n) (same_here w.after)));
   }
-  end i e skip k = absurd (let f : false ≡ true = e in cc)
+  end i e skip k = absurd (false≢true e)
 
 pub ending : (p : Program) (w : Surroundings) (before : Parts) (i : Instr80) (at room : ℕ) (save : Bool) (rest : List Stmt86) (s : Symbolic80) (t : Symbolic86) → ends80 i ≡ true → w.goes_on ≡ is_start p w.after → EndsBehind w rest → SkipsTo w i at rest → ((q : Part) → Among (uses80 i) q → Among before q) → Agree (Among before) s t → WalkEnds (walk_through w (suc (suc room)) (met w (template i at save ++ rest)) t) t false (exit80 p w.after s i)
 ending p w before i at room save rest s t e g b skip k a = end p w before at room save rest s t g b a i e skip k
@@ -147,7 +147,7 @@ short p w before c goal j room rest s t where_so g b k a =
 
 -- the number of the function is in CL too
 number_in_c : (u v : Term) → is_call u ≡ true → Meets u v → is_call v ≡ true
-number_in_c u v e (lost f) = absurd (let d : false ≡ true = sym (ap is_call f) ∙ e in cc)
+number_in_c u v e (lost f) = absurd (false≢true (sym (ap is_call f) ∙ e))
 number_in_c u v e (same f k) = ap is_call f ∙ e
 
 pub direct : (p : Program) (w : Surroundings) (before : Parts) (room : ℕ) (rest : List Stmt86) (s : Symbolic80) (t : Symbolic86) → is_call s.held.c ≡ true → Among before C → w.goes_on ≡ is_start p w.after → EndsBehind w rest → Agree (Among before) s t → WalkEnds (walk_through w (suc room) (met w (Run Int224 ∷ rest)) t) t true (exit80 p w.after s (CallTo ToBdos))

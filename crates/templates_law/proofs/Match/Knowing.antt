@@ -1,7 +1,7 @@
 -- Where C is known to hold a number other than 0, its term is that number.
-use Rattle.std.proofs.Common.{◌≡◌, Bool, true, false, refl}
+use Rattle.std.proofs.Common.{◌≡◌, Bool, true, false, refl, ap, ◌∙◌}
 use Rattle.std.specs.Prelude.{◌&&◌, not}
-use Rattle.std.proofs.lemmas.Bool.{and_parts, cond_both, not-true}
+use Rattle.std.proofs.lemmas.Bool.{and_parts, cond_both, not-true, true≢false}
 use Rattle.cells.specs.declared.Part.TheVariants.{C}
 use Rattle.cells.specs.Parts.{has}
 use Rattle.i80.specs.declared.Reg.TheVariants.{C as RegC}
@@ -24,29 +24,29 @@ alu_keeps s op Mem = cond_both (gives_zero op Mem) _ _ (λ (t : Symbolic80). t.h
 
 -- what does not define C keeps it
 c_kept : (s : Symbolic80) (i : Instr80) → has (defs80 i) C ≡ false → (effect80 s i).held.c ≡ s.held.c
-c_kept s (Mov (InReg RegC) from) e = absurd (let f : true ≡ false = e in cc)
+c_kept s (Mov (InReg RegC) from) e = absurd (true≢false e)
 c_kept s (Mov (InReg r) (InReg q)) e = refl
 c_kept s (Mov (InReg r) Mem) e = refl
 c_kept s (Mov Mem (InReg q)) e = refl
 c_kept s (Mov Mem Mem) e = refl
-c_kept s (Mvi (InReg RegC) n) e = absurd (let f : true ≡ false = e in cc)
+c_kept s (Mvi (InReg RegC) n) e = absurd (true≢false e)
 c_kept s (Mvi (InReg r) n) e = refl
 c_kept s (Mvi Mem n) e = refl
-c_kept s (Lxi PairB w) e = absurd (let f : true ≡ false = e in cc)
+c_kept s (Lxi PairB w) e = absurd (true≢false e)
 c_kept s (Lxi p (Number w)) e = refl
 c_kept s (Lxi p (CodeAt a)) e = refl
 c_kept s (Alu op from) e = alu_keeps s op from
-c_kept s (Inr (InReg RegC)) e = absurd (let f : true ≡ false = e in cc)
+c_kept s (Inr (InReg RegC)) e = absurd (true≢false e)
 c_kept s (Inr (InReg r)) e = refl
 c_kept s (Inr Mem) e = refl
-c_kept s (Dcr (InReg RegC)) e = absurd (let f : true ≡ false = e in cc)
+c_kept s (Dcr (InReg RegC)) e = absurd (true≢false e)
 c_kept s (Dcr (InReg r)) e = refl
 c_kept s (Dcr Mem) e = refl
-c_kept s (Inx PairB) e = absurd (let f : true ≡ false = e in cc)
+c_kept s (Inx PairB) e = absurd (true≢false e)
 c_kept s (Inx p) e = refl
-c_kept s (Dcx PairB) e = absurd (let f : true ≡ false = e in cc)
+c_kept s (Dcx PairB) e = absurd (true≢false e)
 c_kept s (Dcx p) e = refl
-c_kept s (Pop StackB) e = absurd (let f : true ≡ false = e in cc)
+c_kept s (Pop StackB) e = absurd (true≢false e)
 c_kept s (Pop p) e = refl
 c_kept s i e = refl
 
@@ -54,8 +54,7 @@ kept_number : (c : Bool) (s : Symbolic80) (i : Instr80) → (c ≡ true → is_c
 kept_number c s i k e =
     let both = and_parts c (not (has (defs80 i) C)) e in
     let same = c_kept s i (not-true (has (defs80 i) C) both.1) in
-    let known = k both.0 in
-    cc
+    ap is_call same ∙ k both.0
 
 pub number_known : (c : Bool) (s : Symbolic80) (i : Instr80) → (c ≡ true → is_call s.held.c ≡ true) → knows_function c i ≡ true → is_call (effect80 s i).held.c ≡ true
 number_known c s (Mvi (InReg RegC) n) k e = e

@@ -1,6 +1,6 @@
 -- States that agree, behind a write of a part or of SP, and behind a load or a store.
 use Rattle.std.proofs.Common.{◌≡◌, suc, ◌⊎◌, inl, inr, Bool, true, false, List, [], ◌∷◌, ◌++◌, refl, sym, ap, ◌∙◌}
-use Rattle.std.proofs.lemmas.Bool.{and_from, and_parts, or_cases}
+use Rattle.std.proofs.lemmas.Bool.{and_from, and_parts, or_cases, true≢false, false≢true}
 use Rattle.cells.specs.declared.Part.{Part}
 use Rattle.cells.specs.declared.Part.TheVariants.{A, B, C, D, E, H, L, S, Z, Ac, P, Cy}
 use Rattle.cells.specs.Parts.{Parts, nothing, has, only, union}
@@ -30,7 +30,7 @@ Adding Kept d q = Kept q ⊎ Among d q
 -- what is not added was there before
 pub old : {K : Type 0} {b : Bool} → K ⊎ (b ≡ true) → b ≡ false → K
 old (inl c) e = c
-old (inr c) e = absurd (cc)
+old (inr c) e = absurd (true≢false (sym c ∙ e))
 
 pub has_nothing : (q : Part) → has nothing q ≡ false
 has_nothing A = refl
@@ -163,10 +163,10 @@ agree_cy s t v w m a = record { parts = cy_written s.held t.held v w a.parts m; 
 
 -- flags that are lost need not agree
 flags_lost : {Kept : Part → Type 0} (x : Held) (t : Symbolic86) → PartsMeet Kept x t.held → PartsMeet (λ q. Kept q × (has unsaved q ≡ false)) x (losing_flags t).held
-flags_lost x t m S c = absurd (let e : true ≡ false = c.1 in cc)
-flags_lost x t m Z c = absurd (let e : true ≡ false = c.1 in cc)
-flags_lost x t m Ac c = absurd (let e : true ≡ false = c.1 in cc)
-flags_lost x t m P c = absurd (let e : true ≡ false = c.1 in cc)
+flags_lost x t m S c = absurd (true≢false c.1)
+flags_lost x t m Z c = absurd (true≢false c.1)
+flags_lost x t m Ac c = absurd (true≢false c.1)
+flags_lost x t m P c = absurd (true≢false c.1)
 flags_lost x t m A c = m A c.0
 flags_lost x t m q c = m q c.0
 
@@ -180,7 +180,7 @@ one_more [] [] x y e f = and_from (action_agrees x y) true f refl
 one_more (z ∷ xs) (w ∷ ys) x y e f =
     let both = and_parts (action_agrees z w) (actions_agree xs ys) e in
     and_from (action_agrees z w) _ both.0 (one_more xs ys x y both.1 f)
-one_more xs ys x y e f = absurd (cc)
+one_more xs ys x y e f = absurd (false≢true e)
 
 pub agree_load8 : {Kept : Part → Type 0} (s : Symbolic80) (t : Symbolic86) (at at' : Term) → agrees at at' ≡ true → Agree Kept s t → Agree Kept (load8 s at) (load8_86 t at')
 agree_load8 s t at at' e a = record { parts = a.parts; sp = a.sp; actions = one_more s.trace.actions t.trace.actions (Load8 at) (Load8 at') a.actions e; loads = ap suc a.loads }

@@ -3,7 +3,7 @@
 use Rattle.std.proofs.Common.{◌≡◌, ℕ, suc, Bool, true, false, cond, List, [], ◌∷◌, Option, Some, None, inl, inr, ◌⊎◌, ⊎_elim, refl, sym, ap, ◌∙◌, subst, arith}
 use Rattle.std.specs.Prelude.{is_some, ◌||◌}
 use Rattle.std.specs.List.{Contains}
-use Rattle.std.proofs.lemmas.Bool.{or_cases, or_parts}
+use Rattle.std.proofs.lemmas.Bool.{or_cases, or_parts, true≢false, false≢true}
 use Rattle.cells.specs.declared.Part.{Part}
 use Rattle.cells.specs.declared.Part.TheVariants.{A, B, L}
 use Rattle.cells.specs.declared.Place.TheVariants.{At as AtPlace}
@@ -32,14 +32,14 @@ use Rattle.templates_law.proofs.Match.Runs.{IsOf, instr_is}
 
 -- what goes on has one edge, to the next place
 edges_on : (next : List Node) (i : Instr80) → ends80 i ≡ false → edges next i ≡ next
-edges_on next Pchl e = absurd (cc)
-edges_on next (Jmp g) e = absurd (cc)
-edges_on next (Jif c g) e = absurd (cc)
-edges_on next (CallTo g) e = absurd (cc)
-edges_on next (Cif c g) e = absurd (cc)
-edges_on next Ret e = absurd (cc)
-edges_on next (Rif c) e = absurd (cc)
-edges_on next Rst0 e = absurd (cc)
+edges_on next Pchl e = absurd (true≢false e)
+edges_on next (Jmp g) e = absurd (true≢false e)
+edges_on next (Jif c g) e = absurd (true≢false e)
+edges_on next (CallTo g) e = absurd (true≢false e)
+edges_on next (Cif c g) e = absurd (true≢false e)
+edges_on next Ret e = absurd (true≢false e)
+edges_on next (Rif c) e = absurd (true≢false e)
+edges_on next Rst0 e = absurd (true≢false e)
 edges_on next i e = refl
 
 one_edge : (q : Node) → Contains (q ∷ []) q
@@ -54,7 +54,7 @@ later_edge r q rs h = (suc h.0, omega (arith, h.1), h.2)
 -- IN keeps all but A, and OUT keeps A too
 
 without_a_kept : (k : Parts) (q : Part) → Among (without_a k) q → Among k q × (has (only A) q ≡ false)
-without_a_kept k A h = absurd (let e : false ≡ true = h in cc)
+without_a_kept k A h = absurd (false≢true h)
 without_a_kept k q h = (h, refl)
 
 with_a_kept : (k : Parts) (q : Part) → Among (kept_with_a k) q → Among (only A) q ⊎ Among k q
@@ -71,7 +71,7 @@ module _ (p : Program) (n : Needs) (closed : NeedsAreClosed p) (are : AreAllNeed
       by_found None e =
           let here : instr_at p a ≡ None = ap instr_of_placed e in
           absurd (⊎_elim
-          (λ u. let used : has nothing q ≡ true = sym (ap (λ o. has (parts_at uses80 o) q) here) ∙ u in let not_there : has nothing q ≡ false = has_nothing q in cc)
+          (λ u. let used : has nothing q ≡ true = sym (ap (λ o. has (parts_at uses80 o) q) here) ∙ u in true≢false (sym used ∙ has_nothing q))
           (λ on. let edge : Contains (edges_at p a None) on.0 = subst (λ o. Contains (edges_at p a o) on.0) here on.1 in omega (arith, edge.1))
           (closed.only (Start a) q ((are.at a q).0 c)))
 
@@ -98,14 +98,14 @@ module _ (p : Program) (n : Needs) (closed : NeedsAreClosed p) (are : AreAllNeed
     where
       by_block : (b : Bool) → has (cond b (n.at a) nothing) q ≡ true → Among (n.at a) q
       by_block true h = h
-      by_block false h = absurd (let no = has_nothing q in cc)
+      by_block false h = absurd (true≢false (sym h ∙ has_nothing q))
 
   pub goto_kept : (a : ℕ) (q : Part) → Among (kept_after_way (needed_by p n) (goto p a)) q → Among (n.at a) q
   goto_kept a q c = by_start (is_start p a) c
     where
       by_start : (b : Bool) → has (kept_after_way (needed_by p n) (cond b (Goto (AtPlace a)) Leave)) q ≡ true → Among (n.at a) q
       by_start true h = kept_at_leader a q h
-      by_start false h = absurd (let no = has_nothing q in cc)
+      by_start false h = absurd (true≢false (sym h ∙ has_nothing q))
 
   module _ (a : ℕ) (before : Parts) where
     abbrev Uses : Instr80 → Type 0
@@ -135,7 +135,7 @@ module _ (p : Program) (n : Needs) (closed : NeedsAreClosed p) (are : AreAllNeed
     past_first i r q e edge d c = let k = next_kept q c in edge (Start a) q (subst (λ ns. Contains ns (Start a)) (sym e) (later_edge r (Start a) (edge_to p a) k.0)) d k.1
 
     none_kept : (q : Part) → Among nothing q → Among before q
-    none_kept q c = absurd (let no = has_nothing q in cc)
+    none_kept q c = absurd (true≢false (sym c ∙ has_nothing q))
 
     -- a call of an instruction
     called : (i : Instr80) (t : ℕ) (rs : List Node) (q : Part) → edges (edge_to p a) i ≡ Start t ∷ rs → Edges i → has (defs80 i) q ≡ false → Among (kept_after_way (needed_by p n) (call p a (ToInstr t))) q → Among before q
@@ -193,7 +193,7 @@ module _ (p : Program) (n : Needs) (closed : NeedsAreClosed p) (are : AreAllNeed
     end_kept Rst0 e using edge s q c = none_kept q c
     end_kept (InFrom port) e using edge s q c = asked_in port q edge c
     end_kept (OutTo port) e using edge s q c = asked_out port q using edge c
-    end_kept i e using edge s q c = absurd (let f : false ≡ true = e in cc)
+    end_kept i e using edge s q c = absurd (false≢true e)
 
   -- what an instruction that ends a block keeps is needed at it
   pub kept_needed : (x : Placed) → IsOf p x → ends80 x.instr ≡ true → (s : Symbolic80) (q : Part) → Among (kept_by_exit (needed_by p n) (exit80 p (end_of x) s x.instr)) q → Among (n.at x.at) q

@@ -1,5 +1,7 @@
 -- The plain text matches each instruction.
 use Rattle.std.proofs.Common.{◌≡◌, ℕ, ◌+◌, ◌-◌, List, [], ◌∷◌, ◌++◌, length, Some, None, inl, refl, sym, ap, ◌∙◌, subst, arith, Bool, true, false}
+use Rattle.std.specs.Prelude.{is_some}
+use Rattle.std.proofs.lemmas.Bool.{false≢true}
 use Rattle.cells.specs.declared.Part.{Part}
 use Rattle.cells.specs.Parts.{Parts, has, everything}
 use Rattle.i80.specs.declared.Instr80.{Instr80}
@@ -49,7 +51,7 @@ end_keeps s (Rif c) e = refl
 end_keeps s Rst0 e = refl
 end_keeps s (In n) e = refl
 end_keeps s (Out n) e = refl
-end_keeps s i e = absurd (let f : false ≡ true = e in cc)
+end_keeps s i e = absurd (false≢true e)
 
 -- of so many statements as there is room for
 pub room_is : (xs : List Stmt86) (room : ℕ) → room_for xs room ≡ length xs + room
@@ -59,8 +61,8 @@ room_is (x ∷ xs) room = let e = room_is xs room in omega (arith, e)
 -- a label that ends a way is none of the block's, where the block has no other instruction
 not_passed : (p : Program) (text : List Stmt86) (at : ℕ) (i : Instr80) (l : Label) (way : Way) → way_to l ≡ Some way → is_passed (surroundings p text at (i ∷ [])) l ≡ false
 not_passed p text at i (At a) way e = refl
-not_passed p text at i (Skip a) way e = absurd (cc)
-not_passed p text at i (User a) way e = absurd (cc)
+not_passed p text at i (Skip a) way e = absurd (false≢true (ap is_some e))
+not_passed p text at i (User a) way e = absurd (false≢true (ap is_some e))
 not_passed p text at i Sys way e = refl
 not_passed p text at i End way e = refl
 

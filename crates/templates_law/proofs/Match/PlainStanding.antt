@@ -2,8 +2,8 @@
 use Rattle.std.proofs.Common.{◌≡◌, ◌≢◌, ℕ, ◌+◌, ◌≤◌, List, [], ◌∷◌, ◌++◌, Option, Some, refl, sym, ap, ◌∙◌, subst, arith, append_assoc, Bool, true, false, cond, ◌==◌, ◌||◌}
 use Rattle.std.specs.Prelude.{is_some}
 use Rattle.std.specs.List.{list_any}
-use Rattle.std.proofs.lemmas.Bool.{eq-eqb}
-use Rattle.std.proofs.lemmas.Bool.Decides.{nat_tests}
+use Rattle.std.proofs.lemmas.Bool.{eq-eqb, true≢false, false≢true, ne_eqb, eqb-true}
+use Rattle.std.proofs.lemmas.Option.{same_Some}
 use Rattle.cells.specs.declared.Place.TheVariants.{At as AtPlace}
 use Rattle.i80.specs.declared.Src.TheVariants.{Reg, Mem}
 use Rattle.i80.specs.declared.StackPair.TheVariants.{B as StackB, D as StackD, H as StackH, Psw}
@@ -33,11 +33,7 @@ pub same_number : (a : ℕ) → (a == a) ≡ true
 same_number a = eq-eqb a a refl
 
 pub other_number : (a b : ℕ) → a ≢ b → (a == b) ≡ false
-other_number a b ne = by_test (a == b) refl
-  where
-    by_test : (t : Bool) → (a == b) ≡ t → t ≡ false
-    by_test true e = absurd (ne (grind (arith, nat_tests)))
-    by_test false e = refl
+other_number a b ne = ne_eqb a b ne
 
 -- a label is looked for past statements that are not that label
 pub behind_past : (l : Label) (xs ys : List Stmt86) → list_any (λ x. marks l x) xs ≡ false → after_label (xs ++ ys) l ≡ after_label ys l
@@ -45,7 +41,7 @@ behind_past l [] ys h = refl
 behind_past l (x ∷ xs) ys h = by_mark (marks l x) refl h (behind_past l xs ys)
   where
     by_mark : (t : Bool) → marks l x ≡ t → (t || list_any (λ x. marks l x) xs) ≡ false → (list_any (λ x. marks l x) xs ≡ false → after_label (xs ++ ys) l ≡ after_label ys l) → cond t (Some (xs ++ ys)) (after_label (xs ++ ys) l) ≡ after_label ys l
-    by_mark true e g rec = absurd (let f : true ≡ false = g in cc)
+    by_mark true e g rec = absurd (true≢false g)
     by_mark false e g rec = rec g
 
 -- a template has no label but that past its own condition
@@ -139,11 +135,11 @@ first_way (x ∷ xs) = (Goto (AtPlace x.at), refl)
 
 -- the lowest place, where an instruction starts there
 pub first_is : (xs : List Placed) (from limit : ℕ) → AreLaid from limit xs → is_some (placed_in xs from) ≡ true → first_label xs ≡ Line from
-first_is [] from limit laid e = absurd (cc)
+first_is [] from limit laid e = absurd (false≢true e)
 first_is (z ∷ zs) from limit laid e = by_test (z.at == from) refl e
   where
     by_test : (t : Bool) → (z.at == from) ≡ t → is_some (cond t (Some z) (placed_in zs from)) ≡ true → Line z.at ≡ Line from
-    by_test true q f = let k : z.at ≡ from = grind (arith, nat_tests) in ap Line k
+    by_test true q f = ap Line (eqb-true z.at from q)
     by_test false q f =
         let y = start_has (placed_in zs from) f in
         let up = placed_above zs (z.at + length80 z.instr) limit from y.0 laid.3 y.1 in
@@ -200,11 +196,11 @@ later y x ys tail le s =
 
 -- each instruction of a list stands in the list's statements, with the runtime behind them
 pub each_stands : (xs : List Placed) (from limit a : ℕ) (x : Placed) (tail : List Stmt86) → AreLaid from limit xs → placed_in xs a ≡ Some x → Stands (body xs ++ Mark Sys ∷ tail) xs x
-each_stands [] from limit a x tail laid h = absurd (cc)
+each_stands [] from limit a x tail laid h = absurd (false≢true (ap is_some h))
 each_stands (y ∷ ys) from limit a x tail laid h = by_test (y.at == a) refl h (each_stands ys (y.at + length80 y.instr) limit a x tail laid.3)
   where
     by_test : (t : Bool) → (y.at == a) ≡ t → cond t (Some y) (placed_in ys a) ≡ Some x → (placed_in ys a ≡ Some x → Stands (body ys ++ Mark Sys ∷ tail) ys x) → Stands (body (y ∷ ys) ++ Mark Sys ∷ tail) (y ∷ ys) x
-    by_test true e g rec = let same : y ≡ x = cc in subst (λ v. Stands (body (y ∷ ys) ++ Mark Sys ∷ tail) (y ∷ ys) v) same (here y ys from limit tail laid)
+    by_test true e g rec = subst (λ v. Stands (body (y ∷ ys) ++ Mark Sys ∷ tail) (y ∷ ys) v) (same_Some y x g) (here y ys from limit tail laid)
     by_test false e g rec =
         let le = placed_above ys (y.at + length80 y.instr) limit a x laid.3 g in
         later y x ys (Mark Sys ∷ tail) (subst (λ n. y.at + length80 y.instr ≤ n) (sym (found_at ys a x g)) le) (rec g)

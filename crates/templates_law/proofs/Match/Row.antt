@@ -1,6 +1,6 @@
 -- What is to be shown of one instruction, and its operands.
-use Rattle.std.proofs.Common.{◌≡◌, ℕ, Bool, true, false, refl, ◌∙◌}
-use Rattle.std.proofs.lemmas.Bool.{or_right}
+use Rattle.std.proofs.Common.{◌≡◌, ℕ, Bool, true, refl, ◌∙◌}
+use Rattle.std.proofs.lemmas.Bool.{or_right, false≢true}
 use Rattle.cells.specs.declared.Part.{Part}
 use Rattle.cells.specs.declared.Part.TheVariants.{H, L}
 use Rattle.cells.specs.Parts.{Parts, has, only, union}
@@ -57,4 +57,4 @@ address now kh kl = words_agree _ _ (pair_meets PairH now.s now.t now.x now.y no
     of_hl : (q : Part) → Among (pair PairH) q → Among now.before q
     of_hl H c = kh
     of_hl L c = kl
-    of_hl q c = absurd (let e : false ≡ true = c in cc)
+    of_hl q c = absurd (false≢true c)

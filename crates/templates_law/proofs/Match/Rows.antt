@@ -1,5 +1,6 @@
 -- The law of one instruction, of its rows.
 use Rattle.std.proofs.Common.{◌≡◌, Bool, true, false}
+use Rattle.std.proofs.lemmas.Bool.{true≢false}
 use Rattle.i80.specs.declared.Instr80.{Instr80}
 use Rattle.i80.specs.declared.Instr80.TheVariants.{Nop, Mov, Mvi, Lxi, Lda, Sta, Lhld, Shld, Ldax, Stax, Xchg, Xthl, Sphl, Alu, AluI, Inr, Dcr, Inx, Dcx, Dad, Daa, Cma, Stc, Cmc, Rlc, Rrc, Ral, Rar, Push, Pop}
 use Rattle.i80.specs.Columns.{is_well_formed, ends80}
@@ -55,7 +56,7 @@ module _ (now : Agreeing) where
   row Rar save e w k = known Rar save (row_rar now save k)
   row (Push p) save e w k = known (Push p) save (row_push now save p k)
   row (Pop p) save e w k = known (Pop p) save (row_pop now save p)
-  row i save e w k = absurd (let f : true ≡ false = e in cc)
+  row i save e w k = absurd (true≢false e)
 
 pub rows : RowsAgree
 rows before after i at save s t e w x y k f a = agree_on _ _ f (row (record { before = before; s = s; t = t; x = x; y = y; a = a; at = at }) i save e w k)

@@ -1,5 +1,6 @@
 -- The rows of the moves: bytes, words, loads and stores.
 use Rattle.std.proofs.Common.{◌≡◌, ℕ, Bool, true, [], ◌∷◌, refl}
+use Rattle.std.proofs.lemmas.Bool.{false≢true}
 use Rattle.cells.specs.declared.Part.{Part}
 use Rattle.cells.specs.declared.Part.TheVariants.{A, D, E, H, L}
 use Rattle.cells.specs.Parts.{only, nothing, these}
@@ -40,7 +41,7 @@ module _ (now : Agreeing) (save : Bool) where
       agree_none _ _
       (agree_store8 s t _ _ _ _ (address now (k H refl) (k L refl))
       (meets_agree _ _ (reg_meets q s t a (k (part_of_reg q) (in_second (read Mem) _ (part_of_reg q) (itself q))))) a)
-  row_mov Mem Mem w k = absurd (cc)
+  row_mov Mem Mem w k = absurd (false≢true w)
 
   pub row_mvi : (to : Src) (n : ℕ) → Given before (Mvi to n) → Row now (Mvi to n) save
   row_mvi (InReg r) n k = agree_reg r s t _ _ (number_meets n) a

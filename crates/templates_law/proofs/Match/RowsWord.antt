@@ -1,5 +1,6 @@
 -- The rows of arithmetic on words. With a save the flags go through AH; without one S, Z, AC and P are lost.
 use Rattle.std.proofs.Common.{◌≡◌, true, false}
+use Rattle.std.proofs.lemmas.Bool.{false≢true}
 use Rattle.cells.specs.declared.Part.{Part}
 use Rattle.cells.specs.declared.Part.TheVariants.{Cy}
 use Rattle.cells.specs.Parts.{has, only}
@@ -86,4 +87,4 @@ pairs_go kept (Dad PairB) at s t h a = agree_beside s _ t.ah Unknown a
 pairs_go kept (Dad PairD) at s t h a = agree_beside s _ t.ah Unknown a
 pairs_go kept (Dad PairH) at s t h a = agree_beside s _ t.ah Unknown a
 pairs_go kept (Dad PairSp) at s t h a = agree_beside s _ t.ah Unknown a
-pairs_go kept i at s t h a = absurd (let e : false ≡ true = h in cc)
+pairs_go kept i at s t h a = absurd (false≢true h)

@@ -1,7 +1,7 @@
 -- One instruction inside a block: the terms of both machines agree behind it on what is needed there.
 use Rattle.std.proofs.Common.{◌≡◌, ℕ, ◌+◌, ◌-◌, ◌≤◌, Bool, true, false, List, ◌++◌, drop, length, inl, inr, ◌⊎◌, refl, sym, ap, ◌∙◌, subst, arith}
 use Rattle.std.specs.Prelude.{◌||◌}
-use Rattle.std.proofs.lemmas.Bool.{and_parts, or_right}
+use Rattle.std.proofs.lemmas.Bool.{and_parts, or_right, false≢true}
 use Rattle.cells.specs.declared.Part.{Part}
 use Rattle.cells.specs.declared.Part.TheVariants.{S, Z, Ac, P}
 use Rattle.cells.specs.Parts.{Parts, has}
@@ -45,9 +45,9 @@ unsaved_not k none q c = refl
 -- a template without a save loses nothing that is needed
 loses_none : (k : Parts) (save : Bool) (i : Instr80) → (is_word_sum i ≡ true → has_saved_flag k ≡ true → save ≡ true) → (q : Part) → Among k q → has (loses i save) q ≡ false
 loses_none k true i h q c = nothing_lost i q
-loses_none k false (Inx p) h q c = unsaved_not k (λ f. let e = h refl f in absurd (cc)) q c
-loses_none k false (Dcx p) h q c = unsaved_not k (λ f. let e = h refl f in absurd (cc)) q c
-loses_none k false (Dad p) h q c = unsaved_not k (λ f. let e = h refl f in absurd (cc)) q c
+loses_none k false (Inx p) h q c = unsaved_not k (λ f. false≢true (h refl f)) q c
+loses_none k false (Dcx p) h q c = unsaved_not k (λ f. false≢true (h refl f)) q c
+loses_none k false (Dad p) h q c = unsaved_not k (λ f. false≢true (h refl f)) q c
 loses_none k false i h q c = has_nothing q
 
 module _ (p : Program) (n : Needs) (s : Style) (closed : NeedsAreClosed p) (are : AreAllNeeds p n) (respects : Respects p n s) where

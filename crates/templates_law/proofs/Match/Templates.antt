@@ -1,5 +1,6 @@
 -- What the statements of a template are.
-use Rattle.std.proofs.Common.{◌≡◌, ℕ, ◌≤◌, Bool, true, false, List, ◌++◌, length, refl, arith}
+use Rattle.std.proofs.Common.{◌≡◌, ℕ, ◌≤◌, Bool, true, false, List, ◌++◌, length, refl, lit≤}
+use Rattle.std.proofs.lemmas.Bool.{true≢false, false≢true}
 use Rattle.i80.specs.declared.Src.TheVariants.{Reg, Mem}
 use Rattle.i80.specs.declared.StackPair.TheVariants.{B as StackB, D as StackD, H as StackH, Psw}
 use Rattle.i80.specs.declared.Word.TheVariants.{Num, Code}
@@ -38,53 +39,53 @@ straight (Pop StackB) at save e = (refl, tt)
 straight (Pop StackD) at save e = (refl, tt)
 straight (Pop StackH) at save e = (refl, tt)
 straight (Pop Psw) at save e = (refl, (refl, (refl, tt)))
-straight Pchl at save e = absurd (cc)
-straight (Jmp g) at save e = absurd (cc)
-straight (Jif c g) at save e = absurd (cc)
-straight (Call g) at save e = absurd (cc)
-straight (Cif c g) at save e = absurd (cc)
-straight Ret at save e = absurd (cc)
-straight (Rif c) at save e = absurd (cc)
-straight Rst0 at save e = absurd (cc)
-straight (In n) at save e = absurd (cc)
-straight (Out n) at save e = absurd (cc)
+straight Pchl at save e = absurd (true≢false e)
+straight (Jmp g) at save e = absurd (true≢false e)
+straight (Jif c g) at save e = absurd (true≢false e)
+straight (Call g) at save e = absurd (true≢false e)
+straight (Cif c g) at save e = absurd (true≢false e)
+straight Ret at save e = absurd (true≢false e)
+straight (Rif c) at save e = absurd (true≢false e)
+straight Rst0 at save e = absurd (true≢false e)
+straight (In n) at save e = absurd (true≢false e)
+straight (Out n) at save e = absurd (true≢false e)
 straight i at save e = (refl, tt)
 
 pub few : (i : Instr80) (at : ℕ) (save : Bool) → length (template i at save) ≤ 5
-few (Mov (Reg r) from) at save = omega arith
-few (Mov Mem (Reg r)) at save = omega arith
-few (Mov Mem Mem) at save = omega arith
-few (Mvi (Reg r) n) at save = omega arith
-few (Mvi Mem n) at save = omega arith
-few (Lxi p (Num n)) at save = omega arith
-few (Lxi p (Code a)) at save = omega arith
-few (Inx p) at true = omega arith
-few (Inx p) at false = omega arith
-few (Dcx p) at true = omega arith
-few (Dcx p) at false = omega arith
-few (Dad p) at true = omega arith
-few (Dad p) at false = omega arith
-few (Push StackB) at save = omega arith
-few (Push StackD) at save = omega arith
-few (Push StackH) at save = omega arith
-few (Push Psw) at save = omega arith
-few (Pop StackB) at save = omega arith
-few (Pop StackD) at save = omega arith
-few (Pop StackH) at save = omega arith
-few (Pop Psw) at save = omega arith
-few (Call (At a)) at save = omega arith
-few (Call Boot) at save = omega arith
-few (Call Bdos) at save = omega arith
-few (Cif c (At a)) at save = omega arith
-few (Cif c Boot) at save = omega arith
-few (Cif c Bdos) at save = omega arith
-few i at save = omega arith
+few (Mov (Reg r) from) at save = lit≤ tt
+few (Mov Mem (Reg r)) at save = lit≤ tt
+few (Mov Mem Mem) at save = lit≤ tt
+few (Mvi (Reg r) n) at save = lit≤ tt
+few (Mvi Mem n) at save = lit≤ tt
+few (Lxi p (Num n)) at save = lit≤ tt
+few (Lxi p (Code a)) at save = lit≤ tt
+few (Inx p) at true = lit≤ tt
+few (Inx p) at false = lit≤ tt
+few (Dcx p) at true = lit≤ tt
+few (Dcx p) at false = lit≤ tt
+few (Dad p) at true = lit≤ tt
+few (Dad p) at false = lit≤ tt
+few (Push StackB) at save = lit≤ tt
+few (Push StackD) at save = lit≤ tt
+few (Push StackH) at save = lit≤ tt
+few (Push Psw) at save = lit≤ tt
+few (Pop StackB) at save = lit≤ tt
+few (Pop StackD) at save = lit≤ tt
+few (Pop StackH) at save = lit≤ tt
+few (Pop Psw) at save = lit≤ tt
+few (Call (At a)) at save = lit≤ tt
+few (Call Boot) at save = lit≤ tt
+few (Call Bdos) at save = lit≤ tt
+few (Cif c (At a)) at save = lit≤ tt
+few (Cif c Boot) at save = lit≤ tt
+few (Cif c Bdos) at save = lit≤ tt
+few i at save = lit≤ tt
 
 module _ (w : Surroundings) (room : ℕ) (rest : List Stmt86) (t : Symbolic86) where
   walks : (i : Instr80) (at : ℕ) (save : Bool) → is_well_formed i ≡ true → walk_some w room (met w (template i at save ++ rest)) t ≡ walk_through w room (met w (template i at save ++ rest)) t
   walks (Mov (Reg r) from) at save e = refl
   walks (Mov Mem (Reg r)) at save e = refl
-  walks (Mov Mem Mem) at save e = absurd (cc)
+  walks (Mov Mem Mem) at save e = absurd (false≢true e)
   walks (Mvi (Reg r) n) at save e = refl
   walks (Mvi Mem n) at save e = refl
   walks (Lxi p (Num n)) at save e = refl

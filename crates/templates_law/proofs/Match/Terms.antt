@@ -1,7 +1,7 @@
 -- Bytes and flags that meet: they agree, and what is made of them meets.
 use Rattle.std.specs.Prelude.{not}
 use Rattle.std.proofs.Common.{◌≡◌, ℕ, ◌||◌, Bool, true, false, cond, refl, sym, ap, ap₂, ◌∙◌}
-use Rattle.std.proofs.lemmas.Bool.{or_right, and_from, or_from}
+use Rattle.std.proofs.lemmas.Bool.{or_right, and_from, or_from, false≢true}
 use Rattle.cells.specs.declared.Part.{Part}
 use Rattle.cells.specs.declared.Part.TheVariants.{Ac, Cy}
 use Rattle.i80.specs.declared.Op.{Op}
@@ -15,7 +15,7 @@ use Rattle.templates_law.specs.Match.Meeting.{Meets, lost, same}
 
 pub or_first : (a b : Bool) → a ≡ true → (a || b) ≡ true
 or_first true b e = refl
-or_first false b e = absurd (cc)
+or_first false b e = absurd (false≢true e)
 
 -- terms in which nothing is unknown agree with themselves
 
@@ -42,7 +42,7 @@ meets_at s t x y p q (same e k) = same (q ∙ e ∙ sym p) (ap has_unknown p ∙
 
 pub unknown_if : (x : Bool) (t : Term) → x ≡ true → cond x Unknown t ≡ Unknown
 unknown_if true t e = refl
-unknown_if false t e = absurd (cc)
+unknown_if false t e = absurd (false≢true e)
 
 self_if : (x : Bool) (t : Term) → Meets t t → Meets (cond x Unknown t) (cond x Unknown t)
 self_if true t m = lost refl

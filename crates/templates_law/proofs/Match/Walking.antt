@@ -1,7 +1,7 @@
 -- The walk through the statements of a block beside the block: from its first instruction to its exit.
 use Rattle.std.proofs.Common.{◌≡◌, ℕ, suc, ◌-◌, ◌*◌, ◌≤◌, Bool, true, false, List, [], ◌∷◌, ◌++◌, length, None, refl, sym, ap, ◌∙◌, subst, arith, append_assoc}
 use Rattle.std.specs.Prelude.{◌&&◌, ◌||◌, Result, Ok}
-use Rattle.std.proofs.lemmas.Bool.{and_parts, cond_both, not-true}
+use Rattle.std.proofs.lemmas.Bool.{and_parts, cond_both, not-true, true≢false, false≢true}
 use Rattle.cells.specs.declared.Part.{Part}
 use Rattle.cells.specs.declared.Part.TheVariants.{B, C, L}
 use Rattle.cells.specs.declared.Cond.{Cond}
@@ -72,13 +72,13 @@ module _ (p : Program) (n : Needs) (s : Style) (closed : NeedsAreClosed p) (are 
     EndedBy i xs = Ended s x i (walk_through w (suc (suc room)) (met w (xs ++ rest)) t) t (exit80 p w.after st i)
 
     by_template : (i : Instr80) → ends80 i ≡ true → ((q : Part) → Among (uses80 i) q → Among (n.at x.at) q) → SkipsTo w i x.at rest → EndedBy i (template i x.at (s.saves x))
-    by_template i e u skip = record { direct = false; ends = exits.ending p w (n.at x.at) i x.at room (s.saves x) rest st t e g b skip u agree; calls = λ f. absurd (cc) }
+    by_template i e u skip = record { direct = false; ends = exits.ending p w (n.at x.at) i x.at room (s.saves x) rest st t e g b skip u agree; calls = λ f. absurd (false≢true f) }
 
     by_short : (on : Cond) (goal : Goal) → ((q : Part) → Among (uses80 (Jif on goal)) q → Among (n.at x.at) q) → EndedBy (Jif on goal) (Jcc (jump_if on) (label_of_goal goal) ∷ [])
     by_short on goal u = record {
       direct = false;
       ends = exits.short p w (n.at x.at) on goal (jump_if on) (suc room) rest st t (jumps_where on) g b (λ q h. u q (in_first (flag_of_condition on) (asked_of goal) q h)) agree;
-      calls = λ f. absurd (cc);
+      calls = λ f. absurd (false≢true f);
     }
 
     by_call : (c : Bool) → (c ≡ true → is_call st.held.c ≡ true) → ((q : Part) → Among (uses80 (Call ToBdos)) q → Among (n.at x.at) q) → (c && s.directs x) ≡ true → EndedBy (Call ToBdos) (Run Int224 ∷ [])
@@ -160,7 +160,7 @@ module _ (p : Program) (n : Needs) (s : Style) (closed : NeedsAreClosed p) (are 
     last_one first c starts known sorted80 sorted86 agree = by_end (ends80 x.instr) refl
       where
         alone : ends80 x.instr ≡ true → (f : Bool) → first ≡ f → f ≡ false → Leaves [] x st t first c room
-        alone e true q r = absurd (cc)
+        alone e true q r = absurd (true≢false r)
         alone e false q r =
             subst (λ f. Leaves [] x st t f c room) (sym q) (last_ends c known e (subst (λ f. Agree (Among (n.at x.at)) st (ahead f t)) q agree))
 

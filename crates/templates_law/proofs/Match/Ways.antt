@@ -2,6 +2,7 @@
 use Rattle.std.proofs.Common.{◌≡◌, ℕ, ◌==◌, ◌||◌, Bool, true, false, cond, List, Some, refl, sym, ap, ◌∙◌}
 use Rattle.std.specs.Prelude.{not, ◌&&◌}
 use Rattle.std.proofs.lemmas.Bool.{eq-eqb, or_right, and_from}
+use Rattle.std.proofs.lemmas.Option.{same_Some}
 use Rattle.cells.specs.declared.Part.{Part}
 use Rattle.cells.specs.declared.Part.TheVariants.{S, Z, P, Cy}
 use Rattle.cells.specs.declared.Cond.{Cond}
@@ -46,10 +47,10 @@ if_start false x y f = refl
 
 pub jumps_agree : (p : Program) (g : Goal) (way : Way) → way_to (label_of_goal g) ≡ Some way → way_agrees (jump p g) way ≡ true
 jumps_agree p (ToInstr t) way e =
-    let w : Goto (AtPlace t) ≡ way = cc in
+    let w : Goto (AtPlace t) ≡ way = same_Some _ _ e in
     if_start (is_start p t) (Goto (AtPlace t)) way (λ h. ap (λ v. way_agrees (Goto (AtPlace t)) v) (sym w) ∙ same_here t)
-jumps_agree p ToBoot way e = let w : Boot ≡ way = cc in ap (λ v. way_agrees Boot v) (sym w)
-jumps_agree p ToBdos way e = let w : SysReturn ≡ way = cc in ap (λ v. way_agrees SysReturn v) (sym w)
+jumps_agree p ToBoot way e = ap (λ v. way_agrees Boot v) (sym (same_Some Boot way e))
+jumps_agree p ToBdos way e = ap (λ v. way_agrees SysReturn v) (sym (same_Some SysReturn way e))
 
 -- the place behind a block
 
@@ -63,7 +64,7 @@ module _ (p : Program) (w : Surroundings) (rest : List Stmt86) (g : w.goes_on �
       by_label : is_start p w.after ≡ true → way_agrees (Goto (AtPlace w.after)) b.way ≡ true
       by_label h =
           let e : way_to (At w.after) ≡ Some b.way = ap way_to (sym (label_next h)) ∙ b.leads in
-          let is : Goto (AtPlace w.after) ≡ b.way = cc in
+          let is : Goto (AtPlace w.after) ≡ b.way = same_Some _ _ e in
           ap (λ v. way_agrees (Goto (AtPlace w.after)) v) (sym is) ∙ same_here w.after
 
   pub label_follows : is_start p w.after ≡ true → comes_next w rest ≡ true

@@ -1,7 +1,7 @@
 -- The statements of an instruction as they are written inside a block: those of its template, perhaps without a LAHF and a SAHF.
 use Rattle.std.proofs.Common.{◌≡◌, ℕ, Bool, true, false, List, [], ◌∷◌, ◌++◌, refl, sym, ap, ◌∙◌}
 use Rattle.std.specs.Prelude.{◌&&◌}
-use Rattle.std.proofs.lemmas.Bool.{and_parts, cond_both}
+use Rattle.std.proofs.lemmas.Bool.{and_parts, cond_both, true≢false, false≢true}
 use Rattle.i80.specs.declared.StackPair.TheVariants.{Psw}
 use Rattle.i80.specs.declared.Goal.TheVariants.{Bdos as ToBdos}
 use Rattle.i80.specs.declared.Instr80.{Instr80}
@@ -29,8 +29,8 @@ coded_as = left_so StatementsAreCoded (record { Here = StatementIsCoded; none = 
 
 -- what goes on is written by its template
 pub written_on : (s : Style) (first last c : Bool) (x : Placed) (i : Instr80) → ends80 i ≡ false → written_as s first last c x i ≡ without_first_if first (without_last_if last (template i x.at (s.saves x)))
-written_on s first last c x (Jif on goal) e = absurd (let f : true ≡ false = e in cc)
-written_on s first last c x (Call goal) e = absurd (let f : true ≡ false = e in cc)
+written_on s first last c x (Jif on goal) e = absurd (true≢false e)
+written_on s first last c x (Call goal) e = absurd (true≢false e)
 written_on s first last c x i e = refl
 
 -- what begins by a LAHF goes on, with a save
@@ -38,18 +38,18 @@ pub sum_saves : (i : Instr80) → is_word_sum i ≡ true → saves i ≡ true
 sum_saves (Inx p) e = refl
 sum_saves (Dcx p) e = refl
 sum_saves (Dad p) e = refl
-sum_saves i e = absurd (let f : false ≡ true = e in cc)
+sum_saves i e = absurd (false≢true e)
 
 sum_goes_on : (i : Instr80) → is_word_sum i ≡ true → ends80 i ≡ false
 sum_goes_on (Inx p) e = refl
 sum_goes_on (Dcx p) e = refl
 sum_goes_on (Dad p) e = refl
-sum_goes_on i e = absurd (let f : false ≡ true = e in cc)
+sum_goes_on i e = absurd (false≢true e)
 
 -- so what ends a block begins by none
 pub end_begins : (first save : Bool) (i : Instr80) → (first ≡ true → begins_by_lahf save i ≡ true) → ends80 i ≡ true → first ≡ false
 end_begins false save i h e = refl
-end_begins true save i h e = let on = sum_goes_on i (and_parts save (is_word_sum i) (h refl)).1 in cc
+end_begins true save i h e = sym e ∙ sum_goes_on i (and_parts save (is_word_sum i) (h refl)).1
 
 -- AH as the flags, where the SAHF before was left out
 abbrev pub ahead : Bool → Symbolic86 → Symbolic86
@@ -60,28 +60,28 @@ ahead false t = t
 pub sahf_later : (i : Instr80) (at : ℕ) (save first : Bool) (t : Symbolic86) → ends_by_sahf save i ≡ true → effect86 (all_passed t (without_first_if first (without_last (template i at save)))) Sahf ≡ all_passed t (without_first_if first (template i at save))
 sahf_later (Inx p) at true true t e = refl
 sahf_later (Inx p) at true false t e = refl
-sahf_later (Inx p) at false first t e = absurd (let f : false ≡ true = e in cc)
+sahf_later (Inx p) at false first t e = absurd (false≢true e)
 sahf_later (Dcx p) at true true t e = refl
 sahf_later (Dcx p) at true false t e = refl
-sahf_later (Dcx p) at false first t e = absurd (let f : false ≡ true = e in cc)
+sahf_later (Dcx p) at false first t e = absurd (false≢true e)
 sahf_later (Pop Psw) at save true t e = refl
 sahf_later (Pop Psw) at save false t e = refl
-sahf_later i at save first t e = absurd (let f : false ≡ true = e in cc)
+sahf_later i at save first t e = absurd (false≢true e)
 
 -- A block's first instruction is walked as one, also without its SAHF
 some_without : (i : Instr80) (at : ℕ) (save : Bool) (w : Surroundings) (room : ℕ) (rest : List Stmt86) (t : Symbolic86) → ends_by_sahf save i ≡ true → walk_some w room (met w (without_last (template i at save) ++ rest)) t ≡ walk_through w room (met w (without_last (template i at save) ++ rest)) t
 some_without (Inx p) at true w room rest t e = refl
-some_without (Inx p) at false w room rest t e = absurd (let f : false ≡ true = e in cc)
+some_without (Inx p) at false w room rest t e = absurd (false≢true e)
 some_without (Dcx p) at true w room rest t e = refl
-some_without (Dcx p) at false w room rest t e = absurd (let f : false ≡ true = e in cc)
+some_without (Dcx p) at false w room rest t e = absurd (false≢true e)
 some_without (Pop Psw) at save w room rest t e = refl
-some_without i at save w room rest t e = absurd (let f : false ≡ true = e in cc)
+some_without i at save w room rest t e = absurd (false≢true e)
 
 sahf_goes_on : (i : Instr80) (save : Bool) → ends_by_sahf save i ≡ true → ends80 i ≡ false
 sahf_goes_on (Inx p) save e = refl
 sahf_goes_on (Dcx p) save e = refl
 sahf_goes_on (Pop p) save e = refl
-sahf_goes_on i save e = absurd (let f : false ≡ true = e in cc)
+sahf_goes_on i save e = absurd (false≢true e)
 
 module _ (walks : TemplatesAreWalked) (s : Style) (x : Placed) (w : Surroundings) (room : ℕ) (rest : List Stmt86) (t : Symbolic86) where
   abbrev IsSome : List Stmt86 → Type 0

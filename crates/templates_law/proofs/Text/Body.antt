@@ -1,5 +1,6 @@
 -- The statements of a program's instructions, block after block, in any style.
 use Rattle.std.proofs.Common.{◌≡◌, ℕ, List, [], ◌∷◌, ◌++◌, subst, append_assoc, Bool, true, false, cond}
+use Rattle.std.proofs.lemmas.Bool.{false≢true}
 use Rattle.asm86_line_types.specs.declared.line.Label.TheVariants.{At as Line}
 use Rattle.asm86_line_types.specs.declared.line.Stmt86.{Stmt86}
 use Rattle.asm86_line_types.specs.declared.line.Stmt86.TheVariants.{Mark}
@@ -68,7 +69,7 @@ module _ (G : Goal → Type 0) (s : Style) where
   block_body : (b ps : List Placed) (zs : List Stmt86) → AreKnown G b → IsBody G ps zs → IsBody G (b ++ ps) (block_in_style s b ++ zs)
   block_body [] ps zs known h = h
   block_body (x ∷ xs) ps zs known h =
-      one_more true false false x xs ps zs known.0 (λ no. let e : false ≡ true = no in absurd cc)
+      one_more true false false x xs ps zs known.0 (λ no. absurd (false≢true no))
       (rest_body (is_pair s x xs) (knows_function false x.instr) xs ps zs known.1 (pair_next s x xs) h)
 
   pub blocks_body : (bs : List (List Placed)) → AreKnown G (flat bs) → IsBody G (flat bs) (blocks_of s bs)

@@ -8,7 +8,8 @@ use Rattle.std.specs.Ordering.{nat_cmp}
 use Rattle.std.specs.declared.cmp.Ordering.TheVariants.{Less}
 use Rattle.std.proofs.lemmas.Bool.Decides.{nat_tests}
 use Rattle.std.proofs.lemmas.Map.Keys.{IsStrictlyIncreasing-from_sorted}
-use Rattle.std.proofs.lemmas.Bool.{ne_eqb}
+use Rattle.std.proofs.lemmas.Bool.{ne_eqb, false≢true, eqb-true}
+use Rattle.std.proofs.lemmas.Option.{same_Some}
 use Rattle.cells.specs.declared.Place.TheVariants.{At as AtPlace, Exit}
 use Rattle.cells.specs.declared.Cell.{Cell}
 use Rattle.cells.specs.declared.Cell.TheVariants.{Num, Lo, Hi, Psw, Junk}
@@ -63,13 +64,13 @@ none_before off instrs from limit a (c ∷ cs) laid lt =
 
 -- the cell at an address gives the byte there
 byte_found : (off : Label → ℕ) (instrs : List Placed) (from limit a : ℕ) (v : Cell) (cs : List (ℕ × Cell)) → CellsAreLaid instrs from limit cs → cell_in cs a ≡ Some v → byte_at (bytes_of off cs) a ≡ Some (byte_of off v)
-byte_found off instrs from limit a v [] laid h = absurd (cc)
+byte_found off instrs from limit a v [] laid h = absurd (false≢true (ap is_some h))
 byte_found off instrs from limit a v (c ∷ cs) laid h = by_test (c.0 == a) refl h (byte_found off instrs (c.0 + 1) limit a v cs laid.3)
   where
     by_test : (t : Bool) → (c.0 == a) ≡ t → cond t (Some c.1) (cell_in cs a) ≡ Some v → (cell_in cs a ≡ Some v → byte_at (bytes_of off cs) a ≡ Some (byte_of off v)) → first_or (byte_at (bytes_of off cs) a) (cond (c.0 == a) (Some (byte_of off c.1)) None) ≡ Some (byte_of off v)
     by_test true e g rec =
-        let place : c.0 ≡ a = grind (arith, nat_tests) in
-        let value : c.1 ≡ v = cc in
+        let place : c.0 ≡ a = eqb-true c.0 a e in
+        let value : c.1 ≡ v = same_Some c.1 v g in
         ap (λ o. first_or o (cond (c.0 == a) (Some (byte_of off c.1)) None)) (none_before off instrs (c.0 + 1) limit a cs laid.3 (omega (arith, place)))
         ∙ ap (λ t. cond t (Some (byte_of off c.1)) None) e
         ∙ ap (λ w. Some (byte_of off w)) value
@@ -78,7 +79,7 @@ byte_found off instrs from limit a v (c ∷ cs) laid h = by_test (c.0 == a) refl
 -- ---- what the byte stands for
 
 half_stands : (half : ℕ → ℕ) (o : Option ℕ) → is_some o ≡ true → IsHalf half o (half (unwrap_or o 0))
-half_stands half None h = absurd (cc)
+half_stands half None h = absurd (false≢true h)
 half_stands half (Some n) h = refl
 
 module _ (s : Style) (p : Program) (is : IsProgram p) (cut : BlocksCut p) where

@@ -1,8 +1,9 @@
 -- The code of statements that have written lines is bytes, and so there is one reader of it.
-use Rattle.std.proofs.Common.{◌≡◌, ℕ, ◌+◌, ◌≤◌, ◌<◌, List, [], ◌∷◌, ◌++◌, Option, Some, None, refl, arith, Bool, true, false, cond, lit<}
-use Rattle.std.specs.Prelude.{nat_lt, unwrap_or, All}
-use Rattle.std.proofs.lemmas.Bool.Decides.{nat_tests}
+use Rattle.std.proofs.Common.{◌≡◌, ℕ, ◌+◌, ◌≤◌, ◌<◌, List, [], ◌∷◌, ◌++◌, Option, Some, None, refl, arith, Bool, true, false, cond, lit<, ap}
+use Rattle.std.specs.Prelude.{nat_lt, unwrap_or, All, is_some}
 use Rattle.std.proofs.lemmas.List.Elements.{All-nil, All-cons}
+use Rattle.std.proofs.lemmas.Bool.{false≢true, ltb-true}
+use Rattle.std.proofs.lemmas.Option.{same_Some}
 use Rattle.i86.specs.declared.Operand8.{Operand8}
 use Rattle.i86.specs.declared.Operand8.TheVariants.{Reg, Mem}
 use Rattle.i86.specs.declared.Operand16.TheVariants.{Reg as Reg_16, Direct}
@@ -52,10 +53,10 @@ word_bytes : (w : ℕ) → w < 65536 → Bytes (word_then w [])
 word_bytes w h = (omega arith, (omega (arith, h), tt))
 
 pub word_below : (w : ℕ) → nat_lt w 65536 ≡ true → w < 65536
-word_below w h = grind (arith, nat_tests)
+word_below w h = ltb-true w 65536 h
 
 pub byte_below : (n : ℕ) → nat_lt n 256 ≡ true → n < 256
-byte_below n h = grind (arith, nat_tests)
+byte_below n h = ltb-true n 256 h
 
 opcode16 : (base : ℕ) (r : Reg16) → base ≤ 248 → base + code16 r < 256
 opcode16 base r h = omega (arith, h, code16_small r)
@@ -112,11 +113,11 @@ instr_bytes Lahf h = (lit< tt, tt)
 instr_bytes Cmc h = (lit< tt, tt)
 instr_bytes Stc h = (lit< tt, tt)
 instr_bytes Nop h = (lit< tt, tt)
-instr_bytes (JccBy j d) h = let no : false ≡ true = h in absurd cc
-instr_bytes (JmpNear d) h = let no : false ≡ true = h in absurd cc
-instr_bytes (JmpShort d) h = let no : false ≡ true = h in absurd cc
+instr_bytes (JccBy j d) h = absurd (false≢true h)
+instr_bytes (JmpNear d) h = absurd (false≢true h)
+instr_bytes (JmpShort d) h = absurd (false≢true h)
 instr_bytes JmpBx h = (lit< tt, (lit< tt, tt))
-instr_bytes (CallNear d) h = let no : false ≡ true = h in absurd cc
+instr_bytes (CallNear d) h = absurd (false≢true h)
 instr_bytes Ret h = (lit< tt, tt)
 instr_bytes Int224 h = (lit< tt, (lit< tt, tt))
 instr_bytes (InAl n) h = (lit< tt, (byte_below n h, tt))
@@ -125,11 +126,11 @@ instr_bytes (OutAl n) h = (lit< tt, (byte_below n h, tt))
 -- ---- offsets are words
 
 offset_within : (at : ℕ) (xs : List Stmt86) (l : Label) (o : ℕ) → offset_from at xs l ≡ Some o → o ≤ at + sizes_of xs
-offset_within at [] l o h = let no : None ≡ Some o = h in absurd cc
+offset_within at [] l o h = absurd (false≢true (ap is_some h))
 offset_within at (x ∷ xs) l o h = by_mark (marks l x) h (offset_within (at + size_of x) xs l o)
   where
     by_mark : (b : Bool) → cond b (Some at) (offset_from (at + size_of x) xs l) ≡ Some o → (offset_from (at + size_of x) xs l ≡ Some o → o ≤ at + size_of x + sizes_of xs) → o ≤ at + (size_of x + sizes_of xs)
-    by_mark true e rest = let here : Some at ≡ Some o = e in let same : at ≡ o = cc in omega (arith, same)
+    by_mark true e rest = let same : at ≡ o = same_Some at o e in omega (arith, same)
     by_mark false e rest = let le = rest e in omega (arith, le)
 
 place_below : (xs : List Stmt86) → sizes_of xs < 65536 → (l : Label) → place_of xs l < 65536

@@ -1,8 +1,7 @@
 -- The data of a program as bytes and words, ascending, and what their statements come to.
 use Rattle.std.proofs.Common.{◌≡◌, ◌≢◌, ℕ, ◌+◌, ◌%◌, ◌/◌, ◌≤◌, ◌<◌, List, [], ◌∷◌, ◌++◌, refl, sym, ap, ◌∙◌, subst, arith, append_assoc, Bool, true, false, cond, not, ◌==◌, ◌&&◌, ◌||◌, nat_lt, nat_le}
 use Rattle.std.specs.List.{list_any}
-use Rattle.std.proofs.lemmas.Bool.Decides.{nat_tests}
-use Rattle.std.proofs.lemmas.Bool.{eq-eqb, ne_eqb}
+use Rattle.std.proofs.lemmas.Bool.{eq-eqb, ne_eqb, le-leb, lt-ltb, eqb-true}
 use Rattle.cells.specs.declared.Place.TheVariants.{At as AtPlace}
 use Rattle.cells.specs.declared.Cell.{Cell}
 use Rattle.cells.specs.declared.Cell.TheVariants.{Num, Lo, Hi}
@@ -68,10 +67,10 @@ none_there a (b ∷ bs) h =
     ap (λ t. t || list_any (λ b. b == a) bs) (ne_eqb b a ne) ∙ none_there a bs h.1
 
 le_true : (a b : ℕ) → a ≤ b → nat_le a b ≡ true
-le_true a b h = grind (arith, nat_tests)
+le_true a b h = le-leb a b h
 
 lt_true : (a b : ℕ) → a < b → nat_lt a b ≡ true
-lt_true a b h = grind (arith, nat_tests)
+lt_true a b h = lt-ltb a b h
 
 free : (at a : ℕ) (filled : List ℕ) → 0x100 ≤ a → a < 0x10000 → Below a filled → is_free_cell (in_cells at filled) a ≡ true
 free at a filled low high h =
@@ -83,7 +82,7 @@ org_order : (next a : ℕ) (filled : List ℕ) (ys : List Stmt86) → in_order (
 org_order next a filled ys = by_test (a == next) refl
   where
     by_test : (t : Bool) → (a == next) ≡ t → in_order (in_cells next filled) (cond t [] (Org a ∷ []) ++ ys) ≡ in_order (in_cells a filled) ys
-    by_test true e = let k : next ≡ a = grind (arith, nat_tests) in ap (λ n. in_order (in_cells n filled) ys) k
+    by_test true e = ap (λ n. in_order (in_cells n filled) ys) (sym (eqb-true a next e))
     by_test false e = refl
 
 pub data_order : (G : ℕ → Type 0) (limit top : ℕ) → limit ≤ 0x10000 → (from : ℕ) (cs : List (ℕ × Cell)) → HasData G limit from cs → 0x100 ≤ from → (next : ℕ) (filled : List ℕ) → Below from filled → in_order (in_cells next filled) (data_from next cs ++ ending top) ≡ true
@@ -121,7 +120,7 @@ org_cells : (off : Label → ℕ) (next a : ℕ) (ys : List Stmt86) → cells_fr
 org_cells off next a ys = by_test (a == next) refl
   where
     by_test : (t : Bool) → (a == next) ≡ t → cells_from off next (cond t [] (Org a ∷ []) ++ ys) ≡ cells_from off a ys
-    by_test true e = let k : next ≡ a = grind (arith, nat_tests) in ap (λ n. cells_from off n ys) k
+    by_test true e = ap (λ n. cells_from off n ys) (sym (eqb-true a next e))
     by_test false e = refl
 
 pub data_cells : (off : Label → ℕ) (G : ℕ → Type 0) (limit top from : ℕ) (cs : List (ℕ × Cell)) → HasData G limit from cs → (next : ℕ) → cells_from off next (data_from next cs ++ ending top) ≡ bytes_of off cs

@@ -1,7 +1,7 @@
 -- Which statements are conditional jumps that are shortened: none of a template.
 use Rattle.std.proofs.Common.{◌≡◌, ℕ, ◌+◌, List, [], ◌∷◌, refl, sym, ◌∙◌, Bool, true, false}
 use Rattle.std.specs.List.{list_any}
-use Rattle.std.proofs.lemmas.Bool.{or_parts}
+use Rattle.std.proofs.lemmas.Bool.{or_parts, false≢true}
 use Rattle.i80.specs.declared.Src.TheVariants.{Reg, Mem}
 use Rattle.i80.specs.declared.StackPair.TheVariants.{B as StackB, D as StackD, H as StackH, Psw}
 use Rattle.i80.specs.declared.Word.TheVariants.{Num, Code}
@@ -54,7 +54,7 @@ each_long [] h = tt
 each_long (x ∷ xs) h = let parts = or_parts (is_shortened x) (list_any is_shortened xs) h in (parts.0, each_long xs parts.1)
 
 pub not_shortened : (x : Stmt86) (P : Type 0) → IsLong x → is_shortened x ≡ true → P
-not_shortened x P is_long is_short = let e : false ≡ true = sym is_long ∙ is_short in absurd cc
+not_shortened x P is_long is_short = absurd (false≢true (sym is_long ∙ is_short))
 
 pub all_long_reach : (off : Label → ℕ) (k : ℕ) (xs : List Stmt86) → Each IsLong xs → ShortenedReach off k xs
 all_long_reach off k [] h = tt

@@ -1,7 +1,7 @@
 -- Each place that a program's text names is the first of a block, and so has its label there.
 use Rattle.std.proofs.Common.{◌≡◌, ℕ, ◌+◌, ◌-◌, ◌≤◌, List, [], ◌∷◌, Some, refl, ap, ◌∙◌, arith, Bool, true, false, cond, ◌==◌, ◌||◌}
 use Rattle.std.specs.Prelude.{is_some, IfSome, filter, filter_map}
-use Rattle.std.proofs.lemmas.Bool.{or_left, or_right, eqb-true, eq-eqb, ne_eqb}
+use Rattle.std.proofs.lemmas.Bool.{or_left, or_right, eqb-true, eq-eqb, ne_eqb, false≢true}
 use Rattle.std.proofs.lemmas.List.Folds.{list_any-append}
 use Rattle.base.specs.Addresses.{is_among}
 use Rattle.cells.specs.declared.Place.TheVariants.{At as AtPlace}
@@ -45,7 +45,7 @@ among_kept test q (b ∷ bs) t h = by_test (b == q) refl h (among_kept test q bs
     by_test false e g rest = later (test b) (rest g)
 
 start_among : (q : ℕ) (xs : List Placed) → is_some (placed_in xs q) ≡ true → is_among (starts_of xs) q ≡ true
-start_among q [] h = absurd (cc)
+start_among q [] h = absurd (false≢true h)
 start_among q (x ∷ xs) h = by_test (x.at == q) h (start_among q xs)
   where
     by_test : (u : Bool) → is_some (cond u (Some x) (placed_in xs q)) ≡ true → (is_some (placed_in xs q) ≡ true → is_among (starts_of xs) q ≡ true) → (u || is_among (starts_of xs) q) ≡ true

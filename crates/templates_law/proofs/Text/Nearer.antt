@@ -3,7 +3,7 @@
 use Rattle.std.proofs.Common.{◌≡◌, ℕ, ◌+◌, ◌≤◌, List, [], ◌∷◌, ◌++◌, Option, Some, None, refl, sym, ap, ◌∙◌, subst, arith, append_assoc, Bool, true, false, cond}
 use Rattle.std.specs.Prelude.{is_some, unwrap_or}
 use Rattle.std.proofs.lemmas.Bool.Decides.{nat_tests}
-use Rattle.std.proofs.lemmas.Bool.{eq-eqb}
+use Rattle.std.proofs.lemmas.Bool.{eq-eqb, false≢true}
 use Rattle.i80.specs.declared.Goal.{Goal}
 use Rattle.i80.specs.declared.Goal.TheVariants.{At, Boot, Bdos}
 use Rattle.i86.specs.declared.Jump.{Jump}
@@ -92,7 +92,7 @@ moved l place _ _ (nearer at j k g xs ys r h) from from' =
 -- ---- a label before or behind a place
 
 found_front : (from a : ℕ) (l : Label) (xs ys : List Stmt86) → offset_from from xs l ≡ Some a → offset_from from (xs ++ ys) l ≡ Some a
-found_front from a l [] ys h = absurd (cc)
+found_front from a l [] ys h = absurd (false≢true (ap is_some h))
 found_front from a l (x ∷ xs) ys h = by_mark (marks l x) h (found_front (from + size_of x) a l xs ys)
   where
     by_mark : (t : Bool) → cond t (Some from) (offset_from (from + size_of x) xs l) ≡ Some a → (offset_from (from + size_of x) xs l ≡ Some a → offset_from (from + size_of x) (xs ++ ys) l ≡ Some a) → cond t (Some from) (offset_from (from + size_of x) (xs ++ ys) l) ≡ Some a
@@ -154,7 +154,7 @@ module _ (long lean : List Stmt86) (once : IsDefinedOnce long) where
       by_behind : (o o' : Option ℕ) → offset_of long (label_of_goal g) ≡ o → offset_of lean (label_of_goal g) ≡ o'
           → Moves (0 + sizes_of before + 2 + 3 + 0) (0 + sizes_of before' + 2) (0 + sizes_of before + 2 + 3 + 0 + sizes_of xs) (0 + sizes_of before' + 2 + sizes_of ys) o o'
           → reaches_86 (sizes_of before' + 2) (place_of lean (label_of_goal g)) ≡ true
-      by_behind _ _ h h' neither = let no_label : false ≡ true = sym (ap is_some h) ∙ rule.1 in absurd cc
+      by_behind _ _ h h' neither = absurd (false≢true (sym (ap is_some h) ∙ rule.1))
       by_behind _ _ h h' (both a b h1 h2 h3 h4 h5 h6) = answer b h' (reaches_on (sizes_of before) (sizes_of before') a b (omega (arith, h1)) (omega (arith, h2)) (omega (arith, h5)) (rule_at a h))
 
       by_before : (o o' : Option ℕ) → offset_from 0 before (label_of_goal g) ≡ o → offset_from 0 before' (label_of_goal g) ≡ o'

@@ -1,8 +1,7 @@
 -- Where the labels of a program's instructions stand in a text.
 use Rattle.std.proofs.Common.{◌≡◌, ◌≢◌, ℕ, zero, suc, ◌+◌, ◌<◌, ◌≤◌, List, [], ◌∷◌, ◌++◌, get_or, length, map, Some, refl, ap, ◌∙◌, arith, append_assoc, Bool, true, false, cond, ◌==◌}
 use Rattle.std.specs.Prelude.{is_some}
-use Rattle.std.proofs.lemmas.Bool.Decides.{nat_tests}
-use Rattle.std.proofs.lemmas.Bool.{eq-eqb, ne_eqb}
+use Rattle.std.proofs.lemmas.Bool.{eq-eqb, ne_eqb, false≢true, eqb-true, eqb-false}
 use Rattle.i80.specs.declared.Goal.{Goal}
 use Rattle.i80.specs.Columns.{length80}
 use Rattle.asm86_line_types.specs.declared.line.Label.{Label}
@@ -58,12 +57,12 @@ start_above xs from limit a laid h =
 
 -- and below the limit
 pub start_below : (xs : List Placed) (from limit a : ℕ) → AreLaid from limit xs → is_some (placed_in xs a) ≡ true → a < limit
-start_below [] from limit a laid h = absurd (cc)
+start_below [] from limit a laid h = absurd (false≢true h)
 start_below (y ∷ ys) from limit a laid h = by_test (y.at == a) refl h (start_below ys (y.at + length80 y.instr) limit a laid.3)
   where
     by_test : (t : Bool) → (y.at == a) ≡ t → is_some (cond t (Some y) (placed_in ys a)) ≡ true → (is_some (placed_in ys a) ≡ true → a < limit) → a < limit
     by_test true e g rec =
-        let k : y.at ≡ a = grind (arith, nat_tests) in
+        let k : y.at ≡ a = eqb-true y.at a e in
         let within = laid.1 in
         let some = length80-positive y.instr in
         omega (arith, k, within, some)
@@ -144,12 +143,12 @@ module _ (G : Goal → Type 0) where
 
       by_test : (b : Bool) → (x.at == a) ≡ b → count_marks l zs ≤ 1 → count_marks l (ys ++ zs) ≤ 1
       by_test true e le =
-          let k : x.at ≡ a = grind (arith, nat_tests) in
+          let k : x.at ≡ a = eqb-true x.at a e in
           let some = length80-positive x.instr in
           let none = none_counted l zs (body_lacks_below l a of xs zs h (x.at + length80 x.instr) limit laid.3 (omega (arith, some, k))) in
           let here = once x.at ys g in
           omega (arith, parts, here, none)
       by_test false e le =
-          let ne : x.at ≢ a = grind (arith, nat_tests) in
+          let ne : x.at ≢ a = eqb-false x.at a e in
           let none = none_counted l ys (group_marks_not l x.at (of x.at ne).0 (of x.at ne).1 ys g) in
           omega (arith, parts, none, le)

@@ -1,7 +1,8 @@
 -- What is known of a program's data cells.
 use Rattle.std.proofs.Common.{◌≡◌, ◌≢◌, ℕ, ◌+◌, ◌-◌, ◌≤◌, ◌<◌, ⊎_elim, List, [], ◌∷◌, Some, None, refl, sym, ap, ◌∙◌, subst, arith, Bool, true, false, cond, ◌==◌}
-use Rattle.std.proofs.lemmas.Bool.{cases_lt, eq-eqb, ne_eqb}
+use Rattle.std.proofs.lemmas.Bool.{cases_lt, eq-eqb, ne_eqb, eqb-true}
 use Rattle.std.proofs.lemmas.Bool.Decides.{nat_tests}
+use Rattle.std.proofs.lemmas.Option.{same_Some}
 use Rattle.cells.specs.declared.Place.TheVariants.{At as AtPlace, Exit}
 use Rattle.cells.specs.declared.Cell.{Cell}
 use Rattle.cells.specs.declared.Cell.TheVariants.{Num, Lo, Hi, Psw, Junk}
@@ -104,8 +105,8 @@ data_from_here p is cut limit from c cs f rec = record {
 
     by_test : (q : ℕ) (t : Bool) → (c.0 == from) ≡ t → cond t (Some c.1) (cell_in cs from) ≡ Some (Hi (AtPlace q)) → High p limit from q (c ∷ cs)
     by_test q true e h =
-        let place : c.0 ≡ from = grind (arith, nat_tests) in
-        let value : c.1 ≡ Hi (AtPlace q) = cc in
+        let place : c.0 ≡ from = eqb-true c.0 from e in
+        let value : c.1 ≡ Hi (AtPlace q) = same_Some c.1 (Hi (AtPlace q)) h in
         let here : cell_at p c.0 ≡ Some (Hi (AtPlace q)) = cell_here p limit from c cs f ∙ h in
         record {
           rest = cs;

@@ -2,7 +2,7 @@
 -- short jump.
 use Rattle.std.proofs.Common.{◌≡◌, ℕ, ◌≤◌, ◌<◌, List, [], ◌∷◌, refl, sym, subst, arith, Bool, false, true, cond, ◌&&◌}
 use Rattle.std.specs.Prelude.{nat_lt}
-use Rattle.std.proofs.lemmas.Bool.Decides.{nat_tests}
+use Rattle.std.proofs.lemmas.Bool.{true≢false, false≢true, lt-ltb}
 use Rattle.i80.specs.declared.Src.TheVariants.{Reg, Mem}
 use Rattle.i80.specs.declared.StackPair.TheVariants.{B as StackB, D as StackD, H as StackH, Psw}
 use Rattle.i80.specs.declared.Word.TheVariants.{Num, Code}
@@ -66,10 +66,10 @@ pub data HasShape (G : Goal → Type 0) (at : ℕ) : List Stmt86 → Type 0 wher
 -- ---- templates
 
 pub word_fits : (w : ℕ) → w < 65536 → nat_lt w 65536 ≡ true
-word_fits w lt = grind (arith, nat_tests)
+word_fits w lt = lt-ltb w 65536 lt
 
 pub byte_fits : (n : ℕ) → n < 256 → nat_lt n 256 ≡ true
-byte_fits n lt = grind (arith, nat_tests)
+byte_fits n lt = lt-ltb n 256 lt
 
 -- an instruction that is jumped over where its condition does not hold
 abbrev is_conditional : Instr80 → Bool
@@ -109,12 +109,12 @@ template_steps G (Pop StackD) at save kind c h = (runs _ refl, tt)
 template_steps G (Pop StackH) at save kind c h = (runs _ refl, tt)
 template_steps G (Pop Psw) at save kind c h = (runs _ refl, (runs _ refl, (runs _ refl, tt)))
 template_steps G (Jmp g) at save kind c h = (jumps g h, tt)
-template_steps G (Jif cond g) at save kind c h = absurd (cc)
+template_steps G (Jif cond g) at save kind c h = absurd (true≢false kind)
 template_steps G (Call (At a)) at save kind c h = (calls (At a) h, tt)
 template_steps G (Call Boot) at save kind c h = (jumps Boot h, tt)
 template_steps G (Call Bdos) at save kind c h = (calls Bdos h, tt)
-template_steps G (Cif cond g) at save kind c h = absurd (cc)
-template_steps G (Rif cond) at save kind c h = absurd (cc)
+template_steps G (Cif cond g) at save kind c h = absurd (true≢false kind)
+template_steps G (Rif cond) at save kind c h = absurd (true≢false kind)
 template_steps G Rst0 at save kind c h = (jumps Boot h, tt)
 template_steps G (In port) at save kind c h = (runs _ (byte_fits port c), tt)
 template_steps G (Out port) at save kind c h = (runs _ (byte_fits port c), tt)
@@ -127,13 +127,13 @@ abbrev pub LeavesOut : Style → Bool → Bool → Placed → Instr80 → Type 0
 LeavesOut s first last x i = (first ≡ true → begins_by_lahf (s.saves x) i ≡ true) × (last ≡ true → ends_by_sahf (s.saves x) i ≡ true)
 
 and_false : (b : Bool) → (b && false) ≡ true → ⊥
-and_false true h = cc
-and_false false h = cc
+and_false true h = false≢true h
+and_false false h = false≢true h
 
 -- nothing is left out of one that has neither
 whole : (first last save : Bool) (xs : List Stmt86) → (first ≡ true → (save && false) ≡ true) → (last ≡ true → false ≡ true) → without_first_if first (without_last_if last xs) ≡ xs
 whole true last save xs lahf sahf = absurd (and_false save (lahf refl))
-whole false true save xs lahf sahf = let no : false ≡ true = sahf refl in absurd cc
+whole false true save xs lahf sahf = absurd (false≢true (sahf refl))
 whole false false save xs lahf sahf = refl
 
 jump_shape : (G : Goal → Type 0) (at : ℕ) (j k : Jump) (g : Goal) (is_short : Bool) → G g → HasShape G at (cond is_short (Jcc k (label_of_goal g) ∷ []) (Jcc j (Skip at) ∷ (JmpTo (label_of_goal g) ∷ (Mark (Skip at) ∷ []))))

@@ -3,6 +3,7 @@
 use Rattle.std.proofs.Common.{◌≡◌, ℕ, ◌+◌, ◌-◌, ◌≤◌, ◌<◌, List, [], ◌∷◌, ◌++◌, Some, refl, sym, ap, ◌∙◌, subst, arith, true, false, cond, Bool, ◌==◌}
 use Rattle.std.specs.Prelude.{is_some, unwrap_or}
 use Rattle.std.proofs.lemmas.Bool.Decides.{nat_tests}
+use Rattle.std.proofs.lemmas.Bool.{false≢true, eqb-true}
 use Rattle.i80.specs.declared.Goal.{Goal}
 use Rattle.i80.specs.declared.Goal.TheVariants.{At, Boot, Bdos}
 use Rattle.asm86_line_types.specs.declared.line.Label.{Label}
@@ -224,11 +225,11 @@ record First (xs : List Placed) : Type 0 where
   at : x.at ≡ 0x100
 
 first_of : (xs : List Placed) (limit : ℕ) → AreLaid 0x100 limit xs → is_some (placed_in xs 0x100) ≡ true → First xs
-first_of [] limit laid h = absurd (cc)
+first_of [] limit laid h = absurd (false≢true h)
 first_of (x ∷ xs) limit laid h = by_test (x.at == 0x100) refl h
   where
     by_test : (t : Bool) → (x.at == 0x100) ≡ t → is_some (cond t (Some x) (placed_in xs 0x100)) ≡ true → First (x ∷ xs)
-    by_test true e g = record { x = x; rest = xs; is = refl; at = grind (arith, nat_tests) }
+    by_test true e g = record { x = x; rest = xs; is = refl; at = eqb-true x.at 0x100 e }
     by_test false e g =
         let up = start_above xs _ limit 0x100 laid.3 g in
         let some = length80-positive x.instr in

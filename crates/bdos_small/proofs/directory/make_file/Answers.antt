@@ -1,7 +1,7 @@
 use Rattle.std.proofs.Common.{◌≡◌, ◌∙◌, ◌<◌, ◌≤◌, [], length, refl, ap, sym, subst}
 use Rattle.std.proofs.lemmas.Result.{IfOk-from_err, MatchResult-from_err}
-use Rattle.bdos_disk.specs.Names.{name_in_block}
-use Rattle.bdos_disk.specs.Disks.{with_file}
+use Rattle.bdos_small.specs.Names.{name_in_block}
+use Rattle.bdos_small.specs.Disks.{with_file}
 use Rattle.bdos_small.specs.Fcb.{drive_in, extent_in, opened_fcb}
 use Rattle.bdos_small.specs.Calls.{fcb_of, reply_writing}
 use Rattle.bdos_small.specs.Files.{is_free}

@@ -1,8 +1,8 @@
 use Rattle.std.proofs.Common.{◌≡◌, ◌∙◌, sym, ap, subst}
 use Rattle.std.specs.Prelude.{IsSome}
 use Rattle.std.proofs.lemmas.Result.{IfOk-from_err, MatchResult-from_err}
-use Rattle.bdos_disk.specs.Names.{name_in_block}
-use Rattle.bdos_disk.specs.Disks.{file_named}
+use Rattle.bdos_small.specs.Names.{name_in_block}
+use Rattle.bdos_small.specs.Disks.{file_named}
 use Rattle.bdos_small.specs.Calls.{block_read, fcb_of}
 use Rattle.bdos_small.specs.Files.{is_free, renamed, rename_file}
 use Rattle.bdos_small.proofs.Changes.{free_is, renamed_by, some_copied, none_copied, no_first, no_second}

@@ -2,9 +2,9 @@ use Rattle.std.proofs.Common.{◌≡◌, ◌∙◌, ℕ, List, length, refl, sym
 use Rattle.std.specs.Prelude.{Some, slice_get}
 use Rattle.std.proofs.lemmas.Result.{IfOk-weaker}
 use Rattle.std.proofs.lemmas.Option.{slice_get_read, slice_get_past}
-use Rattle.bdos_disk.specs.Names.{name_in_block}
-use Rattle.bdos_disk.specs.Stored.{Stored}
-use Rattle.bdos_disk.specs.Disks.{file_named}
+use Rattle.bdos_small.specs.Names.{name_in_block}
+use Rattle.bdos_small.specs.Stored.{Stored}
+use Rattle.bdos_small.specs.Disks.{file_named}
 use Rattle.bdos_small.specs.Fcb.{fields_at}
 use Rattle.bdos_small.specs.Calls.{writing_both}
 use Rattle.bdos_small.specs.Files.{record_read, file_read}

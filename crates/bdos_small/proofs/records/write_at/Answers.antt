@@ -1,10 +1,10 @@
 use Rattle.std.proofs.Common.{◌≡◌, ◌∙◌, ℕ, ◌+◌, ◌-◌, ◌<◌, ◌≤◌, length, max, refl, ap, sym, subst, arith}
 use Rattle.std.specs.Prelude.{IfSome, IsSome}
 use Rattle.std.proofs.lemmas.Result.{IfOk-from_err, MatchResult-from_err}
-use Rattle.bdos_disk.specs.Stored.{Stored}
-use Rattle.bdos_disk.specs.Names.{name_in_block}
-use Rattle.bdos_disk.specs.Disks.{file_named, with_records, written_at, records_in, growth}
-use Rattle.bdos_disk.proofs.Files.{length-written_at}
+use Rattle.bdos_small.specs.Stored.{Stored}
+use Rattle.bdos_small.specs.Names.{name_in_block}
+use Rattle.bdos_small.specs.Disks.{file_named, with_records, written_at, records_in, growth}
+use Rattle.bdos_small.proofs.Files.{length-written_at}
 use Rattle.bdos_small.specs.Fcb.{fields_at}
 use Rattle.bdos_small.specs.Calls.{fcb_of, reply_writing}
 use Rattle.bdos_small.proofs.Changes.{written, unwritten_file, unwritten}

@@ -2,7 +2,7 @@ use Rattle.std.proofs.Common.{◌≡◌, refl, ◌∙◌, subst}
 use Rattle.std.specs.Prelude.{option_copied}
 use Rattle.std.proofs.lemmas.Result.{IfOk-from_err}
 use Rattle.host.specs.Host.{Rewrites, WriteFault}
-use Rattle.bdos_disk.specs.DiskFile.{disk_file}
+use Rattle.bdos_small.specs.DiskFile.{disk_file}
 use Rattle.host_files.specs.Transfer.{IsBeforeOrPart}
 use Rattle.cmd_common.specs.declared.stop.Stop.TheVariants.{OutOfMemory}
 use Rattle.cmd_common.proofs.Told.{handed_on}

@@ -1,6 +1,6 @@
 use Rattle.std.proofs.Common.{IfOk, IfErr, refl, subst, ◌∙◌}
 use Rattle.std.proofs.lemmas.Result.{IfOk-from_err}
-use Rattle.bdos_disk.specs.declared.DiskFault.TheVariants.{Memory}
+use Rattle.bdos_small.specs.declared.DiskFault.TheVariants.{Memory}
 use Rattle.cmd_common.specs.declared.stop.Stop.TheVariants.{OutOfMemory}
 use Rattle.cmd_common.proofs.Told.{handed_on}
 use Rattle.cmd_runs.specs.Supplies.{given_of, HasDisk, DiskStops}

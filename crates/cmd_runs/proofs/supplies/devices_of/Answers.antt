@@ -1,5 +1,5 @@
 use Rattle.std.proofs.Common.{ap, sym, subst}
-use Rattle.bdos_disk.specs.Reading.{IsDiskFaultOf}
+use Rattle.bdos_small.specs.Reading.{IsDiskFaultOf}
 use Rattle.cmd_runs.specs.Supplies.{stop_of_disk}
 use Rattle.cmd_runs.proofs.supplies.devices_of.Goals as goal
 

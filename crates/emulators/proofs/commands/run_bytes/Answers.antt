@@ -2,7 +2,7 @@ use Rattle.std.proofs.Common.{◌≡◌, ℕ, List, [], ◌∷◌, sym, ap, ◌�
 use Rattle.std.proofs.lemmas.Result.{IfOk-from_err}
 use Rattle.std.specs.Prelude.{IfOk, IfErr}
 use Rattle.dialogue.specs.declared.request.Reply.{Reply}
-use Rattle.cpu80_untagged.specs.Step.{untagged_machine}
+use Rattle.cpu80.specs.Step.{untagged_machine}
 use Rattle.i80_bytes.specs.Start.{start_of_bytes}
 use Rattle.i80_bytes.specs.Fetch.{fetch_of_bytes}
 use Rattle.i80_bytes.specs.Standing.{byte_standing}

@@ -1,7 +1,7 @@
 use Rattle.std.proofs.Common.{[]}
 use Rattle.cpu80_tagged.specs.Start.{start80}
 use Rattle.cpu80_tagged.specs.Step.{machine80}
-use Rattle.cpu80_untagged.specs.Step.{untagged_machine}
+use Rattle.cpu80.specs.Step.{untagged_machine}
 use Rattle.i80_bytes.specs.Start.{start_of_bytes}
 use Rattle.cpu86.specs.Start.{start86}
 use Rattle.cpu86.specs.Step.{machine86}

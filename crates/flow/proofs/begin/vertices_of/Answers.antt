@@ -1,5 +1,6 @@
-use Rattle.std.proofs.Common.{◌≡◌, ◌∙◌, ◌+◌, ◌<◌, ◌≤◌, ◌++◌, ◌∷◌, [], List, ℕ, length, get_or, ap, sym, subst, map, take, true}
-use Rattle.std.proofs.lemmas.List.{map_more, take_all}
+use Rattle.std.proofs.Common.{◌≡◌, ◌∙◌, ◌+◌, ◌<◌, ◌≤◌, ◌++◌, ◌∷◌, [], List, ℕ, length, get_or, ap, sym, subst, map, take, true, arith, Vec, Global}
+use Rattle.std.proofs.lemmas.List.{length_push, map_more, take_all}
+use Rattle.std.specs.Vec.{vec_len, vec_capacity}
 use Rattle.cells.specs.Parts.{Parts, nothing}
 use Rattle.i80.specs.Columns.{defs80}
 use Rattle.i80.specs.declared.Instr80.TheVariants.{Nop}
@@ -27,10 +28,27 @@ last xs ys vs new i a b same ge put so_far none none_2 =
 abbrev none : Placed
 none = record { at = 0; line = 0; instr = Nop }
 
+room_for : (vertices : Vec Vertex Global) (n count : ℕ) → length vertices.items ≡ n → vec_capacity vertices ≡ count + 1 → n ≤ count → vec_len vertices < vec_capacity vertices
+room_for vertices n count sized room le = omega (arith, sized, room, le, vertices.ok)
+
+pub push_reserved-requires : goal.push_reserved-requires
+push_reserved-requires c =
+    let lt : c.loop-placed.placed-index ≤ length c.instrs-instrs.result.now = omega (arith, c.loop-placed-test.true) in
+    room_for c.loop-placed.vertices _ _ c.loop-placed.invariant.count c.loop-placed.invariant.room lt
+
+pub push_reserved-requires-2 : goal.push_reserved-requires-2
+push_reserved-requires-2 c = room_for c.loop-placed.vertices _ _ c.loop-placed.invariant.count c.loop-placed.invariant.room c.loop-placed.auto.placed-index-end
+
 pub loop-placed-preserved : goal.loop-placed-preserved
 loop-placed-preserved c =
-    more c.instrs-placed-items.result.now c.args.program.now.instrs c.loop-placed.vertices.items _ c.loop-placed.placed-index _ _ c.instrs-placed-items.ensures.value c.loop-placed-test.true c.in_ok-push.ensures.items c.loop-placed.invariant (ap (λ x. record { defines = x; need = c.uses.result; waits = true }) c.defs.ensures ∙ ap (λ x. record { defines = defs80 (get_or c.instrs-placed-items.result.now c.loop-placed.placed-index none).instr; need = x; waits = true }) c.uses.ensures)
+    let before = c.loop-placed.invariant in
+    let put = c.push_reserved.ensures.items in
+    record {
+      items = more c.instrs-instrs.result.now c.args.program.now.instrs c.loop-placed.vertices.items _ c.loop-placed.placed-index _ _ c.instrs-instrs.ensures.value c.loop-placed-test.true put before.items (ap (λ x. record { defines = x; need = c.uses.result; waits = true }) c.defs.ensures ∙ ap (λ x. record { defines = defs80 (get_or c.instrs-instrs.result.now c.loop-placed.placed-index none).instr; need = x; waits = true }) c.uses.ensures);
+      count = ap length put ∙ length_push c.loop-placed.vertices.items _ ∙ ap (λ n. n + 1) before.count;
+      room = c.push_reserved.ensures.capacity ∙ before.room;
+    }
 
 pub returns : goal.returns
 returns c =
-    last c.instrs-placed-items.result.now c.args.program.now.instrs c.loop-placed.vertices.items _ c.loop-placed.placed-index c.none.result c.none-2.result c.instrs-placed-items.ensures.value c.loop-placed-test.false c.in_ok-push-2.ensures.items c.loop-placed.invariant c.none.ensures c.none-2.ensures
+    last c.instrs-instrs.result.now c.args.program.now.instrs c.loop-placed.vertices.items _ c.loop-placed.placed-index c.none.result c.none-2.result c.instrs-instrs.ensures.value c.loop-placed-test.false c.push_reserved-2.ensures.items c.loop-placed.invariant.items c.none.ensures c.none-2.ensures

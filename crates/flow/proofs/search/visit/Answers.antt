@@ -17,28 +17,33 @@ push_reserved-requires g c =
     let room = has_room c.args.vertices.now c.args.work.now.items (vec_capacity c.args.work.now) c.args.from (record no_vertex { waits = true }) c.requires.queue c.requires.within (waits_as false read c.if-not-vertex.true) refl in
     omega (arith, room, c.args.work.now.ok)
 
-pub returns-then-not-vertex-clause-queue : goal.returns-then-not-vertex-clause-queue
-returns-then-not-vertex-clause-queue g c =
+pub returns-then-eq : goal.returns-then-eq
+returns-then-eq g c =
     let read : c.index-vertices-from.result ≡ vertex c.args.vertices.now c.args.from = get_or_read _ _ _ c.requires.within c.index-vertices-from.is no_vertex in
-    rw (c.push_reserved.ensures.items, c.push_reserved.ensures.capacity)
-    (longer_queue c.args.vertices.now c.args.work.now.items (vec_capacity c.args.work.now) c.args.from _ c.requires.queue c.requires.within (waits_as false read c.if-not-vertex.true) refl)
+    record {
+      queue = c.requires.queue;
+      visited = unchanged _ _ _ _ _ c.index-vertices-from.result read c.join-need.ensures (c.eq.ensures.same.0 c.if-eq.true) c.without.ensures;
+      step = c.tick.ensures;
+    }
 
-pub returns-then-not-vertex-clause-visited : goal.returns-then-not-vertex-clause-visited
-returns-then-not-vertex-clause-visited g c =
+-- the node is put on the work list
+pub returns-then-not-vertex : goal.returns-then-not-vertex
+returns-then-not-vertex g c =
     let read : c.index-vertices-from.result ≡ vertex c.args.vertices.now c.args.from = get_or_read _ _ _ c.requires.within c.index-vertices-from.is no_vertex in
-    changed_to _ _ _ _ _ c.index-vertices-from.result c.requires.within read c.join-need.ensures (iff_false c.eq.ensures.same c.if-eq.false) c.without.ensures
+    record {
+      queue =
+          rw (c.push_reserved.ensures.items, c.push_reserved.ensures.capacity)
+          (longer_queue c.args.vertices.now c.args.work.now.items (vec_capacity c.args.work.now) c.args.from _ c.requires.queue c.requires.within (waits_as false read c.if-not-vertex.true) refl);
+      visited = changed_to _ _ _ _ _ c.index-vertices-from.result c.requires.within read c.join-need.ensures (iff_false c.eq.ensures.same c.if-eq.false) c.without.ensures;
+      step = c.tick.ensures;
+    }
 
-pub returns-else-not-vertex-clause-visited : goal.returns-else-not-vertex-clause-visited
-returns-else-not-vertex-clause-visited g c =
+-- it waits already
+pub returns-else-not-vertex : goal.returns-else-not-vertex
+returns-else-not-vertex g c =
     let read : c.index-vertices-from.result ≡ vertex c.args.vertices.now c.args.from = get_or_read _ _ _ c.requires.within c.index-vertices-from.is no_vertex in
-    changed_to _ _ _ _ _ c.index-vertices-from.result c.requires.within read c.join-need.ensures (iff_false c.eq.ensures.same c.if-eq.false) c.without.ensures
-
-pub returns-then-eq-clause-visited : goal.returns-then-eq-clause-visited
-returns-then-eq-clause-visited g c =
-    let read : c.index-vertices-from.result ≡ vertex c.args.vertices.now c.args.from = get_or_read _ _ _ c.requires.within c.index-vertices-from.is no_vertex in
-    unchanged _ _ _ _ _ c.index-vertices-from.result read c.join-need.ensures (c.eq.ensures.same.0 c.if-eq.true) c.without.ensures
-
-pub returns-else-not-vertex-clause-queue : goal.returns-else-not-vertex-clause-queue
-returns-else-not-vertex-clause-queue g c =
-    let read : c.index-vertices-from.result ≡ vertex c.args.vertices.now c.args.from = get_or_read _ _ _ c.requires.within c.index-vertices-from.is no_vertex in
-    same_queue c.args.vertices.now c.args.work.now.items (vec_capacity c.args.work.now) c.args.from _ c.requires.queue c.requires.within (waits_as true read c.if-not-vertex.false) refl
+    record {
+      queue = same_queue c.args.vertices.now c.args.work.now.items (vec_capacity c.args.work.now) c.args.from _ c.requires.queue c.requires.within (waits_as true read c.if-not-vertex.false) refl;
+      visited = changed_to _ _ _ _ _ c.index-vertices-from.result c.requires.within read c.join-need.ensures (iff_false c.eq.ensures.same c.if-eq.false) c.without.ensures;
+      step = c.tick.ensures;
+    }

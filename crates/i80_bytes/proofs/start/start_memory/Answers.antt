@@ -1,6 +1,6 @@
 use Rattle.std.proofs.Common.{ℕ, ◌-◌, ◌/◌, ◌%◌, ap, ◌∙◌}
 use Rattle.dialogue.specs.ByteMemory.{put_bytes}
-use Rattle.cpu80_untagged.specs.State.{put_word}
+use Rattle.cpu80.specs.State.{put_word}
 use Rattle.i80_bytes.specs.Start.{cells_over}
 use Rattle.i80_bytes.proofs.Written.{whole}
 use Rattle.i80_bytes.proofs.start.start_memory.Goals as goal

@@ -1,6 +1,6 @@
 use Rattle.std.proofs.Common.{◌∙◌}
 use Rattle.std.proofs.lemmas.Result.{IfOk-from_err}
-use Rattle.cpu80_untagged.specs.ProcessorState.{untagged_memory}
+use Rattle.cpu80.specs.ProcessorState.{untagged_memory}
 use Rattle.dialogue.proofs.ByteMemory.{put_cells_more}
 use Rattle.i80_bytes.proofs.start.with_cells.Goals as goal
 

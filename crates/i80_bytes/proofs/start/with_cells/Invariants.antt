@@ -1,6 +1,6 @@
 use Rattle.std.proofs.Common.{◌≡◌, drop}
 use Rattle.std.specs.Prelude.{slice_index}
-use Rattle.cpu80_untagged.specs.ProcessorState.{untagged_memory}
+use Rattle.cpu80.specs.ProcessorState.{untagged_memory}
 use Rattle.dialogue.specs.ByteMemory.{put_cells}
 use Rattle.i80_bytes.proofs.start.with_cells.Given as goal
 

@@ -5,7 +5,7 @@ use Rattle.sym_block_def.specs.Outcome.{Action, Load8, Load16, Store8, Store16}
 use Rattle.sym_micro.specs.declared.micro.Micro.{Micro}
 use Rattle.sym_micro.specs.declared.micro.Micro.TheVariants.{Flags}
 use Rattle.sym_micro.specs.declared.run.Run.{Run}
-use Rattle.sym_micro.specs.Machine.{Machine, micro, weight, moves, loads_at, stores_at}
+use Rattle.sym_micro.specs.Machine.{micro, weight, moves, acts_at}
 use Rattle.sym_micro.specs.Stands.{machine_of, GoesOn}
 use Rattle.sym_micro.proofs.Ready.{byte_here, byte_tree_here, word_here, word_tree_here}
 use Rattle.sym_micro.proofs.performing.perform_one.Goals as goal
@@ -14,8 +14,8 @@ of_arm : {step arm : Micro} (old new : Contents) (r s : Run) (made : Option (Uni
 of_arm old new r s made is h = subst (λ (k : Micro). GoesOn old new r s (weight k) (moves k) (λ m. m ≡ micro (machine_of old r) k) made) (sym is) h
 
 -- the action of the ids is that of their trees
-by_trees : (after : Machine → Action → Machine) {x y : Action} (old : Contents) (r s : Run) (made : Option (Unit {0})) → x ≡ y → GoesOn old old r s 0 1 (λ m. m ≡ after (machine_of old r) x) made → GoesOn old old r s 0 1 (λ m. m ≡ after (machine_of old r) y) made
-by_trees after old r s made same h = subst (λ a. GoesOn old old r s 0 1 (λ m. m ≡ after (machine_of old r) a) made) same h
+by_trees : {x y : Action} (old : Contents) (r s : Run) (made : Option (Unit {0})) → x ≡ y → GoesOn old old r s 0 1 (λ m. m ≡ acts_at (machine_of old r) x) made → GoesOn old old r s 0 1 (λ m. m ≡ acts_at (machine_of old r) y) made
+by_trees old r s made same h = subst (λ a. GoesOn old old r s 0 1 (λ m. m ≡ acts_at (machine_of old r) a) made) same h
 
 -- there is room for the action of a load or a store
 room_for : {step arm : Micro} (n : ℕ) → step ≡ arm → moves arm ≡ 1 → n + moves step ≤ 512 → n < 512
@@ -61,8 +61,8 @@ returns-in-Adjust c = of_arm c.args.terms.now c.adjust.new.terms c.args.run.now 
 pub returns-in-Turn : goal.returns-in-Turn
 returns-in-Turn c = of_arm c.args.terms.now c.turn.new.terms c.args.run.now c.turn.new.run c.turn.result c.in-Turn.is c.turn.ensures
 
-pub load-requires : goal.load-requires
-load-requires c =
+pub act-requires : goal.act-requires
+act-requires c =
     let old = c.args.terms.now in
     let r = c.args.run.now in
     record {
@@ -75,12 +75,12 @@ pub returns-in-Load8 : goal.returns-in-Load8
 returns-in-Load8 c =
     let old = c.args.terms.now in
     let r = c.args.run.now in
-    let s = c.load.new.run in
+    let s = c.act.new.run in
     let same = ap Load8 (word_tree_here old r c.in-Load8.address c.word.result c.word.ensures) in
-    of_arm old old r s c.load.result c.in-Load8.is (by_trees loads_at old r s c.load.result same c.load.ensures)
+    of_arm old old r s c.act.result c.in-Load8.is (by_trees old r s c.act.result same c.act.ensures)
 
-pub load-requires-in-Load16 : goal.load-requires-in-Load16
-load-requires-in-Load16 c =
+pub act-requires-in-Load16 : goal.act-requires-in-Load16
+act-requires-in-Load16 c =
     let old = c.args.terms.now in
     let r = c.args.run.now in
     record {
@@ -93,12 +93,12 @@ pub returns-in-Load16 : goal.returns-in-Load16
 returns-in-Load16 c =
     let old = c.args.terms.now in
     let r = c.args.run.now in
-    let s = c.load-in-Load16.new.run in
+    let s = c.act-in-Load16.new.run in
     let same = ap Load16 (word_tree_here old r c.in-Load16.address c.word-in-Load16.result c.word-in-Load16.ensures) in
-    of_arm old old r s c.load-in-Load16.result c.in-Load16.is (by_trees loads_at old r s c.load-in-Load16.result same c.load-in-Load16.ensures)
+    of_arm old old r s c.act-in-Load16.result c.in-Load16.is (by_trees old r s c.act-in-Load16.result same c.act-in-Load16.ensures)
 
-pub store-requires : goal.store-requires
-store-requires c =
+pub act-requires-in-Store8 : goal.act-requires-in-Store8
+act-requires-in-Store8 c =
     let old = c.args.terms.now in
     let r = c.args.run.now in
     record {
@@ -111,12 +111,12 @@ pub returns-in-Store8 : goal.returns-in-Store8
 returns-in-Store8 c =
     let old = c.args.terms.now in
     let r = c.args.run.now in
-    let s = c.store.new.run in
+    let s = c.act-in-Store8.new.run in
     let same = ap₂ Store8 (word_tree_here old r c.in-Store8.address c.word-in-Store8.result c.word-in-Store8.ensures) (byte_tree_here old r c.in-Store8.byte c.byte.result c.byte.ensures) in
-    of_arm old old r s c.store.result c.in-Store8.is (by_trees stores_at old r s c.store.result same c.store.ensures)
+    of_arm old old r s c.act-in-Store8.result c.in-Store8.is (by_trees old r s c.act-in-Store8.result same c.act-in-Store8.ensures)
 
-pub store-requires-in-Store16 : goal.store-requires-in-Store16
-store-requires-in-Store16 c =
+pub act-requires-in-Store16 : goal.act-requires-in-Store16
+act-requires-in-Store16 c =
     let old = c.args.terms.now in
     let r = c.args.run.now in
     record {
@@ -129,6 +129,6 @@ pub returns-in-Store16 : goal.returns-in-Store16
 returns-in-Store16 c =
     let old = c.args.terms.now in
     let r = c.args.run.now in
-    let s = c.store-in-Store16.new.run in
+    let s = c.act-in-Store16.new.run in
     let same = ap₂ Store16 (word_tree_here old r c.in-Store16.address c.word-in-Store16.result c.word-in-Store16.ensures) (word_tree_here old r c.in-Store16.word c.word-in-Store16-2.result c.word-in-Store16-2.ensures) in
-    of_arm old old r s c.store-in-Store16.result c.in-Store16.is (by_trees stores_at old r s c.store-in-Store16.result same c.store-in-Store16.ensures)
+    of_arm old old r s c.act-in-Store16.result c.in-Store16.is (by_trees old r s c.act-in-Store16.result same c.act-in-Store16.ensures)

@@ -14,4 +14,4 @@ pub returns-in-Reg-from-2 : goal.returns-in-Reg-from-2
 returns-in-Reg-from-2 c = of_instr (ap₂ Mov c.in-Mem.is c.in-Reg-from-2.is) c.store_byte.ensures.on_80
 
 pub returns-in-Mem-from-2 : goal.returns-in-Mem-from-2
-returns-in-Mem-from-2 c = of_instr (ap₂ Mov c.in-Mem.is c.in-Mem-from-2.is) c.load_and_store.ensures
+returns-in-Mem-from-2 c = of_instr (ap₂ Mov c.in-Mem.is c.in-Mem-from-2.is) c.perform.ensures.on_80

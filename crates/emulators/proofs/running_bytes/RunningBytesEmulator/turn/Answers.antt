@@ -6,10 +6,10 @@ use Rattle.dialogue.specs.declared.request.Event.{Event}
 use Rattle.dialogue.specs.Run.{Asks}
 use Rattle.dialogue.specs.Lawful.{IsLawfulEvent}
 use Rattle.dialogue.specs.Calls.{Standing}
-use Rattle.cpu80_untagged.specs.State.{UntaggedState}
-use Rattle.cpu80_untagged.specs.Call.{NoInstruction, OddCall}
-use Rattle.cpu80_untagged.specs.Start.{address_of}
-use Rattle.cpu80_untagged.specs.Step.{step_untagged}
+use Rattle.cpu80.specs.State.{UntaggedState}
+use Rattle.cpu80.specs.Call.{NoInstruction, OddCall}
+use Rattle.cpu80.specs.Start.{address_of}
+use Rattle.cpu80.specs.Step.{step_untagged}
 use Rattle.i80_bytes.specs.Fetch.{fetch_of_bytes}
 use Rattle.i80_bytes.specs.Standing.{byte_standing}
 use Rattle.emulator_loop.specs.declared.emulator.Why.TheVariants.{OddCall as HasOdd}

@@ -1,5 +1,6 @@
 use Rattle.std.proofs.Common.{◌≡◌, arith, ap, length}
 use Rattle.std.specs.Vec.{vec_capacity}
+use Rattle.std.proofs.lemmas.Result.{IfOk-from_err}
 use Rattle.flow.specs.Graph.{nodes}
 use Rattle.flow.proofs.Begins.{first_are, first_passed_on, first_queue, sized_first}
 use Rattle.flow.proofs.graph.Graph.of.Goals as goal
@@ -19,3 +20,21 @@ invariant_of-result c =
       leaders = c.in_ok-leaders.ensures.leaders;
       counts = c.in_ok-leaders.ensures.counts;
     }
+
+pub returns : goal.returns
+returns c = c.in_ok-program.ensures.same
+
+pub returns-in_err-program : goal.returns-in_err-program
+returns-in_err-program c = IfOk-from_err c.from_residual.result _ c.from_residual.ensures.0
+
+pub returns-in_err-sources : goal.returns-in_err-sources
+returns-in_err-sources c = IfOk-from_err c.from_residual-in_err-sources.result _ c.from_residual-in_err-sources.ensures.0
+
+pub returns-in_err-vertices : goal.returns-in_err-vertices
+returns-in_err-vertices c = IfOk-from_err c.from_residual-in_err-vertices.result _ c.from_residual-in_err-vertices.ensures.0
+
+pub returns-in_err-work : goal.returns-in_err-work
+returns-in_err-work c = IfOk-from_err c.from_residual-in_err-work.result _ c.from_residual-in_err-work.ensures.0
+
+pub returns-in_err-leaders : goal.returns-in_err-leaders
+returns-in_err-leaders c = IfOk-from_err c.from_residual-in_err-leaders.result _ c.from_residual-in_err-leaders.ensures.0

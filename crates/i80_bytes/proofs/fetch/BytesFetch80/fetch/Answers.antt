@@ -1,4 +1,4 @@
-use Rattle.cpu80_untagged.specs.ProcessorState.{untagged_memory}
+use Rattle.cpu80.specs.ProcessorState.{untagged_memory}
 use Rattle.i80_bytes.proofs.Fetched.{fetched, none_fetched}
 use Rattle.i80_bytes.proofs.fetch.BytesFetch80.fetch.Goals as goal
 

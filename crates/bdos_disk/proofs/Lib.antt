@@ -1,9 +1,0 @@
-pub mod Order
-pub mod Going
-pub mod Highest
-pub mod Files
-pub mod Parts
-pub mod Languages
-pub mod Steps
-pub mod Whole
-pub mod Pieces

@@ -1,7 +1,0 @@
-use Rattle.std.proofs.Common.{◌<◌, ◌^◌}
-use Rattle.bdos_disk.specs.DiskFile.{IsBadAt}
-use Rattle.bdos_disk.proofs.Whole.{stops_weaker, bad_small}
-use Rattle.bdos_disk.proofs.disk.Disk.read.Goals as goal
-
-pub fault-requires : goal.fault-requires
-fault-requires c = stops_weaker (IsBadAt c.args.bytes.now) (λ k. k < 2 ^ 32) c.in-Err.stop c.in-Err.ensures (bad_small c.args.bytes.now)

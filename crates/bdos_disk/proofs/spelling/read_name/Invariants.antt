@@ -1,5 +1,0 @@
-use Rattle.bdos_disk.proofs.Going.{Going}
-use Rattle.bdos_disk.proofs.spelling.read_name.Given as goal
-
-abbrev pub invariant-loop-place : goal.invariant-loop-place
-invariant-loop-place l = Going l.last l.after l.bytes l.least l.most l.place

@@ -1,4 +1,0 @@
-use Rattle.sym_step.proofs.moves86.pop.Goals as goal
-
-pub returns : goal.returns
-returns c = c.perform.ensures.on_86
