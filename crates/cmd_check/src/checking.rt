@@ -33,15 +33,6 @@ pub fn check<H: Host>(alloc: Global, host: &mut H, command: &Check<'_>) -> u8
     own_texts_are_same();
     own_texts_are_shown();
     commented_texts_read_back();
-    carry_out(alloc, host, command)
-}
-
-// The work, and what is said.
-fn carry_out<H: Host>(alloc: Global, host: &mut H, command: &Check<'_>) -> u8
-    requires { is_top command.now.top ≡ true }
-    ensures gives { CheckGives (check_read command.now) (H.state host.old) (H.state host.new) result }
-    ensures files { SameFiles (H.state host.old) (H.state host.new) }
-{
     match work(alloc, host, command) {
         Ok(line) => say_done(host, line.as_str()),
         Err(stop) => say_stop(

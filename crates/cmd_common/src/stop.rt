@@ -2,7 +2,7 @@
 ghost use Rattle.std.specs.Prelude.{◌≡◌, ◌++◌, codes, false, IfOk, MatchOption};
 ghost use Rattle.std.specs.String.{string_bytes};
 ghost use Rattle.cmd_common.specs.Names.{FileNames, names_read};
-ghost use Rattle.cmd_common.specs.Lines.{status_of, is_fixed, line_of_stop, named_line, rule_line, count_line, stopped_line, not_shown_line, drive_line, odd_call, word_digits, byte_digits};
+ghost use Rattle.cmd_common.specs.Lines.{status_of, is_fixed, line_of_stop, named_line, rule_line, count_line, stopped_line, not_shown_line, drive_line, odd_call, word_digits};
 
 use crate::names::{InputFile, InputNames};
 use crate::reasons::reason_name;
@@ -175,13 +175,6 @@ pub fn word_digits(alloc: Global, word: u16) -> Result<String, AllocError>
     hex::encode(alloc, &[(word / 256) as u8, (word % 256) as u8])
 }
 
-// A byte in two.
-fn byte_digits(alloc: Global, byte: u8) -> Result<String, AllocError>
-    ensures { IfOk result (λ digits. string_bytes digits ≡ byte_digits byte) }
-{
-    hex::encode(alloc, &[byte])
-}
-
 /// The block that is not shown, and why.
 pub fn not_shown_line(alloc: Global, at: u16, reason: &str) -> Result<String, AllocError>
     ensures { IfOk result (λ line. string_bytes line ≡ not_shown_line at reason.now) }
@@ -215,7 +208,7 @@ fn address_line(
 fn odd_call_line(alloc: Global, offset: u16, function: u8) -> Result<String, AllocError>
     ensures { IfOk result (λ line. string_bytes line ≡ stopped_line offset (odd_call function)) }
 {
-    let digits = byte_digits(alloc, function)?;
+    let digits = hex::encode(alloc, &[function])?;
     let why = format!(in alloc; "call {digits}")?;
     stopped_line(alloc, offset, why.as_str())
 }
@@ -224,6 +217,6 @@ fn odd_call_line(alloc: Global, offset: u16, function: u8) -> Result<String, All
 fn drive_line(alloc: Global, function: u8) -> Result<String, AllocError>
     ensures { IfOk result (λ line. string_bytes line ≡ drive_line function) }
 {
-    let digits = byte_digits(alloc, function)?;
+    let digits = hex::encode(alloc, &[function])?;
     named_line(alloc, "drive refused: function ", digits.as_str())
 }

@@ -34,13 +34,24 @@ returns-in-Ok-Some g c =
       outcomes = outcomes;
     }
 
-pub returns-in-Ok-None-clause-outcomes : goal.returns-in-Ok-None-clause-outcomes
-returns-in-Ok-None-clause-outcomes g c =
+pub returns-in-Ok-None : goal.returns-in-Ok-None
+returns-in-Ok-None g c =
     let read = map string_bytes c.as_slice.result.now in
+    let words = map string_bytes c.args.words.items in
+    let old = g.H.Host.state c.args.host.now in
+    let new = g.H.Host.state c.words_refused.new.host in
+    let status = c.words_refused.result in
     let none : IsNoCommand read =
     subst (λ r. MatchOption r (IsNoCommand read) (λ k. IsCommand read (command_read k))) c.in-Ok-None.field-0-is c.in-Ok-None.ensures in
-    by_no_command (map string_bytes c.args.words.items) (g.H.Host.state c.args.host.now) (g.H.Host.state c.words_refused.new.host) c.words_refused.result
-    (subst (λ w. IsNoCommand (map string_bytes w)) c.as_slice.ensures.value none) c.words_refused.ensures
+    let outcomes = by_no_command words old new status (subst (λ w. IsNoCommand (map string_bytes w)) c.as_slice.ensures.value none) c.words_refused.ensures in
+    record {
+      headline = has_headline words old new status outcomes;
+      checked_headline = has_checked words old new status outcomes;
+      command_file = has_command_file words old new status outcomes;
+      hex_file = has_hex_file words old new status outcomes;
+      shrunk_headline = has_shrunk words old new status outcomes;
+      outcomes = outcomes;
+    }
 
 -- there was no memory to read the words
 pub returns : goal.returns
