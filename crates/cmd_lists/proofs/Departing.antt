@@ -10,11 +10,11 @@ use Rattle.host.specs.Host.{HostState, Says, said_more}
 use Rattle.asm80_types.specs.Program.{Program, is_start}
 use Rattle.asm80_types.proofs.Lookup.{start_is}
 use Rattle.flow.specs.Blocks.{place_after, BlocksCut}
-use Rattle.leaving.specs.declared.departure.Certainty.TheVariants.{Sure}
-use Rattle.leaving.specs.declared.departure.Departure.{Departure}
-use Rattle.leaving.specs.Leaving.{leaving}
+use Rattle.profile_leaving.specs.declared.departure.Certainty.TheVariants.{Sure}
+use Rattle.profile_leaving.specs.declared.departure.Departure.{Departure}
+use Rattle.profile_leaving.specs.Leaving.{leaving}
 use Rattle.flow.proofs.Further.{instr_behind}
-use Rattle.leaving.specs.Left.{IsLeft, PlacesAreLeft, PlacesAscend}
+use Rattle.profile_leaving.specs.Left.{IsLeft, PlacesAreLeft, PlacesAscend}
 use Rattle.cmd_arguments.specs.Words.{Listing}
 use Rattle.cmd_common.specs.Names.{one_name}
 use Rattle.cmd_common.specs.Lines.{word_digits, profile_rule, leaves_line}

@@ -5,11 +5,11 @@ use Rattle.std.specs.Fmt.{decimal}
 use Rattle.host.specs.Host.{HostState, IsFile, Says}
 use Rattle.asm80_types.specs.Program.{Program, line_at}
 use Rattle.asm80_source_def.specs.Source.{IsSource}
-use Rattle.leaving.specs.declared.departure.Certainty.{Certainty}
-use Rattle.leaving.specs.declared.departure.Certainty.TheVariants.{Sure, May}
-use Rattle.leaving.specs.declared.departure.Departure.{Departure}
-use Rattle.leaving.specs.Leaving.{leaving}
-use Rattle.leaving.specs.Left.{IsLeft, RisesFrom}
+use Rattle.profile_leaving.specs.declared.departure.Certainty.{Certainty}
+use Rattle.profile_leaving.specs.declared.departure.Certainty.TheVariants.{Sure, May}
+use Rattle.profile_leaving.specs.declared.departure.Departure.{Departure}
+use Rattle.profile_leaving.specs.Leaving.{leaving}
+use Rattle.profile_leaving.specs.Left.{IsLeft, RisesFrom}
 use Rattle.cmd_arguments.specs.Words.{Listing}
 use Rattle.cmd_common.specs.Lines.{word_digits, profile_rule, leaves_line}
 use Rattle.cmd_common.specs.Kinds.{MakeKind}

@@ -5,7 +5,7 @@ ghost use Rattle.host.specs.Host.{SameFiles};
 ghost use Rattle.asm80_types.specs.Program.{is_top, is_start};
 ghost use Rattle.cmd_arguments.specs.ReadCommands.{listing_read};
 ghost use Rattle.cmd_common.specs.Makes.{MakeGives, MakeCompletes};
-ghost use Rattle.leaving.specs.Leaving.{leaving};
+ghost use Rattle.profile_leaving.specs.Leaving.{leaving};
 ghost use Rattle.cmd_lists.specs.Departures.{leaves_kind, HasDepartures, AreLinesOf, AreDepartureLines, departure_line, certainty_text};
 
 use crate::list::{Listed, list};
@@ -14,7 +14,7 @@ use cmd_arguments::Listing;
 use cmd_common::{leaves_line, profile_rule, word_digits};
 use flow::blocks_cut_the_program;
 use host::Host;
-use leaving::{Certainty, Departure, leaving, places_are_left, places_ascend};
+use profile_leaving::{Certainty, Departure, leaving, places_are_left, places_ascend};
 use std::alloc::{AllocError, Global};
 
 /// Lists the places at which a run of the source of a command leaves the profile, and answers the status. The command's top is one that a

@@ -2,8 +2,8 @@ use Rattle.std.proofs.Common.{◌∙◌, [], ◌∷◌, List, length, map, ap, s
 use Rattle.std.specs.String.{string_bytes}
 use Rattle.std.proofs.lemmas.List.{map-append}
 use Rattle.asm80_types.specs.declared.program.Placed.{Placed}
-use Rattle.leaving.specs.declared.departure.Departure.{Departure}
-use Rattle.leaving.specs.Leaving.{leaving}
+use Rattle.profile_leaving.specs.declared.departure.Departure.{Departure}
+use Rattle.profile_leaving.specs.Leaving.{leaving}
 use Rattle.cmd_common.specs.Lines.{leaves_line}
 use Rattle.cmd_lists.specs.Departures.{AreLinesOf}
 use Rattle.cmd_lists.proofs.departures.lines_and_count.Goals as goal

@@ -3,8 +3,8 @@ use Rattle.std.specs.Prelude.{All}
 use Rattle.std.specs.String.{string_bytes}
 use Rattle.std.proofs.lemmas.Result.{IfOk-weaker}
 use Rattle.asm80_types.specs.Program.{is_start}
-use Rattle.leaving.specs.declared.departure.Departure.{Departure}
-use Rattle.leaving.specs.Leaving.{leaving}
+use Rattle.profile_leaving.specs.declared.departure.Departure.{Departure}
+use Rattle.profile_leaving.specs.Leaving.{leaving}
 use Rattle.cmd_lists.specs.Departures.{AreDepartureLines}
 use Rattle.cmd_lists.proofs.Departing.{all_start, lines_some}
 use Rattle.cmd_lists.proofs.departures.DeparturesListed.lines.Goals as goal

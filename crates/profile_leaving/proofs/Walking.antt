@@ -14,8 +14,8 @@ use Rattle.asm80_types.proofs.Lookup.{start_is}
 use Rattle.flow.specs.Blocks.{blocks, leaders, block_at, place_after, IsStraight, BlocksCut}
 use Rattle.flow.proofs.Indexed.{block_at_index}
 use Rattle.sym_terms.specs.Term.{Term, Num}
-use Rattle.leaving.specs.declared.departure.Departure.{Departure}
-use Rattle.leaving.specs.Leaving.{number_in, known_function, is_unlisted, asking, going_on, by_rule, or_else, leaving_where, leaving_at, leaving_from, leaving}
+use Rattle.profile_leaving.specs.declared.departure.Departure.{Departure}
+use Rattle.profile_leaving.specs.Leaving.{number_in, known_function, is_unlisted, asking, going_on, by_rule, or_else, leaving_where, leaving_at, leaving_from, leaving}
 
 -- ---- the number of a term
 

@@ -13,10 +13,10 @@ use Rattle.cpu80_tagged.specs.State.{State80}
 use Rattle.cpu80_tagged.specs.Step.{machine80}
 use Rattle.flow.specs.Blocks.{IsBlockOf, place_after}
 use Rattle.simulation_def.specs.States.{IsState80}
-use Rattle.leaving.specs.declared.departure.Certainty.{Certainty}
-use Rattle.leaving.specs.declared.departure.Certainty.TheVariants.{Sure, May}
-use Rattle.leaving.specs.declared.departure.Departure.{Departure}
-use Rattle.leaving.specs.Leaving.{leaving}
+use Rattle.profile_leaving.specs.declared.departure.Certainty.{Certainty}
+use Rattle.profile_leaving.specs.declared.departure.Certainty.TheVariants.{Sure, May}
+use Rattle.profile_leaving.specs.declared.departure.Departure.{Departure}
+use Rattle.profile_leaving.specs.Leaving.{leaving}
 
 -- a run after more turns, with the replies that it has left; the machine uses no choice
 abbrev pub after : Program → ℕ → Run State80 Rule → Run State80 Rule

@@ -3,9 +3,9 @@ use Rattle.sym_terms.specs.Term.{Term}
 use Rattle.sym_terms.specs.Trees.{tree_in}
 use Rattle.sym_block_def.specs.Outcome.{Held}
 use Rattle.sym_block_def.specs.Block80.{block80}
-use Rattle.leaving.specs.Leaving.{number_in}
-use Rattle.leaving.proofs.Walking.{number_found, some_before}
-use Rattle.leaving.proofs.block.known_function.Goals as goal
+use Rattle.profile_leaving.specs.Leaving.{number_in}
+use Rattle.profile_leaving.proofs.Walking.{number_found, some_before}
+use Rattle.profile_leaving.proofs.block.known_function.Goals as goal
 
 pub run80-requires : goal.run80-requires
 run80-requires c = c.requires (some_before c.args.before c.if-before-eq0.false)

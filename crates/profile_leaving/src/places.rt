@@ -1,6 +1,6 @@
 // The places of a program.
 ghost use Rattle.std.specs.Prelude.{◌≡◌, IfOk};
-ghost use Rattle.leaving.specs.Leaving.{leaving};
+ghost use Rattle.profile_leaving.specs.Leaving.{leaving};
 
 use crate::block::place_of;
 use crate::departure::Departure;

@@ -20,11 +20,11 @@ use Rattle.cpu80_tagged.specs.State.{State80, num_of}
 use Rattle.cpu80_tagged.specs.Effect.{effect, push}
 use Rattle.cpu80_tagged.specs.Call.{Return, call_by, call_system, popped_return, return_after, ask_after}
 use Rattle.cpu80_tagged.specs.Step.{go_on, enter, call, jump, where_holds, act, step80}
-use Rattle.leaving.specs.declared.departure.Certainty.{Certainty}
-use Rattle.leaving.specs.declared.departure.Certainty.TheVariants.{Sure, May}
-use Rattle.leaving.specs.declared.departure.Departure.{Departure}
-use Rattle.leaving.specs.Leaving.{is_unlisted, asking, returning, going_on, by_rule, or_else, leaving_by}
-use Rattle.leaving.specs.Left.{LetsPass}
+use Rattle.profile_leaving.specs.declared.departure.Certainty.{Certainty}
+use Rattle.profile_leaving.specs.declared.departure.Certainty.TheVariants.{Sure, May}
+use Rattle.profile_leaving.specs.declared.departure.Departure.{Departure}
+use Rattle.profile_leaving.specs.Leaving.{is_unlisted, asking, returning, going_on, by_rule, or_else, leaving_by}
+use Rattle.profile_leaving.specs.Left.{LetsPass}
 use Rattle.sym_sound.proofs.Machine80.Blocks.{step_is}
 
 abbrev is_sure : Option Certainty → Bool

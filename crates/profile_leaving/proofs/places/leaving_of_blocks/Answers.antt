@@ -3,9 +3,9 @@ use Rattle.std.specs.List.{cons_option}
 use Rattle.std.proofs.lemmas.List.{length-map}
 use Rattle.std.proofs.lemmas.Result.{IfOk-from_err}
 use Rattle.flow.specs.Blocks.{blocks, leaders}
-use Rattle.leaving.proofs.Walking.{IsFound, next_block, found_more, none_found, all_found}
-use Rattle.leaving.proofs.places.leaving_of_blocks.Goals as goal
-use Rattle.leaving.proofs.places.leaving_of_blocks.Goals.{in-Some+in_ok-push, in_default}
+use Rattle.profile_leaving.proofs.Walking.{IsFound, next_block, found_more, none_found, all_found}
+use Rattle.profile_leaving.proofs.places.leaving_of_blocks.Goals as goal
+use Rattle.profile_leaving.proofs.places.leaving_of_blocks.Goals.{in-Some+in_ok-push, in_default}
 
 pub place_of-requires : goal.place_of-requires
 place_of-requires c =

@@ -14,9 +14,9 @@ use Rattle.asm80_types.specs.Program.{Program, instr_at, is_start}
 use Rattle.flow.specs.Blocks.{blocks, place_after}
 use Rattle.sym_terms.specs.Term.{Term, Num}
 use Rattle.sym_block_def.specs.Block80.{block80}
-use Rattle.leaving.specs.declared.departure.Certainty.{Certainty}
-use Rattle.leaving.specs.declared.departure.Certainty.TheVariants.{Sure, May}
-use Rattle.leaving.specs.declared.departure.Departure.{Departure}
+use Rattle.profile_leaving.specs.declared.departure.Certainty.{Certainty}
+use Rattle.profile_leaving.specs.declared.departure.Certainty.TheVariants.{Sure, May}
+use Rattle.profile_leaving.specs.declared.departure.Departure.{Departure}
 
 -- the number that a term is
 abbrev pub number_in : Term → Option ℕ

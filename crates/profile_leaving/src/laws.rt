@@ -1,7 +1,7 @@
 // Laws: no run of the tagged 8080 passes a place of the list, and the list goes by strictly ascending addresses. They stand on the
 // soundness of outcomes (`sound_80`).
 
-ghost use Rattle.leaving.specs.Left.{PlacesAreLeft, PlacesAscend};
+ghost use Rattle.profile_leaving.specs.Left.{PlacesAreLeft, PlacesAscend};
 
 use flow::blocks_cut_the_program;
 use sym_sound::sound_80;

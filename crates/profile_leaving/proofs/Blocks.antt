@@ -21,11 +21,11 @@ use Rattle.sym_block_def.specs.Block80.{Symbolic80, instrs_from, goto, effect80,
 use Rattle.sym_block_def.proofs.Exits.{exit_falls}
 use Rattle.simulation_def.specs.Runs80.{env80, Takes80, Answers80, BlockRuns80, BlockLeaves80, BlocksRun80}
 use Rattle.simulation_law.proofs.Running.{run_turns, turn_is, runs_any, moved, leaves_stopped}
-use Rattle.leaving.specs.Leaving.{number_in, known_function}
+use Rattle.profile_leaving.specs.Leaving.{number_in, known_function}
 use Rattle.flow.proofs.Further.{instr_behind}
-use Rattle.leaving.proofs.Fronts.{front_may_run}
-use Rattle.leaving.specs.Left.{after, StandsAt, HasLeft}
-use Rattle.leaving.proofs.Stepping.{IsKnown}
+use Rattle.profile_leaving.proofs.Fronts.{front_may_run}
+use Rattle.profile_leaving.specs.Left.{after, StandsAt, HasLeft}
+use Rattle.profile_leaving.proofs.Stepping.{IsKnown}
 
 -- ---- its exit
 

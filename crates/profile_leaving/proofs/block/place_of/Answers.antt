@@ -1,10 +1,10 @@
 use Rattle.std.proofs.Common.{◌∙◌, ◌-◌, ap, arith}
 use Rattle.asm80_types.specs.Program.{instr_at}
 use Rattle.flow.specs.Blocks.{place_after}
-use Rattle.leaving.specs.Leaving.{leaving_where}
-use Rattle.leaving.proofs.Fronts.{front_may_run}
-use Rattle.leaving.proofs.Walking.{last_alone}
-use Rattle.leaving.proofs.block.place_of.Goals as goal
+use Rattle.profile_leaving.specs.Leaving.{leaving_where}
+use Rattle.profile_leaving.proofs.Fronts.{front_may_run}
+use Rattle.profile_leaving.proofs.Walking.{last_alone}
+use Rattle.profile_leaving.proofs.block.place_of.Goals as goal
 
 pub known_function-function-requires : goal.known_function-function-requires
 known_function-function-requires c = λ some. front_may_run c.args.program.now c.args.leader c.args.count (c.args.count - 1) c.requires.straight c.requires.few some (omega arith)

@@ -4,7 +4,7 @@ ghost use Rattle.std.specs.List.{cons_option};
 ghost use Rattle.asm80_types.specs.Program.{instr_at};
 ghost use Rattle.flow.specs.Blocks.{IsStraight};
 ghost use Rattle.sym_block_def.specs.Block80.{MayRun};
-ghost use Rattle.leaving.specs.Leaving.{is_unlisted, asking, going_on, known_function, leaving_where, leaving_from};
+ghost use Rattle.profile_leaving.specs.Leaving.{is_unlisted, asking, going_on, known_function, leaving_where, leaving_from};
 
 use crate::departure::{Certainty, Departure};
 use asm80_types::Program80;

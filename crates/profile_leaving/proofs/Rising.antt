@@ -11,10 +11,10 @@ use Rattle.asm80_types.proofs.Lookup.{length80-positive}
 use Rattle.flow.proofs.Cuts.{flat, flat-cut, offset, block, within_flat, at_flat, Joined, joined_block}
 use Rattle.flow.proofs.Straight.{AreKnown, after_some}
 use Rattle.flow.proofs.Wires.{placed_at}
-use Rattle.leaving.specs.declared.departure.Departure.{Departure}
-use Rattle.leaving.specs.Leaving.{known_function, leaving_where, leaving_at, leaving_from, leaving}
-use Rattle.leaving.specs.Left.{RisesFrom}
-use Rattle.leaving.proofs.Stepping.{listed_at}
+use Rattle.profile_leaving.specs.declared.departure.Departure.{Departure}
+use Rattle.profile_leaving.specs.Leaving.{known_function, leaving_where, leaving_at, leaving_from, leaving}
+use Rattle.profile_leaving.specs.Left.{RisesFrom}
+use Rattle.profile_leaving.proofs.Stepping.{listed_at}
 
 -- from a lower address up too
 lower : (low high : ℕ) (xs : List Departure) → low ≤ high → RisesFrom high xs → RisesFrom low xs

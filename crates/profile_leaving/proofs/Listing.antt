@@ -14,14 +14,14 @@ use Rattle.cpu80_tagged.specs.Step.{step80, machine80}
 use Rattle.flow.specs.Blocks.{blocks, place_after, IsStraight, IsBlockOf, BlocksCut}
 use Rattle.simulation_def.specs.Runs80.{BlocksRun80}
 use Rattle.simulation_law.proofs.Running.{turn_is}
-use Rattle.leaving.specs.declared.departure.Certainty.{Certainty}
-use Rattle.leaving.specs.declared.departure.Certainty.TheVariants.{Sure, May}
-use Rattle.leaving.specs.declared.departure.Departure.{Departure}
-use Rattle.leaving.specs.Leaving.{known_function, leaving_by, leaving_where, leaving_at, leaving_from, leaving}
+use Rattle.profile_leaving.specs.declared.departure.Certainty.{Certainty}
+use Rattle.profile_leaving.specs.declared.departure.Certainty.TheVariants.{Sure, May}
+use Rattle.profile_leaving.specs.declared.departure.Departure.{Departure}
+use Rattle.profile_leaving.specs.Leaving.{known_function, leaving_by, leaving_where, leaving_at, leaving_from, leaving}
 use Rattle.flow.proofs.Further.{instr_behind}
-use Rattle.leaving.specs.Left.{after, StandsAt, HasLeft, Leaves, IsLeft}
-use Rattle.leaving.proofs.Stepping.{Stopping, StepsAway, listed_at, leaves_there}
-use Rattle.leaving.proofs.Blocks.{Arrives, arrives}
+use Rattle.profile_leaving.specs.Left.{after, StandsAt, HasLeft, Leaves, IsLeft}
+use Rattle.profile_leaving.proofs.Stepping.{Stopping, StepsAway, listed_at, leaves_there}
+use Rattle.profile_leaving.proofs.Blocks.{Arrives, arrives}
 
 -- ---- the turn of a step that leaves
 
