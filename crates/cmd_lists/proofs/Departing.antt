@@ -14,7 +14,7 @@ use Rattle.profile_leaving.specs.declared.departure.Certainty.TheVariants.{Sure}
 use Rattle.profile_leaving.specs.declared.departure.Departure.{Departure}
 use Rattle.profile_leaving.specs.Leaving.{leaving}
 use Rattle.flow.proofs.Further.{instr_behind}
-use Rattle.profile_leaving.specs.Left.{IsLeft, PlacesAreLeft, PlacesAscend}
+use Rattle.profile_leaving.specs.Left.{PlaceIsLeft, PlacesAreLeft, PlacesAscend}
 use Rattle.cmd_arguments.specs.Words.{Listing}
 use Rattle.cmd_common.specs.Names.{one_name}
 use Rattle.cmd_common.specs.Lines.{word_digits, profile_rule, leaves_line}
@@ -28,15 +28,15 @@ use Rattle.cmd_lists.specs.Departures.{certainty_text, departure_line, IsDepartu
 abbrev pub any_departure : Departure
 any_departure = record { at = 0; rule = P1; certainty = Sure }
 
-starts_there : (p : Program) → BlocksCut p → (x : Departure) → IsLeft p x → is_start p x.at ≡ true
+starts_there : (p : Program) → BlocksCut p → (x : Departure) → PlaceIsLeft p x → is_start p x.at ≡ true
 starts_there p cut x h =
     let i = instr_behind p h.first h.count h.before (cut.straight h.first h.count h.block) h.within in
     subst (λ a. is_start p a ≡ true) h.place (start_is p (place_after p h.first h.before) i.0 i.1)
 
-pub all_start : (p : Program) → BlocksCut p → (xs : List Departure) → All (IsLeft p) xs → All (λ (x : Departure). is_start p x.at ≡ true) xs
+pub all_start : (p : Program) → BlocksCut p → (xs : List Departure) → All (PlaceIsLeft p) xs → All (λ (x : Departure). is_start p x.at ≡ true) xs
 all_start p cut xs h =
     All-from_get_or (λ (x : Departure). is_start p x.at ≡ true) xs any_departure
-    (λ i lt. starts_there p cut (get_or xs i any_departure) (All-get_or (IsLeft p) xs i any_departure lt h))
+    (λ i lt. starts_there p cut (get_or xs i any_departure) (All-get_or (PlaceIsLeft p) xs i any_departure lt h))
 
 -- ---- one line more
 

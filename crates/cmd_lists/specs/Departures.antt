@@ -9,7 +9,7 @@ use Rattle.profile_leaving.specs.declared.departure.Certainty.{Certainty}
 use Rattle.profile_leaving.specs.declared.departure.Certainty.TheVariants.{Sure, May}
 use Rattle.profile_leaving.specs.declared.departure.Departure.{Departure}
 use Rattle.profile_leaving.specs.Leaving.{leaving}
-use Rattle.profile_leaving.specs.Left.{IsLeft, RisesFrom}
+use Rattle.profile_leaving.specs.Left.{PlaceIsLeft, RisesFrom}
 use Rattle.cmd_arguments.specs.Words.{Listing}
 use Rattle.cmd_common.specs.Lines.{word_digits, profile_rule, leaves_line}
 use Rattle.cmd_common.specs.Kinds.{MakeKind}
@@ -59,4 +59,4 @@ pub record HasDepartures (c : Listing) (old new : HostState) : Type 0 where
   pub are : AreDepartureLines program lines
   pub said : Says old new (concat lines)
   pub ascending : RisesFrom 0x100 (leaving program)
-  pub left : All (IsLeft program) (leaving program)
+  pub left : All (PlaceIsLeft program) (leaving program)

@@ -14,7 +14,7 @@
 //
 // `leaves` (`leaves_kind`): for each place of the list `leaving` its address, its line, its rule and whether a run only may leave there; then
 // how many there are, and how many instructions the program has (`AreDepartureLines`). Clause `left` (`HasDepartures`): after status 0 no
-// run of the tagged 8080 passes a place that was said (`IsLeft`), and the places ascend.
+// run of the tagged 8080 passes a place that was said (`PlaceIsLeft`), and the places ascend.
 #![tactic(auto)]
 
 mod departures;

@@ -14,7 +14,7 @@ use Rattle.cmd_runs.specs.declared.halt.Halt.TheVariants.{By}
 use Rattle.cmd_runs.specs.declared.last.Last.{Last}
 use Rattle.cmd_runs.specs.Ends.{Halts, came_to, halt_of_talk}
 use Rattle.cmd_runs.specs.Keeping.{kept_disk_name}
-use Rattle.cmd_runs.specs.Finishing.{IsLeft, LeaveStops}
+use Rattle.cmd_runs.specs.Finishing.{RunsAreLeft, LeaveStops}
 use Rattle.cmd_runs.specs.Settings.{RunSetting, RunComesTo, IsRunCutOff}
 use Rattle.cmd_runs.specs.Kinds.{RunKind, run_setting, HasRead, IsToRun, no_memory}
 use Rattle.cmd_runs.specs.Works.{RunsMade, WorkHalts, HasLastFrom, HaltsFrom, IsRunMade, unloaded, work_of_one}
@@ -73,7 +73,7 @@ module _ {Loaded : Type 0} (k : RunKind Loaded) where
             let whole : RunComesTo (run_setting k [] loaded) supply o left start mid = subst (λ n. RunComesTo (limited loaded n) supply o left start mid) is run in
             run_is_made begin start mid loaded supply read o line left whole (at begin read whole)
 
-        pub ran_has : IfOk r (IsLeft came None name disk mid new) → IfOk r (HasLastFrom (work_of_one k) (λ begin. IsToRun k begin loaded supply) start new)
+        pub ran_has : IfOk r (RunsAreLeft came None name disk mid new) → IfOk r (HasLastFrom (work_of_one k) (λ begin. IsToRun k begin loaded supply) start new)
         ran_has = left_has (work_of_one k) (λ begin. IsToRun k begin loaded supply) start mid new (one_made o line left) made came name disk came_is name_is disk_is r
 
         pub left_halted : IfErr r (Halts (LeaveStops name disk mid new)) → IfErr r (HaltsFrom (work_of_one k) (λ begin. IsToRun k begin loaded supply) start new)

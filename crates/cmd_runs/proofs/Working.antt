@@ -15,7 +15,7 @@ use Rattle.cmd_runs.specs.declared.last.Last.{Last}
 use Rattle.cmd_runs.specs.Ends.{Halts, halt_of_talk}
 use Rattle.cmd_runs.specs.Keeping.{is_disk_kept, kept_disk_name, KeepsDisk, DiskKeepStops, DiskAlone}
 use Rattle.cmd_runs.specs.Lasts.{SaysEnd}
-use Rattle.cmd_runs.specs.Finishing.{IsLeft, LeaveStops, no_line as wants_line, unkept as loses_disk, IsClosed}
+use Rattle.cmd_runs.specs.Finishing.{RunsAreLeft, LeaveStops, no_line as wants_line, unkept as loses_disk, IsClosed}
 use Rattle.cmd_runs.specs.Kinds.{HasRead}
 use Rattle.cmd_runs.specs.Works.{RunsMade, RunWork, came_by, RunsAreKept, WorkStops, unloaded, no_memory, no_line, unkept, WorkHalts, WorkHasLast, HasLastFrom, HaltsFrom, WorkGives, ran, unsaid, stopped}
 use Rattle.cmd_runs.proofs.Kept.{same_alone, alone_after, alone_then, alone_kept, alone_lost, ending_files}
@@ -28,7 +28,7 @@ module _ (w : RunWork) where
 
   -- where the runs were made, what is left to do was done, or the command halts
   module _ (old mid new : HostState) (m : RunsMade) (made : w.AreMade old mid m) (came : Result ℕ Stop) (name : Option (List ℕ)) (disk : List Stored) (came_is : came ≡ came_by w m) (name_is : name ≡ kept_disk_name w.out_disk m.end.end) (disk_is : disk ≡ m.left.system.disk) where
-    has_last : (last : Last) → IsLeft came m.second name disk mid new last → WorkHasLast w old new last
+    has_last : (last : Last) → RunsAreLeft came m.second name disk mid new last → WorkHasLast w old new last
     has_last last left = record {
       made = m;
       kept = record {
@@ -56,9 +56,9 @@ module _ (w : RunWork) where
   -- the same wherever the command began
   module _ (Stood : HostState → Type 0) (start mid new : HostState) (m : RunsMade) (made : (begin : HostState) → HasRead (Stood begin) begin start → w.AreMade begin mid m) (came : Result ℕ Stop) (name : Option (List ℕ)) (disk : List Stored) (came_is : came ≡ came_by w m) (name_is : name ≡ kept_disk_name w.out_disk m.end.end) (disk_is : disk ≡ m.left.system.disk)
       (r : Result Last Halt) where
-    pub left_has : IfOk r (IsLeft came m.second name disk mid new) → IfOk r (HasLastFrom w Stood start new)
+    pub left_has : IfOk r (RunsAreLeft came m.second name disk mid new) → IfOk r (HasLastFrom w Stood start new)
     left_has h =
-        IfOk-weaker r (IsLeft came m.second name disk mid new) (HasLastFrom w Stood start new) (λ last left begin read. has_last begin mid new m (made begin read) came name disk came_is name_is disk_is last left) h
+        IfOk-weaker r (RunsAreLeft came m.second name disk mid new) (HasLastFrom w Stood start new) (λ last left begin read. has_last begin mid new m (made begin read) came name disk came_is name_is disk_is last left) h
 
     pub left_halts : IfErr r (Halts (LeaveStops name disk mid new)) → IfErr r (HaltsFrom w Stood start new)
     left_halts h =

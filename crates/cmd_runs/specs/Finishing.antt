@@ -14,7 +14,7 @@ use Rattle.cmd_runs.specs.Keeping.{KeepsDisk, DiskKeepStops}
 use Rattle.cmd_runs.specs.Lasts.{SaysEnd}
 
 -- this is to be said last, and the disk was written, if there is a name
-pub record IsLeft (came : Result ℕ Stop) (second : Option ℕ) (name : Option (List ℕ)) (disk : List Stored) (old new : HostState) (last : Last) : Type 0 where
+pub record RunsAreLeft (came : Result ℕ Stop) (second : Option ℕ) (name : Option (List ℕ)) (disk : List Stored) (old new : HostState) (last : Last) : Type 0 where
   pub came_is : last.came ≡ came
   pub second_is : last.second ≡ second
   pub keeps : KeepsDisk name disk old new

@@ -5,7 +5,7 @@ ghost use Rattle.cmd_common.specs.Names.{names_read};
 ghost use Rattle.cmd_runs.specs.Ends.{came_to, Halts};
 ghost use Rattle.cmd_runs.specs.Keeping.{kept_disk_name};
 ghost use Rattle.cmd_runs.specs.Lasts.{IsLastMade};
-ghost use Rattle.cmd_runs.specs.Finishing.{IsLeft, LeaveStops, IsClosed};
+ghost use Rattle.cmd_runs.specs.Finishing.{RunsAreLeft, LeaveStops, IsClosed};
 
 use crate::ends::came_to;
 use crate::halt::Halt;
@@ -30,7 +30,7 @@ pub fn leave_runs<H: Host>(
     disk: &Disk,
 ) -> Result<Last, Halt>
     ensures made { IfOk result IsLastMade }
-    ensures left { IfOk result (IsLeft (came_to run.now.steps line ran) second (kept_disk_name (run_options_read run.now).out_disk ran.end) disk.now (H.state host.old) (H.state host.new)) }
+    ensures left { IfOk result (RunsAreLeft (came_to run.now.steps line ran) second (kept_disk_name (run_options_read run.now).out_disk ran.end) disk.now (H.state host.old) (H.state host.new)) }
     ensures halted { IfErr result (Halts (LeaveStops (kept_disk_name (run_options_read run.now).out_disk ran.end) disk.now (H.state host.old) (H.state host.new))) }
 {
     let came = came_to(ran, run.steps, line);

@@ -37,7 +37,7 @@ line_of_left lines left = shrunk_line (length lines - length left) (sizes_of (st
 
 -- What is left of the lines of a text, which has few enough of them and is shown: a part of them with no more code, whose text has an image,
 -- whose code is read in one way, and which makes the same system calls as the program.
-pub record IsLeft (p : Program) (lines left : List Line86) : Type 0 where
+pub record TextIsLeft (p : Program) (lines left : List Line86) : Type 0 where
   pub few : length lines ≤ most_statements
   pub blocks : ℕ
   pub finding : IsFinding p lines (IsFoundShown blocks)
@@ -58,7 +58,7 @@ module _ (p : Program) (lines : List Line86) (name : List ℕ) (old new : HostSt
   -- what is left was written to the file of a name, and this line says how much it is
   pub record WritesLeft (line : List ℕ) : Type 0 where
     pub left : List Line86
-    pub is : IsLeft p lines left
+    pub is : TextIsLeft p lines left
     pub only : OnlyWrites old new name
     pub written : Rewrites old new name (written_text left)
     pub counted : SameFaults old new
@@ -67,7 +67,7 @@ module _ (p : Program) (lines : List Line86) (name : List ℕ) (old new : HostSt
   -- or nothing is left, and nothing was done; or it was not written
   pub data LosesLeft : Stop → Type 0 where
     nothing_left : {stop : Stop} → new ≡ old → LeftStops p lines stop → LosesLeft stop
-    left_unwritten : {stop : Stop} (left : List Line86) → IsLeft p lines left → WriteStops name (written_text left) old new stop → LosesLeft stop
+    left_unwritten : {stop : Stop} (left : List Line86) → TextIsLeft p lines left → WriteStops name (written_text left) old new stop → LosesLeft stop
 
 module _ (c : Shrink) (old : HostState) where
   -- it was written, and this line is to be said
@@ -77,7 +77,7 @@ module _ (c : Shrink) (old : HostState) where
     pub lines : List Line86
     pub left : List Line86
     pub loads : Loads (check_of c) old read program lines
-    pub is_left : IsLeft program lines left
+    pub is_left : TextIsLeft program lines left
     pub writes : Writes c.output (written_text left) old new
     pub quiet : SameSaid old new
     pub counted : SameFaults old new
@@ -87,7 +87,7 @@ module _ (c : Shrink) (old : HostState) where
   pub data Stops (new : HostState) : Stop → Type 0 where
     unloaded : {stop : Stop} → LoadStops (check_of c) old new stop → Stops new stop
     unshrunk : {stop : Stop} (p : Program) (lines : List Line86) → Loads (check_of c) old new p lines → LeftStops p lines stop → Stops new stop
-    unwritten : {stop : Stop} (read : HostState) (p : Program) (lines left : List Line86) → Loads (check_of c) old read p lines → IsLeft p lines left → WriteStops c.output (written_text left) old new stop → Stops new stop
+    unwritten : {stop : Stop} (read : HostState) (p : Program) (lines left : List Line86) → Loads (check_of c) old read p lines → TextIsLeft p lines left → WriteStops c.output (written_text left) old new stop → Stops new stop
 
   -- what the command gives: what is left was written and the line is said, or its first bytes up to a fault; or the command stops before,
   -- and the line of the stop is said

@@ -5,7 +5,7 @@ ghost use Rattle.asm80_types.specs.Program.{IsProgram};
 ghost use Rattle.asm86_line_types.specs.Image.{Assembles, IsImage, image_of};
 ghost use Rattle.asm86.specs.Stream.{TextGives};
 ghost use Rattle.xlt_core.specs.Names.{Same, IsFinding, Shown};
-ghost use Rattle.cmd_shrink.specs.Shrinks.{line_of_left, IsLeft, LeftStops};
+ghost use Rattle.cmd_shrink.specs.Shrinks.{line_of_left, TextIsLeft, LeftStops};
 
 use asm80_types::Program80;
 use asm86::{Line86, code_size, images_exclude_refusals};
@@ -28,7 +28,7 @@ pub fn leave(alloc: Global, program: &Program80, text: &LoadedText) -> Result<Le
     requires image { IsImage text.now.lines.items text.now.image }
     requires few { length text.now.lines.items < 2 ^ 28 }
     requires gives { (bytes : List ℕ) × TextGives bytes (Ok text.now.lines.items) }
-    ensures left { IfOk result (λ l. IsLeft program.now text.now.lines.items l.lines.items) }
+    ensures left { IfOk result (λ l. TextIsLeft program.now text.now.lines.items l.lines.items) }
     ensures line { IfOk result (λ l. string_bytes l.line ≡ line_of_left text.now.lines.items l.lines.items) }
     ensures stopped { IfErr result (LeftStops program.now text.now.lines.items) }
 {
@@ -47,7 +47,7 @@ fn left_of(alloc: Global, program: &Program80, lines: &[Line86]) -> Result<Left,
     requires few { length lines.now ≤ 2048 }
     requires gives { (bytes : List ℕ) × TextGives bytes (Ok lines.now) }
     requires shown { (blocks : ℕ) × IsFinding program.now lines.now (Shown blocks) }
-    ensures left { IfOk result (λ l. IsLeft program.now lines.now l.lines.items) }
+    ensures left { IfOk result (λ l. TextIsLeft program.now lines.now l.lines.items) }
     ensures line { IfOk result (λ l. string_bytes l.line ≡ line_of_left lines.now l.lines.items) }
     ensures stopped { IfErr result (LeftStops program.now lines.now) }
 {

@@ -19,7 +19,7 @@ use Rattle.profile_leaving.specs.declared.departure.Certainty.TheVariants.{Sure,
 use Rattle.profile_leaving.specs.declared.departure.Departure.{Departure}
 use Rattle.profile_leaving.specs.Leaving.{known_function, leaving_by, leaving_where, leaving_at, leaving_from, leaving}
 use Rattle.flow.proofs.Further.{instr_behind}
-use Rattle.profile_leaving.specs.Left.{after, StandsAt, HasLeft, Leaves, IsLeft}
+use Rattle.profile_leaving.specs.Left.{after, StandsAt, HasLeft, Leaves, PlaceIsLeft}
 use Rattle.profile_leaving.proofs.Stepping.{Stopping, StepsAway, listed_at, leaves_there}
 use Rattle.profile_leaving.proofs.Blocks.{Arrives, arrives}
 
@@ -43,7 +43,7 @@ module _ (p : Program) (r : Run State80 Rule) (at : ℕ) (here : StandsAt p at r
 -- ---- a place of a block
 
 module _ (sound : BlocksRun80) (p : Program) (is : IsProgram p) (cut : BlocksCut p) where
-  at_place : (first count before : ℕ) (x : Departure) → IsBlockOf p first count → before < count → leaving_at p first before ≡ Some x → IsLeft p x
+  at_place : (first count before : ℕ) (x : Departure) → IsBlockOf p first count → before < count → leaving_at p first before ≡ Some x → PlaceIsLeft p x
   at_place first count before x block lt e =
       let i = instr_behind p first count before straight lt in
       record {
@@ -84,24 +84,24 @@ module _ (sound : BlocksRun80) (p : Program) (is : IsProgram p) (cut : BlocksCut
 
   -- ---- the list
 
-  from_place : (first count before n : ℕ) → IsBlockOf p first count → before + n ≤ count → All (IsLeft p) (leaving_from p first before n)
+  from_place : (first count before n : ℕ) → IsBlockOf p first count → before + n ≤ count → All (PlaceIsLeft p) (leaving_from p first before n)
   from_place first count before zero block le = λ k d lt. absurd (omega (arith, lt))
   from_place first count before (suc n) block le = by_place (leaving_at p first before) refl (from_place first count (suc before) n block (omega (arith, le)))
     where
-      by_place : (o : Option Departure) → leaving_at p first before ≡ o → All (IsLeft p) (leaving_from p first (suc before) n) → All (IsLeft p) (cons_option o (leaving_from p first (suc before) n))
+      by_place : (o : Option Departure) → leaving_at p first before ≡ o → All (PlaceIsLeft p) (leaving_from p first (suc before) n) → All (PlaceIsLeft p) (cons_option o (leaving_from p first (suc before) n))
       by_place None e rest = rest
-      by_place (Some x) e rest = All-append (IsLeft p) (x ∷ []) (leaving_from p first (suc before) n) (only x (at_place first count before x block (omega (arith, le)) e)) rest
+      by_place (Some x) e rest = All-append (PlaceIsLeft p) (x ∷ []) (leaving_from p first (suc before) n) (only x (at_place first count before x block (omega (arith, le)) e)) rest
         where
-          only : (x : Departure) → IsLeft p x → All (IsLeft p) (x ∷ [])
+          only : (x : Departure) → PlaceIsLeft p x → All (PlaceIsLeft p) (x ∷ [])
           only x h zero d lt = h
           only x h (suc k) d lt = absurd (omega (arith, lt))
 
-  of_blocks : (bs : List (ℕ × ℕ)) → All (λ (b : ℕ × ℕ). IsBlockOf p b.0 b.1) bs → All (IsLeft p) (flat_map (λ (b : ℕ × ℕ). leaving_from p b.0 0 b.1) bs)
+  of_blocks : (bs : List (ℕ × ℕ)) → All (λ (b : ℕ × ℕ). IsBlockOf p b.0 b.1) bs → All (PlaceIsLeft p) (flat_map (λ (b : ℕ × ℕ). leaving_from p b.0 0 b.1) bs)
   of_blocks [] h = λ k d lt. absurd (omega (arith, lt))
   of_blocks (b ∷ bs) h =
-      All-append (IsLeft p) (leaving_from p b.0 0 b.1) (flat_map (λ (c : ℕ × ℕ). leaving_from p c.0 0 c.1) bs)
+      All-append (PlaceIsLeft p) (leaving_from p b.0 0 b.1) (flat_map (λ (c : ℕ × ℕ). leaving_from p c.0 0 c.1) bs)
       (from_place b.0 b.1 0 b.1 (h 0 b (omega arith)) (omega arith))
       (of_blocks bs (λ k d lt. h (suc k) d (omega (arith, lt))))
 
-  pub places_left : All (IsLeft p) (leaving p)
+  pub places_left : All (PlaceIsLeft p) (leaving p)
   places_left = of_blocks (blocks p) (λ k d lt. All-contains_itself (blocks p) k d lt)

@@ -51,7 +51,7 @@ Leaves May rule s i next = HasLeft next ⊎ LetsPass s i
 
 -- No run passes a place: from the first instruction of its block it has left the profile before it comes there, or it stands there after
 -- as many turns as instructions are before the place, and leaves in the next one.
-pub record IsLeft (p : Program) (x : Departure) : Type 0 where
+pub record PlaceIsLeft (p : Program) (x : Departure) : Type 0 where
   pub first : ℕ
   pub count : ℕ
   pub before : ℕ
@@ -64,7 +64,7 @@ pub record IsLeft (p : Program) (x : Departure) : Type 0 where
 
 -- so it is with each place that is listed
 abbrev pub PlacesAreLeft : Type 0
-PlacesAreLeft = (p : Program) → IsProgram p → All (IsLeft p) (leaving p)
+PlacesAreLeft = (p : Program) → IsProgram p → All (PlaceIsLeft p) (leaving p)
 
 -- places ascend, from an address up
 abbrev pub RisesFrom : ℕ → List Departure → Type 0

@@ -8,7 +8,7 @@ use Rattle.simulation_def.specs.Matches.{DataAreCoded}
 use Rattle.cmd_common.specs.declared.stop.Stop.TheVariants.{OutOfMemory}
 use Rattle.cmd_common.specs.Lines.{shrunk_line}
 use Rattle.cmd_common.proofs.Told.{handed_on}
-use Rattle.cmd_shrink.specs.Shrinks.{LeftStops, IsLeft, no_memory}
+use Rattle.cmd_shrink.specs.Shrinks.{LeftStops, TextIsLeft, no_memory}
 use Rattle.cmd_shrink.proofs.Left.{left_stops}
 use Rattle.cmd_shrink.proofs.leaving.left_of.Goals as goal
 
@@ -55,7 +55,7 @@ returns-clause-left c =
     let blocks = c.requires.shown.0 in
     let finding = c.requires.shown.1 in
     let text = c.in_ok-text.ensures in
-    subst (IsLeft p lines) (sym text.lines)
+    subst (TextIsLeft p lines) (sym text.lines)
     (record {
       few = c.requires.few;
       blocks = blocks;
