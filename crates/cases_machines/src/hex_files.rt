@@ -32,12 +32,20 @@ fn file_text(alloc: Global, program: &Program80) -> Result<String, AllocError> {
     Ok(told)
 }
 
-/// What a HEX file does, of which a space parts the lines: what it asks, and how it ends; or the line that fits nowhere.
+/// What a HEX file does, of which a space parts the lines: what it asks, and how it ends; or the line that fits nowhere. A last `-` says
+/// that no LF stands behind the last line.
 pub fn run(alloc: Global, file: &str) -> Result<String, AllocError> {
+    let (lines, is_unended) = match file.strip_suffix(" -") {
+        Some(lines) => (lines, true),
+        None => (file, false),
+    };
     let mut bytes = Vec::new(alloc);
-    for line in file.split(' ') {
+    for line in lines.split(' ') {
         bytes.extend_from_slice(line.as_bytes())?;
         bytes.push(b'\n')?;
+    }
+    if is_unended {
+        let _ = bytes.pop();
     }
     let mut told = String::new(alloc);
     if bytes.len() > 0x1_0000 {
@@ -71,17 +79,21 @@ fn push_run(alloc: Global, told: &mut String, hex: &HexFile) -> Result<(), Alloc
     write!(told, " at {:04X}", machine.pc())
 }
 
-// Adds what the machine asks, and gives an IN 41H, and all else 0.
+// Adds what the machine asks, and gives an IN 41H, and all else 0; before it a reply that does not fit, which is to be refused and to change
+// nothing.
 fn push_talk(alloc: Global, told: &mut String, machine: &mut Byte80) -> Result<(), AllocError> {
     let Some(event) = machine.asked(alloc)? else {
         return Ok(());
     };
-    let answer = if matches!(event, Event::In(_)) {
-        0x41
+    let (answer, unfit) = if matches!(event, Event::In(_)) {
+        (0x41, 0x100)
     } else {
-        0
+        (0, 1)
     };
     push_event(told, Some(&event))?;
+    if machine.reply(&reply(alloc, unfit), 0) {
+        told.push_str(" took what does not fit")?;
+    }
     if !machine.reply(&reply(alloc, answer), 0) {
         told.push_str(" refused")?;
     }
