@@ -18,6 +18,7 @@ pub enum InputFile {
 }
 
 /// The names of the files that a command reads. The name is empty where it reads no such file.
+#[derive(Clone, Copy)]
 pub struct InputNames<'a> {
     pub first: &'a str,
     pub text: &'a str,
