@@ -11,6 +11,7 @@ use crate::sources::{is_top, plain_index, program_below, program_of, text_index}
 use crate::texts::{lean_lines, whole_text};
 use anyhow::bail;
 use asm80_types::Program80;
+use block_check::{Verdict, check_all_kept};
 use cells::{Keep, Part};
 use std::alloc::{AllocError, Global};
 use sym_run::{Index86, Work};
@@ -255,7 +256,14 @@ fn agreeing(work: &mut Work, program: &Program80, index: &Index86) -> Option<u32
 
 fn agrees_at(work: &mut Work, program: &Program80, index: &Index86, at: u16) -> Option<bool> {
     match run_both(work, program, index, at, 1, Keep::all()) {
-        Some(Ok(())) => Some(outcomes_agree(work)),
+        Some(Ok(())) => Some(outcomes_agree(work) && is_shown_alone(work, program, index, at)),
         _ => None,
+    }
+}
+
+fn is_shown_alone(work: &mut Work, program: &Program80, index: &Index86, at: u16) -> bool {
+    match program.instr_at(at) {
+        Some(_) => check_all_kept(work, program, index, at) == Verdict::Shown,
+        None => false,
     }
 }

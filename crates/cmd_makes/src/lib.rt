@@ -3,9 +3,9 @@
 //
 // Proved: `write_made` writes the bytes of what was made, or tells the fault (`WriteStops`). What a command of this kind gives by its status
 // is said once, of any such command (`MakeGives`), and so is the status that whole bytes have where no call of the host fails
-// (`MakeCompletes`): a command gives its `MakeKind`, which has what the bytes of its file give and what is written of that, and the laws
-// that they give one thing or are refused by one stop (`KindLaws`). Clauses `gives` and `completes` of each are these, with want of memory
-// aside.
+// (`MakeCompletes`): a command gives its `MakeKind`, which has what the bytes of its file give and what is written of that. Clauses `gives`
+// and `completes` of each are these, with want of memory aside; the second rests on what the proofs show of each kind, that bytes give one
+// thing or are refused by one stop (`KindLaws`).
 //
 // `cmd` (`cmd_kind`): after status 0 OUT is the command file of the image that the whole bytes of TEXT have; else the line of the stop with
 // its status, 10 and 13 where the text has no image, 3, 14, 4 and 5 by their causes; status 0 comes exactly where the text has an image.

@@ -29,11 +29,6 @@ abbrev pub is_past : Option Stmt86 → Bool
 is_past (Some (Jcc j (Skip a))) = true
 is_past x = false
 
--- the label of an instruction
-abbrev pub is_label : Option Stmt86 → Bool
-is_label (Some (Mark (At a))) = true
-is_label x = false
-
 abbrev pub one_if : Bool → ℕ
 one_if b = cond b 1 0
 

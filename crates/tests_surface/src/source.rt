@@ -10,15 +10,20 @@ use std::test::Fail;
 pub const SOURCE: &[u8] =
     b"ORG 100H\nMVI C,2\nMVI E,'A'\nCALL 5\nJMP 0\nLAST: DB 'A'+1,'TWO'\nEND\n";
 
-fn statements(alloc: Global) -> Result<Vec<Stmt80>, ReadFault> {
+fn statements(alloc: Global, source: &[u8]) -> Result<Vec<Stmt80>, ReadFault> {
     let mut lines: Lines = Lines::new(alloc)?;
-    lines.feed(SOURCE)?;
+    lines.feed(source)?;
     lines.finish()
 }
 
-/// The program of the source, below 0F000H.
+/// The program of that source, below 0F000H.
 pub fn program(alloc: Global) -> Result<Program80, Fail> {
-    let Ok(statements) = statements(alloc) else {
+    program_of(alloc, SOURCE)
+}
+
+/// The program of a source, below 0F000H.
+pub fn program_of(alloc: Global, source: &[u8]) -> Result<Program80, Fail> {
+    let Ok(statements) = statements(alloc, source) else {
         return Err("the statements")?;
     };
     match assemble(alloc, statements.as_slice(), 0xF000) {
@@ -29,7 +34,7 @@ pub fn program(alloc: Global) -> Result<Program80, Fail> {
 
 #[test]
 fn lines_are_statements(rt: HostRuntime) -> Result<(), Fail> {
-    let Ok(found) = statements(rt.alloc()) else {
+    let Ok(found) = statements(rt.alloc(), SOURCE) else {
         return Err("the statements")?;
     };
     let last = found.as_slice().get(5).ok_or("six statements")?;

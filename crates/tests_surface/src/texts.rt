@@ -1,14 +1,17 @@
-// ASM-86 texts: `templates` and `asm86`.
-use crate::source::program;
+// ASM-86 texts: `templates`, `asm86` and `xlt_core`.
+use crate::source::{SOURCE, program, program_of};
 use asm86::{
     Image86, ImageFault, Jump, Label, Line86, Stmt86, Text86, TextFault, TextRule, Value16, image,
     write_line,
 };
+use cells::Part;
 use i80::{Goal, Instr80};
 use i86::{Instr86, Reg16};
 use std::alloc::{AllocError, Global};
 use std::test::Fail;
+use sym_block_def::Reason;
 use templates::{Sequence, plain_text, prologue, runtime, template};
+use xlt_core::{Finding, validate};
 
 // The plain text of the program, as it is written.
 fn written(alloc: Global) -> Result<Vec<u8>, Fail> {
@@ -69,6 +72,32 @@ fn a_written_text_has_an_image(rt: HostRuntime) -> Result<(), Fail> {
     assert!(rt; image.cells().first().copied() == Some((0x10A, 0x42)));
     assert!(rt; image.offset(Label::At(0x100)) == Some(17));
     assert!(rt; image.offset(Label::User(1)).is_none());
+    Ok(())
+}
+
+// What is found of the written text, as the text of a source; None where it has no image.
+fn finding_of(alloc: Global, source: &[u8]) -> Result<Option<Finding>, Fail> {
+    let program = program_of(alloc, source)?;
+    let text = written(alloc)?;
+    let mut reader = Text86::new(alloc)?;
+    let _ = reader.feed(text.as_slice());
+    let Ok(lines) = reader.finish() else {
+        return Ok(None);
+    };
+    match image(alloc, lines.as_slice()) {
+        Ok(_) => Ok(Some(validate(alloc, &program, lines.as_slice())?)),
+        Err(_) => Ok(None),
+    }
+}
+
+#[test]
+fn a_written_text_is_validated(rt: HostRuntime) -> Result<(), Fail> {
+    let alloc = rt.alloc();
+    // The blocks at 100H and 107H.
+    assert!(rt; finding_of(alloc, SOURCE)? == Some(Finding::Shown(2)));
+    let prints_b = b"ORG 100H\nMVI C,2\nMVI E,'B'\nCALL 5\nJMP 0\nLAST: DB 'A'+1,'TWO'\nEND\n";
+    let differs = Finding::NotShown(0x100, Reason::Kept(Part::E));
+    assert!(rt; finding_of(alloc, prints_b)? == Some(differs));
     Ok(())
 }
 
