@@ -3,5 +3,6 @@ mod Unlisted
 mod Walking
 mod Stepping
 mod Blocks
+mod Keeping
 mod Listing
 mod Rising

@@ -7,10 +7,13 @@ use Rattle.cells.specs.declared.Rule.TheVariants.{P9}
 use Rattle.cells.specs.Conditions.{holds}
 use Rattle.i80.specs.declared.Instr80.{Instr80}
 use Rattle.i80.specs.declared.Instr80.TheVariants.{Jif, Call, Cif}
+use Rattle.dialogue.specs.declared.request.Reply.{Reply}
+use Rattle.dialogue.specs.Replies.{IsReply}
 use Rattle.dialogue.specs.Run.{Run, Going, Stopped, turns}
 use Rattle.asm80_types.specs.Program.{Program, IsProgram, instr_at}
 use Rattle.cpu80_tagged.specs.State.{State80}
 use Rattle.cpu80_tagged.specs.Step.{machine80}
+use Rattle.cpu80_tagged.specs.Start.{IsPage, run80}
 use Rattle.flow.specs.Blocks.{IsBlockOf, place_after}
 use Rattle.simulation_def.specs.States.{IsState80}
 use Rattle.profile_leaving.specs.declared.departure.Certainty.{Certainty}
@@ -65,6 +68,13 @@ pub record PlaceIsLeft (p : Program) (x : Departure) : Type 0 where
 -- so it is with each place that is listed
 abbrev pub PlacesAreLeft : Type 0
 PlacesAreLeft = (p : Program) → IsProgram p → All (PlaceIsLeft p) (leaving p)
+
+-- The states of which that speaks are those that runs have: whatever the page and the replies, a run of a program from its start has no
+-- other one while it goes on.
+abbrev pub RunsKeepStates : Type 0
+RunsKeepStates =
+    (p : Program) (page : List ℕ) (replies : List Reply) (n : ℕ) → IsProgram p → IsPage page → All IsReply replies →
+    (run80 p page replies n).status ≡ Going → IsState80 p (run80 p page replies n).state
 
 -- places ascend, from an address up
 abbrev pub RisesFrom : ℕ → List Departure → Type 0

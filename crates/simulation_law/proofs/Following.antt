@@ -106,7 +106,7 @@ left_bytes {S} {X} m cs (suc n) r h = left_bytes m cs n (turn m cs r) (by_status
     by_status Over = h
     by_status (Stopped x) = h
 
-block_bytes : (bs : List ReplyBlock) → All IsReplyBlock bs → BlocksAreBytes bs
+pub block_bytes : (bs : List ReplyBlock) → All IsReplyBlock bs → BlocksAreBytes bs
 block_bytes [] h = tt
 block_bytes (b ∷ bs) h = ((All-head IsReplyBlock b bs h).bytes, block_bytes bs (All-tail IsReplyBlock b bs h))
 
@@ -194,7 +194,7 @@ module _ (p : Program) (is : IsProgram p) where
     junk_cells RegH = tt
     junk_cells RegL = tt
 
-    state80 : IsState80 p (start80 p page)
+    pub state80 : IsState80 p (start80 p page)
     state80 = record { regs = junk_cells; mem = λ a o. start_cells a; sp = let high = top_high in omega (arith, high) }
 
 start_bytes : (fill page : List ℕ) → IsFill fill → IsPage page → (a : ℕ) → start_byte fill page a < 256

@@ -1,7 +1,7 @@
 mod FollowBlocks
 mod Opening
 mod Memory
-mod Following
+pub mod Following
 mod Examples
 mod Choosing
 mod Same
@@ -13,8 +13,9 @@ mod Meeting
 mod Exits
 pub mod Running
 mod Writes
-mod Asking
-mod Replying
+pub mod Asking
+pub mod Pushing
+pub mod Replying
 pub mod Standing
 pub mod Going
 mod System

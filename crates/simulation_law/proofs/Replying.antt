@@ -169,6 +169,18 @@ IsNotLost B = ⊥
 IsNotLost L = ⊥
 IsNotLost r = Unit {0}
 
+-- what the 8080 holds after a reply
+pub state80_after : (p : Program) (t : State80) (q : Request) (y : Reply) → answer_fits (answer_kind_of q) y.answer ≡ true → BlocksAreBytes y.writes → (place : Place) (sp : ℕ) → IsState80 p t → sp < 0x10000 → IsState80 p (after_reply80 p t place sp q y)
+state80_after p t q y fit bytes place sp is lt = record {
+  regs = answered_cells p (answer_kind_of q) y.answer fit;
+  mem = λ a is_open. by_below a is_open (is_just_below t.sp a && not (is_closed p a));
+  sp = lt;
+}
+  where
+    by_below : (a : ℕ) → is_closed p a ≡ false → (b : Bool) → IsCell p (cond b Junk (put_blocks80 t.mem y.writes a))
+    by_below a is_open true = tt
+    by_below a is_open false = blocks_cells p t.mem y.writes a bytes (is.mem a is_open)
+
 -- states after a reply: `u` is the 8086 where it waits, over memory that is spoiled below the 8080's SP
 
 module _ (p : Program) (offset : Place → Option ℕ) (t : State80) (u : State86) (q : Request) (y : Reply) (passes : ℕ → Bool) (fit : ReplyFits passes q y) (bytes : BlocksAreBytes y.writes) (sight : IsSight p offset t u.mem) where
@@ -193,17 +205,6 @@ module _ (p : Program) (offset : Place → Option ℕ) (t : State80) (u : State8
       by_below a lt is_open true e = subst (λ k. Stands offset (cond (not k) Junk (put_blocks80 t.mem y.writes a)) (put_blocks u.mem y.writes a)) (sym is_open) (written.bytes a)
       by_below a lt is_open false e =
           subst (λ c. Stands offset c (put_blocks u.mem y.writes a)) (blocks_same80 lost t.mem y.writes a (ap (λ k. cond k Junk (t.mem a)) e)) (written.cells a lt is_open)
-
-  pub state80_after : (place : Place) (sp : ℕ) → IsState80 p t → sp < 0x10000 → IsState80 p (after_reply80 p t place sp q y)
-  state80_after place sp is lt = record {
-    regs = answered_cells p (answer_kind_of q) y.answer fit.answer;
-    mem = λ a is_open. by_below a is_open (is_just_below t.sp a && not (is_closed p a));
-    sp = lt;
-  }
-    where
-      by_below : (a : ℕ) → is_closed p a ≡ false → (b : Bool) → IsCell p (cond b Junk (put_blocks80 t.mem y.writes a))
-      by_below a is_open true = tt
-      by_below a is_open false = blocks_cells p offset t.mem y.writes a bytes (is.mem a is_open)
 
   word_small : (h l : ℕ) → h < 256 → l < 256 → word h l < 0x10000
   word_small h l a b = omega (arith, a, b)

@@ -57,6 +57,7 @@ use Rattle.sym_sound.proofs.Machine80.Denoting.{cell_put}
 use Rattle.simulation_law.specs.Linking.{BlocksAreBytes, WriteBytes, BlocksMatch}
 use Rattle.simulation_law.proofs.Exits.{ComesBack}
 use Rattle.simulation_law.proofs.Asking.{AsksSystem, CallsSystem80, leaves, resets, asking, calls_80, number_stands, IsSight, CallStands, asks_same, reply_fits}
+use Rattle.simulation_law.proofs.Pushing.{push_is}
 use Rattle.simulation_law.proofs.Replying.{moved_bytes, memory_after, state80_after, state86_after, moved_parts, IsNotLost, direct_parts}
 use Rattle.simulation_law.proofs.Standing.{StatesStand, parts_on, halves_place, place_halves, as_many, not_next80, not_next86}
 use Rattle.simulation_law.proofs.Going.{Beside, Follows, Lands, here, ran_follows, ends_follow, asks_follow}
@@ -222,15 +223,6 @@ module _ (matched : Matched) where
           absurd (not_next86 d i k.high_byte (length e.loads) same_loads (subst (λ z. agrees z i ≡ true) g.is_high high) k.high)
 
     -- a call of an instruction: both push where it comes back
-    push_is : (h l : Cell) (v : State80) → push80 p t h l ≡ Ok v → (wrap (t.sp + 0xFFFE) + 1 < 0x10000) × (v ≡ record t { sp = wrap (t.sp + 0xFFFE); mem = put80 (put80 t.mem (wrap (t.sp + 0xFFFE)) l) (wrap (t.sp + 0xFFFE) + 1) h })
-    push_is h l v e =
-        let a = then_is (write_word p t (wrap (t.sp + 0xFFFE)) h l) _ v e in
-        let r = write_word_is p t a.0 (wrap (t.sp + 0xFFFE)) h l (wrapped (t.sp + 0xFFFE)) a.1 in
-        (r.0, sym (ok_is _ v a.2) ∙ ap (λ (z : State80). record z { sp = wrap (t.sp + 0xFFFE) }) (sym r.3))
-      where
-        wrapped : (k : ℕ) → wrap k < 0x10000
-        wrapped k = omega arith
-
     pub call : (target : Place) (c : ℕ) → IsFirstOf cut target → IsHeldPlace p (At c) → (v : State80) → push80 p t (Hi (At c)) (Lo (At c)) ≡ Ok v → Called offset (ComesBackTo offset (At c)) (label_of target) u w → u.sp ≡ t.sp → ((r : Part) → has (kept_at keeps target) r ≡ true → StandsIn (places offset) t u r) → 1 ≤ steps → Then (Ran (record v { place = target }))
     call target c first held v pushed at sp parts some =
         subst (λ (z : State80). Then (Ran (record z { place = target }))) (sym v_is)
@@ -253,7 +245,7 @@ module _ (matched : Matched) where
         k = wrap (t.sp + 0xFFFE)
 
         fits : k + 1 < 0x10000
-        fits = (push_is (Hi (At c)) (Lo (At c)) v pushed).0
+        fits = (push_is p t (Hi (At c)) (Lo (At c)) v pushed).0
 
         v80 : State80
         v80 = record t { sp = k; mem = put80 (put80 t.mem k (Lo (At c))) (k + 1) (Hi (At c)); place = target }
@@ -262,7 +254,7 @@ module _ (matched : Matched) where
         u86 = record u { sp = k; mem = put_word u.mem k at.0; ip = at.3.0 }
 
         v_is : v ≡ record t { sp = k; mem = put80 (put80 t.mem k (Lo (At c))) (k + 1) (Hi (At c)) }
-        v_is = (push_is (Hi (At c)) (Lo (At c)) v pushed).1
+        v_is = (push_is p t (Hi (At c)) (Lo (At c)) v pushed).1
 
         same_sp : below u.sp 2 ≡ k
         same_sp = ap (λ s. below s 2) sp
@@ -423,7 +415,7 @@ module _ (matched : Matched) where
                 sp = to.0;
                 parts = λ r h. moved_parts p (places offset) t v (asked a) answer passes rf bytes (s.sight asked_at) a.return.place a.return.sp choice (answers_moved z) refl r;
                 memory = memory_after p (places offset) t v (asked a) answer passes rf bytes (s.sight asked_at);
-                state80 = state80_after p (places offset) t v (asked a) answer passes rf bytes (s.sight asked_at) a.return.place a.return.sp n.is80 to.1;
+                state80 = state80_after p t (asked a) answer rf.answer bytes a.return.place a.return.sp n.is80 to.1;
                 state86 = record { regs = moved_bytes z.regs is.regs; mem = is.mem; sp = wrapped (z.sp + 2); si = is.si; ds = is.ds };
                 dma = ap (Rattle.dialogue.specs.Fits.dma_after (asked a)) (s.dma ∙ n.dma);
               });
@@ -487,7 +479,7 @@ module _ (matched : Matched) where
               sp = sp;
               parts = λ r h. direct_parts p (places offset) t v (asked a) answer passes rf bytes (sight asked_at) (At c) t.sp choice r (kept_not_lost r h);
               memory = memory_after p (places offset) t v (asked a) answer passes rf bytes (sight asked_at);
-              state80 = state80_after p (places offset) t v (asked a) answer passes rf bytes (sight asked_at) (At c) t.sp n.is80 n.is80.sp;
+              state80 = state80_after p t (asked a) answer rf.answer bytes (At c) t.sp n.is80 n.is80.sp;
               state86 = state86_after p (places offset) t v (asked a) answer passes rf bytes (sight asked_at) choice vs;
               dma = ap (Rattle.dialogue.specs.Fits.dma_after (asked a)) n.dma;
             } in

@@ -61,7 +61,8 @@ module _ (p : Program) (offset : Place → Option ℕ) where
   blocks_stand passes m n [] w y h = h
   blocks_stand passes m n (b ∷ bs) w y h = blocks_stand passes (put_bytes80 m b.at b.bytes) (put_bytes n b.at b.bytes) bs w.2 y.1 (bytes_stand m n b.at b.bytes w.0 y.0 h)
 
-  -- what cells hold
+-- what cells hold
+module _ (p : Program) where
   bytes_cells : (m : ℕ → Cell) (at : ℕ) (bs : List ℕ) (a : ℕ) → All (λ n. n < 256) bs → IsCell p (m a) → IsCell p (put_bytes80 m at bs a)
   bytes_cells m at [] a all h = h
   bytes_cells m at (b ∷ bs) a all h = bytes_cells (put80 m at (Num b)) (at + 1) bs a (All-tail (λ n. n < 256) b bs all) (by_place (a == at))
