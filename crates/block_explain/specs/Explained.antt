@@ -76,15 +76,15 @@ pub record SidesDiffer (ours theirs : List ℕ) (p : TermPair) (text : List ℕ)
   pub differ : DiffersIn p differing
   pub is : text ≡ sides_lines ours theirs ++ differing
 
-abbrev pub AreLines : Told → List ℕ → Type 0
-AreLines Nothing text = text ≡ []
-AreLines Lost text = text ≡ codes "lost by INT 224\n"
-AreLines (Sides ours theirs None) text = text ≡ sides_lines ours theirs
-AreLines (Sides ours theirs (Some p)) text = SidesDiffer ours theirs p text
+abbrev pub AreToldLines : Told → List ℕ → Type 0
+AreToldLines Nothing text = text ≡ []
+AreToldLines Lost text = text ≡ codes "lost by INT 224\n"
+AreToldLines (Sides ours theirs None) text = text ≡ sides_lines ours theirs
+AreToldLines (Sides ours theirs (Some p)) text = SidesDiffer ours theirs p text
 
 -- the lines of a reason, of the outcome of a block and that of the text at its label
 abbrev pub Explains : Reason → Outcome → Outcome → List ℕ → Type 0
-Explains reason x y text = AreLines (told reason x y) text
+Explains reason x y text = AreToldLines (told reason x y) text
 
 -- ---- a block
 

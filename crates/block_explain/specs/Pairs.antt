@@ -33,7 +33,7 @@ GivenIfAny pool (Some p) = AreBothGiven pool p
 GivenIfAny pool None = Unit {0}
 
 -- a pair is found where there is one, and stands for it
-pub record Finds (pool : Contents) (trees : Option TermPair) (found : Option PairIds) : Type 0 where
+pub record PairIsFound (pool : Contents) (trees : Option TermPair) (found : Option PairIds) : Type 0 where
   pub given : GivenIfAny pool found
   pub is : trees_if_any pool found ≡ trees
 

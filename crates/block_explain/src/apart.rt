@@ -4,7 +4,7 @@ ghost use Rattle.sym_terms.specs.Trees.{tree_in, IsGiven};
 ghost use Rattle.sym_micro.specs.Stands.{trees_of_actions, ActionsAreGiven};
 ghost use Rattle.sym_micro.specs.Exits.{tree_of_way, tree_of_exit, WayIsGiven, ExitIsGiven};
 ghost use Rattle.block_explain.specs.Apart.{first_apart, if_apart, first_of, action_terms, way_terms, ways_terms, exit_terms};
-ghost use Rattle.block_explain.specs.Pairs.{AreBothGiven, Finds, ActionsStand, AreActionsGiven, tree_of_one};
+ghost use Rattle.block_explain.specs.Pairs.{AreBothGiven, PairIsFound, ActionsStand, AreActionsGiven, tree_of_one};
 
 use crate::smallest::{TermPair, pair};
 use block_check::action_agrees;
@@ -49,7 +49,7 @@ pub fn first_apart(work: &Work, ours: &[Action], theirs: &[Action]) -> ActionPai
 fn if_apart(work: &Work, ours: Term, theirs: Term) -> Option<TermPair>
     requires ours { IsGiven work.now.terms ours }
     requires theirs { IsGiven work.now.terms theirs }
-    ensures { Finds work.now.terms (if_apart (tree_in work.now.terms ours) (tree_in work.now.terms theirs)) result }
+    ensures { PairIsFound work.now.terms (if_apart (tree_in work.now.terms ours) (tree_in work.now.terms theirs)) result }
 {
     if work.agree(ours, theirs) {
         None
@@ -62,7 +62,7 @@ fn if_apart(work: &Work, ours: Term, theirs: Term) -> Option<TermPair>
 fn first_if_apart(work: &Work, first: TermPair, second: TermPair) -> Option<TermPair>
     requires first { AreBothGiven work.now.terms first }
     requires second { AreBothGiven work.now.terms second }
-    ensures { Finds work.now.terms (first_of (if_apart (tree_in work.now.terms first.ours) (tree_in work.now.terms first.theirs)) (if_apart (tree_in work.now.terms second.ours) (tree_in work.now.terms second.theirs))) result }
+    ensures { PairIsFound work.now.terms (first_of (if_apart (tree_in work.now.terms first.ours) (tree_in work.now.terms first.theirs)) (if_apart (tree_in work.now.terms second.ours) (tree_in work.now.terms second.theirs))) result }
 {
     match if_apart(work, first.ours, first.theirs) {
         Some(pair) => Some(pair),
@@ -73,7 +73,7 @@ fn first_if_apart(work: &Work, first: TermPair, second: TermPair) -> Option<Term
 /// The first terms of two loads or stores of one kind that do not agree.
 pub fn action_terms(work: &Work, actions: ActionPair) -> Option<TermPair>
     requires { AreActionsGiven work.now.terms actions }
-    ensures { Finds work.now.terms (action_terms (tree_of_one work.now.terms actions.ours) (tree_of_one work.now.terms actions.theirs)) result }
+    ensures { PairIsFound work.now.terms (action_terms (tree_of_one work.now.terms actions.ours) (tree_of_one work.now.terms actions.theirs)) result }
 {
     match (actions.ours, actions.theirs) {
         (Some(Action::Load8(a)), Some(Action::Load8(b))) => if_apart(work, a, b),
@@ -92,7 +92,7 @@ pub fn action_terms(work: &Work, actions: ActionPair) -> Option<TermPair>
 fn way_terms(work: &Work, one: Way, other: Way) -> Option<TermPair>
     requires one { WayIsGiven work.now.terms one }
     requires other { WayIsGiven work.now.terms other }
-    ensures { Finds work.now.terms (way_terms (tree_of_way work.now.terms one) (tree_of_way work.now.terms other)) result }
+    ensures { PairIsFound work.now.terms (way_terms (tree_of_way work.now.terms one) (tree_of_way work.now.terms other)) result }
 {
     match (one, other) {
         (Way::ByTerms(high, low), Way::ByTerms(x, y)) => {
@@ -113,7 +113,7 @@ fn ways_terms(
     requires otherwise { WayIsGiven work.now.terms ours.1 }
     requires first { WayIsGiven work.now.terms theirs.0 }
     requires second { WayIsGiven work.now.terms theirs.1 }
-    ensures { Finds work.now.terms (ways_terms is_one_order (tree_of_way work.now.terms ours.0) (tree_of_way work.now.terms ours.1) (tree_of_way work.now.terms theirs.0) (tree_of_way work.now.terms theirs.1)) result }
+    ensures { PairIsFound work.now.terms (ways_terms is_one_order (tree_of_way work.now.terms ours.0) (tree_of_way work.now.terms ours.1) (tree_of_way work.now.terms theirs.0) (tree_of_way work.now.terms theirs.1)) result }
 {
     let (first, second) = if is_one_order {
         theirs
@@ -130,7 +130,7 @@ fn ways_terms(
 pub fn exit_terms(work: &Work, one: Exit, other: Exit) -> Option<TermPair>
     requires one { ExitIsGiven work.now.terms one }
     requires other { ExitIsGiven work.now.terms other }
-    ensures { Finds work.now.terms (exit_terms (tree_of_exit work.now.terms one) (tree_of_exit work.now.terms other)) result }
+    ensures { PairIsFound work.now.terms (exit_terms (tree_of_exit work.now.terms one) (tree_of_exit work.now.terms other)) result }
 {
     match (one, other) {
         (Exit::One(way), Exit::One(partner)) => way_terms(work, way, partner),

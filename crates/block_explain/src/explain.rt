@@ -5,7 +5,7 @@ ghost use Rattle.std.specs.String.{string_bytes};
 ghost use Rattle.sym_terms.specs.Trees.{tree_in, IsGiven};
 ghost use Rattle.block_check.specs.Comparing.{AreReady, AreReadyFor, first_outcome, second_of};
 ghost use Rattle.block_explain.specs.Pairs.{IsOneGiven, tree_of_one, trees_if_any, GivenIfAny, trees_of, AreBothGiven};
-ghost use Rattle.block_explain.specs.Explained.{Sides, action_or_none, terms_told, is_lost, sides_lines, DiffersIn, SidesDiffer, AreLines, Explains};
+ghost use Rattle.block_explain.specs.Explained.{Sides, action_or_none, terms_told, is_lost, sides_lines, DiffersIn, SidesDiffer, AreToldLines, Explains};
 
 use crate::apart::{action_terms, exit_terms, first_apart};
 use crate::moves::{action_words, exit_words};
@@ -110,7 +110,7 @@ fn is_lost(work: &Work, part: Part) -> bool
 fn explain_terms(alloc: Global, work: &Work, ours: Term, theirs: Term) -> Result<String, AllocError>
     requires ours { IsGiven work.now.terms ours }
     requires theirs { IsGiven work.now.terms theirs }
-    ensures { IfOk result (λ text. AreLines (terms_told (tree_in work.now.terms ours) (tree_in work.now.terms theirs)) (string_bytes text)) }
+    ensures { IfOk result (λ text. AreToldLines (terms_told (tree_in work.now.terms ours) (tree_in work.now.terms theirs)) (string_bytes text)) }
 {
     let terms = work.terms();
     let one = term_words(alloc, terms, ours)?;
@@ -133,7 +133,7 @@ fn lines(
     apart: Option<TermPair>,
 ) -> Result<String, AllocError>
     requires { GivenIfAny terms.now apart }
-    ensures { IfOk result (λ text. AreLines (Sides ours.now theirs.now (trees_if_any terms.now apart)) (string_bytes text)) }
+    ensures { IfOk result (λ text. AreToldLines (Sides ours.now theirs.now (trees_if_any terms.now apart)) (string_bytes text)) }
 {
     match apart {
         Some(apart) => lines_with_difference(alloc, terms, ours, theirs, apart),

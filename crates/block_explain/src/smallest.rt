@@ -3,7 +3,7 @@
 ghost use Rattle.std.specs.Prelude.{◌≡◌, ◌==◌, ◌∷◌, ◌↔◌, [], IsTrue, cond, filter};
 ghost use Rattle.sym_terms.specs.Numbers.{op_number, part_number};
 ghost use Rattle.block_explain.specs.Smallest.{Smallest, only_one, is_not_one, only_difference};
-ghost use Rattle.block_explain.specs.Pairs.{trees_of, trees_of_all, AreBothGiven, AreAllGiven, Finds};
+ghost use Rattle.block_explain.specs.Pairs.{trees_of, trees_of_all, AreBothGiven, AreAllGiven, PairIsFound};
 
 use cells::Part;
 use i80::Op;
@@ -44,7 +44,7 @@ pub fn smallest_pair(terms: &Terms, pair: TermPair) -> TermPair
 // The one pair of operands that is not one term, of two terms of one operation.
 fn only_difference(terms: &Terms, whole: TermPair) -> Option<TermPair>
     requires { AreBothGiven terms.now whole }
-    ensures { Finds terms.now (only_difference (trees_of terms.now whole)) result }
+    ensures { PairIsFound terms.now (only_difference (trees_of terms.now whole)) result }
 {
     let theirs = terms.head(whole.theirs);
     match terms.head(whole.ours) {
@@ -106,7 +106,7 @@ fn only_difference(terms: &Terms, whole: TermPair) -> Option<TermPair>
 // The pair of two operations that alone is not one term, where the operations are one.
 fn only_one_if(terms: &Terms, is_one: bool, pairs: &[TermPair]) -> Option<TermPair>
     requires { AreAllGiven terms.now pairs.now }
-    ensures { Finds terms.now (only_one (filter is_not_one (cond is_one (trees_of_all terms.now pairs.now) []))) result }
+    ensures { PairIsFound terms.now (only_one (filter is_not_one (cond is_one (trees_of_all terms.now pairs.now) []))) result }
 {
     if is_one { only_one(terms, pairs) } else { None }
 }
@@ -126,7 +126,7 @@ fn is_part(part: Part, other: Part) -> bool
 // The pair that alone is not one term.
 fn only_one(terms: &Terms, pairs: &[TermPair]) -> Option<TermPair>
     requires { AreAllGiven terms.now pairs.now }
-    ensures { Finds terms.now (only_one (filter is_not_one (trees_of_all terms.now pairs.now))) result }
+    ensures { PairIsFound terms.now (only_one (filter is_not_one (trees_of_all terms.now pairs.now))) result }
 {
     let mut rest = pairs;
     while let Some((first, others)) = rest.split_first() {

@@ -15,10 +15,10 @@ use Rattle.cmd_common.specs.OneEnd.{HasStatus}
 use Rattle.cmd_common.proofs.Told.{not_unsaid, closes_status, memory_status}
 use Rattle.cmd_check.specs.Checks.{Shows, not_shown, no_memory as memory_wanting, Stops, unloaded, unlike, CheckGives, shown, stopped}
 use Rattle.cmd_check.specs.Laws.{CheckLaws}
-use Rattle.cmd_check.specs.Completes.{found_count, FilesComeTo, IsFound, CheckCompletes}
+use Rattle.cmd_check.specs.Completes.{found_count, FilesComeTo, CountIsFound, CheckCompletes}
 use Rattle.cmd_check.proofs.Files.{by_loading, by_load_stop}
 
-pub one_found : OneFinding → (p : Program) (lines : List Line86) (r s : Result ℕ Stop) → IsFound p lines r → IsFound p lines s → r ≡ s
+pub one_found : OneFinding → (p : Program) (lines : List Line86) (r s : Result ℕ Stop) → CountIsFound p lines r → CountIsFound p lines s → r ≡ s
 one_found one p lines r s h k = h.2 ∙ ap found_count (one p lines h.0 k.0 h.1 k.1) ∙ sym k.2
 
 module _ (law : CheckLaws) (c : Check) (old new : HostState) (none : NoneFailed old new) (source text : List ℕ) (first : FileIsTold old c.source input_limit source) (second : FileIsTold old c.text text_limit text) (status : ℕ) where
@@ -26,19 +26,19 @@ module _ (law : CheckLaws) (c : Check) (old new : HostState) (none : NoneFailed 
   names = two_names c.source c.text
 
   abbrev Answer : Type 0
-  Answer = HasStatus (FilesComeTo c IsFound source text) status
+  Answer = HasStatus (FilesComeTo c CountIsFound source text) status
 
   by_stop : (mid : HostState) (stop : Stop) → Stops c old mid stop → Closes names stop mid new status → Answer
-  by_stop mid stop (unloaded s) closes = by_load_stop law.files c IsFound (one_found law.finding) old new none source text first second status mid stop s closes
+  by_stop mid stop (unloaded s) closes = by_load_stop law.files c CountIsFound (one_found law.finding) old new none source text first second status mid stop s closes
   by_stop mid _ (unlike p lines l (not_shown {at = at} {reason = reason} h)) closes =
       ⊎_elim (λ e. inl e)
-      (λ e. by_loading law.files c IsFound (one_found law.finding) old new none source text first second status mid p lines l (found_count (NotFound at reason)) (NotFound at reason, h, refl) e)
+      (λ e. by_loading law.files c CountIsFound (one_found law.finding) old new none source text first second status mid p lines l (found_count (NotFound at reason)) (NotFound at reason, h, refl) e)
       (closes_status names (NotShown at reason) mid new status closes)
   by_stop mid _ (unlike p lines l memory_wanting) closes = inl (memory_status names OutOfMemory mid new status refl closes)
 
   pub done : (mid : HostState) (line : List ℕ) → Shows c old mid line → (n : ℕ) → n ≡ status → IsDone line mid new n → Answer
   done mid line h _ e (whole only s same) =
-      by_loading law.files c IsFound (one_found law.finding) old new none source text first second status mid h.program h.lines h.loads (found_count (Shown h.blocks)) (Shown h.blocks, h.shown.finding, refl) (sym e)
+      by_loading law.files c CountIsFound (one_found law.finding) old new none source text first second status mid h.program h.lines h.loads (found_count (Shown h.blocks)) (Shown h.blocks, h.shown.finding, refl) (sym e)
   done mid line h _ e (failed s) = absurd (not_unsaid old mid new none h.loads.reads.counted s.cause)
   done mid line h _ e (no_memory s) = inl (sym e)
 

@@ -9,7 +9,7 @@ use Rattle.asm86.specs.Images.{HasImage}
 use Rattle.asm86.specs.Stream.{TextGives}
 use Rattle.asm86.proofs.Outcomes.{same_lines}
 use Rattle.asm80_types.specs.Program.{Program, IsProgram}
-use Rattle.commented_text.specs.Commented.{kept_of, IsOutput}
+use Rattle.commented_text.specs.Commented.{kept_of, IsWrittenText}
 use Rattle.commented_text.specs.Reading.{ReadsAs}
 use Rattle.templates.specs.declared.translation.Mode.{Mode}
 use Rattle.templates.specs.Translation.{IsText, CodeFits}
@@ -17,7 +17,7 @@ use Rattle.xlt_core.specs.Names.{Finding, Shown, IsFinding}
 use Rattle.cmd_arguments.specs.Words.{Check}
 use Rattle.cmd_common.specs.declared.stop.Stop.{Stop}
 use Rattle.cmd_common.specs.OneEnd.{came_status}
-use Rattle.cmd_check.specs.Completes.{found_count, FilesComeTo, refused, no_image, loaded, IsFound, CheckCompletes}
+use Rattle.cmd_check.specs.Completes.{found_count, FilesComeTo, refused, no_image, loaded, CountIsFound, CheckCompletes}
 use Rattle.cmd_check.specs.Laws.{CheckLaws}
 use Rattle.cmd_check.specs.OwnTexts.{IsTranslation, ShowsOwnText}
 use Rattle.cmd_check.proofs.Files.{has_none}
@@ -27,8 +27,8 @@ pub record OwnLaws : Type 0 where
   pub reads : (mode : Mode) (p : Program) (lines : List Line86) → IsProgram p → IsText mode p lines → TextGives (written_text lines) (Ok lines)
   pub assembles : (mode : Mode) (p : Program) (lines : List Line86) → IsProgram p → IsText mode p lines → CodeFits lines → Assembles lines
   pub shown : (mode : Mode) (p : Program) (lines others : List Line86) (f : Finding) → IsProgram p → IsText mode p lines → CodeFits lines → statements others ≡ statements lines → IsFinding p others f → (blocks : ℕ) × (f ≡ Shown blocks)
-  pub output_reads : (kept : Option (List ℕ)) (mode : Mode) (p : Program) (lines : List Line86) (text : List ℕ) → IsText mode p lines → IsOutput kept p lines text → TextGives (written_text lines) (Ok lines) → ReadsAs lines text
-  pub output_image : (kept : Option (List ℕ)) (p : Program) (lines : List Line86) (text : List ℕ) (image : Image) → IsOutput kept p lines text → HasImage (written_text lines) image → HasImage text image
+  pub output_reads : (kept : Option (List ℕ)) (mode : Mode) (p : Program) (lines : List Line86) (text : List ℕ) → IsText mode p lines → IsWrittenText kept p lines text → TextGives (written_text lines) (Ok lines) → ReadsAs lines text
+  pub output_image : (kept : Option (List ℕ)) (p : Program) (lines : List Line86) (text : List ℕ) (image : Image) → IsWrittenText kept p lines text → HasImage (written_text lines) image → HasImage text image
 
 module _ (law : CheckLaws) (own : OwnLaws) (c : Check) (source text : List ℕ) (t : IsTranslation c.zilog source c.top text) where
   lawful : IsProgram t.program
@@ -53,7 +53,7 @@ module _ (law : CheckLaws) (own : OwnLaws) (c : Check) (source text : List ℕ) 
   found_shown p lines f program give h =
       own.shown t.mode t.program t.lines lines f lawful t.is_text t.fits (same lines give) (subst (λ (q : Program). IsFinding q lines f) program h)
 
-  came : (r : Result ℕ Stop) → FilesComeTo c IsFound source text r → came_status r ≡ 0
+  came : (r : Result ℕ Stop) → FilesComeTo c CountIsFound source text r → came_status r ≡ 0
   came r (refused line rule none e) = absurd ((law.files.source c.zilog).apart source c.top line t.program rule t.is_source none)
   came r (no_image p fault is none e) = absurd (has_none law.files c text image.lines fault image.reads image.assembled.assembles none)
   came r (loaded p lines is give stand h) =

@@ -29,10 +29,10 @@ abbrev pub found_count : Finding → Result ℕ Stop
 found_count (Shown blocks) = Ok blocks
 found_count (NotFound at reason) = Err (NotShown at reason)
 
-abbrev pub IsFound : Program → List Line86 → Result ℕ Stop → Type 0
-IsFound p lines r = (f : Finding) × IsFinding p lines f × (r ≡ found_count f)
+abbrev pub CountIsFound : Program → List Line86 → Result ℕ Stop → Type 0
+CountIsFound p lines r = (f : Finding) × IsFinding p lines f × (r ≡ found_count f)
 
 -- where both files are told and within their limits, the status is that of the one thing, want of memory aside
 abbrev pub CheckCompletes : Check → HostState → HostState → ℕ → Type 0
 CheckCompletes c old new status =
-    NoneFailed old new → (source text : List ℕ) → FileIsTold old c.source input_limit source → FileIsTold old c.text text_limit text → HasStatus (FilesComeTo c IsFound source text) status
+    NoneFailed old new → (source text : List ℕ) → FileIsTold old c.source input_limit source → FileIsTold old c.text text_limit text → HasStatus (FilesComeTo c CountIsFound source text) status

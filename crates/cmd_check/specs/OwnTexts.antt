@@ -7,7 +7,7 @@ use Rattle.asm80_types.specs.Program.{Program}
 use Rattle.asm80_source_def.specs.Source.{IsSource}
 use Rattle.templates.specs.declared.translation.Mode.{Mode}
 use Rattle.templates.specs.Translation.{IsText, CodeFits}
-use Rattle.commented_text.specs.Commented.{kept_of, IsOutput}
+use Rattle.commented_text.specs.Commented.{kept_of, IsWrittenText}
 use Rattle.cmd_arguments.specs.Words.{Check}
 use Rattle.cmd_common.specs.Files.{NoneFailed, FileIsTold, input_limit, text_limit}
 
@@ -21,7 +21,7 @@ pub record IsTranslation (zilog : Bool) (source : List ℕ) (top : ℕ) (text : 
   pub is_text : IsText mode program lines
   pub fits : CodeFits lines
   pub comments : Bool
-  pub is : IsOutput (kept_of comments source) program lines text
+  pub is : IsWrittenText (kept_of comments source) program lines text
 
 -- where no call failed, and the host tells a source, within its limit, and as the text a translation of it for the same top, within its
 -- limit, the status is 0, want of memory aside

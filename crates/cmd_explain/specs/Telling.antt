@@ -21,7 +21,7 @@ first_of None at (Some reason) = Some (at, reason)
 first_of None at None = None
 
 -- the first lines of what is said of a block, between whose first and last instruction it is
-pub record HasHead (p : Program) (first last : ℕ) (reason : Reason) (text : List ℕ) : Type 0 where
+pub record HasFirstLines (p : Program) (first last : ℕ) (reason : Reason) (text : List ℕ) : Type 0 where
   pub from : ℕ
   pub to : ℕ
   pub starts : line_at p first ≡ Some from

@@ -13,7 +13,7 @@ ghost use Rattle.sym_block_def.specs.BlockMatch.{Keeps};
 ghost use Rattle.block_explain.specs.Explained.{IsSaid};
 ghost use Rattle.cmd_explain.specs.Lines.{block_line, source_lines};
 ghost use Rattle.cmd_explain.specs.Explained.{ReasonTold, LabelTold, BlockTold, ends_walk};
-ghost use Rattle.cmd_explain.specs.Telling.{Tells, HasHead};
+ghost use Rattle.cmd_explain.specs.Telling.{Tells, HasFirstLines};
 
 use crate::lines::tell_end;
 use asm80_types::Program80;
@@ -69,7 +69,7 @@ fn head_of(
 ) -> Result<String, AllocError>
     requires first { is_start program.now first ≡ true }
     requires last { is_start program.now last ≡ true }
-    ensures { IfOk result (λ head. HasHead program.now first last reason (string_bytes head)) }
+    ensures { IfOk result (λ head. HasFirstLines program.now first last reason (string_bytes head)) }
 {
     let Some(from) = program.line_at(first) else {
         unreachable!()

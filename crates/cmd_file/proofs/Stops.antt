@@ -6,7 +6,7 @@ use Rattle.std.proofs.lemmas.List.{length-append, length-take-le, length-replica
 use Rattle.std.proofs.lemmas.List.Elements.{All-take, All-append, All-replicate}
 use Rattle.base.specs.Prefixes.{IsPrefixOf, CannotGoOn}
 use Rattle.base.proofs.Fronts.{AreFronts, stops_at}
-use Rattle.cmd_file.specs.CommandFile.{IsCommandFile, IsFile}
+use Rattle.cmd_file.specs.CommandFile.{IsCommandFile, IsCommandFileBytes}
 use Rattle.cmd_file.specs.Header.{may_stand, FitsBelow, code_size, data_size, groups_end, HasHeader}
 use Rattle.cmd_file.proofs.Fitting.{fits_past, fits_front, front_fits, lacks, completed, length-completed, completed_small, completed_fits}
 use Rattle.cmd_file.proofs.Files.{IsSpelt, groups_in, spelt_is_file, file_is_spelt}
@@ -27,7 +27,7 @@ same_end front rest long =
     omega arith
 
 -- a front is one of the file that has zeros in all other places
-goes_on : (front : List ℕ) → IsFront front → (whole : List ℕ) × IsFile whole × IsPrefixOf front whole
+goes_on : (front : List ℕ) → IsFront front → (whole : List ℕ) × IsCommandFileBytes whole × IsPrefixOf front whole
 goes_on front is =
     let header = completed front in
     let more = groups_end header - length header in
@@ -47,7 +47,7 @@ goes_on front is =
     } in
     (whole, (groups_in whole, spelt_is_file whole spelt), (lacks front ++ replicate more 0, append_assoc front (lacks front) (replicate more 0)))
 
-begins : (front whole : List ℕ) → IsFile whole → IsPrefixOf front whole → IsFront front
+begins : (front whole : List ℕ) → IsCommandFileBytes whole → IsPrefixOf front whole → IsFront front
 begins front whole is begin =
     let rest = begin.0 in
     let spelt : IsSpelt (front ++ rest) = subst IsSpelt begin.1 (file_is_spelt whole is.0 is.1).0 in
@@ -60,7 +60,7 @@ begins front whole is begin =
       ];
     }
 
-fronts : AreFronts IsFile IsFront
+fronts : AreFronts IsCommandFileBytes IsFront
 fronts = record { goes_on = goes_on; begins = begins }
 
 same_end_take : (bytes : List ℕ) (k : ℕ) → 12 ≤ k → k ≤ length bytes → groups_end (take k bytes) ≡ groups_end bytes
@@ -71,7 +71,7 @@ fits_take n k bytes below le fits =
     front_fits n (take k bytes) (drop k bytes) (omega (arith, below, length-take-le k bytes le)) (subst (FitsBelow n) (sym (take-append-drop k bytes)) fits)
 
 -- a byte of the header that cannot stand, or is not there
-pub header_stops : (bytes : List ℕ) (k : ℕ) → All (λ b. b < 256) bytes → k < 72 → k ≤ length bytes → FitsBelow k bytes → (k < length bytes → may_stand k (get_or (0 ∷ bytes) k 0) (get_or bytes k 0) ≡ false) → CannotGoOn IsFile bytes k
+pub header_stops : (bytes : List ℕ) (k : ℕ) → All (λ b. b < 256) bytes → k < 72 → k ≤ length bytes → FitsBelow k bytes → (k < length bytes → may_stand k (get_or (0 ∷ bytes) k 0) (get_or bytes k 0) ≡ false) → CannotGoOn IsCommandFileBytes bytes k
 header_stops bytes k small header within fits stops =
     stops_at fronts bytes k within
     (record {
@@ -89,7 +89,7 @@ header_stops bytes k small header within fits stops =
 
 module _ (bytes : List ℕ) (small : All (λ b. b < 256) bytes) (h : HasHeader bytes) where
   -- the groups are not all there
-  pub short_stops : length bytes < groups_end bytes → CannotGoOn IsFile bytes (length bytes)
+  pub short_stops : length bytes < groups_end bytes → CannotGoOn IsCommandFileBytes bytes (length bytes)
   short_stops short =
       stops_at fronts bytes (length bytes) (omega arith)
       (subst IsFront (sym (take_all (length bytes) bytes (omega arith))) (record {
@@ -101,7 +101,7 @@ module _ (bytes : List ℕ) (small : All (λ b. b < 256) bytes) (h : HasHeader b
       (λ end is. let least = (file_is_spelt bytes is.0 is.1).0.least in absurd (omega (arith, least, short)))
 
   -- too much follows the groups
-  pub long_stops : groups_end bytes + 127 < length bytes → CannotGoOn IsFile bytes (groups_end bytes + 127)
+  pub long_stops : groups_end bytes + 127 < length bytes → CannotGoOn IsCommandFileBytes bytes (groups_end bytes + 127)
   long_stops long =
       let k = groups_end bytes + 127 in
       let within : k ≤ length bytes = omega (arith, long) in

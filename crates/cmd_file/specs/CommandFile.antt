@@ -63,5 +63,5 @@ pub record IsCommandFile (bytes : List ℕ) (file : CommandFile) : Type 0 where
   pub groups : file ≡ record { code = layout.code; «data» = layout.data }
 
 -- the bytes are a command file
-abbrev pub IsFile : List ℕ → Type 0
-IsFile bytes = (file : CommandFile) × IsCommandFile bytes file
+abbrev pub IsCommandFileBytes : List ℕ → Type 0
+IsCommandFileBytes bytes = (file : CommandFile) × IsCommandFile bytes file

@@ -21,7 +21,7 @@ use Rattle.cmd_common.specs.Lines.{word_digits, profile_rule, leaves_line}
 use Rattle.cmd_common.specs.Said.{IsDone, whole, failed, no_memory}
 use Rattle.cmd_common.specs.Makes.{HasMade, MakeGives, made, stopped}
 use Rattle.cmd_common.proofs.Said.{never_0}
-use Rattle.cmd_lists.specs.Departures.{certainty_text, departure_line, IsDepartureLine, AreLinesOf, AreDepartureLines, leaves_kind, HasDepartures}
+use Rattle.cmd_lists.specs.Departures.{certainty_text, departure_line, IsDepartureLine, AreLinesOfPlaces, AreDepartureLines, leaves_kind, HasDepartures}
 
 -- ---- an instruction starts at each place
 
@@ -40,21 +40,21 @@ all_start p cut xs h =
 
 -- ---- one line more
 
-lines-append : (p : Program) (xs : List Departure) (ls : List (List ℕ)) (x : Departure) (l : List ℕ) → AreLinesOf p xs ls → IsDepartureLine p x l → AreLinesOf p (xs ++ x ∷ []) (ls ++ l ∷ [])
+lines-append : (p : Program) (xs : List Departure) (ls : List (List ℕ)) (x : Departure) (l : List ℕ) → AreLinesOfPlaces p xs ls → IsDepartureLine p x l → AreLinesOfPlaces p (xs ++ x ∷ []) (ls ++ l ∷ [])
 lines-append p [] [] x l are is = (is, tt)
 lines-append p [] (m ∷ ls) x l are is = absurd are
 lines-append p (y ∷ xs) [] x l are is = absurd are
 lines-append p (y ∷ xs) (m ∷ ls) x l are is = (are.0, lines-append p xs ls x l are.1 is)
 
-pub one_more : (p : Program) (xs : List Departure) (i : ℕ) (d : Departure) (ls : List (List ℕ)) (l : List ℕ) → i < length xs → AreLinesOf p (take i xs) ls → IsDepartureLine p (get_or xs i d) l → AreLinesOf p (take (i + 1) xs) (ls ++ l ∷ [])
-one_more p xs i d ls l lt are is = subst (λ ys. AreLinesOf p ys (ls ++ l ∷ [])) (sym (take_more xs i d lt)) (lines-append p (take i xs) ls (get_or xs i d) l are is)
+pub one_more : (p : Program) (xs : List Departure) (i : ℕ) (d : Departure) (ls : List (List ℕ)) (l : List ℕ) → i < length xs → AreLinesOfPlaces p (take i xs) ls → IsDepartureLine p (get_or xs i d) l → AreLinesOfPlaces p (take (i + 1) xs) (ls ++ l ∷ [])
+one_more p xs i d ls l lt are is = subst (λ ys. AreLinesOfPlaces p ys (ls ++ l ∷ [])) (sym (take_more xs i d lt)) (lines-append p (take i xs) ls (get_or xs i d) l are is)
 
 -- ---- no line is empty
 
 some_line : (x : Departure) (n : ℕ) → 0 < length (departure_line x n)
 some_line x n = omega (arith, length-append (word_digits x.at) (codes " line " ++ (decimal n ++ (codes ": " ++ (certainty_text x.certainty ++ (profile_rule x.rule ++ codes "\n"))))))
 
-some_of_places : (p : Program) (xs : List Departure) (ls : List (List ℕ)) → AreLinesOf p xs ls → All (λ (l : List ℕ). 0 < length l) ls
+some_of_places : (p : Program) (xs : List Departure) (ls : List (List ℕ)) → AreLinesOfPlaces p xs ls → All (λ (l : List ℕ). 0 < length l) ls
 some_of_places p [] [] h = λ k d lt. absurd (omega (arith, lt))
 some_of_places p [] (l ∷ ls) h = absurd h
 some_of_places p (x ∷ xs) [] h = absurd h
@@ -73,7 +73,7 @@ lines_some p ls h =
 same_line : (p : Program) (x : Departure) (a b : List ℕ) → IsDepartureLine p x a → IsDepartureLine p x b → a ≡ b
 same_line p x a b h i = h.is ∙ ap (departure_line x) (same_Some _ _ (sym h.place ∙ i.place)) ∙ sym i.is
 
-same_lines : (p : Program) (xs : List Departure) (ls ms : List (List ℕ)) → AreLinesOf p xs ls → AreLinesOf p xs ms → ls ≡ ms
+same_lines : (p : Program) (xs : List Departure) (ls ms : List (List ℕ)) → AreLinesOfPlaces p xs ls → AreLinesOfPlaces p xs ms → ls ≡ ms
 same_lines p [] [] [] h i = refl
 same_lines p [] [] (m ∷ ms) h i = absurd i
 same_lines p [] (l ∷ ls) ms h i = absurd h

@@ -32,16 +32,16 @@ pub record IsDepartureLine (p : Program) (x : Departure) (line : List ℕ) : Typ
   pub is : line ≡ departure_line x number
 
 -- those of several, one by one
-abbrev pub AreLinesOf : Program → List Departure → List (List ℕ) → Type 0
-AreLinesOf p [] [] = Unit {0}
-AreLinesOf p [] (l ∷ ls) = ⊥
-AreLinesOf p (x ∷ xs) [] = ⊥
-AreLinesOf p (x ∷ xs) (l ∷ ls) = IsDepartureLine p x l × AreLinesOf p xs ls
+abbrev pub AreLinesOfPlaces : Program → List Departure → List (List ℕ) → Type 0
+AreLinesOfPlaces p [] [] = Unit {0}
+AreLinesOfPlaces p [] (l ∷ ls) = ⊥
+AreLinesOfPlaces p (x ∷ xs) [] = ⊥
+AreLinesOfPlaces p (x ∷ xs) (l ∷ ls) = IsDepartureLine p x l × AreLinesOfPlaces p xs ls
 
 -- the lines of a program: one for each of its places, and the last line, which says how many there are of how many instructions
 pub record AreDepartureLines (p : Program) (lines : List (List ℕ)) : Type 0 where
   pub places : List (List ℕ)
-  pub are : AreLinesOf p (leaving p) places
+  pub are : AreLinesOfPlaces p (leaving p) places
   pub is : lines ≡ places ++ leaves_line (length (leaving p)) (length p.instrs) ∷ []
 
 -- the command that lists them

@@ -6,7 +6,7 @@ ghost use Rattle.asm80_types.specs.Program.{is_top, is_start};
 ghost use Rattle.cmd_arguments.specs.ReadCommands.{listing_read};
 ghost use Rattle.cmd_common.specs.Makes.{MakeGives, MakeCompletes};
 ghost use Rattle.profile_leaving.specs.Leaving.{leaving};
-ghost use Rattle.cmd_lists.specs.Departures.{leaves_kind, HasDepartures, AreLinesOf, AreDepartureLines, departure_line, certainty_text};
+ghost use Rattle.cmd_lists.specs.Departures.{leaves_kind, HasDepartures, AreLinesOfPlaces, AreDepartureLines, departure_line, certainty_text};
 
 use crate::list::{Listed, list};
 use asm80_types::Program80;
@@ -73,7 +73,7 @@ fn lines_of(
     places: &[Departure],
 ) -> Result<Vec<String>, AllocError>
     requires { All (λ x. is_start program.now x.at ≡ true) places.now }
-    ensures { IfOk result (λ lines. AreLinesOf program.now places.now (map string_bytes lines.items)) }
+    ensures { IfOk result (λ lines. AreLinesOfPlaces program.now places.now (map string_bytes lines.items)) }
 {
     let mut lines = Vec::new(alloc);
     for place in places {

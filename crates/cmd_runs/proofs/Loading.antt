@@ -8,7 +8,7 @@ use Rattle.cmd_common.specs.declared.names.InputFile.TheVariants.{Console, Disk,
 use Rattle.cmd_common.specs.declared.stop.Stop.{Stop}
 use Rattle.cmd_common.specs.Files.{IsInput, InputStops, input_limit}
 use Rattle.cmd_common.proofs.Before.{whole_before, stops_before}
-use Rattle.cmd_runs.specs.Supplies.{Given, IsDiskFile, DiskFileStops, IsSupplied, SupplyStops, no_input, no_disk_file, no_ports}
+use Rattle.cmd_runs.specs.Supplies.{Given, DiskIsGiven, DiskFileStops, IsSupplied, SupplyStops, no_input, no_disk_file, no_ports}
 
 module _ (old mid new : HostState) (only : OnlyReads old mid) (counted : SameFaults old mid) where
   -- what is told of the files after a first read is told before it
@@ -20,7 +20,7 @@ module _ (old mid new : HostState) (only : OnlyReads old mid) (counted : SameFau
   input_stops_before file None stop s = absurd s
   input_stops_before file (Some name) stop s = stops_before old mid new only counted file name input_limit stop s
 
-  pub disk_before : (name : Option (List ℕ)) (bytes : List ℕ) → IsDiskFile mid name bytes → IsDiskFile old name bytes
+  pub disk_before : (name : Option (List ℕ)) (bytes : List ℕ) → DiskIsGiven mid name bytes → DiskIsGiven old name bytes
   disk_before None bytes w = w
   disk_before (Some name) bytes w = whole_before old mid only name input_limit bytes w
 

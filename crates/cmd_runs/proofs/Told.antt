@@ -7,9 +7,9 @@ use Rattle.cmd_common.specs.declared.stop.Stop.TheVariants.{OutOfMemory}
 use Rattle.cmd_arguments.specs.Words.{RunOptions}
 use Rattle.cmd_common.specs.Files.{input_limit, NoneFailed}
 use Rattle.cmd_common.proofs.Told.{told_whole, told_input, read_stops, input_stops}
-use Rattle.cmd_runs.specs.Supplies.{Given, given_of, IsDiskFile, DiskIsTold, DiskFileStops, IsSupplied, SupplyStops, no_input, no_disk_file, no_ports, SupplyIsTold}
+use Rattle.cmd_runs.specs.Supplies.{Given, given_of, DiskIsGiven, DiskIsTold, DiskFileStops, IsSupplied, SupplyStops, no_input, no_disk_file, no_ports, SupplyIsTold}
 
-told_disk : (old : HostState) (name : Option (List ℕ)) (bytes read : List ℕ) → DiskIsTold old name bytes → IsDiskFile old name read → read ≡ bytes
+told_disk : (old : HostState) (name : Option (List ℕ)) (bytes read : List ℕ) → DiskIsTold old name bytes → DiskIsGiven old name read → read ≡ bytes
 told_disk old None bytes read t w = w ∙ sym t
 told_disk old (Some name) bytes read t w = told_whole old name input_limit bytes read t w
 

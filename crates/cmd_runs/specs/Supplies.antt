@@ -25,9 +25,9 @@ abbrev pub given_of : List ℕ → List ℕ → List ℕ → Given
 given_of input disk ports = record { input = input; disk = disk; ports = ports }
 
 -- the disk's file is a whole file; without the option it is that of a disk without files
-abbrev pub IsDiskFile : HostState → Option (List ℕ) → List ℕ → Type 0
-IsDiskFile old None bytes = bytes ≡ disk_file []
-IsDiskFile old (Some name) bytes = IsWholeFile old name input_limit bytes
+abbrev pub DiskIsGiven : HostState → Option (List ℕ) → List ℕ → Type 0
+DiskIsGiven old None bytes = bytes ≡ disk_file []
+DiskIsGiven old (Some name) bytes = IsWholeFile old name input_limit bytes
 
 abbrev pub DiskIsTold : HostState → Option (List ℕ) → List ℕ → Type 0
 DiskIsTold old None bytes = bytes ≡ disk_file []
@@ -41,14 +41,14 @@ module _ (run : RunOptions) (old : HostState) where
   -- these are the bytes of the files
   pub record IsSupplied (given : Given) : Type 0 where
     pub input : IsInput old run.input given.input
-    pub disk : IsDiskFile old run.disk given.disk
+    pub disk : DiskIsGiven old run.disk given.disk
     pub ports : IsInput old run.ports given.ports
 
   -- why there are none: a file was not read, after those before it
   pub data SupplyStops (new : HostState) : Stop → Type 0 where
     no_input : {stop : Stop} → InputStops Console run.input old new stop → SupplyStops new stop
     no_disk_file : {stop : Stop} (input : List ℕ) → IsInput old run.input input → DiskFileStops run.disk old new stop → SupplyStops new stop
-    no_ports : {stop : Stop} (input disk : List ℕ) → IsInput old run.input input → IsDiskFile old run.disk disk → InputStops Ports run.ports old new stop → SupplyStops new stop
+    no_ports : {stop : Stop} (input disk : List ℕ) → IsInput old run.input input → DiskIsGiven old run.disk disk → InputStops Ports run.ports old new stop → SupplyStops new stop
 
   -- the host tells them, within their limits
   pub record SupplyIsTold (given : Given) : Type 0 where

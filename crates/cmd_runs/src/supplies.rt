@@ -2,7 +2,7 @@
 ghost use Rattle.std.specs.Prelude.{◌≡◌, IfOk, IfErr, OnOk, option_copied, length};
 ghost use Rattle.host.specs.Host.{SameFaults, OnlyReads};
 ghost use Rattle.cmd_arguments.specs.ReadCommands.{run_options_read};
-ghost use Rattle.cmd_runs.specs.Supplies.{given_of, fill_by, IsDiskFile, DiskFileStops, IsSupplied, SupplyStops, HasDisk, DiskStops};
+ghost use Rattle.cmd_runs.specs.Supplies.{given_of, fill_by, DiskIsGiven, DiskFileStops, IsSupplied, SupplyStops, HasDisk, DiskStops};
 
 use bdos_small::{Devices, Disk, DiskFault};
 use cmd_arguments::RunOptions;
@@ -39,7 +39,7 @@ pub fn read_supplies<H: Host>(
 // Reads the disk's file, which without a name is that of a disk without files.
 fn read_disk_file<H: Host>(alloc: Global, host: &mut H, name: Option<&str>) -> Result<Vec<u8>, Stop>
     ensures only { OnlyReads (H.state host.old) (H.state host.new) }
-    ensures read { IfOk result (λ bytes. IsDiskFile (H.state host.old) (option_copied name.entry) bytes.items) }
+    ensures read { IfOk result (λ bytes. DiskIsGiven (H.state host.old) (option_copied name.entry) bytes.items) }
     ensures counted { OnOk result (SameFaults (H.state host.old) (H.state host.new)) }
     ensures stopped { IfErr result (DiskFileStops (option_copied name.entry) (H.state host.old) (H.state host.new)) }
 {

@@ -23,7 +23,7 @@ use Rattle.cmd_check.specs.Checks.{not_shown as is_not_shown, no_memory as memor
 use Rattle.cmd_check.specs.Laws.{CheckLaws}
 use Rattle.cmd_check.specs.Completes.{found_count, FilesComeTo}
 use Rattle.cmd_check.proofs.Files.{by_loading, by_load_stop}
-use Rattle.cmd_shrink.specs.Shrinks.{check_of, too_many, unlike, no_memory as no_room, HasShrunk, Stops, unloaded, unshrunk, unwritten, ShrinkGives, shrunk, stopped}
+use Rattle.cmd_shrink.specs.Shrinks.{check_of_text, too_many, unlike, no_memory as no_room, HasShrunk, Stops, unloaded, unshrunk, unwritten, ShrinkGives, shrunk, stopped}
 use Rattle.cmd_shrink.specs.Completes.{LeavesOut, too_many as too_many_left, not_shown, shrunk as is_shrunk, ShrinkCompletes}
 
 -- what is known of a check, and of what is left
@@ -54,7 +54,7 @@ module _ (law : Laws) (c : Shrink) (old new : HostState) (none : NoneFailed old 
   names = two_names c.source c.text
 
   abbrev Answer : Type 0
-  Answer = HasStatus (FilesComeTo (check_of c) LeavesOut source text) status
+  Answer = HasStatus (FilesComeTo (check_of_text c) LeavesOut source text) status
 
   -- a write that failed counts as such
   by_write : (mid : HostState) (stop : Stop) (fault : HostFault) → WriteFault old mid fault → stop ≡ stop_of_write fault → Closes names stop mid new status → Answer
@@ -63,14 +63,14 @@ module _ (law : Laws) (c : Shrink) (old new : HostState) (none : NoneFailed old 
   by_write mid stop Failed cause e (unsaid n s l) = inl s
 
   by_stop : (mid : HostState) (stop : Stop) → Stops c old mid stop → Closes names stop mid new status → Answer
-  by_stop mid stop (unloaded s) closes = by_load_stop law.check.files (check_of c) LeavesOut (one law) old new none source text first second status mid stop s closes
+  by_stop mid stop (unloaded s) closes = by_load_stop law.check.files (check_of_text c) LeavesOut (one law) old new none source text first second status mid stop s closes
   by_stop mid _ (unshrunk p lines l (too_many many)) closes =
       ⊎_elim (λ e. inl e)
-      (λ e. by_loading law.check.files (check_of c) LeavesOut (one law) old new none source text first second status mid p lines l (Err (TooManyStatements (length lines))) (too_many_left many refl) e)
+      (λ e. by_loading law.check.files (check_of_text c) LeavesOut (one law) old new none source text first second status mid p lines l (Err (TooManyStatements (length lines))) (too_many_left many refl) e)
       (closes_status names (TooManyStatements (length lines)) mid new status closes)
   by_stop mid _ (unshrunk p lines l (unlike few (is_not_shown {at = at} {reason = reason} h))) closes =
       ⊎_elim (λ e. inl e)
-      (λ e. by_loading law.check.files (check_of c) LeavesOut (one law) old new none source text first second status mid p lines l (Err (NotShown at reason)) (not_shown at reason few h refl) e)
+      (λ e. by_loading law.check.files (check_of_text c) LeavesOut (one law) old new none source text first second status mid p lines l (Err (NotShown at reason)) (not_shown at reason few h refl) e)
       (closes_status names (NotShown at reason) mid new status closes)
   by_stop mid _ (unshrunk p lines l (unlike few memory_to_find)) closes = inl (memory_status names OutOfMemory mid new status refl closes)
   by_stop mid _ (unshrunk p lines l no_room) closes = inl (memory_status names OutOfMemory mid new status refl closes)
@@ -78,7 +78,7 @@ module _ (law : Laws) (c : Shrink) (old new : HostState) (none : NoneFailed old 
 
   done : (mid : HostState) (line : List ℕ) → HasShrunk c old mid line → (n : ℕ) → n ≡ status → IsDone line mid new n → Answer
   done mid line h _ e (whole only s same) =
-      by_loading law.check.files (check_of c) LeavesOut (one law) old new none source text first second status h.read h.program h.lines h.loads (Ok (length h.lines - length h.left))
+      by_loading law.check.files (check_of_text c) LeavesOut (one law) old new none source text first second status h.read h.program h.lines h.loads (Ok (length h.lines - length h.left))
       (is_shrunk h.is_left.blocks h.left h.is_left.few h.is_left.finding h.is_left.is refl) (sym e)
   done mid line h _ e (failed s) = absurd (not_unsaid old mid new none h.counted s.cause)
   done mid line h _ e (no_memory s) = inl (sym e)

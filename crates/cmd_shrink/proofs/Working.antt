@@ -9,12 +9,12 @@ use Rattle.cmd_arguments.specs.Words.{Shrink}
 use Rattle.cmd_common.specs.declared.stop.Stop.{Stop}
 use Rattle.cmd_common.proofs.WriteEnds.{writes_behind, fails_behind, wrote}
 use Rattle.cmd_check.specs.Checks.{Loads}
-use Rattle.cmd_shrink.specs.Shrinks.{check_of, WritesLeft, LosesLeft, nothing_left, left_unwritten, HasShrunk, Stops, unshrunk, unwritten}
+use Rattle.cmd_shrink.specs.Shrinks.{check_of_text, WritesLeft, LosesLeft, nothing_left, left_unwritten, HasShrunk, Stops, unshrunk, unwritten}
 
-module _ (c : Shrink) (old mid new : HostState) (p : Program) (lines : List Line86) (loads : Loads (check_of c) old mid p lines) where
+module _ (c : Shrink) (old mid new : HostState) (p : Program) (lines : List Line86) (loads : Loads (check_of_text c) old mid p lines) where
   -- nothing is left, or it was not written
   pub lost : (stop : Stop) → LosesLeft p lines c.output mid new stop → Stops c old new stop
-  lost stop (nothing_left same s) = unshrunk p lines (subst (λ h. Loads (check_of c) old h p lines) (sym same) loads) s
+  lost stop (nothing_left same s) = unshrunk p lines (subst (λ h. Loads (check_of_text c) old h p lines) (sym same) loads) s
   lost stop (left_unwritten left is w) =
       unwritten mid p lines left loads is
       (record { fault = w.fault; is = w.is; fails = fails_behind old mid new c.output (written_text left) w.fault loads.reads.only w.fails })

@@ -12,7 +12,7 @@ use Rattle.cmd_common.specs.declared.stop.Stop.TheVariants.{NotShown, TooManySta
 use Rattle.cmd_common.specs.Files.{NoneFailed, FileIsTold, input_limit, text_limit}
 use Rattle.cmd_common.specs.OneEnd.{HasStatus}
 use Rattle.cmd_check.specs.Completes.{FilesComeTo}
-use Rattle.cmd_shrink.specs.Shrinks.{check_of, most_statements}
+use Rattle.cmd_shrink.specs.Shrinks.{check_of_text, most_statements}
 
 -- a text with an image has too many statements; or it is not shown; or it is, and so many lines are left out of it
 pub data LeavesOut (p : Program) (lines : List Line86) : Result ℕ Stop → Type 0 where
@@ -23,4 +23,4 @@ pub data LeavesOut (p : Program) (lines : List Line86) : Result ℕ Stop → Typ
 -- where both files are told and within their limits, the status is that of the one thing, want of memory aside
 abbrev pub ShrinkCompletes : Shrink → HostState → HostState → ℕ → Type 0
 ShrinkCompletes c old new status =
-    NoneFailed old new → (source text : List ℕ) → FileIsTold old c.source input_limit source → FileIsTold old c.text text_limit text → HasStatus (FilesComeTo (check_of c) LeavesOut source text) status
+    NoneFailed old new → (source text : List ℕ) → FileIsTold old c.source input_limit source → FileIsTold old c.text text_limit text → HasStatus (FilesComeTo (check_of_text c) LeavesOut source text) status

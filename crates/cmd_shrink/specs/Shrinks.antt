@@ -24,8 +24,8 @@ use Rattle.cmd_common.specs.Writing.{Writes, WriteStops}
 use Rattle.cmd_check.specs.Checks.{Loads, LoadStops, FindStops}
 
 -- the check of the text as it is
-abbrev pub check_of : Shrink → Check
-check_of c = record { source = c.source; text = c.text; zilog = false; top = c.top }
+abbrev pub check_of_text : Shrink → Check
+check_of_text c = record { source = c.source; text = c.text; zilog = false; top = c.top }
 
 -- the most statements that a text may have
 abbrev pub most_statements : ℕ
@@ -76,7 +76,7 @@ module _ (c : Shrink) (old : HostState) where
     pub program : Program
     pub lines : List Line86
     pub left : List Line86
-    pub loads : Loads (check_of c) old read program lines
+    pub loads : Loads (check_of_text c) old read program lines
     pub is_left : TextIsLeft program lines left
     pub writes : Writes c.output (written_text left) old new
     pub quiet : SameSaid old new
@@ -85,9 +85,9 @@ module _ (c : Shrink) (old : HostState) where
 
   -- why it was not: the files were not loaded; nothing is left of the text; or a write failed
   pub data Stops (new : HostState) : Stop → Type 0 where
-    unloaded : {stop : Stop} → LoadStops (check_of c) old new stop → Stops new stop
-    unshrunk : {stop : Stop} (p : Program) (lines : List Line86) → Loads (check_of c) old new p lines → LeftStops p lines stop → Stops new stop
-    unwritten : {stop : Stop} (read : HostState) (p : Program) (lines left : List Line86) → Loads (check_of c) old read p lines → TextIsLeft p lines left → WriteStops c.output (written_text left) old new stop → Stops new stop
+    unloaded : {stop : Stop} → LoadStops (check_of_text c) old new stop → Stops new stop
+    unshrunk : {stop : Stop} (p : Program) (lines : List Line86) → Loads (check_of_text c) old new p lines → LeftStops p lines stop → Stops new stop
+    unwritten : {stop : Stop} (read : HostState) (p : Program) (lines left : List Line86) → Loads (check_of_text c) old read p lines → TextIsLeft p lines left → WriteStops c.output (written_text left) old new stop → Stops new stop
 
   -- what the command gives: what is left was written and the line is said, or its first bytes up to a fault; or the command stops before,
   -- and the line of the stop is said

@@ -5,7 +5,7 @@ ghost use Rattle.asm80_types.specs.Program.{is_top};
 ghost use Rattle.asm86_line_types.specs.Image.{IsImage};
 ghost use Rattle.asm86.specs.Stream.{TextGives};
 ghost use Rattle.cmd_arguments.specs.ReadCommands.{check_read, shrink_read};
-ghost use Rattle.cmd_shrink.specs.Shrinks.{check_of, WritesLeft, LosesLeft, HasShrunk, Stops, ShrinkGives, ShrunkHeadline};
+ghost use Rattle.cmd_shrink.specs.Shrinks.{check_of_text, WritesLeft, LosesLeft, HasShrunk, Stops, ShrinkGives, ShrunkHeadline};
 ghost use Rattle.cmd_shrink.specs.Completes.{ShrinkCompletes};
 
 use crate::leaving::leave;
@@ -51,7 +51,7 @@ fn work<H: Host>(alloc: Global, host: &mut H, command: &Shrink<'_>) -> Result<St
     ensures worked { IfOk result (λ line. HasShrunk (shrink_read command.now) (H.state host.old) (H.state host.new) (string_bytes line)) }
     ensures stopped { IfErr result (Stops (shrink_read command.now) (H.state host.old) (H.state host.new)) }
 {
-    let check = check_of(command);
+    let check = check_of_text(command);
     let loaded = load(alloc, host, &check)?;
     write_left(alloc, host, command.output, &loaded)
 }
@@ -75,8 +75,8 @@ fn write_left<H: Host>(
 }
 
 // The check of the text as it is.
-fn check_of<'a>(command: &Shrink<'a>) -> Check<'a>
-    ensures { check_read result ≡ check_of (shrink_read command.now) }
+fn check_of_text<'a>(command: &Shrink<'a>) -> Check<'a>
+    ensures { check_read result ≡ check_of_text (shrink_read command.now) }
 {
     Check {
         source: command.source,

@@ -6,7 +6,7 @@ use Rattle.host.specs.Host.{HostState, Holds, Missing, IsFile, HasRisen, Says, O
 use Rattle.host.proofs.HostLemmas.{SameFaults-trans, risen_on, fault_after}
 use Rattle.asm86_line_types.specs.Image.{Assembles, Image, image_of}
 use Rattle.asm86.specs.Images.{HasImage}
-use Rattle.commented_text.specs.Commented.{kept_of, IsOutput}
+use Rattle.commented_text.specs.Commented.{kept_of, IsWrittenText}
 use Rattle.commented_text.specs.Reading.{ReadsAs}
 use Rattle.asm86_line_types.specs.Written.{written_text}
 use Rattle.asm86.specs.Stream.{TextGives}
@@ -43,8 +43,8 @@ pub record TextLaw : Type 0 where
 
 -- the law of commented texts
 pub record CommentLaw : Type 0 where
-  pub reads : (kept : Option (List ℕ)) (mode : Mode) (p : Program) (lines : List Line86) (text : List ℕ) → IsText mode p lines → IsOutput kept p lines text → TextGives (written_text lines) (Ok lines) → ReadsAs lines text
-  pub image : (kept : Option (List ℕ)) (p : Program) (lines : List Line86) (text : List ℕ) (image : Image) → IsOutput kept p lines text → HasImage (written_text lines) image → HasImage text image
+  pub reads : (kept : Option (List ℕ)) (mode : Mode) (p : Program) (lines : List Line86) (text : List ℕ) → IsText mode p lines → IsWrittenText kept p lines text → TextGives (written_text lines) (Ok lines) → ReadsAs lines text
+  pub image : (kept : Option (List ℕ)) (p : Program) (lines : List Line86) (text : List ℕ) (image : Image) → IsWrittenText kept p lines text → HasImage (written_text lines) image → HasImage text image
 
 -- code that fits is not too large
 not_both : OneText → (mode : Mode) (p : Program) (lines : List Line86) (size : ℕ) → IsText mode p lines → CodeFits lines → IsTooLarge mode p size → ⊥

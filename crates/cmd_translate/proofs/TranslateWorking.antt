@@ -6,7 +6,7 @@ use Rattle.host.proofs.HostLemmas.{SameFaults-trans}
 use Rattle.asm86_line_types.specs.declared.line.Line86.{Line86}
 use Rattle.asm80_types.specs.Program.{Program}
 use Rattle.asm80_source_def.specs.Source.{IsSource, OfLine, OfProgram}
-use Rattle.commented_text.specs.Commented.{kept_of, IsOutput}
+use Rattle.commented_text.specs.Commented.{kept_of, IsWrittenText}
 use Rattle.cmd_arguments.specs.Words.{Translate}
 use Rattle.templates.specs.declared.translation.Mode.{Mode}
 use Rattle.templates.specs.declared.translation.Mode.TheVariants.{Plain, Lean}
@@ -47,7 +47,7 @@ module _ (c : Translate) (old mid new : HostState) (bytes : List ℕ) (file : Is
   text_stop p source _ no_room = no_memory reads
 
   module _ (p : Program) (source : IsSource (reading_of c.zilog) bytes c.top p) where
-    abbrev accepts : (lines : List Line86) (out : List ℕ) → IsText (mode_of c.plain) p lines → CodeFits lines → IsOutput (kept_of c.comments bytes) p lines out → Accepts c old p lines
+    abbrev accepts : (lines : List Line86) (out : List ℕ) → IsText (mode_of c.plain) p lines → CodeFits lines → IsWrittenText (kept_of c.comments bytes) p lines out → Accepts c old p lines
     accepts lines out text fits is = record { bytes = bytes; file = file; source = source; text = text; fits = fits; out = out; written = is }
 
     -- there is no text, or its writing failed

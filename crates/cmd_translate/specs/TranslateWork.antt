@@ -4,7 +4,7 @@ use Rattle.host.specs.Host.{HostState, SameSaid, SameFaults, OnlyReads, OnlyWrit
 use Rattle.asm86_line_types.specs.declared.line.Line86.{Line86}
 use Rattle.asm80_types.specs.Program.{Program}
 use Rattle.asm80_source_def.specs.Source.{SourceRule}
-use Rattle.commented_text.specs.Commented.{kept_of, IsOutput}
+use Rattle.commented_text.specs.Commented.{kept_of, IsWrittenText}
 use Rattle.cmd_arguments.specs.Words.{Translate}
 use Rattle.cmd_common.specs.declared.names.InputFile.TheVariants.{First}
 use Rattle.cmd_common.specs.declared.stop.Stop.{Stop}
@@ -31,7 +31,7 @@ pub record ReadsKept (c : Translate) (old : HostState) (outcome : Result Program
 -- what is written for a program's lines took the place of what the file of a name held, or the write ended early
 pub record WritesOut (kept : Option (List ℕ)) (p : Program) (lines : List Line86) (name : List ℕ) (old new : HostState) (result : Result (Unit {0}) Stop) : Type 0 where
   pub out : List ℕ
-  pub is : IsOutput kept p lines out
+  pub is : IsWrittenText kept p lines out
   pub written : OnOk result (Rewrites old new name out)
   pub stopped : IfErr result (WriteStops name out old new)
 
@@ -42,7 +42,7 @@ module _ (mode : Mode) (kept : Option (List ℕ)) (p : Program) (name : List ℕ
     pub text : IsText mode p lines
     pub fits : CodeFits lines
     pub out : List ℕ
-    pub is : IsOutput kept p lines out
+    pub is : IsWrittenText kept p lines out
     pub only : OnlyWrites old new name
     pub written : Rewrites old new name out
     pub counted : SameFaults old new
@@ -51,7 +51,7 @@ module _ (mode : Mode) (kept : Option (List ℕ)) (p : Program) (name : List ℕ
   -- or there is no such text, and nothing was done; or it was not written
   pub data LosesText : Stop → Type 0 where
     no_text : {stop : Stop} → new ≡ old → TextStops mode p stop → LosesText stop
-    not_written : {stop : Stop} (lines : List Line86) (out : List ℕ) → IsText mode p lines → CodeFits lines → IsOutput kept p lines out → WriteStops name out old new stop → LosesText stop
+    not_written : {stop : Stop} (lines : List Line86) (out : List ℕ) → IsText mode p lines → CodeFits lines → IsWrittenText kept p lines out → WriteStops name out old new stop → LosesText stop
 
 -- the source was read and the text of its program written; the line says how much it was
 pub record Works (c : Translate) (old new : HostState) (text : List ℕ) : Type 0 where

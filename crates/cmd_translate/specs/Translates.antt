@@ -7,7 +7,7 @@ use Rattle.asm86_line_types.specs.Image.{Image}
 use Rattle.asm80_types.specs.Program.{Program}
 use Rattle.asm80_source_def.specs.Source.{IsSource, SourceRule, IsNoSource}
 use Rattle.host_files.specs.Transfer.{IsLonger, CutsLine}
-use Rattle.commented_text.specs.Commented.{kept_of, IsOutput}
+use Rattle.commented_text.specs.Commented.{kept_of, IsWrittenText}
 use Rattle.commented_text.specs.Reading.{ReadsAs}
 use Rattle.cmd_arguments.specs.Words.{Translate}
 use Rattle.i86.specs.Decode.{HasReader}
@@ -45,7 +45,7 @@ module _ (c : Translate) (old : HostState) where
     pub text : IsText (mode_of c.plain) p lines
     pub fits : CodeFits lines
     pub out : List ℕ
-    pub written : IsOutput (kept_of c.comments bytes) p lines out
+    pub written : IsWrittenText (kept_of c.comments bytes) p lines out
 
   -- the source's file is refused at a line for a rule
   pub record Refuses (line : ℕ) (rule : SourceRule) : Type 0 where

@@ -11,7 +11,7 @@ use Rattle.asm86_line_types.specs.Written.{written_line, written_text}
 use Rattle.flow.specs.Blocks.{cut_from}
 use Rattle.templates.specs.Plain.{prologue, runtime, data_from, ending, numbered_from}
 use Rattle.templates.specs.Style.{Style, is_pair, knows_function, written_in_style, label_within, block_from, block_in_style, blocks_of, styled_statements}
-use Rattle.commented_text.specs.Groups.{Group, label_if, groups_from, groups_of_blocks, groups}
+use Rattle.commented_text.specs.Groups.{InstructionGroup, label_if, groups_from, groups_of_blocks, groups}
 use Rattle.commented_text.specs.Commented.{written, commented_groups, Commented}
 use Rattle.commented_text.proofs.WholeReading.{AreWhole, none, both}
 use Rattle.commented_text.proofs.Ends.{line_ends}
@@ -20,8 +20,8 @@ use Rattle.commented_text.proofs.Source.{HasNoLf, all_take, all_drop, lines_have
 
 -- ---- the statements of the groups are those of the text
 
-abbrev pub statements_in : List Group → List Stmt86
-statements_in gs = flat_map (λ (g : Group). g.statements) gs
+abbrev pub statements_in : List InstructionGroup → List Stmt86
+statements_in gs = flat_map (λ (g : InstructionGroup). g.statements) gs
 
 from_one : (s : Style) (labelled first c : Bool) (x : Placed) (xs : List Placed) → statements_in (groups_from s labelled first c (x ∷ xs)) ≡ label_if labelled x ++ block_from s first c (x ∷ xs)
 from_one s labelled first c x [] = append_assoc (label_if labelled x) (written_in_style s first (is_pair s x []) c x) []
@@ -36,7 +36,7 @@ of_block s (x ∷ xs) = from_one s true false false x xs
 pub of_blocks : (s : Style) (bs : List (List Placed)) → statements_in (groups_of_blocks s bs) ≡ blocks_of s bs
 of_blocks s [] = refl
 of_blocks s (b ∷ bs) =
-    flat_map-append (λ (g : Group). g.statements) (groups_from s true false false b) (groups_of_blocks s bs)
+    flat_map-append (λ (g : InstructionGroup). g.statements) (groups_from s true false false b) (groups_of_blocks s bs)
     ∙ ap (λ (t : List Stmt86). t ++ statements_in (groups_of_blocks s bs)) (of_block s b)
     ∙ ap (λ (t : List Stmt86). block_in_style s b ++ t) (of_blocks s bs)
 
@@ -55,7 +55,7 @@ written-both xs ys = flat_map-append written_line xs ys
 
 -- ---- comments among them
 
-commented_weaves : (stood : ℕ) (lines : List (List ℕ)) (gs : List Group) → AllByRecursion HasNoLf lines → Weaves (written (statements_in gs)) (commented_groups stood lines gs)
+commented_weaves : (stood : ℕ) (lines : List (List ℕ)) (gs : List InstructionGroup) → AllByRecursion HasNoLf lines → Weaves (written (statements_in gs)) (commented_groups stood lines gs)
 commented_weaves stood lines [] h = weaves_comments lines h
 commented_weaves stood lines (g ∷ gs) h =
     let due = g.line - stood in

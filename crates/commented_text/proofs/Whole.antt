@@ -15,7 +15,7 @@ use Rattle.flow.specs.Blocks.{cut_from}
 use Rattle.flow.proofs.Cuts.{flat, flat-cut}
 use Rattle.templates.proofs.Pairs.{BeginsByLahf, pair_last, pair_next}
 use Rattle.templates.specs.Style.{Style, is_pair, knows_function, written_in_style, blocks_of, styled_statements, styled}
-use Rattle.commented_text.specs.Groups.{Group, label_if, groups_from, groups_of_blocks, groups}
+use Rattle.commented_text.specs.Groups.{InstructionGroup, label_if, groups_from, groups_of_blocks, groups}
 use Rattle.commented_text.specs.Commented.{comments, written, commented_groups, commented}
 use Rattle.commented_text.specs.Sizes.{group_size}
 use Rattle.commented_text.proofs.Texts.{statements_in, of_blocks}
@@ -29,13 +29,13 @@ use Rattle.commented_text.proofs.Cutting.{is_fresh, IsCut, written_cut}
 abbrev CutsOff : Instr80 → List Stmt86 → Type 0
 CutsOff i own = (rest : List Stmt86) → is_fresh rest ≡ true → (group_size i (own ++ rest) ≡ length own) × (is_fresh (own ++ rest) ≡ true)
 
-abbrev AreGroups : List Placed → List Group → Type 0
+abbrev AreGroups : List Placed → List InstructionGroup → Type 0
 AreGroups [] [] = Unit {0}
 AreGroups [] (g ∷ gs) = ⊥
 AreGroups (x ∷ xs) [] = ⊥
 AreGroups (x ∷ xs) (g ∷ gs) = (g.line ≡ x.line) × CutsOff x.instr g.statements × AreGroups xs gs
 
-groups_both : (xs ys : List Placed) (gs hs : List Group) → AreGroups xs gs → AreGroups ys hs → AreGroups (xs ++ ys) (gs ++ hs)
+groups_both : (xs ys : List Placed) (gs hs : List InstructionGroup) → AreGroups xs gs → AreGroups ys hs → AreGroups (xs ++ ys) (gs ++ hs)
 groups_both [] ys [] hs p q = q
 groups_both [] ys (g ∷ gs) hs p q = absurd p
 groups_both (x ∷ xs) ys [] hs p q = absurd p
@@ -82,7 +82,7 @@ program_groups s p is =
 
 -- ---- so they are cut off one after the other
 
-all_fresh : (xs : List Placed) (gs : List Group) (tail : List Stmt86) → AreGroups xs gs → is_fresh tail ≡ true → is_fresh (statements_in gs ++ tail) ≡ true
+all_fresh : (xs : List Placed) (gs : List InstructionGroup) (tail : List Stmt86) → AreGroups xs gs → is_fresh tail ≡ true → is_fresh (statements_in gs ++ tail) ≡ true
 all_fresh [] [] tail h f = f
 all_fresh [] (g ∷ gs) tail h f = absurd h
 all_fresh (x ∷ xs) [] tail h f = absurd h
@@ -90,7 +90,7 @@ all_fresh (x ∷ xs) (g ∷ gs) tail h f =
     let rest = statements_in gs ++ tail in
     rw (append_assoc g.statements (statements_in gs) tail) (h.1 rest (all_fresh xs gs tail h.2 f)).1
 
-pub left_is : (stood : ℕ) (lines : List (List ℕ)) (xs : List Placed) (gs : List Group) (tail : List Stmt86) → AreGroups xs gs → is_fresh tail ≡ true → groups_left stood lines xs (statements_in gs ++ tail) ≡ commented_groups stood lines gs ++ written tail
+pub left_is : (stood : ℕ) (lines : List (List ℕ)) (xs : List Placed) (gs : List InstructionGroup) (tail : List Stmt86) → AreGroups xs gs → is_fresh tail ≡ true → groups_left stood lines xs (statements_in gs ++ tail) ≡ commented_groups stood lines gs ++ written tail
 left_is stood lines [] [] tail h f = refl
 left_is stood lines [] (g ∷ gs) tail h f = absurd h
 left_is stood lines (x ∷ xs) [] tail h f = absurd h

@@ -9,7 +9,7 @@ use Rattle.asm86_line_types.specs.declared.line.Stmt86.TheVariants.{Cseg, Dseg}
 use Rattle.asm86_line_types.specs.Written.{written_line, written_text}
 use Rattle.templates.specs.Plain.{prologue, runtime, data_from, ending}
 use Rattle.templates.specs.Style.{Style, styled}
-use Rattle.commented_text.specs.Groups.{Group, groups}
+use Rattle.commented_text.specs.Groups.{InstructionGroup, groups}
 
 -- the lines of a source, those that its reader reads: up to the byte 1AH, those after END too
 pub record AreLinesOf (source : List ℕ) (lines : List (List ℕ)) : Type 0 where
@@ -37,7 +37,7 @@ written xs = flat_map written_line xs
 
 -- Groups with the lines of the source that have not stood yet, where those up to a number have: before each group those up to its own
 -- line, and after the last group those that are left.
-abbrev pub commented_groups : ℕ → List (List ℕ) → List Group → List ℕ
+abbrev pub commented_groups : ℕ → List (List ℕ) → List InstructionGroup → List ℕ
 commented_groups stood lines [] = comments lines
 commented_groups stood lines (g ∷ gs) =
     comments (take (g.line - stood) lines) ++ (written g.statements ++ commented_groups (max stood g.line) (drop (g.line - stood) lines) gs)
@@ -61,6 +61,6 @@ kept_of true source = Some source
 kept_of false source = None
 
 -- what is written for a program's lines: their text, or with the bytes of a source their commented text
-abbrev pub IsOutput : Option (List ℕ) → Program → List Line86 → List ℕ → Type 0
-IsOutput None p lines text = text ≡ written_text lines
-IsOutput (Some source) p lines text = Commented source p lines text
+abbrev pub IsWrittenText : Option (List ℕ) → Program → List Line86 → List ℕ → Type 0
+IsWrittenText None p lines text = text ≡ written_text lines
+IsWrittenText (Some source) p lines text = Commented source p lines text

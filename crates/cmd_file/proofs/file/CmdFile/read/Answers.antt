@@ -2,7 +2,7 @@ use Rattle.std.proofs.Common.{◌≡◌, ◌+◌, ◌-◌, ◌<◌, Result, Ok, 
 use Rattle.std.specs.Prelude.{IsErrAnd, MatchResult}
 use Rattle.std.proofs.lemmas.List.Elements.{All-from_get_or}
 use Rattle.base.specs.Prefixes.{CannotGoOn}
-use Rattle.cmd_file.specs.CommandFile.{IsCommandFile, IsFile}
+use Rattle.cmd_file.specs.CommandFile.{IsCommandFile, IsCommandFileBytes}
 use Rattle.cmd_file.specs.Header.{groups_end}
 use Rattle.cmd_file.specs.Reading.{IsCmdFaultOf}
 use Rattle.cmd_file.specs.declared.fault.CmdFault.TheVariants.{Memory}
@@ -22,7 +22,7 @@ returns-then-bytes-most c =
     let code = c.group_size-code_end.ensures in
     let more = c.group_size.ensures in
     let at : groups_end bytes + 127 ≡ 128 + c.group_size-code_end.result + c.group_size.result + 128 - 1 = omega (arith, code, more) in
-    subst (CannotGoOn IsFile bytes) at
+    subst (CannotGoOn IsCommandFileBytes bytes) at
     (long_stops bytes (All-from_get_or (λ b. b < 256) bytes 0 (λ i lt. (c.type_inv.bytes i).fits)) c.in_ok-check_header.ensures (omega (arith, at, c.if-bytes-most.true)))
 
 pub returns : goal.returns
