@@ -35,7 +35,7 @@ use Rattle.simulation_def.specs.States.{IsCell, IsState80}
 use Rattle.simulation_def.specs.Runs80.{going_on, Answers80, BlockRuns80, BlockLeaves80, BlocksRun80}
 use Rattle.sym_sound.proofs.Machine80.Denoting.{cell_put}
 use Rattle.simulation_law.proofs.Asking.{AsksSystem, CallsSystem80, leaves, resets, asking, calls_80, reply_fits}
-use Rattle.simulation_law.proofs.Pushing.{push_is}
+use Rattle.simulation_law.proofs.Pushing.{wrapped, push_is}
 use Rattle.simulation_law.proofs.Replying.{state80_after}
 use Rattle.simulation_law.proofs.Following.{state80, block_bytes}
 use Rattle.profile_leaving.specs.Left.{RunsKeepStates}
@@ -47,9 +47,6 @@ Holds p (Ran s) = IsState80 p s
 Holds p (Asks e s) = (y : Reply) → IsReply y → fits_event e y ≡ true → IsState80 p (replied80 p s e y)
 Holds p Ends = Unit {0}
 Holds p (Stops r) = Unit {0}
-
-wrapped : (k : ℕ) → wrap k < 0x10000
-wrapped k = omega arith
 
 -- ---- the last step of a block, by the state with which its terms end
 

@@ -25,7 +25,7 @@ use Rattle.asm86_line_types.specs.declared.line.Label.{Label}
 use Rattle.asm86_line_types.specs.declared.line.Label.TheVariants.{End as EndLabel}
 use Rattle.asm86_line_types.specs.Image.{image_of}
 use Rattle.cpu80_tagged.specs.State.{State80, num_of, with_a}
-use Rattle.cpu80_tagged.specs.Memory.{put as put80, write_word}
+use Rattle.cpu80_tagged.specs.Memory.{put as put80}
 use Rattle.cpu80_tagged.specs.Effect.{push as push80}
 use Rattle.cpu80_tagged.specs.Call.{Return, seen_by_tagged, call_system, is_place, place_if, after_reply}
 use Rattle.cpu80_tagged.specs.Step.{leave_to, replied_to, replied80, return_at, machine80}
@@ -51,13 +51,12 @@ use Rattle.dialogue.specs.Words.{word, wrap}
 use Rattle.simulation_law.specs.Linked.{EnvsStand, AgreeingTermsStand}
 use Rattle.simulation_law.specs.Replayed.{MemoryStands}
 use Rattle.simulation_law.proofs.Replaying.{put_word_stands}
-use Rattle.dialogue.proofs.Tried.{then_is, ok_is}
-use Rattle.sym_sound.proofs.Machine80.Answering.{read_word_is, write_word_is}
+use Rattle.sym_sound.proofs.Machine80.Answering.{read_word_is}
 use Rattle.sym_sound.proofs.Machine80.Denoting.{cell_put}
 use Rattle.simulation_law.specs.Linking.{BlocksAreBytes, WriteBytes, BlocksMatch}
 use Rattle.simulation_law.proofs.Exits.{ComesBack}
 use Rattle.simulation_law.proofs.Asking.{AsksSystem, CallsSystem80, leaves, resets, asking, calls_80, number_stands, IsSight, CallStands, asks_same, reply_fits}
-use Rattle.simulation_law.proofs.Pushing.{push_is}
+use Rattle.simulation_law.proofs.Pushing.{wrapped, push_is}
 use Rattle.simulation_law.proofs.Replying.{moved_bytes, memory_after, state80_after, state86_after, moved_parts, IsNotLost, direct_parts}
 use Rattle.simulation_law.proofs.Standing.{StatesStand, parts_on, halves_place, place_halves, as_many, not_next80, not_next86}
 use Rattle.simulation_law.proofs.Going.{Beside, Follows, Lands, here, ran_follows, ends_follow, asks_follow}
@@ -209,9 +208,6 @@ module _ (matched : Matched) where
           subst Then (sym g.answers)
           (leave g.place (256 * u.mem (t.sp + 1) + u.mem t.sp) (wrap (t.sp + 2)) g.is_held at (wrapped (t.sp + 2))
           (k.leads ∙ ap (λ z. record u { ip = z; sp = wrap (u.sp + 2) }) word_is ∙ ap (λ s. record u { ip = 256 * u.mem (t.sp + 1) + u.mem t.sp; sp = wrap (s + 2) }) sp) parts some)
-        where
-          wrapped : (k : ℕ) → wrap k < 0x10000
-          wrapped k = omega arith
 
       -- a pair on the one side and a return on the other agree in no terms
       pub by_terms : (a : Answer State80 Rule) → GoesByPair80 p e t h l a ⊎ GoesByReturn80 p e t h l a → GoesByPair86 d u i j w ⊎ GoesByReturn86 d u i j w → Then a
@@ -238,9 +234,6 @@ module _ (matched : Matched) where
           dma = n.dma;
         })) some)
       where
-        wrapped : (k : ℕ) → wrap k < 0x10000
-        wrapped k = omega arith
-
         k : ℕ
         k = wrap (t.sp + 0xFFFE)
 
@@ -420,9 +413,6 @@ module _ (matched : Matched) where
                 dma = ap (Rattle.dialogue.specs.Fits.dma_after (asked a)) (s.dma ∙ n.dma);
               });
             }
-          where
-            wrapped : (k : ℕ) → wrap k < 0x10000
-            wrapped k = omega arith
 
         resets_there : num_of t.regs.c ≡ Some 0 → Then Ends
         resets_there c =
