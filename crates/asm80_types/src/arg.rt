@@ -6,9 +6,15 @@ use crate::expr::Expr;
 use std::marker::Model;
 
 /// The bytes of a string.
-#[derive(Drop)]
 pub struct Bytes {
     items: Vec<u8>,
+}
+
+// Written out, so that letting one go is one call wherever it is done.
+impl Drop for Bytes {
+    fn drop(self) {
+        let Bytes { items: _items } = self;
+    }
 }
 
 impl Model for Bytes {
@@ -41,9 +47,15 @@ pub enum Arg {
 }
 
 /// The operands of a statement, in their order.
-#[derive(Drop)]
 pub struct Args {
     items: Vec<Arg>,
+}
+
+// Written out, so that letting one go is one call wherever it is done.
+impl Drop for Args {
+    fn drop(self) {
+        let Args { items: _items } = self;
+    }
 }
 
 impl Model for Args {

@@ -17,7 +17,6 @@ pub struct Placed {
 }
 
 /// A program: its instructions and its data cells, each in ascending order of their addresses, and the top of its area.
-#[derive(Drop)]
 pub struct Program80 {
     instrs: Vec<Placed>,
     // the addresses of the instructions, two bytes each, in which the emulators search
@@ -26,6 +25,19 @@ pub struct Program80 {
     taken_starts: Vec<u16>,
     cells: Vec<(u16, Cell)>,
     top: u16,
+}
+
+// Written out, so that letting one go is one call wherever it is done.
+impl Drop for Program80 {
+    fn drop(self) {
+        let Program80 {
+            instrs: _instrs,
+            starts: _starts,
+            taken_starts: _taken_starts,
+            cells: _cells,
+            top: _top,
+        } = self;
+    }
 }
 
 impl Model for Program80 {

@@ -19,11 +19,21 @@ use std::marker::Model;
 const MOST_CODE: usize = 65_535;
 
 /// The code of a text, its data cells in ascending order, and the offset of each label.
-#[derive(Drop)]
 pub struct Image86 {
     code: Vec<u8>,
     cells: Vec<(u16, u8)>,
     labels: Offsets,
+}
+
+// Written out, so that letting one go is one call wherever it is done.
+impl Drop for Image86 {
+    fn drop(self) {
+        let Image86 {
+            code: _code,
+            cells: _cells,
+            labels: _labels,
+        } = self;
+    }
 }
 
 impl Model for Image86 {

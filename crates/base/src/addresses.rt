@@ -6,9 +6,15 @@ use std::alloc::{AllocError, Global};
 use std::marker::Model;
 
 /// A set of 16-bit addresses, seen as a flag for each.
-#[derive(Drop)]
 pub struct AddressSet {
     flags: Vec<bool>,
+}
+
+// Written out, so that letting one go is one call wherever it is done.
+impl Drop for AddressSet {
+    fn drop(self) {
+        let AddressSet { flags: _flags } = self;
+    }
 }
 
 impl Model for AddressSet {

@@ -82,11 +82,20 @@ impl TextLines {
 }
 
 /// A text that was loaded: its lines with their image.
-#[derive(Drop)]
 pub struct LoadedText {
     /// Fewer than 2^28 lines, in the order of the text.
     pub lines: Vec<Line86>,
     pub image: Image86,
+}
+
+// Written out, so that letting one go is one call wherever it is done.
+impl Drop for LoadedText {
+    fn drop(self) {
+        let LoadedText {
+            lines: _lines,
+            image: _image,
+        } = self;
+    }
 }
 
 impl LoadedText {
@@ -105,6 +114,28 @@ impl LoadedText {
             }
             Err(fault) => Err(stop_of_image(fault)),
         }
+    }
+
+    /// The lines alone.
+    pub fn into_lines(self) -> Vec<Line86>
+        ensures { result ≡ self.lines }
+    {
+        let LoadedText {
+            lines,
+            image: _image,
+        } = self;
+        lines
+    }
+
+    /// The image alone.
+    pub fn into_image(self) -> Image86
+        ensures { result ≡ self.image }
+    {
+        let LoadedText {
+            lines: _lines,
+            image,
+        } = self;
+        image
     }
 }
 

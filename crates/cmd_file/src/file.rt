@@ -14,10 +14,19 @@ pub const RECORD_LENGTH: usize = 128;
 const BASE_PAGE: usize = 0x100;
 
 /// A command file, seen as its code group and its data group.
-#[derive(Drop)]
 pub struct CmdFile {
     pub(crate) code: Vec<u8>,
     pub(crate) data: Vec<u8>,
+}
+
+// Written out, so that letting one go is one call wherever it is done.
+impl Drop for CmdFile {
+    fn drop(self) {
+        let CmdFile {
+            code: _code,
+            data: _data,
+        } = self;
+    }
 }
 
 impl Model for CmdFile {

@@ -21,6 +21,5 @@ pub fn read_image(alloc: Global, text: Result<Vec<Line86>, Stop>) -> Result<Imag
 {
     let lines = text?;
     let loaded = LoadedText::of(alloc, lines)?;
-    let LoadedText { image, .. } = loaded;
-    Ok(image)
+    Ok(loaded.into_image())
 }

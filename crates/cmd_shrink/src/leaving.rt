@@ -63,7 +63,7 @@ fn left_of(alloc: Global, program: &Program80, lines: &[Line86]) -> Result<Left,
     let line = shrunk_line(alloc, lines.len() - left.len(), code)?;
     let text = LoadedText::of(alloc, left)?;
     Ok(Left {
-        lines: text.lines,
+        lines: text.into_lines(),
         line,
     })
 }

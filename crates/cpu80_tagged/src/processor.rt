@@ -36,7 +36,6 @@ pub enum Phase {
 }
 
 /// The tagged 8080 with 64K of cells. It keeps what its program makes of each of them, so that each step is fast.
-#[derive(Drop)]
 pub struct Cpu80 {
     pub(crate) alloc: Global,
     pub(crate) registers: Registers,
@@ -49,6 +48,23 @@ pub struct Cpu80 {
     pub(crate) phase: Phase,
     ghost full: { length memory.items ≡ 65536 },
     ghost all_used: { length uses.items ≡ 65536 },
+}
+
+// Written out, so that letting one go is one call wherever it is done.
+impl Drop for Cpu80 {
+    fn drop(self) {
+        let Cpu80 {
+            alloc: _alloc,
+            registers: _registers,
+            flags: _flags,
+            sp: _sp,
+            memory: _memory,
+            uses: _uses,
+            place: _place,
+            dma: _dma,
+            phase: _phase,
+        } = self;
+    }
 }
 
 impl Cpu80 {

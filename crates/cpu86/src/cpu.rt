@@ -48,12 +48,22 @@ enum Pending {
 }
 
 /// The 8086 with its code.
-#[derive(Drop)]
 pub struct Cpu86 {
     processor: Processor,
     code: Vec<u8>,
     pending: Pending,
     ghost asked: { (shape : Shape) → pending ≡ Answer shape → IsShapeAsked (state_of_86 processor) shape } by { Prim.hlevel props },
+}
+
+// Written out, so that letting one go is one call wherever it is done.
+impl Drop for Cpu86 {
+    fn drop(self) {
+        let Cpu86 {
+            processor: _processor,
+            code: _code,
+            pending: _pending,
+        } = self;
+    }
 }
 
 impl Cpu86 {

@@ -4,9 +4,15 @@ ghost use Rattle.std.specs.Prelude.{◌≡◌};
 use std::marker::Model;
 
 /// Bytes of memory, from an address up.
-#[derive(Drop)]
 pub struct Bytes {
     items: Vec<u8>,
+}
+
+// Written out, so that letting one go is one call wherever it is done.
+impl Drop for Bytes {
+    fn drop(self) {
+        let Bytes { items: _items } = self;
+    }
 }
 
 impl Model for Bytes {
@@ -34,16 +40,31 @@ impl Bytes {
 }
 
 /// The bytes of memory from an address up.
-#[derive(Drop)]
 pub struct Block {
     pub at: u16,
     pub bytes: Bytes,
 }
 
+// Written out, so that letting one go is one call wherever it is done.
+impl Drop for Block {
+    fn drop(self) {
+        let Block {
+            at: _at,
+            bytes: _bytes,
+        } = self;
+    }
+}
+
 /// The blocks of a request or a reply, in the call table's order.
-#[derive(Drop)]
 pub struct Blocks {
     items: Vec<Block>,
+}
+
+// Written out, so that letting one go is one call wherever it is done.
+impl Drop for Blocks {
+    fn drop(self) {
+        let Blocks { items: _items } = self;
+    }
 }
 
 impl Model for Blocks {

@@ -22,7 +22,6 @@ use std::marker::{Brand, Model};
 use std::sync::ledger::{Blank, Ledger};
 
 /// The graph of a program, with a copy of it, and the search for its needs.
-#[derive(Drop)]
 pub struct Graph {
     program: Program80,
     sources: Sources,
@@ -30,6 +29,20 @@ pub struct Graph {
     work: Vec<usize>,
     leaders: Vec<u16>,
     counts: Vec<u32>,
+}
+
+// Written out, so that letting one go is one call wherever it is done.
+impl Drop for Graph {
+    fn drop(self) {
+        let Graph {
+            program: _program,
+            sources: _sources,
+            vertices: _vertices,
+            work: _work,
+            leaders: _leaders,
+            counts: _counts,
+        } = self;
+    }
 }
 
 impl Model for Graph {

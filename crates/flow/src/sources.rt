@@ -51,10 +51,19 @@ fn one_more(numbers: Vec<usize>, number: usize) -> Result<Row, AllocError>
 }
 
 /// For each node, the numbers of the nodes with an edge to it.
-#[derive(Drop)]
 pub struct Sources {
     alloc: Global,
     rows: Vec<Row>,
+}
+
+// Written out, so that letting one go is one call wherever it is done.
+impl Drop for Sources {
+    fn drop(self) {
+        let Sources {
+            alloc: _alloc,
+            rows: _rows,
+        } = self;
+    }
 }
 
 impl Model for Sources {

@@ -30,11 +30,21 @@ const ROOM: u32 = 8_192;
 const ACTIONS: usize = 512;
 
 /// What a block does.
-#[derive(Drop)]
 pub struct Outcome {
     run: Run,
     exit: Exit,
     direct: bool,
+}
+
+// Written out, so that letting one go is one call wherever it is done.
+impl Drop for Outcome {
+    fn drop(self) {
+        let Outcome {
+            run: _run,
+            exit: _exit,
+            direct: _direct,
+        } = self;
+    }
 }
 
 impl Model for Outcome {
@@ -89,12 +99,23 @@ impl Outcome {
 }
 
 /// A pool of 8,192 nodes, and room for two outcomes of 512 loads and stores.
-#[derive(Drop)]
 pub struct Work {
     terms: Terms,
     first: Outcome,
     second: Outcome,
     keep: Keep,
+}
+
+// Written out, so that letting one go is one call wherever it is done.
+impl Drop for Work {
+    fn drop(self) {
+        let Work {
+            terms: _terms,
+            first: _first,
+            second: _second,
+            keep: _keep,
+        } = self;
+    }
 }
 
 impl Model for Work {

@@ -9,13 +9,24 @@ use std::alloc::{AllocError, Global};
 use std::marker::Model;
 
 /// Distinct nodes in the order in which they came, and room for so many more.
-#[derive(Drop)]
 pub struct Pool {
     nodes: Vec<Node>,
     slots: Vec<Option<u32>>,
     // the slot of each node's id, so that none is searched for where the node is taken away
     places: Vec<usize>,
     room: u32,
+}
+
+// Written out, so that letting one go is one call wherever it is done.
+impl Drop for Pool {
+    fn drop(self) {
+        let Pool {
+            nodes: _nodes,
+            slots: _slots,
+            places: _places,
+            room: _room,
+        } = self;
+    }
 }
 
 impl Model for Pool {

@@ -1,4 +1,7 @@
-use Rattle.std.proofs.Common.{inl, inr, ⊎_elim, subst}
+use Rattle.std.proofs.Common.{inl, inr, ⊎_elim, subst, sym}
+use Rattle.i86.specs.Decode.{HasReader}
+use Rattle.asm86_line_types.specs.Image.{Image}
+use Rattle.asm86.specs.Images.{HasImage}
 use Rattle.cmd_common.specs.Texts.{BytesGiveLines}
 use Rattle.cmd_common.proofs.Texts.{lines_refused, image_refused}
 use Rattle.cmd_runs.proofs.Equipped.{handed_to}
@@ -20,4 +23,5 @@ returns-in_err-loaded c = λ bytes gives.
 pub returns : goal.returns
 returns c = λ bytes gives.
     let image = c.in_ok-loaded.ensures.image in
+    subst (λ (i : Image). HasImage bytes i × HasReader i.code) (sym c.into_image.ensures)
     (record { lines = c.in_ok-lines.lines.items; reads = subst (BytesGiveLines bytes) c.in_ok-lines.was gives; assembled = image.made }, image.reader)

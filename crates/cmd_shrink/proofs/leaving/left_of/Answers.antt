@@ -55,7 +55,7 @@ returns-clause-left c =
     let blocks = c.requires.shown.0 in
     let finding = c.requires.shown.1 in
     let text = c.in_ok-text.ensures in
-    subst (TextIsLeft p lines) (sym text.lines)
+    subst (TextIsLeft p lines) (sym (ap (λ v. v.items) c.into_lines.ensures ∙ text.lines))
     (record {
       few = c.requires.few;
       blocks = blocks;
@@ -79,8 +79,8 @@ code_size-code-requires c =
 pub returns-clause-line : goal.returns-clause-line
 returns-clause-line c =
     let lines = c.args.lines.now in
-    let left = c.in_ok-text.text.lines.items in
-    let same = sym c.in_ok-text.ensures.lines in
+    let left = c.into_lines.result.items in
+    let same = sym (ap (λ v. v.items) c.into_lines.ensures ∙ c.in_ok-text.ensures.lines) in
     c.in_ok-line.ensures
     ∙ ap (λ n. shrunk_line (length lines - n) c.code_size-code.result) (c.len.ensures ∙ sym c.as_slice-2.ensures.len ∙ ap length (c.as_slice-2.ensures.value ∙ same))
     ∙ ap (λ n. shrunk_line (length lines - length left) n) (c.code_size-code.ensures.value ∙ ap (λ (ls : List Line86). sizes_of (statements ls)) (c.as_slice-2.ensures.value ∙ same))
