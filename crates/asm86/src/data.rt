@@ -9,8 +9,8 @@ ghost use Rattle.asm86.specs.Places.{label_place, word_of_value};
 use crate::fault::ImageFault;
 use crate::offsets::Offsets;
 use asm86_line_types::{Line86, Stmt86, Value16};
+use base::ByteCells;
 use std::alloc::{AllocError, Global};
-use std::collections::BTreeMap;
 
 /// The data cells of the statements, ascending by their addresses.
 pub fn data_cells(
@@ -24,24 +24,17 @@ pub fn data_cells(
     ensures cells { IfOk result (λ cells. cells.items ≡ by_address (cells_from (label_place offsets.now) 0 (statements lines.now))) }
     ensures memory { IfErr result (λ fault. fault ≡ ImageFault.Memory) }
 {
-    let mut cells = BTreeMap::new(alloc);
+    let mut cells = ByteCells::new(alloc);
     let mut at = 0;
     for line in lines {
         at = put(&mut cells, offsets, at, line.stmt)?;
     }
-    Ok(listed(alloc, cells)?)
-}
-
-// The cells of the map, in its order.
-fn listed(alloc: Global, cells: BTreeMap<u16, u8>) -> Result<Vec<(u16, u8)>, AllocError>
-    ensures { IfOk result (λ list. list.items ≡ cells.entries) }
-{
-    cells.into_iter().collect(alloc)
+    Ok(cells.into_vec(alloc)?)
 }
 
 // The cells of a statement, put to those before it, and the data address after it.
 fn put(
-    cells: &mut BTreeMap<u16, u8>,
+    cells: &mut ByteCells,
     offsets: &Offsets,
     at: usize,
     stmt: Stmt86,
@@ -51,7 +44,7 @@ fn put(
     requires labels { (label : Label) → label_place offsets.now label < 0x10000 }
     ensures near { IfOk result (λ next. next ≤ at + 0x10000) }
     ensures next { IfOk result (λ next. next ≡ (reading_after (record at_start { at = at }) stmt).at) }
-    ensures cells { OnOk result (cells.new.entries ≡ fold put_cell cells.old.entries (cells_from (label_place offsets.now) at (stmt ∷ []))) }
+    ensures cells { OnOk result (cells.new ≡ fold put_cell cells.old (cells_from (label_place offsets.now) at (stmt ∷ []))) }
     ensures memory { IfErr result (λ fault. fault ≡ ImageFault.Memory) }
 {
     match stmt {
@@ -59,7 +52,7 @@ fn put(
         Stmt86::Org(address) => Ok(usize::from(address)),
         Stmt86::Rb(count) => Ok(at + usize::from(count)),
         Stmt86::Db(byte) => {
-            cells.insert(at as u16, byte)?;
+            cells.put(at as u16, byte)?;
             Ok(at + 1)
         }
         Stmt86::Dw(value) => {
@@ -71,13 +64,13 @@ fn put(
 }
 
 // The two cells of a word, the low byte first.
-fn put_word(cells: &mut BTreeMap<u16, u8>, at: usize, word: usize) -> Result<(), AllocError>
+fn put_word(cells: &mut ByteCells, at: usize, word: usize) -> Result<(), AllocError>
     requires within { at + 1 < 0x10000 }
     requires small { word < 0x10000 }
-    ensures { OnOk result (cells.new.entries ≡ put_cell (put_cell cells.old.entries (at, word % 256)) (at + 1, word / 256)) }
+    ensures { OnOk result (cells.new ≡ put_cell (put_cell cells.old (at, word % 256)) (at + 1, word / 256)) }
 {
-    cells.insert(at as u16, (word % 256) as u8)?;
-    cells.insert((at + 1) as u16, (word / 256) as u8)?;
+    cells.put(at as u16, (word % 256) as u8)?;
+    cells.put((at + 1) as u16, (word / 256) as u8)?;
     Ok(())
 }
 

@@ -3,3 +3,4 @@ pub mod Cuts
 pub mod Holding
 pub mod Fronts
 pub mod Pieces
+pub mod Addressed

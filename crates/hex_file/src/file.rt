@@ -9,14 +9,20 @@ ghost use Rattle.hex_file.specs.HexFile.{record_cells, put_cell, IsHexOf, IsHexF
 use crate::fault::HexFault;
 use crate::lines::first_line;
 use crate::record::HexRecord;
+use base::ByteCells;
 use std::alloc::{AllocError, Global};
-use std::collections::BTreeMap;
 use std::marker::Model;
 
 /// A HEX file, seen as its cells: address and byte, ascending by their addresses.
-#[derive(Drop)]
 pub struct HexFile {
     cells: Vec<(u16, u8)>,
+}
+
+// Written out, so that letting one go is one call wherever it is done.
+impl Drop for HexFile {
+    fn drop(self) {
+        let HexFile { cells: _cells } = self;
+    }
 }
 
 impl Model for HexFile {
@@ -38,7 +44,7 @@ impl HexFile {
         requires { length bytes.now ≤ 2 ^ 31 }
         ensures { MatchResult result (IsHexOf bytes.now) (IsHexFaultOf bytes.now) }
     {
-        let mut cells = BTreeMap::new(alloc);
+        let mut cells = ByteCells::new(alloc);
         let mut number = 1;
         let mut rest = bytes;
         while let Some((line, after)) = first_line(rest) {
@@ -47,7 +53,7 @@ impl HexFile {
             };
             if record.is_end() {
                 return Ok(HexFile {
-                    cells: listed(alloc, cells)?,
+                    cells: cells.into_vec(alloc)?,
                 });
             }
             if !record.is_data() {
@@ -70,21 +76,13 @@ impl HexFile {
 }
 
 // The data of a record, put to the cells that there are.
-fn put_data(cells: &mut BTreeMap<u16, u8>, record: &HexRecord) -> Result<(), AllocError>
+fn put_data(cells: &mut ByteCells, record: &HexRecord) -> Result<(), AllocError>
     requires { IsData «record».now }
-    ensures { OnOk result (cells.new.entries ≡ fold put_cell cells.old.entries (record_cells «record».now)) }
+    ensures { OnOk result (cells.new ≡ fold put_cell cells.old (record_cells «record».now)) }
 {
     let address = record.address();
     for (offset, byte) in record.data().iter().enumerate() {
-        cells.insert(address + offset as u16, *byte)?;
+        cells.put(address + offset as u16, *byte)?;
     }
     Ok(())
-}
-
-// The cells of the map, in its order.
-fn listed(alloc: Global, cells: BTreeMap<u16, u8>) -> Result<Vec<(u16, u8)>, AllocError>
-    ensures cells { IfOk result (λ list. list.items ≡ cells.entries) }
-    ensures ascend { IfOk result (λ list. IsStrictlyIncreasing (keys_of list.items)) }
-{
-    cells.into_iter().collect(alloc)
 }

@@ -22,9 +22,9 @@ loop-line-preserved c =
       stands = subst (λ n. StandsFrom n rest) (sym next) (stands_rest c.loop-line.at x rest (subst (StandsFrom c.loop-line.at) e c.loop-line.invariant.stands));
       far = omega (arith, near);
       cells =
-          ap (λ n. fold put_cell c.put.new.cells.entries (cells_from off n rest)) next
-          ∙ filled_rest off c.loop-line.at x rest c.loop-line.cells.entries c.put.new.cells.entries (by_address (cells_from off 0 (statements lines)))
-          (ap (λ xs. fold put_cell c.loop-line.cells.entries (cells_from off c.loop-line.at xs)) (sym e) ∙ c.loop-line.invariant.cells)
+          ap (λ n. fold put_cell c.put.new.cells (cells_from off n rest)) next
+          ∙ filled_rest off c.loop-line.at x rest c.loop-line.cells c.put.new.cells (by_address (cells_from off 0 (statements lines)))
+          (ap (λ xs. fold put_cell c.loop-line.cells (cells_from off c.loop-line.at xs)) (sym e) ∙ c.loop-line.invariant.cells)
           c.in_ok-at.ensures.cells;
     }
 
@@ -44,9 +44,9 @@ returns-in_err-at c =
       memory = rw e.1 (e.2 ∙ c.in_err-at.ensures.memory);
     }
 
-pub returns-in_err-listed : goal.returns-in_err-listed
-returns-in_err-listed c =
-    let r = c.from_residual-in_err-listed in
+pub returns-in_err-into_vec : goal.returns-in_err-into_vec
+returns-in_err-into_vec c =
+    let r = c.from_residual-in_err-into_vec in
     let e = err_from_is_err_and r.result r.ensures.1 in
     record {
       cells = IfOk-from_err r.result _ r.ensures.0;
@@ -60,8 +60,8 @@ returns c =
     let none = drop_all i lines c.loop-line-test.false in
     record {
       cells =
-          c.in_ok-listed.ensures
-          ∙ (sym (ap (λ xs. fold put_cell c.loop-line.cells.entries (cells_from (label_place c.args.offsets.now) c.loop-line.at (statements xs))) none)
+          c.in_ok-into_vec.ensures.cells
+          ∙ (sym (ap (λ xs. fold put_cell c.loop-line.cells (cells_from (label_place c.args.offsets.now) c.loop-line.at (statements xs))) none)
           ∙ c.loop-line.invariant.cells);
       memory = tt;
     }

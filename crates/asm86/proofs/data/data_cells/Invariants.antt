@@ -9,5 +9,5 @@ abbrev pub invariant-loop-line : goal.invariant-loop-line
 invariant-loop-line l = record {
   stands : StandsFrom l.at (statements (drop l.line-index l.lines));
   far : l.at ≤ 0x10000 * l.line-index;
-  cells : fold put_cell l.cells.entries (cells_from (label_place l.offsets) l.at (statements (drop l.line-index l.lines))) ≡ by_address (cells_from (label_place l.offsets) 0 (statements l.lines));
+  cells : fold put_cell l.cells (cells_from (label_place l.offsets) l.at (statements (drop l.line-index l.lines))) ≡ by_address (cells_from (label_place l.offsets) 0 (statements l.lines));
 }

@@ -15,7 +15,7 @@ put_word-requires-clause-within c = let r = c.requires.stands in word_within r.0
 
 pub returns-in_ok-put_word-in-Dw-clause-cells : goal.returns-in_ok-put_word-in-Dw-clause-cells
 returns-in_ok-put_word-in-Dw-clause-cells c =
-    word_put c.args.offsets.now c.args.at c.word_of.result c.in-Dw.value c.args.stmt c.args.cells.now.entries c.put_word.new.cells.entries c.in-Dw.is c.word_of.ensures.word c.in_ok-put_word-in-Dw.ensures
+    word_put c.args.offsets.now c.args.at c.word_of.result c.in-Dw.value c.args.stmt c.args.cells.now c.put_word.new.cells c.in-Dw.is c.word_of.ensures.word c.in_ok-put_word-in-Dw.ensures
 
 pub returns-in_default-clause-next : goal.returns-in_default-clause-next
 returns-in_default-clause-next c = let n = c.in_default in (stays (label_place c.args.offsets.now) c.args.at c.args.stmt n.not-Dseg n.not-Org n.not-Rb n.not-Db n.not-Dw).0
@@ -23,10 +23,10 @@ returns-in_default-clause-next c = let n = c.in_default in (stays (label_place c
 pub returns-in_default-clause-cells : goal.returns-in_default-clause-cells
 returns-in_default-clause-cells c =
     let n = c.in_default in
-    ap (fold put_cell c.args.cells.now.entries) (sym (stays (label_place c.args.offsets.now) c.args.at c.args.stmt n.not-Dseg n.not-Org n.not-Rb n.not-Db n.not-Dw).1)
+    ap (fold put_cell c.args.cells.now) (sym (stays (label_place c.args.offsets.now) c.args.at c.args.stmt n.not-Dseg n.not-Org n.not-Rb n.not-Db n.not-Dw).1)
 
-pub returns-in_err-insert-in-Db : goal.returns-in_err-insert-in-Db
-returns-in_err-insert-in-Db c =
+pub returns-in_err-put-in-Db : goal.returns-in_err-put-in-Db
+returns-in_err-put-in-Db c =
     let r = c.from_residual in
     let e = err_from_is_err_and r.result r.ensures.1 in
     record {
@@ -53,7 +53,7 @@ returns-in-Dseg c =
     record {
       near = omega arith;
       next = ap (λ s. (reading_after (record at_start { at = at }) s).at) (sym c.in-Dseg.is);
-      cells = ap (λ s. fold put_cell c.args.cells.now.entries (cells_from (label_place c.args.offsets.now) at (s ∷ []))) (sym c.in-Dseg.is);
+      cells = ap (λ s. fold put_cell c.args.cells.now (cells_from (label_place c.args.offsets.now) at (s ∷ []))) (sym c.in-Dseg.is);
       memory = tt;
     }
 
@@ -63,7 +63,7 @@ returns-in-Org c =
     record {
       near = omega arith;
       next = c.from.ensures ∙ ap (λ s. (reading_after (record at_start { at = at }) s).at) (sym c.in-Org.is);
-      cells = ap (λ s. fold put_cell c.args.cells.now.entries (cells_from (label_place c.args.offsets.now) at (s ∷ []))) (sym c.in-Org.is);
+      cells = ap (λ s. fold put_cell c.args.cells.now (cells_from (label_place c.args.offsets.now) at (s ∷ []))) (sym c.in-Org.is);
       memory = tt;
     }
 
@@ -73,6 +73,6 @@ returns-in-Rb c =
     record {
       near = omega arith;
       next = ap (λ n. at + n) c.from-in-Rb.ensures ∙ ap (λ s. (reading_after (record at_start { at = at }) s).at) (sym c.in-Rb.is);
-      cells = ap (λ s. fold put_cell c.args.cells.now.entries (cells_from (label_place c.args.offsets.now) at (s ∷ []))) (sym c.in-Rb.is);
+      cells = ap (λ s. fold put_cell c.args.cells.now (cells_from (label_place c.args.offsets.now) at (s ∷ []))) (sym c.in-Rb.is);
       memory = tt;
     }

@@ -8,8 +8,8 @@ returns-in_default-read c = fails_spelling c.args.bytes.now c.loop-line.rest.now
 
 pub returns-then-is_end : goal.returns-then-is_end
 returns-then-is_end c =
-    subst (IsHexOf c.args.bytes.now) (sym c.in_ok-listed.ensures.cells)
-    (reads_end c.args.bytes.now c.loop-line.rest.now c.in-Some.line.now c.in-Some.after.now c.loop-line.cells.entries c.in-Some-read.record c.in-Some.ensures c.in-Some-read.ensures c.if-is_end.ensures c.loop-line.invariant.reads)
+    subst (IsHexOf c.args.bytes.now) (sym c.in_ok-into_vec.ensures.cells)
+    (reads_end c.args.bytes.now c.loop-line.rest.now c.in-Some.line.now c.in-Some.after.now c.loop-line.cells c.in-Some-read.record c.in-Some.ensures c.in-Some-read.ensures c.if-is_end.ensures c.loop-line.invariant.reads)
 
 pub returns-then-not-is_data : goal.returns-then-not-is_data
 returns-then-not-is_data c =
@@ -20,7 +20,7 @@ loop-line-preserved c =
     let first = c.in-Some.ensures in
     record {
       number = let shorter = first.shorter in omega (arith, shorter, c.loop-line.invariant.number);
-      reads = reads_more c.args.bytes.now c.loop-line.rest.now c.in-Some.line.now c.in-Some.after.now c.loop-line.cells.entries c.put_data.new.cells.entries c.in-Some-read.record first c.in-Some-read.ensures c.if-not-is_data.ensures c.in_ok-put_data.ensures c.loop-line.invariant.reads;
+      reads = reads_more c.args.bytes.now c.loop-line.rest.now c.in-Some.line.now c.in-Some.after.now c.loop-line.cells c.put_data.new.cells c.in-Some-read.record first c.in-Some-read.ensures c.if-not-is_data.ensures c.in_ok-put_data.ensures c.loop-line.invariant.reads;
       fails = fails_more c.args.bytes.now c.loop-line.rest.now c.in-Some.line.now c.in-Some.after.now c.loop-line.number c.in-Some-read.record first c.in-Some-read.ensures c.if-not-is_data.ensures c.loop-line.invariant.fails;
     }
 

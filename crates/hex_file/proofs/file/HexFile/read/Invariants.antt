@@ -5,7 +5,7 @@ use Rattle.hex_file.proofs.file.HexFile.read.Given as goal
 abbrev pub invariant-loop-line : goal.invariant-loop-line
 invariant-loop-line l = record {
   number : l.number + length l.rest ≤ length l.bytes + 1;
-  reads : Reads l.bytes l.rest l.cells.entries;
+  reads : Reads l.bytes l.rest l.cells;
   fails : Fails l.bytes l.rest l.number;
 }
 
