@@ -1,11 +1,9 @@
--- Labels in the order in which they were added, beside a hash map of their places: what the offset of a label becomes.
+-- Labels in the order in which they were added, beside a table of their places: what the offset of a label becomes.
 use Rattle.std.proofs.Common.{◌≡◌, ℕ, Bool, cond, List, [], ◌∷◌, ◌++◌, Option, None, Some, true, false, refl, sym, ap, subst, ◌∙◌}
-use Rattle.std.specs.Map.{lookup}
 use Rattle.asm86_line_types.specs.declared.line.Label.{Label}
 use Rattle.asm86_line_types.specs.Layout.{same_label}
-use Rattle.asm86_line_types.specs.contracts.line.LabelPartialEq.TheImpl.{eq-value}
 use Rattle.asm86_line_types.specs.Image.{offset_in}
-use Rattle.asm86_line_types.proofs.Labels.{put_is, same_label_is, same_label_self}
+use Rattle.asm86_line_types.proofs.Labels.{same_label_is, same_label_self}
 
 -- nothing was found: neither at the first nor behind it
 not_first : (b : Bool) (a : ℕ) (r : Option ℕ) → cond b (Some a) r ≡ None → b ≡ true → ⊥
@@ -32,9 +30,9 @@ added (x ∷ xs) k q v none =
     (λ first this. not_first (same_label x.0 k) x.1 (offset_in xs k) none (both_are_one x.0 q k first this))
     (added xs k q v (none_behind (same_label x.0 k) x.1 (offset_in xs k) none))
 
--- ... and put into the map as well
-pub placed : (xs es fs : List (Label × ℕ)) (k q : Label) (v : ℕ) → ((l : Label) → offset_in es l ≡ offset_in xs l) → offset_in xs k ≡ None → lookup (eq-value.it q) fs ≡ cond (eq-value.it k q) (Some v) (lookup (eq-value.it q) es) → offset_in fs q ≡ offset_in (xs ++ (k, v) ∷ []) q
+-- ... and put into the table as well
+pub placed : (xs es fs : List (Label × ℕ)) (k q : Label) (v : ℕ) → ((l : Label) → offset_in es l ≡ offset_in xs l) → offset_in xs k ≡ None → offset_in fs q ≡ cond (same_label k q) (Some v) (offset_in es q) → offset_in fs q ≡ offset_in (xs ++ (k, v) ∷ []) q
 placed xs es fs k q v held none put =
-    put_is k q v es fs put
+    put
     ∙ ap (λ r. cond (same_label k q) (Some v) r) (held q)
     ∙ sym (added xs k q v none)

@@ -3,16 +3,24 @@ ghost use Rattle.std.specs.Prelude.{◌≡◌, ◌++◌, [], ◌∷◌, Ok, true
 ghost use Rattle.asm86_line_types.specs.Image.{offset_in};
 ghost use Rattle.asm86.specs.Places.{label_place};
 
-use asm86_line_types::Label;
+use asm86_line_types::{Label, LabelTable};
 use std::alloc::{AllocError, Global};
-use std::collections::HashMap;
 use std::marker::Model;
 
 /// Labels with their offsets in the code, in the text's order.
-#[derive(Drop)]
 pub struct Offsets {
     labels: Vec<(Label, usize)>,
-    places: HashMap<Label, usize>,
+    places: LabelTable,
+}
+
+// Written out, so that letting one go is one call wherever it is done.
+impl Drop for Offsets {
+    fn drop(self) {
+        let Offsets {
+            labels: _labels,
+            places: _places,
+        } = self;
+    }
 }
 
 impl Model for Offsets {
@@ -24,7 +32,7 @@ impl Model for Offsets {
 
     ghost view = { λ o. o.labels.items };
 
-    ghost invariant = { λ o. (l : Label) → offset_in o.places.entries l ≡ offset_in o.labels.items l };
+    ghost invariant = { λ o. (l : Label) → offset_in o.places l ≡ offset_in o.labels.items l };
 }
 
 impl Offsets {
@@ -34,7 +42,7 @@ impl Offsets {
     {
         Offsets {
             labels: Vec::new(alloc),
-            places: HashMap::new(alloc),
+            places: LabelTable::new(alloc),
         }
     }
 
@@ -44,7 +52,7 @@ impl Offsets {
     {
         // a look at them, for what the two keep to
         let _labels = &self.labels;
-        self.places.get(&label).copied()
+        self.places.get(label)
     }
 
     /// The offset of a label that is there.
@@ -63,7 +71,7 @@ impl Offsets {
             return Ok(false);
         }
         self.labels.reserve(1)?;
-        self.places.insert(label, at)?;
+        self.places.put(label, at)?;
         self.labels.push_reserved((label, at));
         Ok(true)
     }

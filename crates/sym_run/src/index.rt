@@ -7,16 +7,24 @@ ghost use Rattle.asm86_line_types.specs.Image.{statements, offset_in};
 ghost use Rattle.sym_block_def.specs.Walk86.{after_label};
 ghost use Rattle.sym_run.specs.Places.{IsPlace};
 
-use asm86_line_types::{Label, Line86, Stmt86};
+use asm86_line_types::{Label, LabelTable, Line86, Stmt86};
 use std::alloc::{AllocError, Global};
-use std::collections::HashMap;
 use std::marker::Model;
 
 /// The statements of a text, and what stands behind each label.
-#[derive(Drop)]
 pub struct Index86 {
     statements: Vec<Stmt86>,
-    places: HashMap<Label, usize>,
+    places: LabelTable,
+}
+
+// Written out, so that letting one go is one call wherever it is done.
+impl Drop for Index86 {
+    fn drop(self) {
+        let Index86 {
+            statements: _statements,
+            places: _places,
+        } = self;
+    }
 }
 
 impl Model for Index86 {
@@ -31,7 +39,7 @@ impl Model for Index86 {
 
     ghost view = { λ i. i.statements.items };
 
-    ghost invariant = { λ i. (l : Label) → IsPlace i.statements.items (offset_in i.places.entries l) (after_label i.statements.items l) };
+    ghost invariant = { λ i. (l : Label) → IsPlace i.statements.items (offset_in i.places l) (after_label i.statements.items l) };
 }
 
 impl Index86 {
@@ -57,7 +65,7 @@ impl Index86 {
     {
         // a look at them, for what the index keeps to
         let _statements = &self.statements;
-        self.places.get(&label).copied()
+        self.places.get(label)
     }
 }
 
@@ -72,10 +80,10 @@ fn statements_of(alloc: Global, lines: &[Line86]) -> Result<Vec<Stmt86>, AllocEr
 }
 
 // From the last statement to the first, so that of two labels that are the same the first one counts.
-fn places_of(alloc: Global, statements: &[Stmt86]) -> Result<HashMap<Label, usize>, AllocError>
-    ensures { IfOk result (λ places. (l : Label) → IsPlace statements.now (offset_in places.entries l) (after_label statements.now l)) }
+fn places_of(alloc: Global, statements: &[Stmt86]) -> Result<LabelTable, AllocError>
+    ensures { IfOk result (λ places. (l : Label) → IsPlace statements.now (offset_in places l) (after_label statements.now l)) }
 {
-    let mut places = HashMap::new(alloc);
+    let mut places = LabelTable::new(alloc);
     let mut at = statements.len();
     while at > 0 {
         at -= 1;
@@ -85,11 +93,11 @@ fn places_of(alloc: Global, statements: &[Stmt86]) -> Result<HashMap<Label, usiz
 }
 
 // The place behind a statement, if that is a label.
-fn define(places: &mut HashMap<Label, usize>, stmt: Stmt86, place: usize) -> Result<(), AllocError>
-    ensures { OnOk result ((l : Label) → offset_in places.new.entries l ≡ cond (marks l stmt) (Some place) (offset_in places.old.entries l)) }
+fn define(places: &mut LabelTable, stmt: Stmt86, place: usize) -> Result<(), AllocError>
+    ensures { OnOk result ((l : Label) → offset_in places.new l ≡ cond (marks l stmt) (Some place) (offset_in places.old l)) }
 {
     if let Stmt86::Mark(label) = stmt {
-        places.insert(label, place)?;
+        places.put(label, place)?;
     }
     Ok(())
 }

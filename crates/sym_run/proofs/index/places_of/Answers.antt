@@ -28,9 +28,9 @@ loop-at-preserved c =
     let here = less_one c.loop-at.at some in
     let lt = below c.loop-at.at (length text) some within in (
       at_most k (length text) lt,
-      λ q. place_more text k q (slice_index_or text k Cseg) (offset_in c.loop-at.places.entries q) (offset_in c.define.new.places.entries q) lt (at_drop_more (λ xs. xs) text k Cseg lt) (c.in_ok-define.ensures q)
-          (subst (λ n. IsPlace text (offset_in c.loop-at.places.entries q) (after_label (drop n text) q)) here (c.loop-at.invariant.1 q)),
+      λ q. place_more text k q (slice_index_or text k Cseg) (offset_in c.loop-at.places q) (offset_in c.define.new.places q) lt (at_drop_more (λ xs. xs) text k Cseg lt) (c.in_ok-define.ensures q)
+          (subst (λ n. IsPlace text (offset_in c.loop-at.places q) (after_label (drop n text) q)) here (c.loop-at.invariant.1 q)),
     )
 
 pub returns : goal.returns
-returns c = λ q. subst (λ n. IsPlace c.args.statements.now (offset_in c.loop-at.places.entries q) (after_label (drop n c.args.statements.now) q)) (none_left c.loop-at.at c.loop-at-test.false) (c.loop-at.invariant.1 q)
+returns c = λ q. subst (λ n. IsPlace c.args.statements.now (offset_in c.loop-at.places q) (after_label (drop n c.args.statements.now) q)) (none_left c.loop-at.at c.loop-at-test.false) (c.loop-at.invariant.1 q)

@@ -12,5 +12,5 @@ invariant_of-self-2 c = λ l.
     let k = c.args.label in
     let before = c.self.inside.labels.items in
     let none = ap (λ xs. offset_in xs k) c.self.view_is ∙ sym c.get.ensures ∙ is_none c.get.result (sym c.is_some.ensures ∙ c.if-is_some.false) in
-    placed before c.self.inside.places.entries c.insert.new.self.entries k l c.args.at c.self.invariant none (c.in_ok-insert.ensures.updates.0 l)
+    placed before c.self.inside.places c.put.new.self k l c.args.at c.self.invariant none (c.in_ok-put.ensures.ok l)
     ∙ sym (ap (λ xs. offset_in xs l) (c.push_reserved.ensures.items ∙ ap (λ xs. xs ++ (k, c.args.at) ∷ []) c.reserve.ensures.items))
