@@ -1,17 +1,18 @@
 //! The names of a source.
 
-ghost use Rattle.std.specs.Prelude.{◌≡◌, ◌||◌, [], Some, None, false, MatchOption, OnOk, OnErr, not, filter, option_map};
+ghost use Rattle.std.specs.Prelude.{◌≡◌, ◌||◌, ℕ, List, [], Some, None, cond, false, length, MatchOption, OnOk, OnErr, is_some, not, filter, option_map};
+ghost use Rattle.std.specs.Str.{bytes_eq};
 ghost use Rattle.asm80_source_def.specs.declared.meaning.NameKind.{NameKind};
 ghost use Rattle.asm80_source_def.specs.Names.{Name, named, clashes, overflows, defined, is_settable};
 ghost use Rattle.asm80_source_def.specs.FirstFaults.{rule_if};
 ghost use Rattle.asm80_source_def.specs.declared.rule.AsmRule.TheVariants.{V2, V7};
 ghost use Rattle.asm80_source_def.specs.Walk.{meaning_in};
-ghost use Rattle.asm80_first_walk.specs.Entries.{name_of_entry};
+ghost use Rattle.asm80_first_walk.specs.Entries.{name_of_entry, entry_in, has_text, not_settable};
 
 use asm80_source_def::{AsmRule, Meaning, NameKind};
 use asm80_types::Name80;
-use indexmap::IndexMap;
 use std::alloc::{AllocError, Global};
+use std::collections::HashMap;
 use std::marker::Model;
 
 /// The most names that a source may define.
@@ -25,20 +26,31 @@ pub(crate) struct Entry {
 }
 
 /// The names of a source that are defined so far, each once, in the order of their first definitions.
-#[derive(Drop)]
 pub struct Names {
-    entries: IndexMap<Name80, Entry>,
+    order: Vec<Name80>,
+    entries: HashMap<Name80, Entry>,
+}
+
+// Written out, so that letting one go is one call wherever it is done.
+impl Drop for Names {
+    fn drop(self) {
+        let Names {
+            order: _order,
+            entries: _entries,
+        } = self;
+    }
 }
 
 impl Model for Names {
-    ghost use Rattle.std.specs.Prelude.{List, map};
+    ghost use Rattle.std.specs.Prelude.{List};
     ghost use Rattle.asm80_source_def.specs.Names.{Name};
+    ghost use Rattle.asm80_first_walk.specs.Entries.{entry_in, names_in, AreInOrder};
 
     ghost Value = { List Name };
 
-    ghost use Rattle.asm80_first_walk.specs.Entries.{name_of_entry};
+    ghost view = { λ a. names_in (entry_in a.entries.entries) a.order.items };
 
-    ghost view = { λ a. map name_of_entry a.entries.entries };
+    ghost invariant = { λ a. AreInOrder (entry_in a.entries.entries) a.order.items };
 }
 
 impl Names {
@@ -47,14 +59,26 @@ impl Names {
         ensures { result ≡ [] }
     {
         Names {
-            entries: IndexMap::new(alloc),
+            order: Vec::new(alloc),
+            entries: HashMap::new(alloc),
         }
+    }
+
+    // How many there are.
+    fn len(&self) -> usize
+        ensures { result ≡ length self.now }
+    {
+        // a look at them, for what the two keep to
+        let _entries = &self.entries;
+        self.order.len()
     }
 
     // What the map has of a name.
     fn entry(&self, name: &Name80) -> Option<Entry>
         ensures { MatchOption result (named self.now name.now ≡ None) (λ e. named self.now name.now ≡ Some (name_of_entry (name.now, e))) }
     {
+        // a look at them, for what the two keep to
+        let _order = &self.order;
         self.entries.get(name).copied()
     }
 
@@ -84,7 +108,7 @@ impl Names {
                 old != NameKind::Settable || kind != NameKind::Settable,
                 AsmRule::V2,
             ),
-            None => rule_if(self.entries.len() >= MOST_NAMES, AsmRule::V7),
+            None => rule_if(self.len() >= MOST_NAMES, AsmRule::V7),
         }
     }
 
@@ -102,7 +126,19 @@ impl Names {
         if self.rule_of(&name, kind).is_some() {
             return Ok(());
         }
-        self.entries.insert(name, Entry { kind, meaning })?;
+        self.put(name, Entry { kind, meaning })
+    }
+
+    // Puts an entry, of a name that is new or set again.
+    fn put(&mut self, name: Name80, entry: Entry) -> Result<(), AllocError>
+        ensures made { OnOk result ((clashes self.old (name_of_entry (name, entry)) || overflows self.old (name_of_entry (name, entry))) ≡ false → self.new ≡ defined self.old (name_of_entry (name, entry))) }
+        ensures unchanged { OnErr result (self.new ≡ self.old) }
+    {
+        self.order.reserve(1)?;
+        let old = self.entries.insert(name, entry)?;
+        if old.is_none() {
+            self.order.push_reserved(name);
+        }
         Ok(())
     }
 
@@ -110,13 +146,37 @@ impl Names {
     pub fn without_settable(self) -> Names
         ensures { result ≡ filter (λ (n : Name). not (is_settable n.kind)) self }
     {
-        let Names { mut entries } = self;
-        entries.retain(
-            |_name: &Name80, entry: &mut Entry| -> bool
-                ensures { (result ≡ not (is_settable entry.old.kind)) × (entry.new ≡ entry.old) }
-            { entry.kind != NameKind::Settable },
+        let Names {
+            mut order,
+            mut entries,
+        } = self;
+        forget_settable(&mut entries, &order);
+        order.retain(
+            |name: &Name80| -> bool
+                ensures { result ≡ is_some (entry_in entries.entries name.now) }
+            { entries.contains_key(name) },
         );
-        Names { entries }
+        Names { order, entries }
+    }
+}
+
+// Takes those of these names that are SET names from the map.
+fn forget_settable(entries: &mut HashMap<Name80, Entry>, names: &[Name80])
+    ensures { (text : List ℕ) → entry_in entries.new.entries text ≡ cond (has_text names.now text) (not_settable (entry_in entries.old.entries text)) (entry_in entries.old.entries text) }
+{
+    for name in names {
+        forget_if_settable(entries, name);
+    }
+}
+
+// Takes a name from the map if it is a SET name.
+fn forget_if_settable(entries: &mut HashMap<Name80, Entry>, name: &Name80)
+    ensures { (text : List ℕ) → entry_in entries.new.entries text ≡ cond (bytes_eq name.now text) (not_settable (entry_in entries.old.entries text)) (entry_in entries.old.entries text) }
+{
+    if let Some(entry) = entries.get(name).copied()
+        && entry.kind == NameKind::Settable
+    {
+        entries.remove(name);
     }
 }
 
