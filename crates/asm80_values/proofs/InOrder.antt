@@ -6,7 +6,7 @@ use Rattle.std.proofs.lemmas.List.Sorted.{IsPermutation-refl, IsPermutation-cons
 
 module _ {X : Type 0} (key : X → ℕ) where
   -- each is at or above the one before it
-  abbrev Rises : ℕ → List X → Type 0
+  abbrev pub Rises : ℕ → List X → Type 0
   Rises from [] = Unit {0}
   Rises from (x ∷ xs) = (from ≤ key x) × Rises (key x) xs
 
@@ -40,9 +40,12 @@ module _ {X : Type 0} (key : X → ℕ) where
   next_above from (x ∷ (y ∷ ys)) zero d h less = h.1.0
   next_above from (x ∷ (y ∷ ys)) (suc k) d h less = next_above (key x) (y ∷ ys) k d h.1 (omega arith)
 
+  -- what rises is in order
+  pub in_order : (from : ℕ) (xs : List X) → Rises from xs → IsNonDecreasingBy key xs
+  in_order from xs rising =
+      let next : (k : ℕ) (d : X) → k + 1 < length xs → key (get_or xs k d) ≤ key (get_or xs (k + 1) d) =
+      λ k d less. subst (λ m. key (get_or xs k d) ≤ key (get_or xs m d)) (sym (add-one k)) (next_above from xs k d rising (omega arith)) in
+      IsNonDecreasingBy-from_all_adjacent key xs next
+
   pub has_order : (xs : List X) → (ys : List X) × IsPermutation xs ys × IsNonDecreasingBy key ys
-  has_order xs =
-      let all = ordered xs in
-      let next : (k : ℕ) (d : X) → k + 1 < length all.0 → key (get_or all.0 k d) ≤ key (get_or all.0 (k + 1) d) =
-      λ k d less. subst (λ m. key (get_or all.0 k d) ≤ key (get_or all.0 m d)) (sym (add-one k)) (next_above 0 all.0 k d all.2 (omega arith)) in
-      (all.0, all.1, IsNonDecreasingBy-from_all_adjacent key all.0 next)
+  has_order xs = let all = ordered xs in (all.0, all.1, in_order 0 all.0 all.2)

@@ -7,6 +7,8 @@ pub mod ByKind
 pub mod Times
 pub mod Halves
 pub mod Placing
+pub mod Moved
+pub mod SortedItems
 pub mod Sizes
 pub mod Rows
 pub mod Starts

@@ -76,7 +76,7 @@ lay_cells instrs (c ∷ cs) from limit above below rising times =
 -- ---- one item
 
 -- an item with cells has them all in the area
-within_by : (top at n : ℕ) → (nat_lt 0 n && (nat_lt at 0x100 || nat_lt ((top - 2) - at) n)) ≡ false → 0 < n → (0x100 ≤ at) × (at + n ≤ top - 2)
+pub within_by : (top at n : ℕ) → (nat_lt 0 n && (nat_lt at 0x100 || nat_lt ((top - 2) - at) n)) ≡ false → 0 < n → (0x100 ≤ at) × (at + n ≤ top - 2)
 within_by top at n h some = (grind (arith, nat_tests), grind (arith, nat_tests))
 
 cells_times : (top at n : ℕ) (cs : List Cell) → top ≤ 0xFF00 → length cs ≡ n → (0 < n → (0x100 ≤ at) × (at + n ≤ top - 2)) → (a : ℕ) → held_times a (laid_from at cs) ≤ one (is_filled (counted_from at n) a)
@@ -169,7 +169,7 @@ module _ (top : ℕ) (low : top ≤ 0xFF00) where
   cov-cons a None xs = omega arith
   cov-cons a (Some x) xs = omega arith
 
-  times :
+  pub times :
       (is : List Item) (filled : List ℕ) → All IsSound is → overlap_from filled is ≡ None → find (breaks top S7) is ≡ None → (a : ℕ)
       → covered_times a (filter_map placed_item is) + held_times a (flat_map data_item is) + one (is_filled filled a) ≤ 1
   times [] filled sound apart within a = omega (arith, one-le (is_filled filled a))

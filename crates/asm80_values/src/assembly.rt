@@ -19,16 +19,16 @@ use std::alloc::Global;
 // The program of items, or the first rule of the layout that they break, by the addresses at which instructions start.
 fn laid_out(
     alloc: Global,
-    items: &[Item],
+    items: Vec<Item>,
     starts: &AddressSet,
     top: u16,
 ) -> Result<Program80, AsmFault>
     requires top { is_top top ≡ true }
-    requires found { (statements : List Stmt80) × AreFound statements items.now starts.now }
-    ensures assembled { (statements : List Stmt80) → AreFound statements items.now starts.now → IfOk result (λ p. IsAssembled (map statement_of statements) top p) }
-    ensures refused { (statements : List Stmt80) → AreFound statements items.now starts.now → (line : ℕ) (rule : AsmRule) → result ≡ Err (AsmFault.Refused line rule) → IsRefused (map statement_of statements) top line rule }
+    requires found { (statements : List Stmt80) × AreFound statements items.items starts.now }
+    ensures assembled { (statements : List Stmt80) → AreFound statements items.items starts.now → IfOk result (λ p. IsAssembled (map statement_of statements) top p) }
+    ensures refused { (statements : List Stmt80) → AreFound statements items.items starts.now → (line : ℕ) (rule : AsmRule) → result ≡ Err (AsmFault.Refused line rule) → IsRefused (map statement_of statements) top line rule }
 {
-    if let Some((line, rule)) = layout_fault(alloc, items, starts, top)? {
+    if let Some((line, rule)) = layout_fault(alloc, &items, starts, top)? {
         return Err(AsmFault::Refused(line, rule));
     }
     Ok(program_of_items(alloc, items, top)?)
@@ -45,5 +45,5 @@ pub fn assemble(alloc: Global, statements: &[Stmt80], top: u16) -> Result<Progra
     let walked = walk(alloc, statements)?;
     let starts = starts_of(alloc, walked.rows.as_slice())?;
     let items = items_of(alloc, statements, walked, &starts)?;
-    laid_out(alloc, items.as_slice(), &starts, top)
+    laid_out(alloc, items, &starts, top)
 }

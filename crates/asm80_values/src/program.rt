@@ -66,16 +66,16 @@ fn data_items(alloc: Global, items: &[Item]) -> Result<Vec<(u16, Cell)>, AllocEr
 }
 
 /// The program of items that break no rule of the layout, for a top of the program area.
-pub fn program_of_items(alloc: Global, items: &[Item], top: u16) -> Result<Program80, AllocError>
-    requires { AreLawful top items.now }
+pub fn program_of_items(alloc: Global, items: Vec<Item>, top: u16) -> Result<Program80, AllocError>
+    requires { AreLawful top items.items }
     ensures program { IfOk result (λ p. IsProgram p) }
     ensures top { IfOk result (λ p. p.top ≡ top) }
-    ensures instrs { IfOk result (λ p. IsPermutation (filter_map placed_item items.now) p.instrs) }
-    ensures cells { IfOk result (λ p. IsPermutation (flat_map data_item items.now) p.cells) }
+    ensures instrs { IfOk result (λ p. IsPermutation (filter_map placed_item items.items) p.instrs) }
+    ensures cells { IfOk result (λ p. IsPermutation (flat_map data_item items.items) p.cells) }
 {
-    let mut placed = placed_items(alloc, items)?;
-    placed.sort_by_key(|placed| placed.at)?;
-    let mut cells = data_items(alloc, items)?;
-    cells.sort_by_key(|cell| cell.0)?;
+    let mut items = items;
+    items.sort_by_key(|item| item.at)?;
+    let placed = placed_items(alloc, &items)?;
+    let cells = data_items(alloc, &items)?;
     Program80::new(alloc, placed, cells, top)
 }

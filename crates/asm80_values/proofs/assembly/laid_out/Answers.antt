@@ -18,18 +18,18 @@ same_fault r a b x y d e = cc
 pub program_of_items-requires : goal.program_of_items-requires
 program_of_items-requires c =
     let ss : List Statement = map statement_of c.requires.found.0 in
-    let found : AreFound c.requires.found.0 c.args.items.now c.args.starts.now = c.requires.found.1 in
-    let none : layout_fault (rows ss) (walked ss) c.args.top ≡ None = sym (c.in_ok-line.ensures (rows ss) (walked ss) found.are_items.1 found.are_starts) ∙ c.in_default.is in
-    lawful (rows ss) (walked ss) c.args.items.now c.args.top c.requires.top c.ranges.top.fits found.are_items.1 none (are_sound (rows ss) (walked ss) c.args.items.now found.are_items.1)
+    let found : AreFound c.requires.found.0 c.args.items.items c.args.starts.now = c.requires.found.1 in
+    let none : layout_fault (rows ss) (walked ss) c.args.top ≡ None = sym (c.in_ok-line.ensures (rows ss) (walked ss) (rw c.deref.ensures.value found.are_items.1) found.are_starts) ∙ c.in_default.is in
+    lawful (rows ss) (walked ss) c.args.items.items c.args.top c.requires.top c.ranges.top.fits found.are_items.1 none (are_sound (rows ss) (walked ss) c.args.items.items found.are_items.1)
 
 pub returns : goal.returns
 returns c = record {
   assembled = λ statements found.
       let ss : List Statement = map statement_of statements in
-      let none : layout_fault (rows ss) (walked ss) c.args.top ≡ None = sym (c.in_ok-line.ensures (rows ss) (walked ss) found.are_items.1 found.are_starts) ∙ c.in_default.is in
+      let none : layout_fault (rows ss) (walked ss) c.args.top ≡ None = sym (c.in_ok-line.ensures (rows ss) (walked ss) (rw c.deref.ensures.value found.are_items.1) found.are_starts) ∙ c.in_default.is in
       record {
         accepted = rw (found.accepted, found.are_items.0, none) refl;
-        program = held (rows ss) (walked ss) c.args.items.now c.args.top c.in_ok-program_of_items.field-0 found.are_items.1
+        program = held (rows ss) (walked ss) c.args.items.items c.args.top c.in_ok-program_of_items.field-0 found.are_items.1
             c.in_ok-program_of_items.ensures.program c.in_ok-program_of_items.ensures.top c.in_ok-program_of_items.ensures.instrs c.in_ok-program_of_items.ensures.cells;
       };
   refused = λ statements found line rule e. absurd cc;
@@ -40,5 +40,5 @@ returns-in-Some c = record {
   assembled = λ statements found. tt;
   refused = λ statements found line rule e.
       let ss : List Statement = map statement_of statements in
-      rw (found.accepted, found.are_items.0) (sym (c.in_ok-line.ensures (rows ss) (walked ss) found.are_items.1 found.are_starts) ∙ c.in-Some.is ∙ same_fault _ c.in-Some.line line c.in-Some.rule rule refl e);
+      rw (found.accepted, found.are_items.0) (sym (c.in_ok-line.ensures (rows ss) (walked ss) (rw c.deref.ensures.value found.are_items.1) found.are_starts) ∙ c.in-Some.is ∙ same_fault _ c.in-Some.line line c.in-Some.rule rule refl e);
 }
