@@ -76,6 +76,7 @@ const NO_STRAYS: Strays = Strays {
 };
 
 // Which rules operands of these kinds break.
+#[cycle(strays)]
 fn strays_among(setting: &Setting<'_>, kinds: &[Kind], args: &[Arg]) -> Strays
     ensures misses { result.misses ≡ list_any (misses (setting_of setting.now)) (zip kinds.now (map operand_of args.now)) }
     ensures computes { result.computes ≡ list_any (computes (setting_of setting.now)) (zip kinds.now (map operand_of args.now)) }
@@ -84,7 +85,7 @@ fn strays_among(setting: &Setting<'_>, kinds: &[Kind], args: &[Arg]) -> Strays
     let (Some((kind, kinds)), Some((arg, args))) = (kinds.split_first(), args.split_first()) else {
         return NO_STRAYS;
     };
-    let rest = strays_among(setting, kinds, args);
+    let rest = strays_behind(setting, kinds, args);
     if !is_value_kind(*kind) {
         return rest;
     }
@@ -93,6 +94,19 @@ fn strays_among(setting: &Setting<'_>, kinds: &[Kind], args: &[Arg]) -> Strays
         computes: computes(setting, *kind, arg) || rest.computes,
         loads_code: loads_code(setting, *kind, arg) || rest.loads_code,
     }
+}
+
+// The same of the operands behind one, of which most instructions have none.
+#[cycle(strays)]
+fn strays_behind(setting: &Setting<'_>, kinds: &[Kind], args: &[Arg]) -> Strays
+    ensures misses { result.misses ≡ list_any (misses (setting_of setting.now)) (zip kinds.now (map operand_of args.now)) }
+    ensures computes { result.computes ≡ list_any (computes (setting_of setting.now)) (zip kinds.now (map operand_of args.now)) }
+    ensures loads_code { result.loads_code ≡ list_any (loads_code (setting_of setting.now)) (zip kinds.now (map operand_of args.now)) }
+{
+    if args.is_empty() {
+        return NO_STRAYS;
+    }
+    strays_among(setting, kinds, args)
 }
 
 // Whether the first operand is SP.
